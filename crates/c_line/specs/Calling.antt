@@ -2,7 +2,7 @@
 use Rattle.std.specs.Prelude.{◌≡◌, ◌⊎◌, ℕ, Bool, true, false, List, Option, None, Some, MatchOption}
 use Rattle.ds_words.specs.declared.command.ScriptCommand.{ScriptCommand}
 use Rattle.ds_words.specs.declared.command.ScriptCommand.TheVariants.{Show, All}
-use Rattle.ds_words.specs.Command.{CommandTakesMemory, is_plain, store_command}
+use Rattle.ds_words.specs.Command.{CommandTakesMemory, is_offer, store_command}
 use Rattle.ds_words.specs.Wording.{wording}
 use Rattle.c_words.specs.declared.answer.Answer.{Answer}
 use Rattle.c_words.specs.Answer.{told_bad_line}
@@ -17,12 +17,11 @@ what_shows Show = Some false
 what_shows All = Some true
 what_shows _ = None
 
--- the store answers what the command asks of it, by one turn; it asks nothing of one store; or it has an item, a value or a pattern,
--- for which memory is wanting
+-- the store answers the command by one turn; the line sends it none; or it is an offer, and memory ran out for the list of its item
 abbrev pub LineAsks : ScriptCommand → Session → Answer → Session → Type 0
 LineAsks command old answer new =
     MatchOption (store_command command) (RestsForNone old answer new) (λ asked. Tells old (wording command) asked answer new)
-    ⊎ ((is_plain command ≡ false) × RestsForRoom old answer new)
+    ⊎ ((is_offer command ≡ true) × RestsForRoom old answer new)
 
 -- the command is carried out: it shows what is held, or it asks the store
 abbrev pub CarriesOut : ScriptCommand → Session → Answer → Session → Type 0

@@ -13,7 +13,7 @@ use Rattle.desk_rule.specs.Passes.{add_call, calls_of, notices_of, number_of}
 use Rattle.desk_rule.specs.Kinds.{after_note, after_turn, Looks, take_of, TakesBits}
 use Rattle.desk_rule.proofs.ListLemmas.{all_map, prefix_refl, prefix_trans, prefixes_agree, some_of}
 use Rattle.desk.specs.declared.pass.Sight.{Ghosts}
-use Rattle.desk.specs.Calls.{Calls, HasSeenAll, HasSeenNote, next_place, NoteAgrees, PassesAgree}
+use Rattle.desk.specs.Calls.{Calls, HasSeenNote, next_place, NoteAgrees}
 use Rattle.desk.specs.Calls.{PostsOwed, SameNotices, Sees, TakesPending}
 use Rattle.desk.specs.Pass.{desk_of, history, Note, number, order, order_told_by, Pass, told_by}
 use Rattle.desk.specs.Sight.{TurnAt}
@@ -67,12 +67,6 @@ module _ {M C R S : Type 0} {G : Ghosts (View M C R)} (stands : M → S → Type
   note_agrees p q n s h = (
     prefixes_agree (told_by n) (history p) (history q) h.0 s.begins,
     prefixes_agree (order_told_by n) (order p) (order q) h.1 s.notices.begins,
-  )
-
-  pub passes_agree : (p q other : Pass M C R G) → Sees stands steps p q → HasSeenAll other q → PassesAgree p other
-  passes_agree p q other s h = (
-    prefixes_agree (history p) (history other) (history q) s.begins h.0,
-    prefixes_agree (order p) (order other) (order q) s.notices.begins h.1,
   )
 
   -- the pass was told what a seat with the view n has seen, and then looked

@@ -94,10 +94,6 @@ module _ {M C R : Type 0} {G : Ghosts (View M C R)} where
   abbrev pub HasSeenNote : Note M C R G → Pass M C R G → Type 0
   HasSeenNote n p = IsPrefix (told_by n) (history p) × IsPrefix (order_told_by n) (order p)
 
-  -- the pass q has seen all that the pass p has
-  abbrev pub HasSeenAll : Pass M C R G → Pass M C R G → Type 0
-  HasSeenAll p q = IsPrefix (history p) (history q) × IsPrefix (order p) (order q)
-
   -- of what two passes have seen, one begins the other: of the history, and of the order of all notices
   abbrev pub PassesAgree : Pass M C R G → Pass M C R G → Type 0
   PassesAgree p q = OneBegins (history p) (history q) × OneBegins (order p) (order q)

@@ -4,8 +4,8 @@ ghost use Rattle.std.specs.Prelude.{◌≡◌, ◌≤◌, ◌<◌, ◌+◌, ◌^
 ghost use Rattle.std.specs.Int.{bit_at};
 ghost use Rattle.desk_rule.specs.Notices.{OwedIn, raised_in};
 ghost use Rattle.desk.specs.Desk.{identity};
-ghost use Rattle.desk.specs.Calls.{Calls, CarriesAll, FindsNoPlace, HasSeenAll, HasSeenNote, KnowsAsMuch, NoteAgrees};
-ghost use Rattle.desk.specs.Calls.{PassesAgree, PostsOwed, SameNotes, SameNotices, Sees, TakesPending, next_place};
+ghost use Rattle.desk.specs.Calls.{Calls, CarriesAll, FindsNoPlace, HasSeenNote, KnowsAsMuch, NoteAgrees};
+ghost use Rattle.desk.specs.Calls.{PostsOwed, SameNotes, SameNotices, Sees, TakesPending, next_place};
 ghost use Rattle.desk.specs.Pass.{desk_of, desk_of_note, history, notes_learnt, notes_made, notices};
 ghost use Rattle.desk.specs.Tally.{RaisesMask};
 
@@ -135,21 +135,5 @@ impl<M: Machine> Desk<M> {
         join_note(shared, &mut pass.seat, seat);
         look(shared, &mut pass.seat);
         Ok(())
-    }
-
-    /// From now on the pass has seen all that the other has, without a note. Of what the two had seen, one began with the other.
-    /// It takes no memory and waits for nobody.
-    pub fn learn_from(&self, pass: &mut Pass<M>, other: &mut Pass<M>)
-        requires pass { desk_of pass.old ≡ identity self.now }
-        requires other { desk_of other.old ≡ identity self.now }
-        ensures stays { (desk_of pass.new ≡ desk_of pass.old) × (desk_of other.new ≡ desk_of other.old) }
-        ensures learnt { Sees M.stands M.steps pass.old pass.new × HasSeenAll other.old pass.new }
-        ensures agree { PassesAgree pass.old other.old }
-        ensures same { SameNotes pass.old pass.new × SameNotices pass.old pass.new }
-        ensures other { KnowsAsMuch other.old other.new × SameNotes other.old other.new × SameNotices other.old other.new }
-    {
-        let told = split_note(&self.table.shared, &mut other.seat);
-        join_note(&self.table.shared, &mut pass.seat, told);
-        look(&self.table.shared, &mut pass.seat);
     }
 }

@@ -8,14 +8,14 @@
 #![tactic(auto)]
 
 mod bad_line;
+mod bad_part;
 mod field;
-mod nearest;
 mod place;
-mod plain;
 mod settings_fault;
 mod settings_lines;
 mod stray;
 mod trace_fault;
+mod trace_line;
 mod wanted;
 
 pub use bad_line::{Audience, explain};

@@ -1,14 +1,13 @@
 //! What is said of a settings text that has a fault: which field, of which service, in which line.
 
 use crate::field::{field_of, fields_known};
-use crate::nearest::{IfNear, nearest};
 use crate::place::{field_line, line_at, service_line};
-use crate::plain::Plain;
 use ds_names::NoRoom;
 use rs_settings::{SettingsCause, SettingsFault};
 use std::fmt;
 use std::rt::Runtime;
 use toml::Table;
+use typed_words::{IfNear, Plain, nearest};
 
 /// Says on standard error which field the first fault of a settings text is about, in one line: of the service with its number, from
 /// 0, and in which line of the text, from 1, where it is found there. That standard error takes it isn't asked for.

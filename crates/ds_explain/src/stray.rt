@@ -3,7 +3,7 @@
 use ds_names::read_byte;
 
 /// The three bytes that some editors put before a text in UTF-8.
-const BYTE_ORDER_MARK: &[u8] = b"\xef\xbb\xbf";
+pub(crate) const BYTE_ORDER_MARK: &[u8] = b"\xef\xbb\xbf";
 
 /// What stands at the place where a line can't be read, if it has a name that says more than what was expected there.
 pub(crate) fn stray_at(text: &[u8], place: usize, rest: &[u8]) -> Option<&'static str> {

@@ -1,13 +1,18 @@
 //! What is said of the line of a trace that no legal trace has in its place.
 
-use crate::plain::Plain;
+use crate::stray::BYTE_ORDER_MARK;
+use crate::trace_line::{explain_marked, without_newline};
 use std::fmt;
 use std::rt::Runtime;
 use trace_check::{Stands, Wanted, WrongLine};
+use typed_words::Plain;
 
-/// Says on standard error what had to stand in the line of a trace that is told, and what stands there. That standard error takes it
-/// isn't asked for.
-pub fn explain_trace(rt: &impl Runtime, wrong: &WrongLine<'_>) {
+/// Says on standard error what had to stand in the line of a trace that is told, and what stands there; of a line that has the mark of
+/// an entry or of an item, which part of it can't be read. That standard error takes it isn't asked for.
+pub fn explain_trace(rt: &(impl Runtime + AllocGlobal), wrong: &WrongLine<'_>) {
+    if explain_marked(rt, wrong) {
+        return;
+    }
     let number = wrong.number;
     let wanted = WantedThere(*wrong);
     let stood = StoodThere(*wrong);
@@ -22,7 +27,7 @@ impl fmt::Display for WantedThere<'_> {
     fn fmt<W: fmt::Write>(&self, f: &mut fmt::Formatter<W>) -> fmt::Result {
         let asked = Plain(command_of(self.0.asked));
         match (self.0.wanted, self.0.reply) {
-            (Wanted::Header, _) => f.write_str(HEADER),
+            (Wanted::Header, _) => f.write_str(header_wanted(self.0.stands)),
             (Wanted::Entry, _) => f.write_str(ENTRY),
             (Wanted::Item, _) => write!(
                 f,
@@ -39,7 +44,26 @@ impl fmt::Display for WantedThere<'_> {
 
 const HEADER: &str = "a header was expected, `trace 2 INCARNATION FIRST RING SUBS KEYS`";
 
+const HEADER_MARKED: &str = "a header was expected, a byte order mark stands there";
+
+const HEADER_RETURNED: &str =
+    "a header was expected, a carriage return stands at the end of the line";
+
 const ENTRY: &str = "an entry was expected, `> PASS COMMAND`";
+
+// What is said of the header's place, where this stands.
+fn header_wanted(stands: Stands<'_>) -> &'static str {
+    let Stands::Line(line) = stands else {
+        return HEADER;
+    };
+    if line.starts_with(BYTE_ORDER_MARK) {
+        HEADER_MARKED
+    } else if without_newline(line).ends_with(b"\r") {
+        HEADER_RETURNED
+    } else {
+        HEADER
+    }
+}
 
 // What stands there.
 #[derive(Clone, Copy)]
@@ -52,18 +76,19 @@ impl fmt::Display for StoodThere<'_> {
             (_, Stands::Nothing) => f.write_str(", and the trace ends"),
             (_, Stands::Long) => f.write_str(", not a line above 4096 bytes"),
             (wanted, Stands::Line(line)) => {
-                let line = Plain(told_of(wanted, without_newline(line)));
-                write!(f, ", not \"{line}\"")
+                let (line, end) = without_return(without_newline(line));
+                let line = Plain(told_of(wanted, line));
+                write!(f, ", not \"{line}\"{end}")
             }
         }
     }
 }
 
-// A line without its newline.
-fn without_newline(line: &[u8]) -> &[u8] {
-    match line.strip_suffix(b"\n") {
-        Some(front) => front,
-        None => line,
+// A line without the carriage return at its end, and what is said of that.
+fn without_return(line: &[u8]) -> (&[u8], &'static str) {
+    match line.strip_suffix(b"\r") {
+        Some(front) => (front, " and a carriage return"),
+        None => (line, ""),
     }
 }
 

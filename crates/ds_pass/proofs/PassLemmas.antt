@@ -8,19 +8,19 @@ use Rattle.desk_rule.specs.declared.view.View.{View}
 use Rattle.desk.specs.declared.fault.DeskFault.{DeskFault}
 use Rattle.desk.specs.declared.pass.Sight.{Ghosts}
 use Rattle.desk.specs.Pass.{calls, history, number, opening, Pass}
-use Rattle.desk.specs.Calls.{Calls, FindsNoPlace, Sees}
+use Rattle.desk.specs.Calls.{Calls, FindsNoPlace, IsSamePass, Sees}
+use Rattle.ds_machine.specs.Says.{IsReplyTo}
 use Rattle.ds_machine.specs.State.{State}
 use Rattle.ds_machine.specs.declared.command.Command.{Command}
 use Rattle.ds_machine.specs.declared.reply.Reply.{Reply}
+use Rattle.ds_machine.proofs.FitLemmas.{replies_fit}
 use Rattle.ds_content.specs.Content.{ContentRecord}
 use Rattle.ds_content.specs.Stands.{ContentStands}
 use Rattle.ds_store.specs.Turns.{Turn}
-use Rattle.ds_store.proofs.TurnLemmas.{turns_run}
+use Rattle.ds_store.proofs.TurnLemmas.{turns_answer, turns_run}
 use Rattle.ds_pass.specs.Called.{FoundWorn, Made, MadeCall}
 use Rattle.ds_pass.specs.Later.{SeesMoreByCalls, SeesMoreByLooks, SeesMoreByNotes}
-use Rattle.ds_pass.specs.Led.{Boxed, is_content}
-use Rattle.ds_pass.specs.Record.{HasJustItsCalls, HasLegalHistory, boxed_content, pass_record}
-use Rattle.ds_pass.proofs.LedLemmas.{same_origin}
+use Rattle.ds_pass.specs.Record.{Boxed, HasJustItsCalls, HasLegalHistory, boxed_content, is_content, pass_origin, pass_record}
 
 -- the first of some turns was one of a content that stood for some state
 first_stood : (es : List (Entry Command Reply)) (e : Entry Command Reply) (old new : ContentRecord) → Run Turn old (es ++ e ∷ []) new → (s : State) × ContentStands old s
@@ -28,13 +28,17 @@ first_stood [] e old new run = run.1.stood
 first_stood (x ∷ es) e old new run = run.1.stood
 
 module _ {Z : Type 0} {G : Ghosts (View (Boxed Z) Command Reply)} (p q : Pass (Boxed Z) Command Reply G) where
+  -- no call changes which pass it is
+  same_origin : IsSamePass p q → pass_origin q ≡ pass_origin p
+  same_origin s = rw (s.same_desk, s.same_number, s.same_first) refl
+
   same_opened : opening q ≡ opening p → option_map boxed_content (opening q) ≡ option_map boxed_content (opening p)
   same_opened e = ap (λ (o : Option (Boxed Z)). option_map boxed_content o) e
 
   -- ---- it looked, and called nothing
   pub sees_made : Sees is_content Turn p q → Made (pass_record p) (pass_record q) []
   sees_made s = record {
-    same = same_origin p q s.same;
+    same = same_origin s.same;
     same_opening = same_opened s.same.same_opening;
     between = s.begins.0;
     seen = sym s.begins.1;
@@ -69,7 +73,7 @@ module _ {Z : Type 0} {G : Ghosts (View (Boxed Z) Command Reply)} (p q : Pass (B
     pub call_made : is_some (opening p) ≡ true → MadeCall (pass_record p) (pass_record q) command reply place
     call_made some = record {
       made = record {
-        same = same_origin p q c.same;
+        same = same_origin c.same;
         same_opening = same_opened c.same.same_opening;
         between = c.between ++ entry (number p) command reply ∷ [];
         seen = c.ends ∙ append_assoc (history p) c.between (entry (number p) command reply ∷ []);
@@ -82,6 +86,18 @@ module _ {Z : Type 0} {G : Ghosts (View (Boxed Z) Command Reply)} (p q : Pass (B
       at = c.at;
       legal = legal_from (opening p) refl some;
     }
+
+    fits_from : (o : Option (Boxed Z)) → opening p ≡ o → is_some o ≡ true → IsReplyTo command reply
+    fits_from None e some = absurd (cc)
+    fits_from (Some m) e some =
+        let run = c.legal m e m.value refl in
+        let called = subst (λ (es : List (Entry Command Reply)). Run Turn m.value es run.0) c.ends run.1 in
+        let a = turns_answer (history p ++ c.between) (entry (number p) command reply) m.value run.0 called in
+        replies_fit a.before a.after command reply a.answered.step
+
+    -- the reply is one to the command
+    pub call_fits : is_some (opening p) ≡ true → IsReplyTo command reply
+    call_fits some = fits_from (opening p) refl some
 
 module _ {Z : Type 0} {G : Ghosts (View (Boxed Z) Command Reply)} (p : Pass (Boxed Z) Command Reply G) where
   pub sees_by_calls : SeesMoreByCalls p

@@ -10,8 +10,7 @@ use Rattle.ds_machine.specs.declared.reply.Reply.{Reply}
 use Rattle.ds_store.specs.Turns.{Answered}
 use Rattle.ds_pass.specs.Called.{Made, MadeCall}
 use Rattle.ds_pass.specs.Later.{MadeSeesMore, SeenMoreAgain}
-use Rattle.ds_pass.specs.Led.{PassOrigin}
-use Rattle.ds_pass.specs.Record.{HasJustItsCalls, PassRecord, place_behind}
+use Rattle.ds_pass.specs.Record.{HasJustItsCalls, PassOrigin, PassRecord, place_behind}
 
 -- ---- calls one after the other
 pub made_none : (p : PassRecord) → Made p p []

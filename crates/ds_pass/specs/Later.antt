@@ -10,8 +10,7 @@ use Rattle.ds_machine.specs.declared.command.Command.{Command}
 use Rattle.ds_machine.specs.declared.reply.Reply.{Reply}
 use Rattle.ds_store.specs.Turns.{Turn}
 use Rattle.ds_pass.specs.Called.{Made}
-use Rattle.ds_pass.specs.Led.{Boxed, is_content}
-use Rattle.ds_pass.specs.Record.{PassRecord, pass_record}
+use Rattle.ds_pass.specs.Record.{Boxed, PassRecord, is_content, pass_record}
 
 -- what q has seen begins with what p has, at a desk that was opened alike
 pub record HasSeenMore (p q : PassRecord) : Type 0 where

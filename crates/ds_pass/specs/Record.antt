@@ -1,19 +1,38 @@
 -- A pass by plain values: which one it is, what it has seen, and what it called.
 use Rattle.std.specs.Prelude.{◌≡◌, ℕ, ◌+◌, List, length, Option, Some}
 use Rattle.std.specs.Option.{option_map}
+use Rattle.std.specs.declared.boxed.Box.{Box}
 use Rattle.history.specs.declared.entry.Entry.{Entry}
 use Rattle.history.specs.History.{calls_by, IsLegalFrom, Run}
 use Rattle.desk_rule.specs.declared.view.View.{View}
 use Rattle.desk.specs.declared.pass.Sight.{Ghosts}
-use Rattle.desk.specs.Pass.{calls, history, opening, Pass}
+use Rattle.atomic_table.specs.Seated.{TableId}
+use Rattle.desk.specs.Pass.{calls, desk_of, first_place, history, number, opening, Pass}
 use Rattle.ds_machine.specs.State.{State}
 use Rattle.ds_machine.specs.declared.command.Command.{Command}
 use Rattle.ds_machine.specs.declared.reply.Reply.{Reply}
 use Rattle.ds_content.specs.Content.{ContentRecord}
 use Rattle.ds_content.specs.Stands.{ContentStands}
 use Rattle.ds_store.specs.Turns.{Answered}
-use Rattle.ds_pass.specs.Led.{Boxed, PassOrigin, pass_origin}
 
+-- a store on the heap
+abbrev pub Boxed : Type 0 → Type 0
+Boxed Z = Box ContentRecord Z
+
+-- what it stands for, as a desk's machine: its content
+abbrev pub is_content : {Z : Type 0} → Boxed Z → ContentRecord → Type 0
+is_content m content = m.value ≡ content
+
+-- which pass it is, of which desk, and the place of that desk's first call
+pub record PassOrigin : Type 0 where
+  pub desk : TableId
+  pub number : ℕ
+  pub first : ℕ
+
+abbrev pub pass_origin : {Z : Type 0} {G : Ghosts (View (Boxed Z) Command Reply)} → Pass (Boxed Z) Command Reply G → PassOrigin
+pass_origin p = record { desk = desk_of p; number = number p; first = first_place p }
+
+-- a pass by plain values
 pub record PassRecord : Type 0 where
   pub origin : PassOrigin
   -- what the desk's store kept when the desk was opened

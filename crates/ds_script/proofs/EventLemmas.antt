@@ -89,11 +89,6 @@ pub event_answers : (command : ScriptCommand) (old : SessionContent) (out : List
 event_answers command old out new (inl a) = inr (answers_it command old out new a)
 event_answers command old out new (inr r) = inl r
 
--- where the command is this one, it is answered as that event
-pub event_answers_as : (command same : ScriptCommand) (old : SessionContent) (out : List ℕ) (new : SessionContent) → command ≡ same
-    → AnswersAsEvent same old out new ⊎ (AnswerTakesRoom same old × IsLineRefused old out new) → AnswersOrRefuses command old out new
-event_answers_as command same old out new is a = subst (λ (k : ScriptCommand). AnswersOrRefuses k old out new) (sym is) (event_answers same old out new a)
-
 -- ---- other commands
 
 -- the map of the number, or that there is none, is the answer to `entries`

@@ -4,8 +4,6 @@ use Rattle.std.specs.List.{flat_map, slice_get}
 use Rattle.std.specs.Fmt.{decimal}
 use Rattle.std.specs.Option.{option_map_or}
 use Rattle.ds_entry.specs.declared.item.Item.{Item}
-use Rattle.ds_entry.specs.Change.{IsInPlace}
-use Rattle.ds_entry.specs.Item.{IsItemInPlace}
 use Rattle.ds_line.specs.ItemSpelling.{item_spelling}
 use Rattle.ds_held.specs.Limits.{larger}
 use Rattle.ds_held.specs.Held.{held_items}
@@ -15,7 +13,7 @@ use Rattle.ds_replica.specs.declared.event.Event.{Event}
 use Rattle.ds_replica.specs.declared.event.Side.{Side}
 use Rattle.ds_replica.specs.declared.outcome.Outcome.{Outcome}
 use Rattle.ds_replica.specs.declared.outcome.Outcome.TheVariants.{Made}
-use Rattle.ds_words.specs.Command.{IsCommand, IsLineAs, is_plain}
+use Rattle.ds_words.specs.Command.{IsCommand, CommandTakesMemory, IsLineAs}
 use Rattle.ds_words.specs.Later.{IsLater}
 use Rattle.ds_lines.specs.Lines.{with_newline}
 use Rattle.ds_words.specs.Event.{event_of}
@@ -118,25 +116,15 @@ AnswersCommand command old out new = AnswersAsEvent command old out new
 abbrev pub IsLineRefused : SessionContent → List ℕ → SessionContent → Type 0
 IsLineRefused old out new = (new ≡ old) × (out ≡ refused_noroom)
 
--- The script itself takes memory for the command: for a text or a blob of what is offered or published, for a copy of what is shown,
--- of a map that is there too, for the stores' rings, for what the line asks, or for settings. Where others are refused for want of
--- memory, it is the world, RS or a table that refuses them.
+-- The script itself takes memory for the command: to show items, those of a map that exists too, for the stores' rings, for
+-- settings, or for a text, a blob or a pattern of the line. Other commands are refused NoRoom by the world, RS or a table.
 abbrev pub AnswerTakesRoom : ScriptCommand → SessionContent → Type 0
-AnswerTakesRoom (lines.Offer item) old = ¬ IsItemInPlace item
-AnswerTakesRoom (lines.Publish caller key version value overwrite) old = ¬ IsInPlace value
 AnswerTakesRoom lines.Show old = Unit {0}
 AnswerTakesRoom lines.All old = Unit {0}
 AnswerTakesRoom (lines.Entries map) old = slice_get old.world.maps map ≢ None
 AnswerTakesRoom (lines.Ring ring) old = Unit {0}
-AnswerTakesRoom (lines.Map query) old = Unit {0}
 AnswerTakesRoom (lines.Settings text) old = Unit {0}
-AnswerTakesRoom command old = is_plain command ≡ false
-
--- the line has an item or a value: the store is asked for it with no event made of it
-abbrev pub has_value : ScriptCommand → Bool
-has_value (lines.Offer item) = true
-has_value (lines.Publish caller key version value overwrite) = true
-has_value _ = false
+AnswerTakesRoom command old = CommandTakesMemory command
 
 -- what a command is answered, memory or not
 abbrev pub AnswersOrRefuses : ScriptCommand → SessionContent → List ℕ → SessionContent → Type 0

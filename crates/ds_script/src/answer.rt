@@ -2,11 +2,10 @@
 
 ghost use Rattle.std.specs.Prelude.{◌≡◌, ◌≤◌, ◌++◌, false, OnOk, OnErr};
 ghost use Rattle.store_words.specs.Outcome.{ring_line};
-ghost use Rattle.ds_words.specs.Command.{IsCommand};
+ghost use Rattle.ds_words.specs.Command.{IsCommand, is_offer};
 ghost use Rattle.ds_words.specs.ServiceEvent.{request_event};
-ghost use Rattle.ds_script.specs.Answer.{AppendsCommand, AppendsRing, AppendsSide, has_value};
+ghost use Rattle.ds_script.specs.Answer.{AppendsCommand, AppendsRing, AppendsSide};
 
-use crate::asking::{answer_offer, answer_publish, answer_retrieve};
 use crate::entries::append_entries;
 use crate::event::answer_event;
 use crate::session::Session;
@@ -19,44 +18,20 @@ use std::alloc::Global;
 use std::mem::swap;
 use store_words::{append_noroom, append_ring, append_side};
 
-/// Carries a command out, and puts its answer behind those that wait.
+/// Carries out any command but an offer, and appends its answer to the output. Not inlined: its locals would be cleared
+/// for every line.
 ///
-/// A command that there is no memory for is refused by name, and changes nothing. `Err` says that there was
-/// no room for the answer itself, and none of it stands then.
+/// A command that memory runs out for is refused by name, and changes nothing. `Err`: out of memory for the answer itself,
+/// of which nothing is appended.
+#[inline(never)]
 pub(crate) fn answer_command(
     alloc: Global,
     session: &mut Session,
     output: &mut Vec<u8>,
     command: ScriptCommand,
 ) -> Result<(), NoRoom>
-    requires { IsCommand command }
-    ensures answered { OnOk result (AppendsCommand command output.old.items output.new.items session.old session.new) }
-    ensures unanswered { OnErr result (output.new.items ≡ output.old.items) }
-{
-    match command {
-        ScriptCommand::Offer(item) => answer_offer(session, output, &item),
-        ScriptCommand::Publish {
-            caller,
-            key,
-            version,
-            value,
-            overwrite,
-        } => answer_publish(session, output, caller, &key, version, value, overwrite),
-        ScriptCommand::Retrieve { key } => answer_retrieve(session, output, key),
-        other => answer_other(alloc, session, output, other),
-    }
-}
-
-// The same of any other command. It stays a call: what is cleared for it would be cleared for each line.
-#[inline(never)]
-fn answer_other(
-    alloc: Global,
-    session: &mut Session,
-    output: &mut Vec<u8>,
-    command: ScriptCommand,
-) -> Result<(), NoRoom>
     requires written { IsCommand command }
-    requires other { has_value command ≡ false }
+    requires other { is_offer command ≡ false }
     ensures answered { OnOk result (AppendsCommand command output.old.items output.new.items session.old session.new) }
     ensures unanswered { OnErr result (output.new.items ≡ output.old.items) }
 {

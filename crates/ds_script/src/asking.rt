@@ -2,6 +2,7 @@
 //! another's command take, and none makes an event and an outcome of what the store can be asked directly.
 
 ghost use Rattle.std.specs.Prelude.{◌≡◌, OnOk, OnErr};
+ghost use Rattle.ds_machine.specs.declared.command.Command.TheVariants as commands;
 ghost use Rattle.ds_words.specs.declared.command.ScriptCommand.TheVariants as lines;
 ghost use Rattle.ds_script.specs.Answer.{AppendsEvent};
 
@@ -36,7 +37,7 @@ pub(crate) fn answer_publish(
     value: Value,
     overwrite: bool,
 ) -> Result<(), NoRoom>
-    ensures answered { OnOk result (AppendsEvent (lines.Publish caller key.now version value overwrite)
+    ensures answered { OnOk result (AppendsEvent (lines.Store (commands.Publish caller key.now version value overwrite))
         output.old.items output.new.items session.old session.new) }
     ensures unanswered { OnErr result (output.new.items ≡ output.old.items) }
 {
@@ -50,7 +51,7 @@ pub(crate) fn answer_retrieve(
     output: &mut Vec<u8>,
     key: Key,
 ) -> Result<(), NoRoom>
-    ensures answered { OnOk result (AppendsEvent (lines.Retrieve key) output.old.items output.new.items session.old session.new) }
+    ensures answered { OnOk result (AppendsEvent (lines.Store (commands.Retrieve key)) output.old.items output.new.items session.old session.new) }
     ensures unanswered { OnErr result (output.new.items ≡ output.old.items) }
 {
     let reply = session.ask(Command::Retrieve { key });

@@ -1,8 +1,9 @@
 //! Commands that are events of a world, and what is told of them.
 
 ghost use Rattle.std.specs.Prelude.{◌≡◌, ◌≢◌, ◌++◌, false, None, OnOk, OnErr};
+ghost use Rattle.ds_words.specs.Command.{is_offer};
 ghost use Rattle.ds_words.specs.Event.{event_of};
-ghost use Rattle.ds_script.specs.Answer.{AppendsEvent, has_value, told_lines};
+ghost use Rattle.ds_script.specs.Answer.{AppendsEvent, told_lines};
 
 use crate::session::Session;
 use ds_held::Limits;
@@ -10,10 +11,9 @@ use ds_names::NoRoom;
 use ds_replica::Outcome;
 use ds_words::ScriptCommand;
 use std::alloc::Global;
-use store_words::{Wording, append_message, append_noroom, append_outcome};
+use store_words::{Wording, append_message, append_outcome};
 
-/// Lets the event of a command happen, and puts what came of it behind the answers that wait. What has an item or a value the store
-/// is asked directly.
+/// Applies the event of any command but an offer to the world, and appends its outcome to the output.
 pub(crate) fn answer_event(
     alloc: Global,
     session: &mut Session,
@@ -21,15 +21,15 @@ pub(crate) fn answer_event(
     command: ScriptCommand,
 ) -> Result<(), NoRoom>
     requires event { event_of session.old.side command ≢ None }
-    requires other { has_value command ≡ false }
+    requires other { is_offer command ≡ false }
     ensures answered { OnOk result (AppendsEvent command output.old.items output.new.items session.old session.new) }
     ensures unanswered { OnErr result (output.new.items ≡ output.old.items) }
 {
     let wording = command.wording();
     let event = match command.into_event(alloc, session.side()) {
         Ok(Some(event)) => event,
-        Ok(None) => unreachable!(),
-        Err(NoRoom) => return append_noroom(output),
+        // Only the event of an offer takes memory.
+        Ok(None) | Err(NoRoom) => unreachable!(),
     };
     let outcome = session.happen(event);
     append_told(alloc, output, wording, &outcome, session)

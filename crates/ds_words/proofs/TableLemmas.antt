@@ -5,8 +5,9 @@ use Rattle.ds_names.specs.declared.kind.Kind.TheVariants.{U32}
 use Rattle.ds_line.specs.Piece.{Found, StopsIn}
 use Rattle.ds_line.specs.declared.part_fault.PartFault.TheVariants.{BadPart}
 use Rattle.ds_line.proofs.PieceLemmas.{One, Views, view_found, view_stops}
+use Rattle.ds_machine.specs.declared.command.Command.TheVariants.{Publish, Delete, Sweep, Retrieve, NameOf, Subscribe, Check, Since, Snapshot, Page, Merge}
 use Rattle.ds_words.specs.declared.command.ScriptCommand.{ScriptCommand}
-use Rattle.ds_words.specs.declared.command.ScriptCommand.TheVariants.{Offer, Show, All as Everything, Publish, Delete, Sweep, Retrieve, NameOf, Subscribe, Check, Map, Entries, Ring, Side as OnSide, Clear, Restart, Deliver, Since, Snapshot, Page, Settings, Service, Death, Beat, Tick, Assign, Follow, Submit, Reply}
+use Rattle.ds_words.specs.declared.command.ScriptCommand.TheVariants.{Offer, Show, All as Everything, Store, Map, Entries, Ring, Side as OnSide, Clear, Restart, Deliver, Settings, Service, Death, Beat, Tick, Assign, Follow, Submit, Reply}
 use Rattle.ds_words.specs.declared.slot.Slot.{Slot}
 use Rattle.ds_words.specs.declared.slot.Slot.TheVariants as slots
 use Rattle.ds_words.specs.declared.word.Word.{Word as CommandWord}
@@ -66,21 +67,21 @@ pub row : (m : ScriptCommand) → IsCommand m → Row m (command_word m)
 row (Offer i) is = record { fields = i; can = is; parts = refl; back = refl }
 row Show is = record { fields = tt; can = tt; parts = refl; back = refl }
 row Everything is = record { fields = tt; can = tt; parts = refl; back = refl }
-row (Publish caller key version value overwrite) is =
+row (Store (Publish caller key version value overwrite)) is =
     record { fields = (caller, (overwrite, (key, (version, value)))); can = (is.0, (tt, (is.1, (is.2, is.3)))); parts = refl; back = refl }
-row (Delete caller key version) is =
+row (Store (Delete caller key version)) is =
     record { fields = (caller, (key, (version, tt))); can = (is.0, (is.1, (is.2, tt))); parts = refl; back = refl }
-row (Sweep caller owner generation) is =
+row (Store (Sweep caller owner generation)) is =
     record { fields = (caller, (owner, (generation, tt))); can = (is.0, (is.1, (is.2, tt))); parts = refl; back = refl }
-row (Retrieve key) is = record { fields = (key, tt); can = (is, tt); parts = refl; back = refl }
-row (NameOf endpoint) is = record { fields = (endpoint, tt); can = (is, tt); parts = refl; back = refl }
-row (Subscribe sub query initial overwrite) is = record {
+row (Store (Retrieve key)) is = record { fields = (key, tt); can = (is, tt); parts = refl; back = refl }
+row (Store (NameOf endpoint)) is = record { fields = (endpoint, tt); can = (is, tt); parts = refl; back = refl }
+row (Store (Subscribe sub query initial overwrite)) is = record {
   fields = (sub, (query.text, (query.kinds, (initial, (overwrite, tt)))));
   can = (is.0, (is.1.text, ((is.1.some, is.1.limit), (tt, (tt, tt)))));
   parts = refl;
   back = refl;
 }
-row (Check sub max) is = record { fields = (sub, (max, tt)); can = (is.0, (is.1, tt)); parts = refl; back = refl }
+row (Store (Check sub max)) is = record { fields = (sub, (max, tt)); can = (is.0, (is.1, tt)); parts = refl; back = refl }
 row (Map query) is =
     record { fields = (query.text, (query.kinds, tt)); can = (is.text, ((is.some, is.limit), tt)); parts = refl; back = refl }
 row (Entries map) is = record { fields = (map, tt); can = (is, tt); parts = refl; back = refl }
@@ -90,15 +91,16 @@ row (Clear map) is = record { fields = (map, tt); can = (is, tt); parts = refl; 
 row (Restart side incarnation) is = record { fields = (side, (incarnation, tt)); can = (tt, (is, tt)); parts = refl; back = refl }
 row (Deliver message holder count) is =
     record { fields = (message, (holder, (count, tt))); can = (is.0, (is.1, (is.2, tt))); parts = refl; back = refl }
-row (Since scope cursor max) is = record {
+row (Store (Since scope cursor max)) is = record {
   fields = (scope, (cursor.incarnation, (cursor.position, (max, tt))));
   can = (is.0, (is.1, (is.2, (is.3, tt))));
   parts = refl;
   back = refl;
 }
-row (Snapshot scope) is = record { fields = (scope, tt); can = (is, tt); parts = refl; back = refl }
-row (Page scope after max) is =
+row (Store (Snapshot scope)) is = record { fields = (scope, tt); can = (is, tt); parts = refl; back = refl }
+row (Store (Page scope after max)) is =
     record { fields = (scope, ((after, max), tt)); can = (is.0, ((is.1, is.2), tt)); parts = refl; back = refl }
+row (Store (Merge items)) is = absurd is
 row (Settings text) is = record { fields = text; can = is; parts = refl; back = refl }
 row (Service request label tick) is =
     record { fields = (request, (label, (tick, tt))); can = (tt, (is.0, (is.1, tt))); parts = refl; back = refl }

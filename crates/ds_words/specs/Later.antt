@@ -1,6 +1,6 @@
 -- The lines behind the first one of a script: the same, but that none of them is a `ring` line.
 use Rattle.std.specs.Prelude.{◌≢◌, ℕ, List, Result}
-use Rattle.ds_words.specs.Command.{IsCommand, command_word, ReadsAs, IsLineAs, IsBadLineAs}
+use Rattle.ds_words.specs.Command.{IsCommand, command_word, ReadsAs}
 use Rattle.ds_words.specs.declared.word.Word.TheVariants as words
 use Rattle.ds_words.specs.declared.command.ScriptCommand.{ScriptCommand}
 use Rattle.ds_words.specs.declared.fault.CommandFault.{CommandFault}
@@ -12,11 +12,3 @@ IsLater command = IsCommand command × (command_word command ≢ words.Ring)
 -- what the reader of such a line, newline included, answers
 abbrev pub ReadsLater : List ℕ → Result ScriptCommand CommandFault → Type 0
 ReadsLater bytes result = ReadsAs IsLater bytes result
-
--- the line, without its newline, is the command's, and may stand behind the first one
-abbrev pub IsLaterLineOf : ScriptCommand → List ℕ → Type 0
-IsLaterLineOf command line = IsLineAs IsLater command line
-
--- a line behind the first one is bad at the place
-abbrev pub IsBadLaterLine : List ℕ → ℕ → Type 0
-IsBadLaterLine line place = IsBadLineAs IsLater line place

@@ -7,9 +7,10 @@ use Rattle.ds_entry.specs.Item.{IsItemInPlace}
 use Rattle.ds_line.specs.Piece.{Found}
 use Rattle.ds_line.specs.declared.part_fault.PartFault.{PartFault}
 use Rattle.ds_line.specs.declared.part_fault.PartFault.TheVariants.{NoRoom}
+use Rattle.ds_machine.specs.declared.command.Command.TheVariants.{Publish, Delete, Sweep, Retrieve, NameOf, Subscribe, Check, Since, Snapshot, Page}
 use Rattle.ds_pattern.specs.Under.{query_of}
 use Rattle.ds_words.specs.declared.command.ScriptCommand.{ScriptCommand}
-use Rattle.ds_words.specs.declared.command.ScriptCommand.TheVariants.{Offer, Show, All, Publish, Delete, Sweep, Retrieve, NameOf, Subscribe, Check, Map, Entries, Ring, Side, Clear, Restart, Deliver, Since, Snapshot, Page, Settings, Service, Death, Beat, Tick, Assign, Follow, Submit, Reply}
+use Rattle.ds_words.specs.declared.command.ScriptCommand.TheVariants.{Offer, Show, All, Store, Map, Entries, Ring, Side, Clear, Restart, Deliver, Settings, Service, Death, Beat, Tick, Assign, Follow, Submit, Reply}
 use Rattle.ds_words.specs.declared.slot.Slot.{Slot}
 use Rattle.ds_words.specs.declared.slot.Slot.TheVariants as slots
 use Rattle.ds_words.specs.declared.word.Word.{Word}
@@ -25,13 +26,13 @@ abbrev pub command_in : (w : Word) → (line_of w).Of → ScriptCommand
 command_in words.Offer x = Offer x
 command_in words.Show x = Show
 command_in words.All x = All
-command_in words.Publish x = Publish x.0 x.1.1.0 x.1.1.1.0 x.1.1.1.1 x.1.0
-command_in words.Delete x = Delete x.0 x.1.0 x.1.1.0
-command_in words.Sweep x = Sweep x.0 x.1.0 x.1.1.0
-command_in words.Retrieve x = Retrieve x.0
-command_in words.NameOf x = NameOf x.0
-command_in words.Subscribe x = Subscribe x.0 (query_of x.1.0 x.1.1.0) x.1.1.1.0 x.1.1.1.1.0
-command_in words.Check x = Check x.0 x.1.0
+command_in words.Publish x = Store (Publish x.0 x.1.1.0 x.1.1.1.0 x.1.1.1.1 x.1.0)
+command_in words.Delete x = Store (Delete x.0 x.1.0 x.1.1.0)
+command_in words.Sweep x = Store (Sweep x.0 x.1.0 x.1.1.0)
+command_in words.Retrieve x = Store (Retrieve x.0)
+command_in words.NameOf x = Store (NameOf x.0)
+command_in words.Subscribe x = Store (Subscribe x.0 (query_of x.1.0 x.1.1.0) x.1.1.1.0 x.1.1.1.1.0)
+command_in words.Check x = Store (Check x.0 x.1.0)
 command_in words.Map x = Map (query_of x.0 x.1.0)
 command_in words.Entries x = Entries x.0
 command_in words.Ring x = Ring x.0
@@ -39,9 +40,9 @@ command_in words.Side x = Side x.0
 command_in words.Clear x = Clear x.0
 command_in words.Restart x = Restart x.0 x.1.0
 command_in words.Deliver x = Deliver x.0 x.1.0 x.1.1.0
-command_in words.Since x = Since x.0 (record { incarnation = x.1.0; position = x.1.1.0 }) x.1.1.1.0
-command_in words.Snapshot x = Snapshot x.0
-command_in words.Page x = Page x.0 x.1.0.0 x.1.0.1
+command_in words.Since x = Store (Since x.0 (record { incarnation = x.1.0; position = x.1.1.0 }) x.1.1.1.0)
+command_in words.Snapshot x = Store (Snapshot x.0)
+command_in words.Page x = Store (Page x.0 x.1.0.0 x.1.0.1)
 command_in words.Settings x = Settings x
 command_in words.Service x = Service x.0 x.1.0 x.1.1.0
 command_in words.Death x = Death x.0 x.1.0 x.1.1.0

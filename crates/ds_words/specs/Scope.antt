@@ -1,5 +1,5 @@
 -- How a line writes of which keys it asks: of all, or of those under a query.
-use Rattle.std.specs.Prelude.{ℕ, Bool, true, false, List, [], ◌∷◌, Option, None, Some}
+use Rattle.std.specs.Prelude.{ℕ, List, [], ◌∷◌, Option, None, Some}
 use Rattle.ds_line.specs.Part.{Part, byte}
 use Rattle.ds_line.specs.Spelling.{space}
 use Rattle.ds_line.specs.Piece.{Piece}
@@ -16,11 +16,6 @@ scope_parts (Under query) = query_parts query
 abbrev pub IsScope : Scope → Type 0
 IsScope All = Unit {0}
 IsScope (Under query) = IsQuery query
-
--- it has no pattern
-abbrev pub is_all : Scope → Bool
-is_all All = true
-is_all (Under query) = false
 
 -- it has a pattern
 abbrev pub ScopeTakesMemory : Scope → Type 0

@@ -2,10 +2,9 @@
 
 use crate::service::{Device, Request, Server};
 use crate::settings_text::SettingsText;
-use ds_entry::{Item, Value};
-use ds_feed::Cursor;
-use ds_machine::Scope;
-use ds_names::{Endpoint, Generation, Key, Name, Version};
+use ds_entry::Item;
+use ds_machine::Command;
+use ds_names::{Endpoint, Name};
 use ds_pattern::Query;
 use ds_replica::{Holder, Side};
 
@@ -18,47 +17,22 @@ pub enum ScriptCommand {
     Show,
     /// `all`: prints all that is held, floors and tombstones too.
     All,
-    /// `publish CALLER new NAME KIND EPOCH.SEQ = VALUE`, or `over` for `new`: puts a value in the caller's name.
-    Publish {
-        caller: Endpoint,
-        key: Key,
-        version: Version,
-        value: Value,
-        overwrite: bool,
-    },
-    /// `delete CALLER NAME KIND EPOCH.SEQ`: leaves a tombstone in the caller's name.
-    Delete {
-        caller: Endpoint,
-        key: Key,
-        version: Version,
-    },
-    /// `sweep CALLER OWNER GENERATION`: raises the floor under the entries of a dead owner.
-    Sweep {
-        caller: Endpoint,
-        owner: Name,
-        generation: Generation,
-    },
-    /// `retrieve NAME KIND`: asks for the value of a live entry.
-    Retrieve {
-        key: Key,
-    },
-    /// `nameof ENDPOINT`: asks for the name of an endpoint.
-    NameOf {
-        endpoint: Endpoint,
-    },
-    /// `subscribe SUB PATTERN KINDS first new`, or `later` for `first`, or `over` for `new`: opens a subscription,
-    /// which with `first` is to be shown what is held already.
-    Subscribe {
-        sub: u32,
-        query: Query,
-        initial: bool,
-        overwrite: bool,
-    },
-    /// `check SUB MAX`: asks for items that the subscription is still to be shown.
-    Check {
-        sub: u32,
-        max: u32,
-    },
+    /// Sends a command to the store:
+    ///
+    /// - `publish CALLER new NAME KIND EPOCH.SEQ = VALUE`, or `over` for `new`
+    /// - `delete CALLER NAME KIND EPOCH.SEQ`
+    /// - `sweep CALLER OWNER GENERATION`
+    /// - `retrieve NAME KIND`
+    /// - `nameof ENDPOINT`
+    /// - `subscribe SUB PATTERN KINDS first new`, or `later` for `first`, or `over` for `new`
+    /// - `check SUB MAX`
+    /// - `since SCOPE INCARNATION POSITION MAX`
+    /// - `snapshot SCOPE`
+    /// - `page SCOPE AFTER MAX`
+    ///
+    /// SCOPE is a pattern and kinds, or `*` for all keys. AFTER is a key, `NAME KIND`, or `-` for the first page. No line is
+    /// a `Merge`: an `offer` merges one item.
+    Store(Command),
     /// `map PATTERN KINDS`: makes a map, which takes over what is delivered to it.
     Map {
         query: Query,
@@ -91,24 +65,6 @@ pub enum ScriptCommand {
         message: u64,
         holder: Holder,
         count: Option<u32>,
-    },
-    /// `since SCOPE INCARNATION POSITION MAX`: asks for what took effect under the scope from a cursor on. A scope is a
-    /// pattern and kinds, or `*` for all keys.
-    Since {
-        scope: Scope,
-        cursor: Cursor,
-        max: u32,
-    },
-    /// `snapshot SCOPE`: asks for all that is held under the scope.
-    Snapshot {
-        scope: Scope,
-    },
-    /// `page SCOPE AFTER MAX`: asks for the first changes that are held under the scope behind a key, `NAME KIND`, or behind
-    /// none, which is `-`.
-    Page {
-        scope: Scope,
-        after: Option<Key>,
-        max: u32,
     },
     /// `settings REST`: tells RS of its services. REST is the rest of the line, any bytes, as a settings text.
     Settings {

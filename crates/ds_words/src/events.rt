@@ -1,7 +1,7 @@
 //! What a line lets happen in a world.
 
-ghost use Rattle.std.specs.Prelude.{◌≡◌, false, IfOk, OnErr};
-ghost use Rattle.ds_words.specs.Command.{is_plain};
+ghost use Rattle.std.specs.Prelude.{◌≡◌, true, IfOk, OnErr};
+ghost use Rattle.ds_words.specs.Command.{is_offer};
 ghost use Rattle.ds_words.specs.Event.{asked_of, event_of};
 
 use crate::command::ScriptCommand;
@@ -16,7 +16,7 @@ impl ScriptCommand {
     /// services and driver tables. NoRoom: out of memory for the list of an `offer`'s one item.
     pub fn into_event(self, alloc: Global, side: Side) -> Result<Option<Event>, NoRoom>
         ensures event { IfOk result (λ event. event ≡ event_of side self) }
-        ensures room { OnErr result (is_plain self ≡ false) }
+        ensures room { OnErr result (is_offer self ≡ true) }
     {
         match self {
             ScriptCommand::Map { query } => Ok(Some(Event::NewMap { query })),

@@ -15,6 +15,7 @@ use crate::publication::Publication;
 use crate::query::query_of;
 use ds_entry::Item;
 use ds_line::{Expected, LineFault, PartFault, read_item_into, stop_at};
+use ds_machine::Command;
 use ds_names::{Key, read_byte};
 use std::alloc::Global;
 
@@ -80,13 +81,13 @@ pub(crate) fn publish_at(alloc: Global, rest: &mut Rest) -> Result<ScriptCommand
         value,
         overwrite,
     } = publication_at(alloc, rest)?;
-    Ok(ScriptCommand::Publish {
+    Ok(ScriptCommand::Store(Command::Publish {
         caller,
         key,
         version,
         value,
         overwrite,
-    })
+    }))
 }
 
 /// Reads what follows `publish`, and gives its parts by themselves.
@@ -116,11 +117,11 @@ pub(crate) fn delete_at(rest: &mut Rest) -> Result<ScriptCommand, PartFault>
     let key = rest.key()?;
     let version = rest.version()?;
     rest.end()?;
-    Ok(ScriptCommand::Delete {
+    Ok(ScriptCommand::Store(Command::Delete {
         caller,
         key,
         version,
-    })
+    }))
 }
 
 /// Reads what follows `sweep`.
@@ -131,11 +132,11 @@ pub(crate) fn sweep_at(rest: &mut Rest) -> Result<ScriptCommand, PartFault>
     let owner = rest.name(Expected::Owner)?;
     let generation = rest.generation(Expected::Generation)?;
     rest.end()?;
-    Ok(ScriptCommand::Sweep {
+    Ok(ScriptCommand::Store(Command::Sweep {
         caller,
         owner,
         generation,
-    })
+    }))
 }
 
 /// Reads what follows `retrieve`.
@@ -143,7 +144,7 @@ pub(crate) fn retrieve_at(rest: &mut Rest) -> Result<ScriptCommand, PartFault>
     ensures { TakesRow words.Retrieve rest.old.bytes.now result }
 {
     let key = retrieved_at(rest)?;
-    Ok(ScriptCommand::Retrieve { key })
+    Ok(ScriptCommand::Store(Command::Retrieve { key }))
 }
 
 /// Reads what follows `retrieve`, and gives its key by itself.
@@ -162,7 +163,7 @@ pub(crate) fn nameof_at(rest: &mut Rest) -> Result<ScriptCommand, PartFault>
 {
     let endpoint = rest.endpoint(Expected::Endpoint)?;
     rest.end()?;
-    Ok(ScriptCommand::NameOf { endpoint })
+    Ok(ScriptCommand::Store(Command::NameOf { endpoint }))
 }
 
 /// Reads what follows `subscribe`.
@@ -178,12 +179,12 @@ pub(crate) fn subscribe_at(alloc: Global, rest: &mut Rest) -> Result<ScriptComma
     let Ok(query) = query_of(alloc, text, kinds) else {
         return Err(PartFault::NoRoom);
     };
-    Ok(ScriptCommand::Subscribe {
+    Ok(ScriptCommand::Store(Command::Subscribe {
         sub,
         query,
         initial,
         overwrite,
-    })
+    }))
 }
 
 /// Reads what follows `check`.
@@ -193,7 +194,7 @@ pub(crate) fn check_at(rest: &mut Rest) -> Result<ScriptCommand, PartFault>
     let sub = rest.number(Expected::Sub)?;
     let max = rest.number(Expected::Max)?;
     rest.end()?;
-    Ok(ScriptCommand::Check { sub, max })
+    Ok(ScriptCommand::Store(Command::Check { sub, max }))
 }
 
 /// Reads what follows `map`.

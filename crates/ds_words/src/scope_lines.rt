@@ -10,6 +10,7 @@ use crate::pieces::Rest;
 use crate::scope::scope_of;
 use ds_feed::Cursor;
 use ds_line::{Expected, PartFault};
+use ds_machine::Command;
 use std::alloc::Global;
 
 /// Reads what follows `since`.
@@ -31,7 +32,7 @@ pub(crate) fn since_at(alloc: Global, rest: &mut Rest) -> Result<ScriptCommand, 
         incarnation,
         position,
     };
-    Ok(ScriptCommand::Since { scope, cursor, max })
+    Ok(ScriptCommand::Store(Command::Since { scope, cursor, max }))
 }
 
 /// Reads what follows `snapshot`.
@@ -46,7 +47,7 @@ pub(crate) fn snapshot_at(alloc: Global, rest: &mut Rest) -> Result<ScriptComman
     let Ok(scope) = scope_of(alloc, text, kinds) else {
         return Err(PartFault::NoRoom);
     };
-    Ok(ScriptCommand::Snapshot { scope })
+    Ok(ScriptCommand::Store(Command::Snapshot { scope }))
 }
 
 /// Reads what follows `page`.
@@ -62,5 +63,5 @@ pub(crate) fn page_at(alloc: Global, rest: &mut Rest) -> Result<ScriptCommand, P
     let Ok(scope) = scope_of(alloc, text, kinds) else {
         return Err(PartFault::NoRoom);
     };
-    Ok(ScriptCommand::Page { scope, after, max })
+    Ok(ScriptCommand::Store(Command::Page { scope, after, max }))
 }

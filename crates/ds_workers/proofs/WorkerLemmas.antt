@@ -4,8 +4,7 @@ use Rattle.desk_rule.specs.declared.view.View.{View}
 use Rattle.desk.specs.declared.pass.Sight.{Ghosts}
 use Rattle.ds_machine.specs.declared.command.Command.{Command}
 use Rattle.ds_machine.specs.declared.reply.Reply.{Reply}
-use Rattle.ds_pass.specs.Led.{Boxed}
-use Rattle.ds_pass.specs.Record.{pass_record}
+use Rattle.ds_pass.specs.Record.{Boxed, pass_record}
 use Rattle.ds_workers.specs.declared.worker.Worker.{Worker}
 use Rattle.ds_workers.specs.Workers.{ComesBack, StorePass}
 use Rattle.ds_workers.proofs.TurnLemmas.{called_more, called_none}

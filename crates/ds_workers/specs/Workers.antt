@@ -6,8 +6,7 @@ use Rattle.desk.specs.declared.pass.Sight.{Ghosts}
 use Rattle.desk.specs.Pass.{desk_of, Pass}
 use Rattle.ds_machine.specs.declared.command.Command.{Command}
 use Rattle.ds_machine.specs.declared.reply.Reply.{Reply}
-use Rattle.ds_pass.specs.Led.{Boxed}
-use Rattle.ds_pass.specs.Record.{pass_record}
+use Rattle.ds_pass.specs.Record.{Boxed, pass_record}
 use Rattle.ds_refresh.specs.KeepsUp.{KeepsUpWith}
 use Rattle.ds_workers.specs.declared.task.Task.{Task}
 use Rattle.ds_workers.specs.declared.task.Task.TheVariants.{Exchange, Follow, Publish}

@@ -7,6 +7,7 @@
 #![tactic(auto)]
 
 mod answers;
+mod front;
 mod live;
 mod recording;
 mod settings;

@@ -1,13 +1,14 @@
 //! The verdict on a recorded trace, and an older one in format 2.
 
 use crate::answers::Answers;
+use crate::front::WithFront;
 use ds_explain::explain_trace;
 use ds_lines::Plain;
 use dsctl_words::{Failure, Greeting, Terminals, Typed, greet};
 use std::io;
 use std::process::ExitCode;
 use std::rt::Runtime;
-use trace_check::{Judged, UpgradeFault, Verdict, judge, upgrade};
+use trace_check::{Judged, Stands, UpgradeFault, Verdict, Wanted, WrongLine, judge, upgrade};
 
 /// Judges the trace on standard input, and prints the verdict on it; of one that isn't legal standard error has what had to stand in
 /// the line that is told. Somebody who types it is greeted.
@@ -16,15 +17,17 @@ pub(crate) fn judge_input(
     terminals: Terminals,
 ) -> Result<ExitCode, Failure> {
     greet(rt, terminals, Greeting::Trace);
-    let mut reader = Plain(Typed::unprompted(rt));
+    let mut reader = Plain(WithFront::new(Typed::unprompted(rt)));
     let judged = judge(rt.alloc(), &mut reader);
-    tell_verdict(rt, &judged, reader.0.fault)
+    let input = reader.0;
+    tell_verdict(rt, &judged, input.first_line(), input.reader.fault)
 }
 
-// Prints the verdict on a trace that was read, and says what is wrong with it; with why a read failed, where one did.
+// Prints the verdict on a trace that was read, and says what is wrong with it; with its first line, and why a read failed, where one did.
 fn tell_verdict(
     rt: &(impl Runtime + AllocGlobal),
     judged: &Judged,
+    first_line: &[u8],
     unread: Option<io::Error>,
 ) -> Result<ExitCode, Failure> {
     let (word, number) = match judged.verdict {
@@ -35,19 +38,34 @@ fn tell_verdict(
         Verdict::NoRoom => return Err(Failure::NoRoom),
     };
     match println!(rt; "{word} {number}") {
-        Ok(()) => Ok(explain_wrong_line(rt, judged)),
+        Ok(()) => Ok(explain_wrong_line(rt, judged, first_line)),
         Err(error) => Err(Failure::WriteFault(Some(error))),
     }
 }
 
 // Says on standard error what had to stand in the line that is told, if one is.
-fn explain_wrong_line(rt: &(impl Runtime + AllocGlobal), judged: &Judged) -> ExitCode {
+fn explain_wrong_line(
+    rt: &(impl Runtime + AllocGlobal),
+    judged: &Judged,
+    first_line: &[u8],
+) -> ExitCode {
     match judged.wrong_line() {
         None => ExitCode::SUCCESS,
         Some(wrong) => {
-            explain_trace(rt, &wrong);
+            explain_trace(rt, &with_header(wrong, first_line));
             ExitCode::from(1)
         }
+    }
+}
+
+// The line that is told, with what stands in the place of a header, which the walk doesn't tell.
+fn with_header<'a>(wrong: WrongLine<'a>, first_line: &'a [u8]) -> WrongLine<'a> {
+    match wrong.wanted {
+        Wanted::Header => WrongLine {
+            stands: Stands::Line(first_line),
+            ..wrong
+        },
+        _ => wrong,
     }
 }
 

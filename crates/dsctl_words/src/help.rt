@@ -23,7 +23,8 @@ A line that can't be read ends the script, and standard error says what was
 expected there; `dsctl replay --keep-going` goes on behind it. There are no
 comments and no blank lines. Somebody who types the script is greeted and
 prompted, and a bad line ends nothing; `dsctl replay --stop` ends it there, too.
-At the prompt `help` or `?` shows the lines, `quit` or `exit` ends, as ^D does.
+At the prompt `help` or `?` shows the lines, `help WORD` explains a line, an
+answer, a refusal or a kind, and `quit` or `exit` ends, as ^D does.
 
 Lines of a script:
   publish CALLER new NAME KIND EPOCH.SEQ = VALUE
@@ -118,10 +119,14 @@ first, and then `moves N`: `send ID ENDPOINT`; `held ID` where a block driver
 isn't there; `answer ID fault` where any other isn't there, or died; and
 `start UNIT ENDPOINT` where a network driver came. ID is above all before it.
 
-The other answers are `taken`, `known` for a repeat, `stale`, and `refused` with
-a word. CALLER and ENDPOINT are GENERATION/SLOT; 0/2 is RS, which alone
-publishes labels and sweeps. An entry but a label has its caller's generation as
-its epoch.
+Other answers:
+  taken              it took effect
+  known              a repeat: it is held already
+  stale              it comes too late: something newer is held
+  refused WORD       it changed nothing, for the reason that WORD names
+
+CALLER and ENDPOINT are GENERATION/SLOT; 0/2 is RS, which alone publishes labels
+and sweeps. An entry but a label has its caller's generation as its epoch.
 
 SUB is 0 to 127, eight for each of 16 servers; MAX is 1 to 256. PATTERN is a
 regular expression in quotes that matches a whole name, with \\\" and \\\\ for a

@@ -9,6 +9,7 @@ mod failure;
 mod help;
 mod help_record;
 mod help_traces;
+mod help_word;
 mod help_words;
 mod live_words;
 mod prompt;

@@ -1,6 +1,7 @@
 //! What somebody at a terminal sees beside the answers, on standard error: a greeting, a prompt, and help where they ask for it.
 
 use crate::help::LINES;
+use crate::help_word::explain_word;
 use std::io::{self, Read};
 use std::rt::Runtime;
 
@@ -57,8 +58,8 @@ pub fn greet(rt: &impl Runtime, terminals: Terminals, greeting: Greeting) {
 
 /// Standard input, with a prompt before each line where somebody types it. Of a failed read it keeps why.
 ///
-/// At the prompt an empty line, `help`, `?`, `quit` and `exit` are taken here, and are no lines of the script. Once it has ended it
-/// reads no more, since a terminal would ask for another ^D.
+/// At the prompt an empty line, `help`, `help WORD`, `quit` and `exit` are taken here, and aren't lines of the script; `?` is `help`. Once the
+/// input has ended it isn't read again, since a terminal would ask for another ^D.
 #[derive(Drop)]
 pub struct Typed<'a, R: Runtime> {
     rt: &'a R,
@@ -115,11 +116,23 @@ impl<'a, R: Runtime> Typed<'a, R> {
         if !began_line || !self.begins_line {
             return Meaning::Line;
         }
-        let meaning = meaning_of(read.trim_ascii());
+        let line = read.trim_ascii();
+        let meaning = meaning_of(line);
         if let Meaning::Help = meaning {
-            let _ = eprintln!(self.rt; "{LINES}\n\n{AT_THE_PROMPT}");
+            self.help(line);
         }
         meaning
+    }
+
+    // Prints the help that a line asks for: of the word after `help`, or all lines.
+    fn help(&self, line: &[u8]) {
+        let (_, rest) = first_word(line);
+        let word = word_asked(rest);
+        if word.is_empty() || is_own(word) {
+            let _ = eprintln!(self.rt; "{LINES}\n\n{AT_THE_PROMPT}");
+        } else {
+            explain_word(self.rt, word);
+        }
     }
 }
 
@@ -132,18 +145,55 @@ enum Meaning {
     End,
 }
 
-const AT_THE_PROMPT: &str = "At the prompt: help or ? shows this, quit or exit or ^D ends.";
+const AT_THE_PROMPT: &str = "\
+At the prompt: help or ? shows this, help WORD explains a line, an answer, a
+refusal or a kind, quit or exit or ^D ends.";
 
-fn meaning_of(word: &[u8]) -> Meaning {
+fn meaning_of(line: &[u8]) -> Meaning {
+    let (word, rest) = first_word(line);
     if word.is_empty() {
         Meaning::Nothing
-    } else if word == b"help".as_slice() || word == b"?".as_slice() {
+    } else if asks_for_help(word) {
         Meaning::Help
-    } else if word == b"quit".as_slice() || word == b"exit".as_slice() {
+    } else if rest.is_empty() && asks_to_end(word) {
         Meaning::End
     } else {
         Meaning::Line
     }
+}
+
+// The first word of a line, and what stands after it and the spaces there.
+fn first_word(line: &[u8]) -> (&[u8], &[u8]) {
+    let count = line
+        .iter()
+        .take_while(|byte| !byte.is_ascii_whitespace())
+        .count();
+    let (word, rest) = line.split_at(count);
+    (word, rest.trim_ascii())
+}
+
+// The word that help is wanted of. An answer `refused WORD` can be given as it was printed.
+fn word_asked(rest: &[u8]) -> &[u8] {
+    let (first, more) = first_word(rest);
+    if first == b"refused".as_slice() && !more.is_empty() {
+        let (word, _) = first_word(more);
+        word
+    } else {
+        first
+    }
+}
+
+fn asks_for_help(word: &[u8]) -> bool {
+    word.eq_ignore_ascii_case(b"help") || word == b"?".as_slice()
+}
+
+fn asks_to_end(word: &[u8]) -> bool {
+    word.eq_ignore_ascii_case(b"quit") || word.eq_ignore_ascii_case(b"exit")
+}
+
+// Whether a word is one of the prompt's own.
+fn is_own(word: &[u8]) -> bool {
+    asks_for_help(word) || asks_to_end(word)
 }
 
 impl<R: Runtime> Read for Typed<'_, R> {

@@ -155,10 +155,9 @@ fn command<'a>(alloc: Global) -> Result<Command<'a>, AllocError> {
 // The program, without its subcommands.
 fn program<'a>(alloc: Global) -> Command<'a> {
     described(alloc, "dsctl", ABOUT, LONG_ABOUT)
-        .version("0.1.0")
+        .version("0.9.0")
         .after_help(LINES)
         .after_long_help(AFTER_HELP)
-        .disable_help_subcommand(true)
 }
 
 fn add_subcommands<'a>(alloc: Global, all: &mut Vec<Command<'a>>) -> Result<(), AllocError> {
@@ -215,15 +214,11 @@ const NOTHING: &str = "Nothing is read by dsctl live, whose options have numbers
 const BEHIND_REPLAY: &str =
     "--keep-going and --stop stand behind a word, as in dsctl replay --keep-going";
 
-// What somebody is told who asked for help by a word.
-const HELP: &str = "Help is an option: dsctl --help, or dsctl settings --help";
-
 // What is said of words that are none of the program's, beside what `clap` has to say.
 fn tip(given: &[String]) -> Option<&'static str> {
     let first = given.get(1)?.as_str();
     match first {
         "--keep-going" | "--stop" => Some(BEHIND_REPLAY),
-        "help" => Some(HELP),
         _ => name_a_file(given).then_some(not_by_name(first)),
     }
 }

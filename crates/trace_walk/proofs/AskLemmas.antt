@@ -149,7 +149,7 @@ module _ (b : Spot) (old : LinesContent) (store : ContentRecord) (h : Header) (f
   pub known_by : (said : Wording) (command : Command) (reply : AReply) (t : State) (f : IsForStore h.format asked said command old.line) → is_some (room_wanted reply) ≡ false → Step b.state command reply t → MayReply h.format h.limits b.state asked (with_newline x.line) →
       (next left : List ℕ) → reply_lines (worded_as asked) reply h.limits ≡ next ++ left → EndsALine next → with_newline x.line ≡ 60 ∷ 32 ∷ next
   known_by said command reply t f room step m next left is ends =
-      told h.format h.limits pass b.state command (with_newline x.line) asked t reply f.asks (f.steps b.state t reply step) (none_of (room_wanted reply) room) (λ e. f.room (x.line_is ∙ e)) (λ items done e less q. f.stops items done e less (x.line_is ∙ q)) m next left is ends
+      told h.format h.limits pass b.state command (with_newline x.line) asked t reply x.may f.asks (f.steps b.state t reply step) (none_of (room_wanted reply) room) (λ e. f.room (x.line_is ∙ e)) (λ items done e less q. f.stops items done e less (x.line_is ∙ q)) m next left is ends
 
 -- ---- a Merge that was stopped
 
@@ -168,12 +168,12 @@ module _ (b : Spot) (old : LinesContent) (store : ContentRecord) (h : Header) (f
 
 -- ---- a sweep of format 1
 
-pub sweep_known : (b : Spot) (old : LinesContent) (store : ContentRecord) (h : Header) (from : Option (List ℕ)) (pass : ℕ) (caller : EndpointRecord) (owner : List ℕ) (generation : ℕ) (kept : List ℕ) (x : Hears b old store h from pass (askeds.Line (commands.Sweep caller owner generation)) kept) →
-    old.line ≢ noroom_line → (reply : AReply) → h.format ≡ One → reply ≡ (older_sweep b.state caller owner generation).0 → MayReply h.format h.limits b.state (askeds.Line (commands.Sweep caller owner generation)) (with_newline x.line) →
+pub sweep_known : (b : Spot) (old : LinesContent) (store : ContentRecord) (h : Header) (from : Option (List ℕ)) (pass : ℕ) (caller : EndpointRecord) (owner : List ℕ) (generation : ℕ) (kept : List ℕ) (x : Hears b old store h from pass (askeds.Line (commands.Store (machine.Sweep caller owner generation))) kept) →
+    old.line ≢ noroom_line → (reply : AReply) → h.format ≡ One → reply ≡ (older_sweep b.state caller owner generation).0 → MayReply h.format h.limits b.state (askeds.Line (commands.Store (machine.Sweep caller owner generation))) (with_newline x.line) →
     (next left : List ℕ) → reply_lines AsMerge reply h.limits ≡ next ++ left → EndsALine next → with_newline x.line ≡ 60 ∷ 32 ∷ next
 sweep_known b old store h from pass caller owner generation kept x room reply one is m next left text ends =
-    told h.format h.limits pass b.state (machine.Sweep caller owner generation) (with_newline x.line) (askeds.Line (commands.Sweep caller owner generation)) (older_sweep b.state caller owner generation).1 reply refl
+    told h.format h.limits pass b.state (machine.Sweep caller owner generation) (with_newline x.line) (askeds.Line (commands.Store (machine.Sweep caller owner generation))) (older_sweep b.state caller owner generation).1 reply x.may refl
     (sweep_step h.format b.state caller owner generation reply one is) (ap room_wanted is ∙ (older_plain b.state caller owner generation).0) (λ e. room (x.line_is ∙ e)) (λ items done e less q. not_merge items e) m next left text ends
   where
-    not_merge : (items : List Item) → askeds.Line (commands.Sweep caller owner generation) ≡ askeds.Merge items → ⊥
+    not_merge : (items : List Item) → askeds.Line (commands.Store (machine.Sweep caller owner generation)) ≡ askeds.Merge items → ⊥
     not_merge items e = cc

@@ -17,7 +17,7 @@ use Rattle.ds_machine.specs.declared.command.Command.TheVariants as commands
 use Rattle.ds_machine.specs.declared.refusal.Refusal.TheVariants as refusals
 use Rattle.ds_machine.specs.declared.reply.Reply.{Reply}
 use Rattle.ds_machine.specs.declared.reply.Reply.TheVariants.{MergeStopped, Refused}
-use Rattle.ds_words.specs.Command.{store_command}
+use Rattle.ds_words.specs.Command.{IsCommand, store_command}
 use Rattle.store_words.specs.Reply.{reply_lines, owed_line}
 use Rattle.ds_words.specs.declared.command.ScriptCommand.{ScriptCommand}
 use Rattle.ds_words.specs.declared.command.ScriptCommand.TheVariants as lines
@@ -95,10 +95,11 @@ stop_is One s t (commands.Snapshot scope) reply done x e = by_step s t _ reply d
 stop_is One s t (commands.Page scope after max) reply done x e = by_step s t _ reply done x e
 stop_is One s t (commands.Merge items) reply done x e = by_step s t _ reply done x e
 
--- of the commands that stand on one line an offer alone is a merge
-offer_is : (c : ScriptCommand) (items : List Item) → store_command c ≡ Some (commands.Merge items) → (i : Item) × (c ≡ lines.Offer i) × (items ≡ i ∷ [])
-offer_is (lines.Offer i) items e = (i, refl, cc)
-offer_is c items e = absurd (cc)
+-- an offer is the only command of one line that asks for a Merge
+offer_is : (c : ScriptCommand) (items : List Item) → IsCommand c → store_command c ≡ Some (commands.Merge items) → (i : Item) × (c ≡ lines.Offer i) × (items ≡ i ∷ [])
+offer_is (lines.Offer i) items is e = (i, refl, cc)
+offer_is (lines.Store (commands.Merge others)) items is e = absurd is
+offer_is c items is e = absurd (cc)
 
 -- ---- the lines for want of memory
 
@@ -146,26 +147,26 @@ few_stop s t items reply done x = omega (arith, x.few, x.some_left)
 module _ (format : Format) (limits : LimitsRecord) (pass : ℕ) (s : State) (command : Command) (line : List ℕ) where
   -- where the reply is that a Merge was stopped, an offer is answered as where it was refused, and any other Merge by a line of its own
   stopped_line_is : (asked : Asked) (t : State) (reply : Reply) (done : ℕ) (first rest : List ℕ) → command_asked asked ≡ Some command → StepOf format s command reply t → IsStop s command reply t done → room_wanted reply ≡ Some (Some done) →
-      reply_lines (worded_as asked) reply limits ≡ first ++ rest → EndsLine first → line ≡ 60 ∷ 32 ∷ first → line ≢ noroom_line → ((items : List Item) (done : ℕ) → asked ≡ askeds.Merge items → done < length items → line ≢ stopped_line done) → ⊥
-  stopped_line_is (askeds.Merge js) t reply done first rest asks step x e text ends is room stops =
+      reply_lines (worded_as asked) reply limits ≡ first ++ rest → EndsLine first → line ≡ 60 ∷ 32 ∷ first → line ≢ noroom_line → ((items : List Item) (done : ℕ) → asked ≡ askeds.Merge items → done < length items → line ≢ stopped_line done) → MayAsk format pass asked → ⊥
+  stopped_line_is (askeds.Merge js) t reply done first rest asks step x e text ends is room stops may =
       let same : js ≡ x.items = items_same js x.items (same_Some (commands.Merge js) command asks ∙ x.merge) in
       let said : first ≡ stop_said done = stop_first done (owed s (course s (take done x.items)).taken) limits first rest (few_stop s t x.items reply done x.stops) (ap (λ (r : Reply). reply_lines AsMerge r limits) (sym x.stops.reply_is) ∙ text) ends in
       stops js done refl (subst (λ (l : List Item). done < length l) (sym same) x.stops.some_left) (is ∙ ap (λ (l : List ℕ). 60 ∷ 32 ∷ l) said)
     where
       items_same : (a b : List Item) → commands.Merge a ≡ commands.Merge b → a ≡ b
       items_same a b q = cc
-  stopped_line_is (askeds.Line c) t reply done first rest asks step x e text ends is room stops =
-      let o = offer_is c x.items (asks ∙ ap (λ (k : Command). Some k) x.merge) in
+  stopped_line_is (askeds.Line c) t reply done first rest asks step x e text ends is room stops may =
+      let o = offer_is c x.items may.0 (asks ∙ ap (λ (k : Command). Some k) x.merge) in
       let merge : command ≡ commands.Merge (o.0 ∷ []) = x.merge ∙ ap (λ (l : List Item). commands.Merge l) o.2 in
       let one : Step s (commands.Merge (o.0 ∷ [])) reply t = is_merge format s t (o.0 ∷ []) reply (subst (λ (k : Command). StepOf format s k reply t) merge step) in
       let wants : is_some (room_wanted reply) ≡ true = ap (λ (p : Option (Option ℕ)). is_some p) e in
       let said : reply_lines AsOffer reply limits ≡ first ++ rest = subst (λ (d : ScriptCommand). reply_lines (worded_as (askeds.Line d)) reply limits ≡ first ++ rest) o.1 text in
       room (noroom_first AsOffer limits line first rest (sym (offer_wants limits s t o.0 reply one wants).0 ∙ said) ends is)
 
-  pub told : (asked : Asked) (t : State) (reply : Reply) → command_asked asked ≡ Some command → StepOf format s command reply t → room_wanted reply ≡ None → line ≢ noroom_line →
+  pub told : (asked : Asked) (t : State) (reply : Reply) → MayAsk format pass asked → command_asked asked ≡ Some command → StepOf format s command reply t → room_wanted reply ≡ None → line ≢ noroom_line →
       ((items : List Item) (done : ℕ) → asked ≡ askeds.Merge items → done < length items → line ≢ stopped_line done) → MayReply format limits s asked line →
       (next left : List ℕ) → reply_lines (worded_as asked) reply limits ≡ next ++ left → EndsLine next → line ≡ 60 ∷ 32 ∷ next
-  told asked t reply asks step none room stops m next left text ends = by_room (room_wanted m.reply) refl
+  told asked t reply may asks step none room stops m next left text ends = by_room (room_wanted m.reply) refl
     where
       other : StepOf format s command m.reply m.new
       other = subst (λ (k : Command). StepOf format s k m.reply m.new) (same_Some m.command command (sym m.asks ∙ asks)) m.step
@@ -178,7 +179,7 @@ module _ (format : Format) (limits : LimitsRecord) (pass : ℕ) (s : State) (com
       by_room (Some None) e =
           absurd (room (noroom_first (worded_as asked) limits line m.first m.rest (ap (λ (r : Reply). reply_lines (worded_as asked) r limits) (sym (refused_is m.reply e)) ∙ m.text) m.ends m.line_is))
       by_room (Some (Some done)) e =
-          absurd (stopped_line_is asked m.new m.reply done m.first m.rest asks other (stop_is format s m.new command m.reply done other e) e m.text m.ends m.line_is room stops)
+          absurd (stopped_line_is asked m.new m.reply done m.first m.rest asks other (stop_is format s m.new command m.reply done other e) e m.text m.ends m.line_is room stops may)
 
 -- ---- a Merge that was stopped
 
@@ -215,16 +216,16 @@ pub sweep_step : (format : Format) (s : State) (caller : EndpointRecord) (owner 
 sweep_step format s caller owner generation reply e is =
     subst (λ (f : Format). StepOf f s (commands.Sweep caller owner generation) reply (older_sweep s caller owner generation).1) (sym e) (inl (record { reply_is = is; state_is = refl }))
 
-pub older_is : (format : Format) (command : ScriptCommand) (swept : Sweep) → older_of format command ≡ Some swept → (format ≡ One) × (command ≡ lines.Sweep swept.caller swept.owner swept.generation)
-older_is One (lines.Sweep caller owner generation) swept e =
+pub older_is : (format : Format) (command : ScriptCommand) (swept : Sweep) → older_of format command ≡ Some swept → (format ≡ One) × (command ≡ lines.Store (commands.Sweep swept.caller swept.owner swept.generation))
+older_is One (lines.Store (commands.Sweep caller owner generation)) swept e =
     let is : record { caller = caller; owner = owner; generation = generation } ≡ swept = same_Some _ swept e in
-    (refl, ap (λ (w : Sweep). lines.Sweep w.caller w.owner w.generation) is)
+    (refl, ap (λ (w : Sweep). lines.Store (commands.Sweep w.caller w.owner w.generation)) is)
 older_is One command swept e = absurd (none_some swept e)
 older_is Two command swept e = absurd (none_some swept e)
 
 -- every other command steps as the machine does
 pub sweep_line : (c : ScriptCommand) (caller : EndpointRecord) (owner : List ℕ) (generation : ℕ) → older_of One c ≡ None → store_command c ≡ Some (commands.Sweep caller owner generation) → ⊥
-sweep_line (lines.Sweep k o n) caller owner generation e asks = none_some _ (sym e)
+sweep_line (lines.Store (commands.Sweep k o n)) caller owner generation e asks = none_some _ (sym e)
 sweep_line c caller owner generation e asks = absurd (cc)
 
 pub plain_steps : (format : Format) (c : ScriptCommand) (command : Command) → older_of format c ≡ None → store_command c ≡ Some command → (s t : State) (reply : Reply) → Step s command reply t → StepOf format s command reply t
@@ -234,7 +235,7 @@ plain_steps One c _ e asks s t reply x = x
 
 -- in format 2 it stays as it is
 plain_stays : (c : ScriptCommand) (s : State) (e : TraceEntry) → older_of One c ≡ None → BecomesAs s e (askeds.Line c) (e ∷ [])
-plain_stays (lines.Sweep caller owner generation) s e older = absurd (none_some _ (sym older))
+plain_stays (lines.Store (commands.Sweep caller owner generation)) s e older = absurd (none_some _ (sym older))
 plain_stays c s e older = refl
 
 line_stays : (format : Format) (c : ScriptCommand) → older_of format c ≡ None → StaysUpgraded format (askeds.Line c)

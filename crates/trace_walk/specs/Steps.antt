@@ -13,6 +13,7 @@ use Rattle.ds_machine.specs.declared.reply.Reply.{Reply}
 use Rattle.ds_machine.specs.declared.reply.Reply.TheVariants as replies
 use Rattle.ds_names.specs.Limits.{most_items}
 use Rattle.ds_words.specs.declared.command.ScriptCommand.{ScriptCommand}
+use Rattle.ds_machine.specs.declared.command.Command.TheVariants as machine
 use Rattle.ds_words.specs.declared.command.ScriptCommand.TheVariants as commands
 use Rattle.store_words.specs.Reply.{reply_lines, refused_noroom}
 use Rattle.store_words.specs.declared.wording.Wording.{Wording}
@@ -161,7 +162,7 @@ FailsAtItem old from before fault = (b : Spot) (pass most : ℕ) → length befo
 
 -- what a sweep asks
 abbrev pub swept_line : Sweep → Asked
-swept_line swept = askeds.Line (commands.Sweep swept.caller swept.owner swept.generation)
+swept_line swept = askeds.Line (commands.Store (machine.Sweep swept.caller swept.owner swept.generation))
 
 -- all lines of this text stood there, the first of which was gone to; it is kept, and what else the walk has stays
 pub record HasSaid (old : Walk) (from : Option (List ℕ)) (text : List ℕ) (new : Walk) (to : Option (List ℕ)) : Type 0 where

@@ -9,6 +9,7 @@ use Rattle.ds_machine.specs.Batches.{AreFree}
 use Rattle.ds_machine.specs.State.{State, takes_effect, owed}
 use Rattle.ds_machine.specs.declared.reply.Reply.{Reply}
 use Rattle.ds_words.specs.declared.command.ScriptCommand.{ScriptCommand}
+use Rattle.ds_machine.specs.declared.command.Command.TheVariants as machine
 use Rattle.ds_words.specs.declared.command.ScriptCommand.TheVariants as commands
 use Rattle.trace_words.specs.declared.header.Format.{Format}
 use Rattle.trace_words.specs.declared.header.Format.TheVariants.{One}
@@ -22,7 +23,7 @@ use Rattle.trace_walk.specs.Merging.{AreEntries}
 
 -- a sweep of format 1, if the command is one
 abbrev pub older_of : Format → ScriptCommand → Option Sweep
-older_of One (commands.Sweep caller owner generation) = Some (record { caller = caller; owner = owner; generation = generation })
+older_of One (commands.Store (machine.Sweep caller owner generation)) = Some (record { caller = caller; owner = owner; generation = generation })
 older_of format command = None
 
 -- the tombstone that it puts over a change, if it puts one

@@ -38,11 +38,13 @@ pub(crate) fn older(command: &ScriptCommand, format: Format) -> Option<Sweep>
     match (format, command) {
         (
             Format::One,
-            ScriptCommand::Sweep {
-                caller,
-                owner,
-                generation,
-            },
+            ScriptCommand::Store(
+                Command::Sweep {
+                    caller,
+                    owner,
+                    generation,
+                },
+            ),
         ) => Some(Sweep {
             caller: *caller,
             owner: *owner,

@@ -23,7 +23,8 @@ use Rattle.ds_pattern.specs.declared.query.Query.{Query}
 use Rattle.ds_machine.specs.declared.command.Scope.{Scope}
 use Rattle.ds_machine.specs.declared.command.Scope.TheVariants as scopes
 use Rattle.ds_words.specs.declared.command.ScriptCommand.{ScriptCommand}
-use Rattle.ds_words.specs.declared.command.ScriptCommand.TheVariants.{Offer, Publish, Delete, Sweep, Retrieve, NameOf, Subscribe, Check, Since, Snapshot, Page}
+use Rattle.ds_machine.specs.declared.command.Command.TheVariants.{Publish, Delete, Sweep, Retrieve, NameOf, Subscribe, Check, Since, Snapshot, Page, Merge}
+use Rattle.ds_words.specs.declared.command.ScriptCommand.TheVariants.{Offer, Store}
 use Rattle.ds_words.specs.Command.{IsCommand, IsVersion, store_command, command_parts, mode_word, initial_word}
 use Rattle.ds_words.specs.Key.{key_parts, version_parts}
 use Rattle.ds_words.specs.Query.{IsQuery, query_parts}
@@ -100,7 +101,7 @@ put_ends v is =
 -- what a command of a trace is written as ends with its one newline
 pub command_ends : (c : ScriptCommand) → IsCommand c → store_command c ≢ None → EndsLine (texts (command_parts c))
 command_ends (Offer i) is asks = word_behind (codes "offer") (space ∷ item_parts i) refl (ends_behind_space (item_parts i) (item_ends i is))
-command_ends (Publish caller key version value overwrite) is asks =
+command_ends (Store (Publish caller key version value overwrite)) is asks =
     let from_mark : List Part = body_parts (Put value) in
     let from_version : List Part = version_parts version ++ space ∷ from_mark in
     let from_key : List Part = key_parts key ++ space ∷ from_version in
@@ -114,7 +115,7 @@ command_ends (Publish caller key version value overwrite) is asks =
     (key_behind key (space ∷ from_version) is.1
     (ends_behind_space from_version
     (version_behind version (space ∷ from_mark) is.2 (ends_behind_space from_mark (put_ends value is.3.valid))))))))))
-command_ends (Delete caller key version) is asks =
+command_ends (Store (Delete caller key version)) is asks =
     let from_version : List Part = version_parts version ++ newline ∷ [] in
     let from_key : List Part = key_parts key ++ space ∷ from_version in
     word_behind (codes "delete") (space ∷ part Endpoint (endpoint_text caller) ∷ space ∷ from_key) refl
@@ -122,7 +123,7 @@ command_ends (Delete caller key version) is asks =
     (endpoint_behind caller (space ∷ from_key) is.0
     (ends_behind_space from_key
     (key_behind key (space ∷ from_version) is.1 (ends_behind_space from_version (version_behind version (newline ∷ []) is.2 newline_ends))))))
-command_ends (Sweep caller owner generation) is asks =
+command_ends (Store (Sweep caller owner generation)) is asks =
     let from_generation : List Part = part Number (decimal generation) ∷ newline ∷ [] in
     let from_owner : List Part = part Name owner ∷ space ∷ from_generation in
     word_behind (codes "sweep") (space ∷ part Endpoint (endpoint_text caller) ∷ space ∷ from_owner) refl
@@ -131,13 +132,13 @@ command_ends (Sweep caller owner generation) is asks =
     (ends_behind_space from_owner
     (name_behind owner (space ∷ from_generation) is.1
     (ends_behind_space from_generation (number_behind generation (newline ∷ []) (omega (arith, is.2)) newline_ends))))))
-command_ends (Retrieve key) is asks =
+command_ends (Store (Retrieve key)) is asks =
     let from_key : List Part = key_parts key ++ newline ∷ [] in
     word_behind (codes "retrieve") (space ∷ from_key) refl (ends_behind_space from_key (key_behind key (newline ∷ []) is newline_ends))
-command_ends (NameOf endpoint) is asks =
+command_ends (Store (NameOf endpoint)) is asks =
     let from_end : List Part = part Endpoint (endpoint_text endpoint) ∷ newline ∷ [] in
     word_behind (codes "nameof") (space ∷ from_end) refl (ends_behind_space from_end (endpoint_behind endpoint (newline ∷ []) is newline_ends))
-command_ends (Subscribe sub query initial overwrite) is asks =
+command_ends (Store (Subscribe sub query initial overwrite)) is asks =
     let from_mode : List Part = part Word (mode_word overwrite) ∷ newline ∷ [] in
     let from_initial : List Part = part Word (initial_word initial) ∷ space ∷ from_mode in
     let from_query : List Part = query_parts query ++ space ∷ from_initial in
@@ -149,12 +150,12 @@ command_ends (Subscribe sub query initial overwrite) is asks =
     (ends_behind_space from_initial
     (word_behind (initial_word initial) (space ∷ from_mode) (initial_is_word initial)
     (ends_behind_space from_mode (word_behind (mode_word overwrite) (newline ∷ []) (mode_is_word overwrite) newline_ends))))))))
-command_ends (Check sub max) is asks =
+command_ends (Store (Check sub max)) is asks =
     let from_max : List Part = part Number (decimal max) ∷ newline ∷ [] in
     word_behind (codes "check") (space ∷ part Number (decimal sub) ∷ space ∷ from_max) refl
     (ends_behind_space (part Number (decimal sub) ∷ space ∷ from_max)
     (number_behind sub (space ∷ from_max) (omega (arith, is.0)) (ends_behind_space from_max (number_behind max (newline ∷ []) (omega (arith, is.1)) newline_ends))))
-command_ends (Since scope cursor max) is asks =
+command_ends (Store (Since scope cursor max)) is asks =
     let from_max : List Part = part Number (decimal max) ∷ newline ∷ [] in
     let from_position : List Part = part Number (decimal cursor.position) ∷ space ∷ from_max in
     let from_incarnation : List Part = part Number (decimal cursor.incarnation) ∷ space ∷ from_position in
@@ -166,13 +167,14 @@ command_ends (Since scope cursor max) is asks =
     (number_behind cursor.incarnation (space ∷ from_position) is.1
     (ends_behind_space from_position
     (number_behind cursor.position (space ∷ from_max) is.2 (ends_behind_space from_max (number_behind max (newline ∷ []) (omega (arith, is.3)) newline_ends))))))))
-command_ends (Snapshot scope) is asks =
+command_ends (Store (Snapshot scope)) is asks =
     let from_scope : List Part = scope_parts scope ++ newline ∷ [] in
     word_behind (codes "snapshot") (space ∷ from_scope) refl (ends_behind_space from_scope (scope_behind scope (newline ∷ []) is newline_ends))
-command_ends (Page scope after max) is asks =
+command_ends (Store (Page scope after max)) is asks =
     let from_range : List Part = range_parts after max ++ newline ∷ [] in
     let from_scope : List Part = scope_parts scope ++ space ∷ from_range in
     word_behind (codes "page") (space ∷ from_scope) refl
     (ends_behind_space from_scope
     (scope_behind scope (space ∷ from_range) is.0 (ends_behind_space from_range (range_behind after max (newline ∷ []) is.1 is.2 newline_ends))))
+command_ends (Store (Merge items)) is asks = absurd is
 command_ends _ is asks = absurd (asks refl)

@@ -12,6 +12,7 @@ use Rattle.ds_line.specs.Part.{texts}
 use Rattle.ds_line.proofs.ItemLemmas.{items_apart}
 use Rattle.ds_machine.specs.State.{State}
 use Rattle.ds_machine.specs.declared.command.Command.{Command}
+use Rattle.ds_machine.specs.declared.command.Command.TheVariants as commands
 use Rattle.ds_words.specs.Command.{command_parts, store_command}
 use Rattle.store_words.specs.Reply.{reply_lines}
 use Rattle.ds_words.specs.declared.command.ScriptCommand.{ScriptCommand}
@@ -39,16 +40,8 @@ use Rattle.trace_words.proofs.WalkLemmas.{head_is, merge_ends}
 -- no command that asks a store begins with `m`
 pub no_merge_line : (c : ScriptCommand) (n : ℕ) → store_command c ≢ None → texts (command_parts c) ≡ merge_text n → ⊥
 no_merge_line (lines.Offer i) n asks e = omega (arith, ap (λ (l : List ℕ). get_or l 0 0) e)
-no_merge_line (lines.Publish caller key version value overwrite) n asks e = omega (arith, ap (λ (l : List ℕ). get_or l 0 0) e)
-no_merge_line (lines.Delete caller key version) n asks e = omega (arith, ap (λ (l : List ℕ). get_or l 0 0) e)
-no_merge_line (lines.Sweep caller owner generation) n asks e = omega (arith, ap (λ (l : List ℕ). get_or l 0 0) e)
-no_merge_line (lines.Retrieve key) n asks e = omega (arith, ap (λ (l : List ℕ). get_or l 0 0) e)
-no_merge_line (lines.NameOf endpoint) n asks e = omega (arith, ap (λ (l : List ℕ). get_or l 0 0) e)
-no_merge_line (lines.Subscribe sub query initial overwrite) n asks e = omega (arith, ap (λ (l : List ℕ). get_or l 0 0) e)
-no_merge_line (lines.Check sub max) n asks e = omega (arith, ap (λ (l : List ℕ). get_or l 0 0) e)
-no_merge_line (lines.Since scope cursor max) n asks e = omega (arith, ap (λ (l : List ℕ). get_or l 0 0) e)
-no_merge_line (lines.Snapshot scope) n asks e = omega (arith, ap (λ (l : List ℕ). get_or l 0 0) e)
-no_merge_line (lines.Page scope after max) n asks e = omega (arith, ap (λ (l : List ℕ). get_or l 0 0) e)
+no_merge_line (lines.Store (commands.Merge items)) n asks e = omega (arith, ap (λ (l : List ℕ). get_or l 0 0) e)
+no_merge_line (lines.Store asked) n asks e = omega (arith, ap (λ (l : List ℕ). get_or l 0 0) e)
 no_merge_line _ n asks e = asks refl
 
 line_short : (pass : ℕ) (c : ScriptCommand) → length (line_text pass c) ≤ 4097 → length (texts (command_parts c)) ≤ 4097

@@ -17,7 +17,7 @@ use Rattle.ds_machine.specs.declared.refusal.Refusal.{Refusal}
 use Rattle.ds_machine.specs.declared.refusal.Refusal.TheVariants as refusals
 use Rattle.ds_machine.specs.declared.reply.Reply.{Reply}
 use Rattle.ds_machine.specs.declared.reply.Reply.TheVariants.{Changed, Known, Swept, Found, Named, Subscribed, Checked, Journaled, Snapped, Paged, Merged, MergeStopped, Refused}
-use Rattle.ds_words.specs.Command.{store_command}
+use Rattle.ds_words.specs.Command.{IsCommand, store_command}
 use Rattle.store_words.specs.Reply.{reply_lines}
 use Rattle.ds_machine.specs.Given.{shown_by, done_by, IsSmall}
 use Rattle.ds_words.specs.declared.command.ScriptCommand.{ScriptCommand}
@@ -124,22 +124,14 @@ reply_spelt One s t (Merge items) reply traced small x = step_spelt One s t (Mer
 
 -- ---- what is asked
 
-line_small : (c : ScriptCommand) (command : Command) → store_command c ≡ Some command → IsSmall command
-line_small (lines.Offer i) command e = subst IsSmall (same_Some (commands.Merge (i ∷ [])) command e) (omega arith)
-line_small (lines.Publish caller key version value overwrite) command e = subst IsSmall (same_Some _ command e) tt
-line_small (lines.Delete caller key version) command e = subst IsSmall (same_Some _ command e) tt
-line_small (lines.Sweep caller owner generation) command e = subst IsSmall (same_Some _ command e) tt
-line_small (lines.Retrieve key) command e = subst IsSmall (same_Some _ command e) tt
-line_small (lines.NameOf endpoint) command e = subst IsSmall (same_Some _ command e) tt
-line_small (lines.Subscribe sub query initial overwrite) command e = subst IsSmall (same_Some _ command e) tt
-line_small (lines.Check sub max) command e = subst IsSmall (same_Some _ command e) tt
-line_small (lines.Since scope cursor max) command e = subst IsSmall (same_Some _ command e) tt
-line_small (lines.Snapshot scope) command e = subst IsSmall (same_Some _ command e) tt
-line_small (lines.Page scope after max) command e = subst IsSmall (same_Some _ command e) tt
-line_small _ command e = absurd (none_some command e)
+line_small : (c : ScriptCommand) (command : Command) → IsCommand c → store_command c ≡ Some command → IsSmall command
+line_small (lines.Offer i) command is e = subst IsSmall (same_Some (commands.Merge (i ∷ [])) command e) (omega arith)
+line_small (lines.Store (Merge items)) command is e = absurd is
+line_small (lines.Store asked) command is e = subst IsSmall (same_Some asked command e) tt
+line_small _ command is e = absurd (none_some command e)
 
 pub asked_small : (format : Format) (pass : ℕ) (asked : Asked) (command : Command) → MayAsk format pass asked → command_asked asked ≡ Some command → IsSmall command
-asked_small format pass (askeds.Line c) command may e = line_small c command e
+asked_small format pass (askeds.Line c) command may e = line_small c command may.0 e
 asked_small format pass (askeds.Merge items) command may e = subst IsSmall (same_Some (commands.Merge items) command e) may.0
 
 -- ---- one reply
@@ -200,4 +192,4 @@ reply_is_one format limits pass (askeds.Merge items) command s t u reply other t
 reply_is_one format limits pass (askeds.Line (lines.Offer i)) command s t u reply other traced may e x y h =
     let same : command ≡ Merge (i ∷ []) = sym (same_Some (Merge (i ∷ [])) command e) in
     offer_one format limits s t u i reply other traced (is_merge format s t (i ∷ []) reply (subst (λ (c : Command). StepOf format s c reply t) same x)) (is_merge format s u (i ∷ []) other (subst (λ (c : Command). StepOf format s c other u) same y)) h
-reply_is_one format limits pass (askeds.Line c) command s t u reply other traced may e x y h = merge_one format limits command s t u reply other traced (line_small c command e) x y h
+reply_is_one format limits pass (askeds.Line c) command s t u reply other traced may e x y h = merge_one format limits command s t u reply other traced (line_small c command may.0 e) x y h

@@ -52,16 +52,11 @@ use Rattle.trace_words.proofs.TombstoneLemmas.{tombstones_are_free, tombstones_a
 
 line_proper : (c : ScriptCommand) (command : Command) → IsCommand c → store_command c ≡ Some command → IsProper command
 line_proper (lines.Offer i) command is e = subst IsProper (same_Some (Merge (i ∷ [])) command e) (one_item i is)
-line_proper (lines.Publish caller key version value overwrite) command is e = subst IsProper (same_Some (Publish caller key version value overwrite) command e) (record { name = is.1; epoch = is.2.epoch; seq = is.2.seq; body = is.3.valid })
-line_proper (lines.Delete caller key version) command is e = subst IsProper (same_Some (Delete caller key version) command e) (record { name = is.1; epoch = is.2.epoch; seq = is.2.seq; body = tt })
-line_proper (lines.Sweep caller owner generation) command is e = subst IsProper (same_Some (Sweep caller owner generation) command e) (record { owner = is.1; generation = is.2 })
-line_proper (lines.Retrieve key) command is e = subst IsProper (same_Some _ command e) tt
-line_proper (lines.NameOf endpoint) command is e = subst IsProper (same_Some _ command e) tt
-line_proper (lines.Subscribe sub query initial overwrite) command is e = subst IsProper (same_Some _ command e) tt
-line_proper (lines.Check sub max) command is e = subst IsProper (same_Some _ command e) tt
-line_proper (lines.Since scope cursor max) command is e = subst IsProper (same_Some _ command e) tt
-line_proper (lines.Snapshot scope) command is e = subst IsProper (same_Some _ command e) tt
-line_proper (lines.Page scope after max) command is e = subst IsProper (same_Some _ command e) tt
+line_proper (lines.Store (Publish caller key version value overwrite)) command is e = subst IsProper (same_Some (Publish caller key version value overwrite) command e) (record { name = is.1; epoch = is.2.epoch; seq = is.2.seq; body = is.3.valid })
+line_proper (lines.Store (Delete caller key version)) command is e = subst IsProper (same_Some (Delete caller key version) command e) (record { name = is.1; epoch = is.2.epoch; seq = is.2.seq; body = tt })
+line_proper (lines.Store (Sweep caller owner generation)) command is e = subst IsProper (same_Some (Sweep caller owner generation) command e) (record { owner = is.1; generation = is.2 })
+line_proper (lines.Store (Merge items)) command is e = absurd is
+line_proper (lines.Store asked) command is e = subst IsProper (same_Some asked command e) tt
 line_proper _ command is e = absurd (none_some command e)
 
 pub asked_proper : (format : Format) (pass : ℕ) (asked : Asked) (command : Command) → MayAsk format pass asked → command_asked asked ≡ Some command → IsProper command
@@ -78,22 +73,14 @@ not_carried : (i : Item) (f : Floor) → Carries One i → Floored f ≡ i → �
 not_carried (Changed c) f carries e = let q : Floored f ≡ Changed c = e in cc
 not_carried (Floored g) f carries e = carries
 
-line_brings : (c : ScriptCommand) (command : Command) → CarriesLine One c → store_command c ≡ Some command → BringsNoFloor command
-line_brings (lines.Offer i) command carries e = subst BringsNoFloor (same_Some (Merge (i ∷ [])) command e) (λ f h. not_carried i f carries (Contains-single i (Floored f) h))
-line_brings (lines.Publish caller key version value overwrite) command carries e = subst BringsNoFloor (same_Some _ command e) tt
-line_brings (lines.Delete caller key version) command carries e = subst BringsNoFloor (same_Some _ command e) tt
-line_brings (lines.Sweep caller owner generation) command carries e = subst BringsNoFloor (same_Some _ command e) tt
-line_brings (lines.Retrieve key) command carries e = subst BringsNoFloor (same_Some _ command e) tt
-line_brings (lines.NameOf endpoint) command carries e = subst BringsNoFloor (same_Some _ command e) tt
-line_brings (lines.Subscribe sub query initial overwrite) command carries e = subst BringsNoFloor (same_Some _ command e) tt
-line_brings (lines.Check sub max) command carries e = subst BringsNoFloor (same_Some _ command e) tt
-line_brings (lines.Since scope cursor max) command carries e = subst BringsNoFloor (same_Some _ command e) tt
-line_brings (lines.Snapshot scope) command carries e = subst BringsNoFloor (same_Some _ command e) tt
-line_brings (lines.Page scope after max) command carries e = subst BringsNoFloor (same_Some _ command e) tt
-line_brings _ command carries e = absurd (none_some command e)
+line_brings : (c : ScriptCommand) (command : Command) → IsCommand c → CarriesLine One c → store_command c ≡ Some command → BringsNoFloor command
+line_brings (lines.Offer i) command is carries e = subst BringsNoFloor (same_Some (Merge (i ∷ [])) command e) (λ f h. not_carried i f carries (Contains-single i (Floored f) h))
+line_brings (lines.Store (Merge items)) command is carries e = absurd is
+line_brings (lines.Store asked) command is carries e = subst BringsNoFloor (same_Some asked command e) tt
+line_brings _ command is carries e = absurd (none_some command e)
 
 asked_brings : (pass : ℕ) (asked : Asked) (command : Command) → MayAsk One pass asked → command_asked asked ≡ Some command → BringsNoFloor command
-asked_brings pass (askeds.Line c) command may e = line_brings c command may.2 e
+asked_brings pass (askeds.Line c) command may e = line_brings c command may.0 may.2 e
 asked_brings pass (askeds.Merge items) command may e = subst BringsNoFloor (same_Some (Merge items) command e) (λ f h. not_carried (Floored f) f (All-contains (MayMerge One) items (Floored f) may.1 h).1 refl)
 
 -- ---- a step of the machine

@@ -82,11 +82,11 @@ entry_two e is = record { pass = is.pass; asked = may_two e.pass e.asked is.aske
 
 -- the command is no sweep
 abbrev IsNoSweep : ScriptCommand → Type 0
-IsNoSweep (lines.Sweep caller owner generation) = ⊥
+IsNoSweep (lines.Store (commands.Sweep caller owner generation)) = ⊥
 IsNoSweep c = Unit {0}
 
 no_sweep : (c : ScriptCommand) (caller : EndpointRecord) (owner : List ℕ) (generation : ℕ) → IsNoSweep c → store_command c ≡ Some (commands.Sweep caller owner generation) → ⊥
-no_sweep (lines.Sweep k o n) caller owner generation other asks = other
+no_sweep (lines.Store (commands.Sweep k o n)) caller owner generation other asks = other
 no_sweep c caller owner generation other asks = absurd (cc)
 
 plain_two : (c : ScriptCommand) (command : Command) (s t : State) (reply : Reply) → IsNoSweep c → store_command c ≡ Some command → StepOf One s command reply t → Step s command reply t
@@ -155,10 +155,10 @@ pub becomes_two : (s t : State) (e : TraceEntry) (new : List TraceEntry) → IsT
 becomes_two s t e new traced is x b = by_asked e.asked refl is.asked b
   where
     by_asked : (asked : Asked) → e.asked ≡ asked → MayAsk One e.pass asked → BecomesAs s e asked new → LeadsAlso s t new
-    by_asked (Line (lines.Sweep caller owner generation)) q may b =
+    by_asked (Line (lines.Store (commands.Sweep caller owner generation))) q may b =
         let command : x.0 ≡ commands.Sweep caller owner generation = same_Some x.0 (commands.Sweep caller owner generation) (sym x.1 ∙ ap (λ (a : Asked). command_asked a) q) in
         let step : StepOf One s (commands.Sweep caller owner generation) e.reply t = subst (λ (k : Command). StepOf One s k e.reply t) command x.2 in
-        let proper = asked_proper One e.pass (Line (lines.Sweep caller owner generation)) (commands.Sweep caller owner generation) may refl in
+        let proper = asked_proper One e.pass (Line (lines.Store (commands.Sweep caller owner generation))) (commands.Sweep caller owner generation) may refl in
         sweep_two s traced e.pass is.pass owner generation proper.owner proper.generation t caller e.reply new step b
     by_asked (Line c) q may b = stays s t e new is (line_two c e s t q tt x) b
     by_asked (Merge items) q may b = stays s t e new is (merge_two items e s t q x) b

@@ -7,7 +7,8 @@ use Rattle.ds_names.specs.Limits.{most_items}
 use Rattle.ds_machine.specs.State.{State, held, owed}
 use Rattle.ds_machine.specs.declared.reply.Reply.{Reply}
 use Rattle.ds_machine.specs.declared.reply.Reply.TheVariants.{Swept, Merged}
-use Rattle.ds_words.specs.declared.command.ScriptCommand.TheVariants.{Sweep}
+use Rattle.ds_machine.specs.declared.command.Command.TheVariants.{Sweep}
+use Rattle.ds_words.specs.declared.command.ScriptCommand.TheVariants.{Store}
 use Rattle.trace_words.specs.declared.asked.Asked.{Asked}
 use Rattle.trace_words.specs.declared.asked.Asked.TheVariants.{Line, Merge}
 use Rattle.trace_words.specs.declared.header.Format.TheVariants.{One, Two}
@@ -41,7 +42,7 @@ SweepBecomes s pass owner generation _ entries = entries ≡ []
 
 -- what an entry becomes, by what it asks: but for sweeps, itself
 abbrev pub BecomesAs : State → TraceEntry → Asked → List TraceEntry → Type 0
-BecomesAs s e (Line (Sweep caller owner generation)) entries = SweepBecomes s e.pass owner generation e.reply entries
+BecomesAs s e (Line (Store (Sweep caller owner generation))) entries = SweepBecomes s e.pass owner generation e.reply entries
 BecomesAs s e _ entries = entries ≡ e ∷ []
 
 -- what entries become, one behind the other, that lead from the one state to the other

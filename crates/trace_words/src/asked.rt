@@ -92,16 +92,7 @@ fn may_stand(command: &ScriptCommand, format: Format) -> bool
 {
     match command {
         ScriptCommand::Offer(item) => may_carry(item, format),
-        ScriptCommand::Publish { .. }
-        | ScriptCommand::Delete { .. }
-        | ScriptCommand::Sweep { .. }
-        | ScriptCommand::Retrieve { .. }
-        | ScriptCommand::NameOf { .. }
-        | ScriptCommand::Subscribe { .. }
-        | ScriptCommand::Check { .. }
-        | ScriptCommand::Since { .. }
-        | ScriptCommand::Snapshot { .. }
-        | ScriptCommand::Page { .. } => true,
+        ScriptCommand::Store(_) => true,
         _ => false,
     }
 }

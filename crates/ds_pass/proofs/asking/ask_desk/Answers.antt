@@ -1,7 +1,6 @@
 use Rattle.std.proofs.lemmas.Result.{IfErr-weaker, IfOk-weaker}
 use Rattle.desk.proofs.SightLemmas.{rests_facts}
-use Rattle.ds_pass.proofs.LedLemmas.{call_fits}
-use Rattle.ds_pass.proofs.PassLemmas.{call_made, found_worn}
+use Rattle.ds_pass.proofs.PassLemmas.{call_fits, call_made, found_worn}
 use Rattle.ds_pass.proofs.asking.ask_desk.Goals as goal
 
 pub returns-clause-called : goal.returns-clause-called

@@ -1,14 +1,8 @@
-use Rattle.std.proofs.Common.{inl, inr, refl, sym, ◌∙◌}
+use Rattle.std.proofs.Common.{inl, sym, ◌∙◌}
 use Rattle.ds_script.specs.Answer.{told_lines}
-use Rattle.store_words.specs.Reply.{refused_noroom}
 use Rattle.store_words.proofs.ResultLemmas.{on_ok}
 use Rattle.ds_script.proofs.EventLemmas.{as_event}
-use Rattle.ds_script.proofs.LineLemmas.{plain_room}
 use Rattle.ds_script.proofs.event.answer_event.Goals as goal
-
-pub returns-in-Err-clause-answered : goal.returns-in-Err-clause-answered
-returns-in-Err-clause-answered c =
-    on_ok c.append_noroom.result (λ written. (refused_noroom, written, inr (plain_room c.args.command c.args.session.now c.requires.other c.in-Err.ensures.room, (refl, refl)))) c.append_noroom.ensures.written
 
 pub returns-clause-answered : goal.returns-clause-answered
 returns-clause-answered c =

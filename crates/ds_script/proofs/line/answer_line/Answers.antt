@@ -1,7 +1,8 @@
-use Rattle.std.proofs.Common.{◌≡◌, Ok, Err, arith}
+use Rattle.std.proofs.Common.{◌≡◌, Ok, Err, sym, ◌∙◌, arith}
+use Rattle.std.proofs.lemmas.Bool.{false≢true}
 use Rattle.std.proofs.lemmas.Result.{IfErr-weaker}
 use Rattle.store_words.proofs.ResultLemmas.{on_ok}
-use Rattle.ds_script.proofs.LineLemmas.{line_behind, answered_behind, unread_behind, unread_fault, keeps}
+use Rattle.ds_script.proofs.LineLemmas.{line_behind, offer_line, answered_behind, unread_behind, unread_fault, keeps}
 use Rattle.ds_script.proofs.line.answer_line.Goals as goal
 
 pub returns-in-Ok-answer_command-clause-ok : goal.returns-in-Ok-answer_command-clause-ok
@@ -46,3 +47,8 @@ returns-then-is_retrieve-clause-ok c = on_ok c.answer_retrieved.result (λ answe
 
 pub returns-then-is_retrieve-clause-fault : goal.returns-then-is_retrieve-clause-fault
 returns-then-is_retrieve-clause-fault c = IfErr-weaker c.answer_retrieved.result _ _ (λ told is. is c.args.before) c.answer_retrieved.ensures.fault
+
+pub answer_command-requires-clause-other : goal.answer_command-requires-clause-other
+answer_command-requires-clause-other c =
+    offer_line c.args.before c.args.line.now c.in-Ok.command (line_behind c.args.before c.args.line.now (Ok c.in-Ok.command) c.in-Ok.ensures.first c.in-Ok.ensures.later)
+    (λ offer. false≢true (sym c.if-is_offer.false ∙ c.is_offer.ensures.1 offer))

@@ -1,7 +1,8 @@
 use Rattle.std.proofs.Common.{◌≡◌, Err}
 use Rattle.std.proofs.lemmas.Result.{IfErr-weaker}
 use Rattle.store_words.proofs.ResultLemmas.{on_ok}
-use Rattle.ds_words.specs.declared.command.ScriptCommand.TheVariants.{Publish}
+use Rattle.ds_machine.specs.declared.command.Command.TheVariants.{Publish}
+use Rattle.ds_words.specs.declared.command.ScriptCommand.TheVariants.{Store}
 use Rattle.ds_script.proofs.LineLemmas.{read_behind, event_behind, unread_behind, unread_fault, keeps}
 use Rattle.ds_script.proofs.line.answer_published.Goals as goal
 
@@ -26,4 +27,4 @@ pub returns-in-Ok-answer_publish-clause-ok : goal.returns-in-Ok-answer_publish-c
 returns-in-Ok-answer_publish-clause-ok c = λ before.
     let p = c.in-Ok.publication in
     let a = (c.in-Ok-answer_publish.ensures).answered in
-    (a.0, a.1, event_behind before c.args.line.now a.0 (Publish p.caller p.key p.version p.value p.overwrite) c.args.session.now c.answer_publish.new.session c.requires.short c.in-Ok.ensures.first c.in-Ok.ensures.later a.2)
+    (a.0, a.1, event_behind before c.args.line.now a.0 (Store (Publish p.caller p.key p.version p.value p.overwrite)) c.args.session.now c.answer_publish.new.session c.requires.short c.in-Ok.ensures.first c.in-Ok.ensures.later a.2)

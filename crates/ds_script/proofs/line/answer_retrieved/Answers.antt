@@ -1,7 +1,8 @@
 use Rattle.std.proofs.Common.{◌≡◌, Err}
 use Rattle.std.proofs.lemmas.Result.{IfErr-weaker}
 use Rattle.store_words.proofs.ResultLemmas.{on_ok}
-use Rattle.ds_words.specs.declared.command.ScriptCommand.TheVariants.{Retrieve}
+use Rattle.ds_machine.specs.declared.command.Command.TheVariants.{Retrieve}
+use Rattle.ds_words.specs.declared.command.ScriptCommand.TheVariants.{Store}
 use Rattle.ds_script.proofs.LineLemmas.{read_behind, event_behind, unread_behind, unread_fault, keeps}
 use Rattle.ds_script.proofs.line.answer_retrieved.Goals as goal
 
@@ -25,4 +26,4 @@ returns-in-Err-clause-kept c = IfErr-weaker c.answer_unread.result (λ told. tol
 pub returns-in-Ok-answer_retrieve-clause-ok : goal.returns-in-Ok-answer_retrieve-clause-ok
 returns-in-Ok-answer_retrieve-clause-ok c = λ before.
     let a = (c.in-Ok-answer_retrieve.ensures).answered in
-    (a.0, a.1, event_behind before c.args.line.now a.0 (Retrieve c.in-Ok.key) c.args.session.now c.answer_retrieve.new.session c.requires.short c.in-Ok.ensures.first c.in-Ok.ensures.later a.2)
+    (a.0, a.1, event_behind before c.args.line.now a.0 (Store (Retrieve c.in-Ok.key)) c.args.session.now c.answer_retrieve.new.session c.requires.short c.in-Ok.ensures.first c.in-Ok.ensures.later a.2)

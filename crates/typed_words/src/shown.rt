@@ -4,7 +4,7 @@ use std::fmt;
 
 /// Bytes for a terminal, one column each.
 #[derive(Clone, Copy)]
-pub(crate) struct Plain<'a>(pub(crate) &'a [u8]);
+pub struct Plain<'a>(pub &'a [u8]);
 
 impl fmt::Display for Plain<'_> {
     fn fmt<W: fmt::Write>(&self, f: &mut fmt::Formatter<W>) -> fmt::Result {

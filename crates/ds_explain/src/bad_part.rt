@@ -1,0 +1,139 @@
+//! What is said of the part at which a command can't be read, wherever the command stands.
+
+use crate::stray::stray_at;
+use crate::wanted::{part, wanted};
+use ds_line::Expected;
+use ds_lines::{LONGEST_LINE, split_line};
+use ds_names::{is_name_byte, read_byte};
+use ds_words::{CommandFault, ScriptCommand, read_line};
+use std::alloc::Global;
+use std::rt::Runtime;
+
+/// The most bytes of a name.
+const LONGEST_NAME: usize = 64;
+
+const CARRIAGE_RETURN: &str = "the end of the line was expected, a carriage return stands there";
+
+/// The part at which the text of a command can't be read.
+#[derive(Clone, Copy)]
+pub(crate) struct BadPart<'a> {
+    /// The number of the line that has the text, from 1.
+    pub number: u64,
+    /// The text as a script has it, without its newline.
+    pub text: &'a [u8],
+    /// The byte of the text at which the part begins.
+    pub place: usize,
+    /// The part that was expected there.
+    pub expected: Expected,
+    /// How many bytes of the line stand before the text.
+    pub before: usize,
+    /// How many bytes at the front of the text the line doesn't have.
+    pub added: usize,
+}
+
+impl<'a> BadPart<'a> {
+    /// Says this of the place.
+    pub(crate) fn say(&self, rt: &impl Runtime, said: &str) {
+        say_at(rt, self.number, self.place_in_line(), said);
+    }
+
+    /// The byte of the line at which the part begins.
+    fn place_in_line(&self) -> usize {
+        self.before
+            .saturating_add(self.place)
+            .saturating_sub(self.added)
+    }
+
+    /// What of the text begins at the place.
+    pub(crate) fn rest(&self) -> &'a [u8] {
+        match self.text.get(self.place..) {
+            Some(rest) => rest,
+            None => &[],
+        }
+    }
+
+    /// What stands at the place, if it has a name that says more than what was expected there.
+    pub(crate) fn stray(&self) -> Option<&'static str> {
+        match self.expected {
+            Expected::Limit => None,
+            _ => stray_at(self.text, self.place, self.rest()),
+        }
+    }
+
+    /// Says which part was expected.
+    pub(crate) fn explain(&self, rt: &(impl Runtime + AllocGlobal)) {
+        match self.expected {
+            Expected::Name | Expected::Owner | Expected::Label => self.explain_name(rt),
+            Expected::Space => self.explain_space(rt),
+            Expected::End => self.say(rt, end_wanted(self.rest())),
+            other => self.say(rt, wanted(other)),
+        }
+    }
+
+    // A space that is missing, and the part that belongs after it.
+    fn explain_space(&self, rt: &(impl Runtime + AllocGlobal)) {
+        match self.part_after(rt.alloc()) {
+            Some(expected) => {
+                let number = self.number;
+                let place = self.place_in_line();
+                let part = part(expected);
+                let _ = eprintln!(rt;
+                    "line {number}, byte {place}: a space was expected, and then {part}"
+                );
+            }
+            None => self.say(rt, wanted(Expected::Space)),
+        }
+    }
+
+    // The part that belongs after a space that is missing: the one that can't be read where the text ends in that space.
+    fn part_after(&self, alloc: Global) -> Option<Expected> {
+        let front = self.text.get(..self.place)?;
+        let count = front.len();
+        if count > LONGEST_LINE {
+            return None;
+        }
+        let mut block = [b'\n'; LONGEST_LINE + 2];
+        block[..count].copy_from_slice(front);
+        block[count] = b' ';
+        let (line, _) = split_line(&block)?;
+        expected_of(&read_line(alloc, line))
+    }
+
+    // A name that is empty or too long, a service's label too, or the owner of a label.
+    fn explain_name(&self, rt: &impl Runtime) {
+        let wanted = wanted(self.expected);
+        let count = name_bytes(self.rest());
+        if count == 0 || count > LONGEST_NAME {
+            let number = self.number;
+            let place = self.place_in_line();
+            let _ = eprintln!(rt; "line {number}, byte {place}: {wanted}; {count} stand there");
+        } else {
+            self.say(rt, wanted);
+        }
+    }
+}
+
+/// Says this of a byte of a line.
+pub(crate) fn say_at(rt: &impl Runtime, number: u64, place: usize, said: &str) {
+    let _ = eprintln!(rt; "line {number}, byte {place}: {said}");
+}
+
+/// What is said where a line has to end and this stands there.
+pub(crate) fn end_wanted(rest: &[u8]) -> &'static str {
+    match read_byte(rest, b'\r') {
+        Some(_) => CARRIAGE_RETURN,
+        None => wanted(Expected::End),
+    }
+}
+
+fn expected_of(read: &Result<ScriptCommand, CommandFault>) -> Option<Expected> {
+    match read {
+        Err(CommandFault::BadLine { expected, .. }) => Some(*expected),
+        _ => None,
+    }
+}
+
+// How many bytes of a name a text begins with.
+fn name_bytes(text: &[u8]) -> usize {
+    text.iter().take_while(|byte| is_name_byte(**byte)).count()
+}

@@ -1,0 +1,194 @@
+//! What is said of a line of a trace that has the mark of an entry or of an item, and can't be read.
+
+use crate::bad_line::COMMANDS;
+use crate::bad_part::{BadPart, end_wanted, say_at};
+use ds_line::word_at;
+use ds_lines::{LONGEST_LINE, split_line};
+use ds_names::{read_byte, read_decimal};
+use ds_words::{CommandFault, ScriptCommand, read_line};
+use std::rt::Runtime;
+use trace_check::{Stands, Wanted, WrongLine};
+use typed_words::{IfNear, Plain, nearest};
+
+/// The words of what a store is asked.
+const ASKED: [&str; 12] = [
+    "publish",
+    "delete",
+    "sweep",
+    "retrieve",
+    "nameof",
+    "subscribe",
+    "check",
+    "since",
+    "snapshot",
+    "page",
+    "offer",
+    MERGE,
+];
+
+const MERGE: &str = "merge";
+
+/// The last pass, and the most items of one merge.
+const LAST_PASS: u64 = 63;
+
+const MOST_ITEMS: u64 = 256;
+
+/// What a script has before an item.
+const OFFER: &[u8] = b"offer ";
+
+/// How many bytes of a word are shown.
+const SHOWN: usize = 28;
+
+const PASS_WANTED: &str = "PASS was expected, 0 to 63 with no zero before it";
+
+const COMMAND_WANTED: &str = "a space was expected, and then a command";
+
+const COUNT_WANTED: &str = "N was expected, 0 to 256 with no zero before it";
+
+const SPACE_WANTED: &str = "a space was expected, and then N";
+
+const SPACE_TOO_MANY: &str = "a command was expected, a space stands there";
+
+const FLOOR: &str = "a floor stands there, and a trace of format 1 has none";
+
+/// Says which part of a line can't be read, if the line has the mark of what had to stand there. Returns whether anything was said.
+pub(crate) fn explain_marked(rt: &(impl Runtime + AllocGlobal), wrong: &WrongLine<'_>) -> bool {
+    match (wrong.wanted, wrong.stands) {
+        (Wanted::Entry, Stands::Line(line)) => explain_entry(rt, wrong.number, line),
+        (Wanted::Item, Stands::Line(line)) => explain_item(rt, wrong.number, line),
+        _ => false,
+    }
+}
+
+// An entry's first line: its mark, its pass, and what is asked.
+fn explain_entry(rt: &(impl Runtime + AllocGlobal), number: u64, line: &[u8]) -> bool {
+    let Some(marked) = line.strip_prefix(b"> ") else {
+        return false;
+    };
+    let Some((_, rest)) = read_decimal(marked, LAST_PASS) else {
+        say_at(rt, number, 2, PASS_WANTED);
+        return true;
+    };
+    let before = line.len().saturating_sub(rest.len());
+    match read_byte(rest, b' ') {
+        Some(text) => explain_asked(rt, number, text, before.saturating_add(1)),
+        None => {
+            say_at(rt, number, before, COMMAND_WANTED);
+            true
+        }
+    }
+}
+
+// What an entry asks, before which so many bytes of the line stand.
+fn explain_asked(
+    rt: &(impl Runtime + AllocGlobal),
+    number: u64,
+    text: &[u8],
+    before: usize,
+) -> bool {
+    let (word, rest) = word_at(text);
+    if word == MERGE.as_bytes() {
+        explain_merge(rt, number, rest, before.saturating_add(MERGE.len()));
+        return true;
+    }
+    if is_among(word, &ASKED) {
+        return explain_command(rt, number, text, before, 0);
+    }
+    if read_byte(text, b' ').is_some() {
+        say_at(rt, number, before, SPACE_TOO_MANY);
+    } else {
+        explain_word(rt, number, word, before);
+    }
+    true
+}
+
+// What stands after the word `merge`.
+fn explain_merge(rt: &impl Runtime, number: u64, rest: &[u8], before: usize) {
+    let Some(count) = read_byte(rest, b' ') else {
+        return say_at(rt, number, before, SPACE_WANTED);
+    };
+    let before = before.saturating_add(1);
+    match read_decimal(count, MOST_ITEMS) {
+        None => say_at(rt, number, before, COUNT_WANTED),
+        Some((_, end)) => {
+            let place = before.saturating_add(count.len().saturating_sub(end.len()));
+            say_at(rt, number, place, end_wanted(end));
+        }
+    }
+}
+
+// A word that asks nothing of a store, at a byte of the line.
+fn explain_word(rt: &impl Runtime, number: u64, word: &[u8], place: usize) {
+    let shown = Plain(&word[..word.len().min(SHOWN)]);
+    if word.is_empty() {
+        say_at(rt, number, place, "a command was expected");
+    } else if is_among(word, &COMMANDS) {
+        let _ = eprintln!(rt; "line {number}, byte {place}: `{shown}` isn't asked of a store");
+    } else {
+        let near = IfNear(nearest(word, &ASKED));
+        let _ = eprintln!(rt; "line {number}, byte {place}: `{shown}` is no command{near}");
+    }
+}
+
+fn is_among(word: &[u8], words: &[&str]) -> bool {
+    words.iter().any(|it| it.as_bytes() == word)
+}
+
+// An item's line: its mark, and the item, which a script offers.
+fn explain_item(rt: &(impl Runtime + AllocGlobal), number: u64, line: &[u8]) -> bool {
+    let Some(item) = line.strip_prefix(b"+ ") else {
+        return false;
+    };
+    let count = item.len();
+    if count > LONGEST_LINE {
+        return false;
+    }
+    let mut block = [b'\n'; LONGEST_LINE + OFFER.len() + 1];
+    block[..OFFER.len()].copy_from_slice(OFFER);
+    block[OFFER.len()..OFFER.len() + count].copy_from_slice(item);
+    explain_command(rt, number, &block, 2, OFFER.len())
+}
+
+// A command with its newline, before which so many bytes of the line stand, and at whose front so many are added. One that can be read
+// has an item that the trace's format doesn't have.
+fn explain_command(
+    rt: &(impl Runtime + AllocGlobal),
+    number: u64,
+    text: &[u8],
+    before: usize,
+    added: usize,
+) -> bool {
+    let Some((line, _)) = split_line(text) else {
+        return false;
+    };
+    let (place, expected) = match read_line(rt.alloc(), line) {
+        Err(CommandFault::BadLine { place, expected }) => (place, expected),
+        Ok(ScriptCommand::Offer(_)) => {
+            let place = before.saturating_add(OFFER.len()).saturating_sub(added);
+            say_at(rt, number, place, FLOOR);
+            return true;
+        }
+        _ => return false,
+    };
+    let part = BadPart {
+        number,
+        text: without_newline(line),
+        place,
+        expected,
+        before,
+        added,
+    };
+    match part.stray() {
+        Some(stray) => part.say(rt, stray),
+        None => part.explain(rt),
+    }
+    true
+}
+
+/// A line without its newline.
+pub(crate) fn without_newline(line: &[u8]) -> &[u8] {
+    match line.strip_suffix(b"\n") {
+        Some(front) => front,
+        None => line,
+    }
+}

@@ -1,0 +1,53 @@
+//! The front of an input, which is kept while the rest is read.
+
+use std::io::{self, Read};
+
+/// How many bytes are kept: more than the header of a trace has.
+const KEPT: usize = 96;
+
+/// A reader that keeps the first bytes that it read.
+#[derive(Drop)]
+pub(crate) struct WithFront<R> {
+    pub(crate) reader: R,
+    front: [u8; KEPT],
+    count: usize,
+}
+
+impl<R: Read> WithFront<R> {
+    /// Over a reader, from which nothing was read yet.
+    pub(crate) fn new(reader: R) -> WithFront<R> {
+        WithFront {
+            reader,
+            front: [0; KEPT],
+            count: 0,
+        }
+    }
+
+    /// Returns the first line that was read, with its newline, as far as it is kept.
+    pub(crate) fn first_line(&self) -> &[u8] {
+        let kept = self.front.get(..self.count).unwrap_or(&[]);
+        match kept.iter().position(|byte| *byte == b'\n') {
+            Some(place) => kept.get(..=place).unwrap_or(kept),
+            None => kept,
+        }
+    }
+
+    // Keeps what was read, as long as there is room.
+    fn keep(&mut self, read: &[u8]) {
+        for byte in read {
+            if self.count >= KEPT {
+                return;
+            }
+            self.front[self.count] = *byte;
+            self.count += 1;
+        }
+    }
+}
+
+impl<R: Read> Read for WithFront<R> {
+    fn read(&mut self, buf: &mut [u8]) -> io::Result<usize> {
+        let count = self.reader.read(buf)?;
+        self.keep(&buf[..count]);
+        Ok(count)
+    }
+}
