@@ -81,13 +81,45 @@ enum ds_word {
     DS_BADLINE     /* to a line that is no command's. count: the byte, from 0, from which on it can not be read; nothing changed */
 };
 
-/* Why a request was refused, in the order in which the store judges; behind them, why a call was. */
+/* Why a request was refused, in the order in which the store judges; after these, why a call was. docs/c.md has a table of them. */
 enum ds_refusal {
     DS_BADSUB = 1, DS_TOOMANY, DS_TOOLONG, DS_BADPATTERN, DS_BADKIND, DS_BADLABEL, DS_BADVERSION, DS_NOCALLER, DS_NOTALLOWED,
     DS_NOTOWNER, DS_CLASH, DS_STALE, DS_EXISTS, DS_NOTFOUND, DS_OLDCURSOR, DS_AHEAD, DS_BEHIND, DS_FULL, DS_WORN, DS_NOROOM,
     DS_BADRING, DS_BADFIRST,
     DS_ISCLOSED, DS_ISOPEN
 };
+
+/* Returns the word of a refusal of enum ds_refusal, as `nocaller`, and "" for every other number, 0 among them. A script prints it after
+ * `refused`. It is static: nobody frees it. */
+static inline const char *ds_refusal_text(uint32_t refusal) {
+    switch (refusal) {
+    case DS_BADSUB: return "badsub";
+    case DS_TOOMANY: return "toomany";
+    case DS_TOOLONG: return "toolong";
+    case DS_BADPATTERN: return "badpattern";
+    case DS_BADKIND: return "badkind";
+    case DS_BADLABEL: return "badlabel";
+    case DS_BADVERSION: return "badversion";
+    case DS_NOCALLER: return "nocaller";
+    case DS_NOTALLOWED: return "notallowed";
+    case DS_NOTOWNER: return "notowner";
+    case DS_CLASH: return "clash";
+    case DS_STALE: return "stale";
+    case DS_EXISTS: return "exists";
+    case DS_NOTFOUND: return "notfound";
+    case DS_OLDCURSOR: return "oldcursor";
+    case DS_AHEAD: return "ahead";
+    case DS_BEHIND: return "behind";
+    case DS_FULL: return "full";
+    case DS_WORN: return "worn";
+    case DS_NOROOM: return "noroom";
+    case DS_BADRING: return "badring";
+    case DS_BADFIRST: return "badfirst";
+    case DS_ISCLOSED: return "isclosed";
+    case DS_ISOPEN: return "isopen";
+    default: return "";
+    }
+}
 
 struct ds_answer {
     uint64_t count, taken, stale;
@@ -101,6 +133,10 @@ struct ds_answer {
     uint8_t kind, last;
     uint8_t owed[16];       /* the subscriptions that are owed a notice, a bit for each: ds_is_owed */
 };
+
+/* How many bytes the longest piece of text has: the line of an item of 1024 bytes of memory, whose name and owner have 64 bytes each. So
+ * a room of as many bytes takes at least one piece, whichever it is. */
+enum { DS_MAX_PIECE = 2204 };
 
 /* Why ds_items or ds_text gave no more: there is no more, the next piece, or byte, does not fit, or memory for it was wanting. */
 enum ds_stop { DS_WHOLE = 0, DS_TOOSMALL = 1, DS_WANTING = 20 };
@@ -144,7 +180,8 @@ uint32_t ds_run(struct ds_handle *handle, const struct ds_request *requests, siz
  * one behind the other, and says in given how many these are. A piece is a name, a string, memory, or the line of an item,
  * with its newline, as docs/formats.md has it; the lines of one store's answer may be the text of another's DS_MERGE.
  * Nothing is lost where room is too small: the next piece is number first + given->count, for as long as no other request
- * was asked.
+ * was asked. So call it until all of the answer's pieces are fetched, as examples/c/driver.c does; given->count is 0 only where the room
+ * has less than DS_MAX_PIECE bytes, memory is wanting, or there is no more.
  * Answers 0, or DS_ISCLOSED, and then room and given are as they were. */
 uint32_t ds_items(struct ds_handle *handle, size_t first, char *room, size_t room_length, struct ds_given *given);
 

@@ -182,17 +182,84 @@ int ds_subscribe(struct ds_caller *caller, const char *pattern, int flags) {
     return asked(caller, &request, pattern, request.text_length, &answer);
 }
 
-/* The parts of an item's line: NAME KIND OWNER .., or ! OWNER GENERATION. */
-static int parsed(const char *line, char *key, int *type, char *owner) {
+/* An item: an entry, its deletion, or a floor, whose type is 0. */
+struct item {
+    char key[DS_MAX_KEYLEN];
+    char owner[DS_MAX_KEYLEN];
+    int type;
+    int is_deletion;
+};
+
+static int type_of(const char *kind) {
+    static const struct {
+        const char *kind;
+        int type;
+    } types[] = {{"label", DS_LABEL}, {"u32", DS_U32}, {"str", DS_STR}, {"mem", DS_MEM}};
+    for (size_t i = 0; i < sizeof types / sizeof *types; i++) {
+        if (strcmp(kind, types[i].kind) == 0) {
+            return types[i].type;
+        }
+    }
+    return 0;
+}
+
+/* Reads the line of an item: NAME KIND OWNER VERSION = VALUE, the same with - for a deletion, or ! OWNER GENERATION. */
+static int read_item(const char *line, struct item *item) {
     char kind[8];
-    if (sscanf(line, "! %64s", key) == 1) {
-        *type = 0;
-        strcpy(owner, key);
+    char sign;
+    memset(item, 0, sizeof *item);
+    if (sscanf(line, "! %64s", item->key) == 1) {
+        strcpy(item->owner, item->key);
         return 0;
     }
-    if (sscanf(line, "%64s %7s %64s", key, kind, owner) != 3) return -EIO;
-    *type = !strcmp(kind, "label") ? DS_LABEL : !strcmp(kind, "u32") ? DS_U32 : !strcmp(kind, "str") ? DS_STR : DS_MEM;
+    if (sscanf(line, "%64s %7s %64s %*s %c", item->key, kind, item->owner, &sign) != 4) {
+        return -EIO;
+    }
+    item->type = type_of(kind);
+    item->is_deletion = sign == '-';
     return 0;
+}
+
+/* A mark stands for an entry that ds_check gave. It is odd if the entry was there then, and even if it was its deletion. */
+enum { MARK_IS_THERE = 1, MARK_IS_TAKEN = 2 };
+
+/* Returns the even mark of an entry: a hash (FNV-1a) of its name and type. If two entries have one hash, which happens to one store in
+ * 2^39 or fewer, a deletion may be given that should be passed over. */
+static uint64_t mark_of(const struct item *item) {
+    uint64_t hash = 0xcbf29ce484222325 ^ (uint64_t)item->type;
+    for (const char *byte = item->key; *byte != '\0'; byte++) {
+        hash = (hash ^ (unsigned char)*byte) * 0x100000001b3;
+    }
+    return (hash & ~(uint64_t)MARK_IS_THERE) | MARK_IS_TAKEN;
+}
+
+/* Returns where the mark is, else the first free place; NULL if there is none, since floors ended entries and others took their places. */
+static uint64_t *place_of(struct ds_caller *caller, uint64_t mark) {
+    for (size_t i = 0; i < DS_MAX_KEYS; i++) {
+        uint64_t *place = &caller->given[(mark / 4 + i) % DS_MAX_KEYS];
+        if (*place == 0 || (*place & ~(uint64_t)MARK_IS_THERE) == mark) {
+            return place;
+        }
+    }
+    return NULL;
+}
+
+/* Marks the item as given, and returns true; or false for the deletion of an entry that the caller wasn't given as being there. */
+static int is_for(struct ds_caller *caller, const struct item *item) {
+    uint64_t mark = mark_of(item);
+    uint64_t *place = item->type == 0 ? NULL : place_of(caller, mark);
+    if (place == NULL) {
+        return 1;
+    }
+    if (!item->is_deletion) {
+        *place = mark | MARK_IS_THERE;
+        return 1;
+    }
+    if ((*place & MARK_IS_THERE) == 0) {
+        return 0;
+    }
+    *place = mark;
+    return 1;
 }
 
 /* Asks for the next item, and fetches it. */
@@ -207,17 +274,28 @@ static int shown(struct ds_caller *caller) {
     return fetched(caller);
 }
 
+/* Takes the next item that is for the caller. */
+static int next_item(struct ds_caller *caller, struct item *item) {
+    do {
+        int error = fetched(caller);
+        if (!error && !caller->line[0]) error = shown(caller);
+        if (!error) error = read_item(caller->line, item);
+        if (error) return error;
+        caller->line[0] = '\0';
+    } while (!is_for(caller, item));
+    return 0;
+}
+
 int ds_check(struct ds_caller *caller, char *key, int *type, ds_endpoint_t *owner) {
-    char name[DS_MAX_KEYLEN];
-    int error = fetched(caller);
-    if (!error && !caller->line[0]) error = shown(caller);
-    if (!error) error = parsed(caller->line, key, type, name);
+    struct item item;
+    int error = next_item(caller, &item);
     if (error) return error;
-    caller->line[0] = '\0';
+    strcpy(key, item.key);
+    *type = item.type;
     *owner = 2; /* RS, who has no label */
-    if (strcmp(name, "rs")) {
-        error = ds_retrieve_label_endpt(caller, name, owner);
-        if (error) *owner = 0; /* an owner that is gone has no endpoint */
+    if (strcmp(item.owner, "rs") != 0 && ds_retrieve_label_endpt(caller, item.owner, owner) != 0) {
+        *owner = 0; /* an owner that is gone has no endpoint */
+        caller->refusal = 0;
     }
     return 0;
 }

@@ -2,9 +2,10 @@
  *
  * Callers share a struct ds_server, which has the store's handle: it begins as DS_SERVER_CLOSED, and is opened and closed by ds_open
  * and ds_close of its store. Each has a struct ds_caller of its own, which begins with zeros and stays where it is while its server
- * is open: the caller's endpoint, by which the store knows it, its subscription, and the number of its last change. Endpoints here are generation * 1024 + slot. The calls are those of MINIX 3.3's lib/libsys/ds.c,
- * written from knowledge of them and not beside them. The numbers of the errors are those of errno.h, negative, as MINIX gives
- * them; the store's own refusals, of which some share one error, stand in the caller's refusal.
+ * is open: the caller's endpoint, by which the store knows it, its subscription, and the number of its last change. Endpoints here are
+ * generation * 1024 + slot. The calls are those of MINIX 3.3's lib/libsys/ds.c, written from knowledge of them and not beside them. The
+ * numbers of the errors are those of errno.h, negative, as MINIX gives them; the store's own refusals, of which some share one error,
+ * stand in the caller's refusal.
  *
  * Left out: ds_publish_map, ds_snapshot_map and ds_retrieve_map, which share memory, and getsysinfo. These calls are tested, and
  * not proved; the store below them is. */
@@ -27,7 +28,8 @@ typedef uint32_t ds_endpoint_t;
 
 #define DS_MAX_KEYLEN 65 /* a key has at most 64 bytes, and a zero behind them */
 
-#define DS_MAX_LINE 4096 /* bytes of the line of an item, and more than the longest has */
+#define DS_MAX_LINE DS_MAX_PIECE /* bytes of the line of an item */
+#define DS_MAX_KEYS 4096         /* keys that a store holds */
 
 struct ds_caller;
 
@@ -47,6 +49,7 @@ struct ds_caller {
     uint32_t refusal;  /* of enum ds_refusal: by what its last call was refused, or 0 */
     uint8_t owed[16];  /* the subscriptions that are owed a notice since it was cleared, a bit for each; who calls clears it */
     char line[DS_MAX_LINE + 1]; /* the item that was shown and not given yet, or nothing */
+    uint64_t given[DS_MAX_KEYS]; /* a mark for each entry that ds_check gave, and 0 where a place is free: 32 KB, so no call takes memory */
 };
 
 /* RS, whose endpoint is 0/2, says where a service is. A label of the same endpoint again changes nothing. */
@@ -71,10 +74,11 @@ int ds_delete_mem(struct ds_caller *caller, const char *name);
 
 /* Follows the entries whose names the pattern matches whole, of the types in flags, or of all where there is none. */
 int ds_subscribe(struct ds_caller *caller, const char *pattern, int flags);
-/* The next entry that changed: its name, type and owner. ENOENT where there is none. key: DS_MAX_KEYLEN bytes. A deletion is
- * an entry too, which then isn't there; of a floor the name is its owner's, and the type 0. ENOMEM loses none: the same entry is
- * given by the next check. Until it is fetched, each call of those who share the server fetches it first, and is ENOMEM where
- * that fails; so let nobody ask the store beside these calls. */
+/* The next entry that changed: its name, type and owner. ENOENT where there is none. key: DS_MAX_KEYLEN bytes. Gives the deletion of an
+ * entry that it gave to this caller before, under the entry's name, which then isn't there; passes over every other deletion, since DS
+ * forgets what was deleted. Of a floor the name is its owner's, and the type 0. ENOMEM loses none: the same entry is given by the next
+ * check. Until it is fetched, each call of those who share the server fetches it first, and is ENOMEM where that fails; so let nobody ask
+ * the store beside these calls. */
 int ds_check(struct ds_caller *caller, char *key, int *type, ds_endpoint_t *owner);
 
 #endif

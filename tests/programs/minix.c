@@ -38,6 +38,65 @@ static void check(struct ds_caller *caller) {
     else printf("check: %s, type %d, owner %u/%u\n", key, type, (unsigned)owner / 1024, (unsigned)owner % 1024);
 }
 
+/* Retrieves an entry, whatever it is. */
+static int retrieve(struct ds_caller *caller, const char *key, int type) {
+    char text[300];
+    size_t length = sizeof text;
+    ds_endpoint_t endpoint;
+    uint32_t number;
+    switch (type) {
+    case DSF_TYPE_LABEL: return ds_retrieve_label_endpt(caller, key, &endpoint);
+    case DSF_TYPE_U32: return ds_retrieve_u32(caller, key, &number);
+    case DSF_TYPE_STR: return ds_retrieve_str(caller, key, text, sizeof text - 1);
+    default: return ds_retrieve_mem(caller, key, text, &length);
+    }
+}
+
+/* A check, and whether what it names is there. */
+static void check_and_retrieve(struct ds_caller *caller) {
+    char key[DS_MAX_KEYLEN] = "";
+    int type = -1;
+    ds_endpoint_t owner = 0;
+    int error = ds_check(caller, key, &type, &owner);
+    if (error) {
+        said("check", error);
+    } else {
+        printf("check: %s, type %d: %s\n", key, type, name_of(retrieve(caller, key, type)));
+    }
+}
+
+/* A caller that subscribes after deletions is given the entries that are there, as by DS, which forgets a deleted entry. */
+static void after_deletions(struct ds_caller *eth) {
+    static struct ds_caller late = {.server = &server, .endpoint = DS_ENDPOINT(0, 6), .sub = 48};
+    said("subscribe after deletions", ds_subscribe(&late, "eth0.*", DSF_INITIAL));
+    check_and_retrieve(&late);
+    check_and_retrieve(&late);
+    check_and_retrieve(&late);
+
+    said("a number that is there between two checks", ds_publish_u32(eth, "eth0.irq", 11, 0));
+    said("its owner deletes it", ds_delete_u32(eth, "eth0.irq"));
+    check_and_retrieve(&late);
+
+    said("a number that was given is deleted", ds_delete_u32(eth, "eth0.mtu"));
+    check_and_retrieve(&late);
+    check_and_retrieve(&late);
+    said("it is there between two checks", ds_publish_u32(eth, "eth0.mtu", 9000, 0));
+    said("its owner deletes it", ds_delete_u32(eth, "eth0.mtu"));
+    check_and_retrieve(&late);
+    said("it is there again", ds_publish_u32(eth, "eth0.mtu", 1500, 0));
+    check_and_retrieve(&late);
+}
+
+/* The owner of an entry may be gone when the entry is given, which is no refusal of the check. */
+static void owner_is_gone(struct ds_caller *rs, struct ds_caller *other) {
+    static struct ds_caller follower = {.server = &server, .endpoint = DS_ENDPOINT(0, 7), .sub = 56};
+    said("subscribe to tty's", ds_subscribe(&follower, "tty0.*", DSF_TYPE_U32));
+    said("tty's number", ds_publish_u32(other, "tty0.rate", 9600, 0));
+    said("tty's label is deleted", ds_delete_label(rs, "tty0"));
+    check(&follower);
+    printf("refusal: %u\n", (unsigned)follower.refusal);
+}
+
 int main(void) {
     struct ds_caller rs = {.server = &server, .endpoint = DS_ENDPOINT(0, 2), .sub = 8};
     struct ds_caller eth = {.server = &server, .endpoint = DS_ENDPOINT(3, 16), .sub = 16};
@@ -101,5 +160,7 @@ int main(void) {
     said("it runs again", ds_publish_label(&rs, "eth0", eth.endpoint, DSF_OVERWRITE));
     said("its number", ds_publish_u32(&eth, "eth0.mtu", 1492, 0));
     check(&inet), check(&inet), check(&inet), check(&inet), check(&inet);
+    after_deletions(&eth);
+    owner_is_gone(&rs, &other);
     return ds_close(&server.store) != 0;
 }
