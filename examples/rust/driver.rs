@@ -1,8 +1,13 @@
 //! The same as examples/c/driver.c, from plain Rust: a driver dies and comes back, and inet follows it.
 //!
-//!     rustc --edition 2021 -O examples/rust/driver.rs -C link-arg=libds_c.a -C link-arg=liblibc_c.a
+//! From the repository's root, once `tools/build ds_c` has built the library:
+//!
+//!     library=crates/ds_c/out/libds_c.a
+//!     heap=$(dirname "$(rt doc | head -n 1)")/c/liblibc_c.a
+//!     rustc --edition 2021 -O examples/rust/driver.rs -C link-arg="$library" -C link-arg="$heap" -o driver_rust
 
 use std::ffi::c_void;
+use std::io::Write;
 
 /// `struct ds_request` of `ds.h`.
 #[repr(C)]
@@ -64,8 +69,34 @@ unsafe extern "C" {
     fn ds_open(handle: *mut *mut c_void, incarnation: u64, first: u64, ring: u32) -> u32;
     fn ds_call(handle: *mut *mut c_void, request: *const Request, texts: *const u8, texts_length: usize, answer: *mut Answer) -> u32;
     fn ds_items(handle: *mut *mut c_void, first: usize, room: *mut u8, room_length: usize, given: *mut Given) -> u32;
+    fn ds_text(handle: *mut *mut c_void, first: usize, room: *mut u8, room_length: usize, given: *mut Given) -> u32;
     fn ds_close(handle: *mut *mut c_void) -> u32;
 }
+
+/// `enum ds_command` of `ds.h`, as far as it is used here.
+mod command {
+    pub const PUBLISH: u32 = 0;
+    pub const SWEEP: u32 = 2;
+    pub const NAMEOF: u32 = 4;
+    pub const SUBSCRIBE: u32 = 5;
+    pub const CHECK: u32 = 6;
+    pub const SINCE: u32 = 7;
+    pub const SNAPSHOT: u32 = 8;
+}
+
+/// `enum ds_kinds`.
+const LABEL: u8 = 1;
+const U32: u8 = 2;
+
+/// `enum ds_word`, by which `Answer::word` is an index.
+const WORDS: [&str; 14] = [
+    "changed", "known", "swept", "found", "named", "subscribed", "checked", "journaled", "snapped", "paged", "merged", "stopped",
+    "refused", "no request",
+];
+
+/// `DS_MAX_PIECE`: a room of as many bytes takes any piece of text.
+const MAX_PIECE: usize = 2204;
+const OUT_OF_MEMORY: &str = "out of memory";
 
 /// A store: a handle that isn't copied, and is closed where it ends.
 struct Store {
@@ -73,30 +104,46 @@ struct Store {
 }
 
 impl Store {
-    fn open(incarnation: u64, first: u64, ring: u32) -> Result<Store, u32> {
+    fn open(incarnation: u64, first: u64, ring: u32) -> Result<Store, &'static str> {
         let mut handle = std::ptr::null_mut();
         // SAFETY: the handle begins as null, and only this struct has it.
         match unsafe { ds_open(&mut handle, incarnation, first, ring) } {
             0 => Ok(Store { handle }),
-            word => Err(word),
+            _ => Err(OUT_OF_MEMORY),
         }
     }
 
-    /// Asks the store; the text of its answer comes beside it.
-    fn ask(&mut self, request: &Request, text: &[u8]) -> (Answer, Vec<u8>) {
-        let (mut answer, mut given, mut all, mut first) = (Answer::default(), Given::default(), Vec::new(), 0);
-        let mut room = [0; 1100];
-        // SAFETY: pointers and lengths are those of values that outlive each call.
-        unsafe { ds_call(&mut self.handle, request, text.as_ptr(), text.len(), &mut answer) };
-        while first < answer.pieces {
+    /// Returns the store's answer to a request, whose text is `text`.
+    fn call(&mut self, request: &Request, text: &[u8]) -> Answer {
+        let request = Request { text_length: text.len() as u64, ..*request };
+        let mut answer = Answer::default();
+        // SAFETY: pointers and lengths are those of values that outlive the call.
+        unsafe { ds_call(&mut self.handle, &request, text.as_ptr(), text.len(), &mut answer) };
+        answer
+    }
+
+    /// Returns the text of the last answer. One `ds_items` fetches the pieces that fit into the room, so it is called until all are there.
+    fn items(&mut self, pieces: u64) -> Result<Vec<u8>, &'static str> {
+        let (mut all, mut room, mut given, mut first) = (Vec::new(), [0; MAX_PIECE], Given::default(), 0);
+        while first < pieces {
+            // SAFETY: as in `call`.
             unsafe { ds_items(&mut self.handle, first as usize, room.as_mut_ptr(), room.len(), &mut given) };
             if given.count == 0 {
-                break;
+                return Err(OUT_OF_MEMORY);
             }
             all.extend_from_slice(&room[..given.length as usize]);
             first += given.count;
         }
-        (answer, all)
+        Ok(all)
+    }
+
+    /// Returns the first line of the last answer as a script prints it: of a refusal `refused WORD`.
+    fn line(&mut self) -> Result<String, &'static str> {
+        let (mut room, mut given) = ([0; MAX_PIECE], Given::default());
+        // SAFETY: as in `call`.
+        unsafe { ds_text(&mut self.handle, 0, room.as_mut_ptr(), room.len(), &mut given) };
+        let text = String::from_utf8_lossy(&room[..given.length as usize]);
+        text.lines().next().map(str::to_string).ok_or(OUT_OF_MEMORY)
     }
 }
 
@@ -106,12 +153,6 @@ impl Drop for Store {
         unsafe { ds_close(&mut self.handle) };
     }
 }
-
-const INET: usize = 40;
-const WORDS: [&str; 14] = [
-    "changed", "known", "swept", "found", "named", "subscribed", "checked", "journaled", "snapped", "paged", "merged", "stopped",
-    "refused", "no request",
-];
 
 fn request(command: u32) -> Request {
     // SAFETY: all its fields are numbers.
@@ -124,39 +165,84 @@ fn named(request: Request, name: &str) -> Request {
     it
 }
 
-/// RS, which is 0/2, says that eth0 runs in this generation and slot.
+const INET: usize = 40; // inet's subscription
+const RS: u16 = 2; // the slot of RS, whose generation is 0
+
+/// RS says that eth0 runs in this generation and slot.
 fn started(generation: u32, slot: u16) -> Request {
-    let it = Request { slot: 2, kinds: 1, overwrite: 1, epoch: generation, value: generation, value_slot: slot, ..request(0) };
+    let it = request(command::PUBLISH);
+    let it = Request { slot: RS, kinds: LABEL, overwrite: 1, epoch: generation, value: generation, value_slot: slot, ..it };
     named(it, "eth0")
 }
 
-/// eth0, known by its endpoint, says its MTU.
-fn mtu(generation: u32, slot: u16, bytes: u32) -> Request {
-    named(Request { generation, epoch: generation, slot, kinds: 2, value: bytes, ..request(0) }, "eth0.mtu")
+fn died(generation: u32) -> Request {
+    named(Request { slot: RS, value: generation, ..request(command::SWEEP) }, "eth0")
 }
 
-fn main() -> Result<(), u32> {
-    let mut store = Store::open(1, 0, 256)?;
-    let mut ask = |what: &str, request: Request, text: &str| {
-        let (answer, lines) = store.ask(&Request { text_length: text.len() as u64, ..request }, text.as_bytes());
-        let refusal = if answer.refusal > 0 { format!(" {}", answer.refusal) } else { String::new() };
-        let owed = answer.owed[INET / 8] >> (INET % 8) & 1 == 1;
-        println!("{what}: {}{refusal}{}", WORDS[answer.word as usize], if owed { ", and inet is owed a notice" } else { "" });
-        print!("{}", String::from_utf8_lossy(&lines));
-    };
-    let check = Request { sub: INET as u32, max: 256, ..request(6) };
-    ask("inet: follow eth0.*", Request { sub: INET as u32, kinds: 3, initial: 1, ..request(5) }, "eth0.*");
-    ask("rs: eth0 runs", started(3, 16), "");
-    ask("eth0: my mtu", mtu(3, 16, 1500), "");
-    ask("inet: what is new", check, "");
-    ask("rs: eth0 died", named(Request { slot: 2, value: 3, ..request(2) }, "eth0"), "");
-    ask("rs: eth0 runs", started(4, 16), "");
-    ask("eth0: my mtu", mtu(3, 16, 9000), ""); // the dead one, late
-    ask("eth0: my mtu", mtu(4, 16, 1492), "");
-    ask("inet: what is new", check, "");
-    ask("inet: who is 4/16", Request { generation: 4, slot: 16, ..request(4) }, "");
+/// eth0, known by its endpoint, says its MTU on a network: eth0.mtu, eth0.mtu1, eth0.mtu2 ..
+fn mtu(generation: u32, slot: u16, bytes: u32, network: usize) -> Request {
+    let name = if network == 0 { "eth0.mtu".to_string() } else { format!("eth0.mtu{network}") };
+    named(Request { generation, epoch: generation, slot, kinds: U32, value: bytes, ..request(command::PUBLISH) }, &name)
+}
+
+/// Sends the store requests, and prints its answers.
+struct Asker {
+    store: Store,
+}
+
+impl Asker {
+    /// Prints the answer: its word, whether inet is owed a notice, and its text.
+    fn ask(&mut self, what: &str, request: Request, text: &str) -> Result<Answer, &'static str> {
+        let answer = self.store.call(&request, text.as_bytes());
+        let word = if answer.refusal > 0 { self.store.line()? } else { WORDS[answer.word as usize].to_string() };
+        let is_owed = answer.owed[INET / 8] >> (INET % 8) & 1 == 1;
+        println!("{what}: {word}{}", if is_owed { ", and inet is owed a notice" } else { "" });
+        let items = self.store.items(answer.pieces)?;
+        std::io::stdout().write_all(&items).map_err(|_| "standard output is closed")?;
+        Ok(answer)
+    }
+
+    /// Asks for items until there are no more, because one answer has at most `request.max` of them.
+    fn ask_for_all(&mut self, what: &str, mut request: Request) -> Result<(), &'static str> {
+        loop {
+            let answer = self.ask(what, request, "")?;
+            if answer.pieces < u64::from(request.max) {
+                return Ok(());
+            }
+            request.position = answer.after; // where the next since begins; a check continues by itself
+        }
+    }
+
+    fn publish_mtus(&mut self, generation: u32, bytes: u32, networks: usize) -> Result<(), &'static str> {
+        for network in 0..networks {
+            self.ask("eth0: my mtu", mtu(generation, 16, bytes, network), "")?;
+        }
+        Ok(())
+    }
+}
+
+/// `driver [NETWORKS]`: eth0 publishes an MTU for each of its networks; by default it has one.
+fn main() -> Result<(), &'static str> {
+    let networks = std::env::args().nth(1).map_or(Ok(1), |it| it.parse()).map_err(|_| "driver [NETWORKS]")?;
+    let mut by = Asker { store: Store::open(1, 0, 256)? };
+    let follow = Request { sub: INET as u32, kinds: LABEL | U32, initial: 1, ..request(command::SUBSCRIBE) };
+    let check = Request { sub: INET as u32, max: 256, ..request(command::CHECK) };
+    by.ask("inet: follow eth0.*", follow, "eth0.*")?;
+
+    by.ask("rs: eth0 runs", started(3, 16), "")?;
+    by.publish_mtus(3, 1500, networks)?;
+    by.ask_for_all("inet: what is new", check)?;
+
+    by.ask("rs: eth0 died", died(3), "")?;
+    by.ask("rs: eth0 runs", started(4, 16), "")?;
+    by.publish_mtus(3, 9000, networks)?; // the dead one, late
+    by.publish_mtus(4, 1492, networks)?;
+    by.ask_for_all("inet: what is new", check)?;
+
+    by.ask("inet: who is 4/16", Request { generation: 4, slot: 16, ..request(command::NAMEOF) }, "")?;
     println!();
-    ask("inet: what came from position 2 on", Request { incarnation: 1, position: 2, max: 256, ..request(7) }, "");
-    ask("inet: all that is held", request(8), "");
+    let since = Request { incarnation: 1, position: 2, max: 256, ..request(command::SINCE) };
+    by.ask_for_all("inet: what came from position 2 on", since)?;
+    by.ask("inet: all that is held", request(command::SNAPSHOT), "")?;
     Ok(())
 }

@@ -1,0 +1,118 @@
+"""libds.so: where it is, its calls, and the structs of c/ds.h."""
+from __future__ import annotations
+
+import ctypes
+import enum
+import functools
+import os
+import struct
+from ctypes import POINTER, byref, c_char_p, c_size_t, c_uint8, c_uint16, c_uint32, c_uint64, c_void_p
+from typing import Any, FrozenSet, Optional, TypeVar
+
+from .refusals import NUMBERED, BadLine, Clash
+from .values import Version
+
+PLACES = [os.path.join(it, "lib/pengtawis/libds.so") for it in (os.path.expanduser("~/.local"), "/usr/local", "/usr")]
+Command = enum.IntEnum("Command", "PUBLISH DELETE SWEEP RETRIEVE NAMEOF SUBSCRIBE CHECK SINCE SNAPSHOT PAGE MERGE", start=0)
+CHANGED, NO_REQUEST, BAD_LINE = 0, 13, 15  # of enum ds_word
+WHOLE, WANTING = 0, 20  # of enum ds_stop
+REQUEST = struct.Struct("@4Q7I2H6B64s0Q")  # struct ds_request: unlike ctypes, struct refuses a number that is out of range
+OPENING = struct.Struct("@2QI")
+Self = TypeVar("Self", bound="Handle")
+ROOM = 1 << 16  # bytes of text that are fetched at a time; a piece has less than 4096
+
+
+class Answer(ctypes.Structure):
+    _fields_ = [
+        *[(it, c_uint64) for it in ("count", "taken", "stale", "before", "after", "pieces")],
+        *[(it, c_uint32) for it in ("word", "refusal", "epoch", "seq", "value")],
+        *[("value_slot", c_uint16), ("kind", c_uint8), ("last", c_uint8), ("owed", c_uint8 * 16)],
+    ]
+
+    def subscriptions(self) -> FrozenSet[int]:
+        """Returns the subscriptions that are owed a notice."""
+        mask = int.from_bytes(bytes(self.owed), "little")
+        return frozenset(it for it in range(mask.bit_length()) if mask >> it & 1)
+
+
+class Given(ctypes.Structure):
+    _fields_ = [("count", c_uint64), ("length", c_uint64), ("stop", c_uint32)]
+
+
+TEXT, ANSWER, ROOM_OF_TEXT = (c_char_p, c_size_t), POINTER(Answer), (c_size_t, c_void_p, c_size_t, POINTER(Given))
+CALLS: Any = {
+    "ds_open": (c_uint64, c_uint64, c_uint32),
+    "ds_call": (c_char_p, *TEXT, ANSWER),
+    "ds_items": ROOM_OF_TEXT,
+    "ds_call_line": (*TEXT, ANSWER),
+    "ds_text": ROOM_OF_TEXT,
+    "ds_close": (),
+    "ds_map_new": (c_uint8, *TEXT),
+    "ds_map_take": (*TEXT, ANSWER),
+    "ds_map_label": (*TEXT, ANSWER),
+    "ds_map_close": (),
+}
+
+
+@functools.lru_cache(maxsize=None)
+def loaded(path: str) -> ctypes.PyDLL:
+    """Loads the library once. Its calls keep the interpreter's lock: they are short, and a handle has one call at a time."""
+    library = ctypes.PyDLL(path)
+    for name, words in CALLS.items():
+        call = getattr(library, name)
+        call.argtypes, call.restype = (c_void_p, *words), c_uint32
+    return library
+
+
+def packed(layout: struct.Struct, *parts: Any) -> bytes:
+    try:
+        return layout.pack(*parts)
+    except struct.error as wrong:
+        raise ValueError(f"out of range: {wrong}") from None
+
+
+class Handle:
+    """Keeps a handle of the library, which the end of its `with` closes."""
+
+    def __init__(self, library: Optional[str], closes: str) -> None:
+        path = library or os.environ.get("PENGTAWIS_LIBRARY") or next((it for it in PLACES if os.path.exists(it)), None)
+        if path is None:
+            raise FileNotFoundError(f"there is no libds.so: name it, set PENGTAWIS_LIBRARY, or install {PLACES[0]}")
+        self._library, self._closes = loaded(os.fspath(path)), closes
+        self._answer, self._handle = Answer(), c_void_p()
+        self._at, self._answer_at = byref(self._handle), byref(self._answer)
+
+    def __enter__(self: Self) -> Self:
+        return self
+
+    def __exit__(self, *_: object) -> None:
+        self.close()
+
+    def __del__(self) -> None:
+        if hasattr(self, "_at"):
+            self.close()
+
+    def close(self) -> None:
+        """Frees all memory. A second call does nothing; any other call is refused by IsClosed."""
+        getattr(self._library, self._closes)(self._at)
+
+    def _call(self, call: str, *words: Any) -> None:
+        """Makes a call, and raises the refusal that the call itself returns."""
+        refusal = getattr(self._library, call)(self._at, *words)
+        if refusal:
+            raise NUMBERED[refusal]()
+
+    def _ask(self, call: str, *words: Any) -> Answer:
+        """Returns the answer to a call, which the next call overwrites."""
+        self._call(call, *words, self._answer_at)
+        answer = self._answer
+        if answer.word == BAD_LINE:
+            raise BadLine(f"the line can't be read from byte {answer.count} on")
+        if answer.word == NO_REQUEST:
+            fault = BadLine if call == "ds_call_line" else ValueError
+            raise fault("no store is asked this way: docs/formats.md says what names, values and lines may be")
+        if answer.refusal:
+            refused = NUMBERED[answer.refusal]
+            version = Version(answer.epoch, answer.seq) if refused is Clash else None
+            raise refused(version, answer.count, answer.subscriptions())
+        return answer

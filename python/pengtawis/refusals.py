@@ -1,0 +1,57 @@
+"""An exception for each refusal. docs/refusals.md shows a session for each word."""
+from __future__ import annotations
+
+from typing import FrozenSet, Optional
+
+from .values import Version
+
+
+class Refused(Exception):
+    """Says that a call was refused. It changed nothing, except that a merge and a take keep the `done` items before.
+
+    >>> NotFound.word
+    'notfound'
+    """
+
+    word = "refused"
+
+    def __init__(self, version: Optional[Version] = None, done: int = 0, owed: FrozenSet[int] = frozenset()) -> None:
+        super().__init__(f"{self.word}: {self.__doc__}")
+        self.version, self.done, self.owed = version, done, owed  # of a clash; how many items; who is owed a notice of them
+
+    def __init_subclass__(cls) -> None:
+        cls.word = cls.__name__.lower()
+
+
+class BadLine(ValueError):
+    """The line can't be read, or it asks nothing of one store."""
+
+
+# In the order of enum ds_refusal, which counts them from 1.
+class BadSub(Refused, ValueError): """Subscriptions are numbered from 0 to 127."""
+class TooMany(Refused, ValueError): """A check, a page and a since show 1 to 256 items."""
+class TooLong(Refused, ValueError): """A pattern has at most 128 bytes."""
+class BadPattern(Refused, ValueError): """The pattern is no regular expression of printable ASCII."""
+class BadKind(Refused, ValueError): """The kinds are no sum of 1 for label, 2 for u32, 4 for str and 8 for mem."""
+class BadLabel(Refused, ValueError): """A label's epoch is its generation, its number 0 for a put and 1 for an end; none is named rs."""
+class BadVersion(Refused, ValueError): """The epoch is the caller's generation, and the number is below 4294967295."""
+class NoCaller(Refused): """The caller's endpoint is neither a live label's nor that of RS."""
+class NotAllowed(Refused): """Only RS publishes labels and sweeps."""
+class NotOwner(Refused): """The key belongs to another owner."""
+class Clash(Refused): """This version is held already, with another value."""
+class Stale(Refused): """A greater version is held, or a floor of the owner made the change void."""
+class Exists(Refused): """The entry or the subscription exists, and the call doesn't overwrite."""
+class NotFound(Refused, LookupError): """There is no such live entry, endpoint or subscription."""
+class OldCursor(Refused): """The cursor is of another incarnation: continue from a snapshot."""
+class Ahead(Refused, ValueError): """The cursor is past everything that the store accepted."""
+class Behind(Refused): """The journal doesn't reach back to the cursor: continue from a snapshot."""
+class Full(Refused): """4096 keys are held, or floors of 64 owners."""
+class Worn(Refused): """The store's positions are used up."""
+class NoRoom(Refused, MemoryError): """Out of memory, or the pattern compiles to too much."""
+class BadRing(Refused, ValueError): """A journal keeps 1 to 4096 items."""
+class BadFirst(Refused, ValueError): """The first position is at most 2^62."""
+class IsClosed(Refused, ValueError): """The store or the map is closed."""
+class IsOpen(Refused, ValueError): """The handle is open already."""
+
+
+NUMBERED = dict(enumerate(Refused.__subclasses__(), 1))

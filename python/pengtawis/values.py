@@ -1,0 +1,93 @@
+"""What a store holds and answers.
+
+The kind of a key is the type of its values: Endpoint for a label, int for a u32, str for a str, bytes for a mem.
+"""
+from __future__ import annotations
+
+import re
+from typing import Any, Callable, Dict, FrozenSet, Iterable, Iterator, NamedTuple, Optional, Tuple, Union
+
+
+class Endpoint(NamedTuple):
+    """Names a process by its generation and its process slot."""
+
+    generation: int
+    slot: int
+
+    def __str__(self) -> str:
+        return f"{self.generation}/{self.slot}"
+
+
+RS = Endpoint(0, 2)  # the reincarnation server, which publishes labels and sweeps
+Value = Union[Endpoint, int, str, bytes]
+Version = NamedTuple("Version", [("epoch", int), ("seq", int)])  # an owner's generation, and a number that it counts
+Cursor = NamedTuple("Cursor", [("incarnation", int), ("position", int)])  # a place in the journal of a store
+KINDS: Dict[type, int] = {Endpoint: 1, int: 2, str: 4, bytes: 8}  # the bits of enum ds_kinds
+SPELLED: Dict[str, Tuple[type, Callable[[str], Any]]] = {  # the word of each kind in a line, and how its values are read
+    "label": (Endpoint, lambda text: Endpoint(*map(int, text.split("/")))),
+    "u32": (int, int),
+    "str": (str, lambda text: re.sub(r"\\(.)", r"\1", text[1:-1])),
+    "mem": (bytes, bytes.fromhex),
+}
+
+
+class Change(NamedTuple):
+    """Puts a value under a key, or ends the key if the value is None."""
+
+    name: str
+    kind: type
+    owner: str
+    version: Version
+    value: Optional[Value]
+
+
+class Floor(NamedTuple):
+    """Makes void what the owner published in generations up to this one, except labels."""
+
+    owner: str
+    generation: int
+
+
+class Items:
+    """Holds changes and floors as their lines in docs/formats.md, which are `text`. Iteration reads them.
+
+    >>> list(Items(b"! eth0 3\\n"))
+    [Floor(owner='eth0', generation=3)]
+    """
+
+    def __init__(self, text: bytes) -> None:
+        self.text = text
+
+    def __iter__(self) -> Iterator[Union[Change, Floor]]:
+        return map(read_item, str(self.text, "ascii").splitlines())
+
+    def __len__(self) -> int:
+        return self.text.count(b"\n")
+
+
+# The answers of a store. `owed` has the subscriptions that are owed a notice; `Store.since` continues from a reading's cursor.
+Done = NamedTuple("Done", [("changed", bool), ("owed", FrozenSet[int])])
+Swept = NamedTuple("Swept", [("dropped", int), ("owed", FrozenSet[int])])
+Subscribed = NamedTuple("Subscribed", [("stamp", int), ("owed", FrozenSet[int])])
+Merged = NamedTuple("Merged", [("done", int), ("taken", int), ("stale", int), ("owed", FrozenSet[int])])
+Reading = NamedTuple("Reading", [("items", Items), ("cursor", Cursor)])
+
+
+def read_item(line: str) -> Union[Change, Floor]:
+    if line.startswith("! "):
+        _, owner, generation = line.split(" ")
+        return Floor(owner, int(generation))
+    name, word, owner, version, mark, *value = line.split(" ", 5)
+    kind, read = SPELLED[word]
+    return Change(name, kind, owner, Version(*map(int, version.split("."))), read(value[0]) if mark == "=" else None)
+
+
+def kind_of(value: Value) -> type:
+    for kind in KINDS:
+        if isinstance(value, kind):
+            return kind
+    raise TypeError(f"a value is an Endpoint, an int, a str or bytes, and not {type(value).__name__}")
+
+
+def mask_of(kinds: Iterable[type]) -> int:
+    return sum(KINDS[kind] for kind in set(kinds))

@@ -1,0 +1,323 @@
+"""A store: every refusal, drawn scripts against the model, and texts that are larger than a buffer."""
+import os
+import re
+import subprocess
+import sys
+import unittest
+
+import support  # noqa: F401, I001: it finds the modules of tests/
+import causes
+import model
+import stores
+from pengtawis import RS, Cursor, Endpoint, Floor, Items, Map, Store, refusals
+
+DRAWN = 20  # scripts of drawn commands
+COMMANDS = 300
+ETH = Endpoint(3, 17)
+LARGE = 400  # values of 1024 bytes, whose lines have more than ten buffers of text
+LAST = 2**62
+
+
+def opened(*lines, **words):
+    """Opens a store that took these lines."""
+    store = Store(1, **words)
+    for line in lines:
+        store.line(line)
+    return store
+
+
+LABEL = "publish 0/2 new eth0 label 3.0 = 3/17"
+OTHER = "publish 0/2 new tty label 4.0 = 4/18"
+MTU = "publish 3/17 new mtu u32 3.1 = 1500"
+# A call for each refusal, as docs/refusals.md shows them; the store took the lines before.
+CALLS = {
+    "badsub": ([], lambda it: it.subscribe(128, "eth.*")),
+    "toomany": ([], lambda it: next(it.since((1, 0), most=257))),
+    "toolong": ([], lambda it: it.subscribe(20, "a" * 129)),
+    "badpattern": ([], lambda it: it.snapshot("eth(")),
+    "badkind": ([], lambda it: Map(kinds=[])),
+    "badlabel": ([], lambda it: it.publish(RS, "eth0", Endpoint(3, 16), (2, 0))),
+    "badversion": ([LABEL], lambda it: it.publish(ETH, "mtu", 1500, (4, 0))),
+    "nocaller": ([], lambda it: it.publish(ETH, "mtu", 1500, (3, 0))),
+    "notallowed": ([LABEL], lambda it: it.sweep(ETH, "tty", 2)),
+    "notowner": ([LABEL, OTHER, MTU], lambda it: it.publish((4, 18), "mtu", 9000, (4, 0), overwrite=True)),
+    "clash": ([LABEL, MTU], lambda it: it.publish(ETH, "mtu", 9000, (3, 1), overwrite=True)),
+    "stale": ([LABEL, MTU], lambda it: it.publish(ETH, "mtu", 9000, (3, 0), overwrite=True)),
+    "exists": ([LABEL, MTU], lambda it: it.publish(ETH, "mtu", 9000, (3, 2))),
+    "notfound": ([], lambda it: it.retrieve("mtu", int)),
+    "oldcursor": ([], lambda it: next(it.since(Cursor(2, 0)))),
+    "ahead": ([], lambda it: next(it.since(Cursor(1, 1)))),
+    "behind": ([LABEL, OTHER], lambda it: next(it.since(Cursor(1, 0)))),
+    "full": ([], lambda it: it.merge(Items(b"".join(b"! o%d 1\n" % n for n in range(65))))),
+    "worn": ([], lambda it: Store(1, first=LAST).publish(RS, "eth0", ETH, (3, 0))),
+    "noroom": ([], lambda it: it.subscribe(20, "a{4000}")),
+    "badring": ([], lambda it: Store(ring=4097)),
+    "badfirst": ([], lambda it: Store(first=LAST + 1)),
+    "isclosed": ([], lambda it: (it.close(), it.snapshot())),
+}
+
+
+class Refusals(unittest.TestCase):
+    def test_each_refusal_is_met(self):
+        for word, (lines, call) in CALLS.items():
+            with self.subTest(word), opened(*lines, ring=1) as store:
+                with self.assertRaises(refusals.Refused) as raised:
+                    call(store)
+                self.assertEqual(raised.exception.word, word)
+                self.assertIn(type(raised.exception), refusals.NUMBERED.values())
+
+    def test_each_is_one_of_the_headers(self):
+        """Compares them with enum ds_refusal, which numbers them. No call of the package opens an open handle."""
+        text = (support.ROOT / "c" / "ds.h").read_text()
+        listed = re.search(r"enum ds_refusal \{(.*?)\};", text, re.DOTALL)[1]
+        words = [it.lower() for it in re.findall(r"DS_(\w+)", listed)]
+        self.assertEqual([it.word for it in refusals.NUMBERED.values()], words)
+        self.assertEqual(list(refusals.NUMBERED), list(range(1, len(words) + 1)))
+        self.assertEqual(set(words) - set(CALLS), {"isopen"})
+
+    def test_they_are_what_python_calls_them(self):
+        self.assertTrue(issubclass(refusals.NoRoom, MemoryError))
+        self.assertTrue(issubclass(refusals.NotFound, LookupError))
+        self.assertTrue(issubclass(refusals.BadPattern, ValueError))
+
+    def test_a_clash_names_its_version(self):
+        with opened(LABEL, MTU) as store, self.assertRaises(refusals.Clash) as raised:
+            store.publish(ETH, "mtu", 9000, (3, 1), overwrite=True)
+        self.assertEqual(raised.exception.version, (3, 1))
+        with opened(LABEL, MTU) as store, self.assertRaises(refusals.Stale) as raised:
+            store.publish(ETH, "mtu", 9000, (3, 0), overwrite=True)
+        self.assertIsNone(raised.exception.version)
+
+    def test_each_cause_of_each_command(self):
+        """Compares each answer with that of the one order, where several causes apply."""
+        tried = 0
+        for it in causes.ALL:
+            if is_called(it):
+                with self.subTest(it.name):
+                    self.assertEqual(answers_of(support.Typed(), it), support.without_stamps(it.ample))
+                tried += 1
+        self.assertGreater(tried, 120)
+
+
+def is_called(it):
+    """Leaves out stores with other limits, a value of another kind, which has no type, and a merge of too many items at once."""
+    return "mismatch" not in it.command and "4096" in it.before[0] and it.name != "store: merge: toomany"
+
+
+def answers_of(typed, it):
+    """Returns the answer to the last command of a case. A block of a merge is one call."""
+    answers = []
+    for lines in blocks(it.before + it.command):
+        if lines[0] == "merge":
+            answers.append(typed.merge([model.read(line.encode("latin-1"))[1][0] for line in lines[1:-1]]))
+        else:
+            answers.append(typed.answer(lines[0].encode("latin-1")))
+    typed.close()
+    return sum(answers[len(blocks(it.before)) :], [])
+
+
+def blocks(lines):
+    """Returns each line by itself, and those of a merge together."""
+    found, is_within = [], False
+    for line in lines:
+        if is_within:
+            found[-1].append(line)
+        else:
+            found.append([line])
+        is_within = (is_within or line == "merge") and line != "end"
+    return found
+
+
+class Drawn(unittest.TestCase):
+    def compare(self, typed, seed, compared):
+        script = stores.Script(seed, COMMANDS, True, fewer=False)
+        for line, wanted in zip(script.lines, script.answers):
+            self.assertEqual(typed.answer(line.encode()), compared(wanted), line)
+        typed.close()
+
+    def test_calls(self):
+        for seed in range(DRAWN):
+            with self.subTest(seed=seed):
+                self.compare(support.Typed(), seed, support.without_stamps)
+
+    def test_lines(self):
+        for seed in range(DRAWN, 2 * DRAWN):
+            with self.subTest(seed=seed):
+                self.compare(support.ByLines(), seed, list)
+
+
+class Large(unittest.TestCase):
+    """Asks for texts of more than one buffer, and for more items than one answer has."""
+
+    def setUp(self):
+        self.model = model.Store(ring=4096)
+        self.store = Store(1, ring=4096)
+        self.addCleanup(self.store.close)
+        self.both(b'subscribe 40 ".*" 15 first new')
+        self.both(b"publish 0/2 new eth0 label 3.0 = 3/17")
+        for at in range(LARGE):
+            self.both(b"publish 3/17 new m%d mem 3.%d = %s" % (at, at, b"%02x" % (at % 256) * 1024))
+
+    def both(self, line):
+        wanted = [it.decode() for it in self.model.answer(*model.read(line))]
+        self.assertEqual(self.store.line(line.decode()).splitlines(), wanted)
+
+    def wanted(self, line):
+        return [it.decode() for it in self.model.answer(*model.read(line))]
+
+    def test_a_check_returns_all(self):
+        lines = support.lines_of(self.store.check(40))
+        self.assertEqual(lines, self.wanted(b"check 40 256")[:-1] + self.wanted(b"check 40 256")[:-1])
+        self.assertEqual(len(lines), LARGE + 1)
+        self.assertEqual(len(self.store.check(40)), 0)
+
+    def test_a_check_of_some(self):
+        for most in (3, 256, 256):
+            self.assertEqual(support.lines_of(self.store.check(40, most)), self.wanted(b"check 40 %d" % most)[:-1])
+
+    def test_a_snapshot_returns_all(self):
+        items, cursor = self.store.snapshot()
+        self.assertGreater(len(items.text), 10 * 65536)
+        self.assertEqual(support.lines_of(items) + ["snapshot %d %d %d" % (len(items), *cursor)], self.wanted(b"snapshot *"))
+
+    def test_the_journal_returns_all(self):
+        for most in (1, 100, 256):
+            pages = list(self.store.since((1, 0), most=most))
+            wanted = self.wanted(b"since * 1 0 256")[:-1] + self.wanted(b"since * 1 256 256")[:-1]
+            self.assertEqual(sum((support.lines_of(it) for it, _ in pages), []), wanted)
+            self.assertEqual(pages[-1].cursor, (1, LARGE + 1))
+
+    def test_the_journal_under_a_pattern(self):
+        pages = list(self.store.since((1, 0), "m1.*", [bytes], most=7))
+        self.assertEqual(sum((support.lines_of(it) for it, _ in pages), []), self.wanted(b'since "m1.*" 8 1 0 256')[:-1])
+        self.assertEqual(pages[-1].cursor, (1, LARGE + 1))
+
+    def test_kinds_alone_are_a_scope(self):
+        self.assertEqual(support.lines_of(self.store.snapshot(kinds=[Endpoint]).items), ["eth0 label rs 3.0 = 3/17"])
+
+    def test_a_line_returns_all(self):
+        for line in (b"snapshot *", b"all", b"page * - 256", b"page * m7 mem 256"):
+            self.both(line)
+
+    def test_a_merge_takes_all(self):
+        with Store(2) as other:
+            items = self.store.snapshot().items
+            other.subscribe(40, "m.*", initial=False)
+            other.subscribe(41, "eth0", initial=False)  # which is the first item
+            self.assertEqual(other.merge(items), (LARGE + 1, LARGE + 1, 0, {40, 41}))
+            self.assertEqual(other.merge(items), (LARGE + 1, 0, 0, frozenset()))
+            self.assertEqual(other.snapshot().items.text, items.text)
+
+    def test_a_merge_that_is_refused_says_how_far_it_came(self):
+        lines = self.store.snapshot().items.text.splitlines(keepends=True)
+        lines[300] = b"m0 mem tty 9.0 = 00\n"  # m0 is eth0's
+        with Store(2) as other:
+            other.subscribe(40, "m.*", initial=False)
+            other.subscribe(41, "eth0", initial=False)
+            with self.assertRaises(refusals.NotOwner) as raised:
+                other.merge(Items(b"".join(lines)))
+            self.assertEqual((raised.exception.done, raised.exception.owed), (300, {40, 41}))
+            self.assertEqual(len(other.snapshot().items), 300)
+
+
+class Numbers(unittest.TestCase):
+    """Refuses numbers that ctypes would cut: 0/65538 would be RS."""
+
+    def test_what_is_out_of_range_is_no_request(self):
+        with opened(LABEL) as store:
+            for call in (
+                lambda: store.publish((0, 65538), "eth1", Endpoint(4, 18), (4, 0)),
+                lambda: store.publish((2**32, 2), "eth1", Endpoint(4, 18), (4, 0)),
+                lambda: store.publish(RS, "eth1", Endpoint(4, 65536 + 18), (4, 0)),
+                lambda: store.publish(ETH, "mtu", 2**32, (3, 0)),
+                lambda: store.publish(ETH, "mtu", -1, (3, 0)),
+                lambda: store.publish(ETH, "mtu", 1, (3, 2**32)),
+                lambda: store.publish(RS, "eth1", Endpoint(4, 1024), (4, 0)),
+                lambda: store.publish(ETH, "m" * 65, 1, (3, 0)),
+                lambda: store.publish(ETH, "m" * 256, 1, (3, 0)),
+                lambda: store.publish(ETH, "", 1, (3, 0)),
+                lambda: store.publish(ETH, "m u", 1, (3, 0)),
+                lambda: store.publish(ETH, "m\u00fc", 1, (3, 0)),
+                lambda: store.publish(ETH, "mac", "a\n", (3, 0)),
+                lambda: store.publish(ETH, "mac", "\u00e9", (3, 0)),
+                lambda: store.publish(ETH, "mac", "a" * 257, (3, 0)),
+                lambda: store.publish(ETH, "mac", bytes(1025), (3, 0)),
+                lambda: store.subscribe(2**32, ".*"),
+                lambda: next(store.since((2**64 + 1, 0))),
+                lambda: store.check(2**32),
+                lambda: store.merge(Items(b"eth0 labe")),
+                lambda: Store(2**64),
+                lambda: Store(ring=2**32 + 1),
+                lambda: Store(first=-1),
+            ):
+                with self.assertRaises(ValueError) as raised:
+                    call()
+                self.assertNotIsInstance(raised.exception, refusals.Refused)
+            self.assertEqual(store.line("all"), "eth0 label rs 3.0 = 3/17\nshown 1\n")
+
+    def test_the_largest_numbers(self):
+        with Store(2**64 - 1, first=LAST - 9, ring=4096) as store:
+            store.publish(RS, "x" * 64, Endpoint(2097151, 1023), (2097151, 0))
+            caller = Endpoint(2097151, 1023)
+            store.publish(caller, "mtu", 2**32 - 1, (2097151, 2**32 - 2))
+            store.publish(caller, "name", '"\\' * 128, (2097151, 0))
+            store.publish(caller, "mac", bytes(range(256)) * 4, (2097151, 0))
+            self.assertEqual(store.retrieve("x" * 64, Endpoint), (2097151, 1023))
+            self.assertEqual(store.retrieve("mtu", int), 2**32 - 1)
+            self.assertEqual(store.retrieve("name", str), '"\\' * 128)
+            self.assertEqual(store.retrieve("mac", bytes), bytes(range(256)) * 4)
+            self.assertEqual(store.nameof(caller), "x" * 64)
+            self.assertEqual(store.snapshot().cursor, (2**64 - 1, LAST - 5))
+
+    def test_lines_that_are_none(self):
+        with opened(LABEL) as store:
+            for line in ("retrieve eth0", 'map "eth.*" 1', "", "show\nshow"):
+                self.assertRaises(refusals.BadLine, store.line, line)
+            self.assertEqual(store.line("show\n"), "eth0 label rs 3.0 = 3/17\nshown 1\n")
+
+    def test_other_types_are_no_values(self):
+        with opened(LABEL) as store:
+            for value in (1.5, None, [3, 17], bytearray(b"x"), (3, 17)):
+                self.assertRaises(TypeError, store.publish, ETH, "mtu", value, (3, 0))
+
+    def test_empty_values_and_spaces(self):
+        with opened(LABEL) as store:
+            store.publish(ETH, "name", "", (3, 0))
+            store.publish(ETH, "mac", b"", (3, 0))
+            store.publish(ETH, "vendor", 'two  words, "quoted"', (3, 0))
+            self.assertEqual((store.retrieve("name", str), store.retrieve("mac", bytes)), ("", b""))
+            self.assertEqual([it.value for it in store.snapshot().items], [ETH, b"", "", 'two  words, "quoted"'])
+
+
+class Closing(unittest.TestCase):
+    def test_closed_once_or_more(self):
+        with opened(LABEL) as store:
+            store.close()
+        store.close()
+        self.assertRaises(refusals.IsClosed, store.retrieve, "eth0", Endpoint)
+        self.assertRaises(refusals.IsClosed, store.line, "show")
+        self.assertRaises(refusals.IsClosed, store.text)
+        self.assertRaises(refusals.IsClosed, store.merge, Items(b"! tty 1\n"))
+
+    def test_one_that_nobody_closes(self):
+        """Frees its memory when Python drops it: 500 stores of 200 kB would be 100 MB."""
+        program = """if True:
+            import resource, pengtawis
+            for _ in range(500):
+                store = pengtawis.Store()
+                store.publish(pengtawis.RS, "eth0", pengtawis.Endpoint(1, 16), (1, 0))
+                for at in range(100):
+                    store.publish((1, 16), f"m{at}", bytes(1024), (1, 0))
+            print(resource.getrusage(resource.RUSAGE_SELF).ru_maxrss)"""
+        environment = {**os.environ, "PYTHONPATH": str(support.ROOT / "python")}
+        ran = subprocess.run([sys.executable, "-c", program], env=environment, capture_output=True, text=True, check=True)
+        self.assertLess(int(ran.stdout), 60000)
+
+    def test_each_has_another_incarnation(self):
+        with Store() as one, Store() as other:
+            self.assertNotEqual(one.snapshot().cursor.incarnation, other.snapshot().cursor.incarnation)
+
+    def test_a_floor_of_a_dead_owner(self):
+        with opened(LABEL, MTU) as store:
+            self.assertEqual(store.sweep(RS, "eth0", 3), (1, frozenset()))
+            self.assertEqual(list(store.snapshot(kinds=[int]).items), [Floor("eth0", 3)])
