@@ -1,12 +1,14 @@
 /* calls URL NOBODY: the calls of ds_fleet.h, in good order and misused; each line of what it prints is one that calls.out has. NOBODY is
  * an address at which nobody listens. */
 #include "ds_fleet.h"
+#include <errno.h>
 #include <netinet/in.h>
 #include <poll.h>
 #include <signal.h>
 #include <stdio.h>
 #include <stdlib.h>
 #include <string.h>
+#include <sys/resource.h>
 #include <sys/socket.h>
 #include <time.h>
 #include <unistd.h>
@@ -65,6 +67,25 @@ static void misuse(struct ds_handle *store, const char *url) {
     opens("no pattern", store, (struct ds_fleet_options){.url = url, .kinds = 15});
     opens("kinds that are none", store, (struct ds_fleet_options){.url = url, .pattern = "a", .kinds = 16});
     ds_fleet_close(NULL);
+}
+
+/* With fewer descriptors than a fleet wants, from none to all but one, errno says why. */
+static void out_of_descriptors(struct ds_handle *store, const char *url) {
+    struct rlimit before, few;
+    struct ds_fleet *fleet;
+    int next = dup(0);
+    close(next);
+    getrlimit(RLIMIT_NOFILE, &before);
+    for (int left = 0; left < 3; left++) {
+        few = before;
+        few.rlim_cur = (rlim_t)(next + left);
+        setrlimit(RLIMIT_NOFILE, &few);
+        errno = 0;
+        const char *word = ds_fleet_word(ds_fleet_open(&fleet, store, &(struct ds_fleet_options){.url = url}));
+        int why = errno;
+        setrlimit(RLIMIT_NOFILE, &before);
+        printf("open, %d descriptors left: %s, %s\n", left, word, why == EMFILE ? "EMFILE" : "another error");
+    }
 }
 
 /* A server that isn't there, and one that answers nothing: a step takes no longer than it is to. */
@@ -128,12 +149,26 @@ static void shares(struct ds_handle *one, struct ds_handle *two, const char *url
     printf("the store is open still: %llu held\n", (unsigned long long)held(one));
 }
 
+/* The stream that was shared has no scope of this kind. */
+static void of_another_scope(struct ds_handle *store, const char *url) {
+    struct ds_fleet_options options = {.url = url, .pattern = "a.*", .kinds = DS_U32};
+    struct ds_fleet_state state;
+    struct ds_fleet *fleet;
+    if (ds_fleet_open(&fleet, store, &options) != DS_FLEET_INSTEP) exit(1);
+    steps("another scope", fleet, 5000);
+    ds_fleet_state(fleet, &state);
+    printf("state: %s, caught up %d: %s\n", ds_fleet_word(state.word), state.caught_up, state.said);
+    ds_fleet_close(fleet);
+}
+
 int main(int count, char **words) {
     struct ds_handle one = DS_CLOSED, two = DS_CLOSED;
     if (count != 3 || ds_open(&one, 1, 0, 256) || ds_open(&two, 1, 0, 256)) return 1;
     signal(SIGPIPE, SIG_IGN);
     misuse(&one, words[1]);
+    out_of_descriptors(&one, words[1]);
     waits(&one, words[2]);
     shares(&one, &two, words[1]);
+    of_another_scope(&one, words[1]);
     return ds_close(&one) != 0;
 }

@@ -17,6 +17,7 @@ ROOT = pathlib.Path(__file__).resolve().parent.parent.parent
 PATIENCE = 30  # seconds that anything may take
 TICK = 0.005
 FAULT = re.compile(r"^.*(ERROR: |runtime error|==\d+== ).*$", re.MULTILINE)  # of a sanitizer, or of valgrind
+PROGRAM = ("dsfleet", "clients", "lines", "log", "place")  # what isn't of the library
 MEMORY = "/dev/shm"  # where a server that syncs each change isn't held up by a disk
 
 
@@ -48,8 +49,8 @@ def build_over(library, program, source, *flags):
     """Builds a program over the library of a fleet alone."""
     page = subprocess.run(["rt", "doc"], capture_output=True, text=True, check=True).stdout.split()[0]
     heap = os.environ.get("DS_HEAP") or pathlib.Path(page).parent / "c" / "liblibc_c.a"
-    parts = [ROOT / "fleet" / f"{it}.c" for it in ("ds_fleet", "items", "link", "text")]
-    words = [os.environ.get("CC", "cc"), "-std=c11", "-D_GNU_SOURCE", "-Wall", "-Wextra", "-Wpedantic", "-Werror", "-O2", *flags]
+    parts = [it for it in (ROOT / "fleet").glob("*.c") if it.stem not in PROGRAM]
+    words = [os.environ.get("CC", "cc"), "-std=c11", "-pthread", "-D_GNU_SOURCE", "-Wall", "-Wextra", "-Wpedantic", "-Werror", "-O2", *flags]
     subprocess.run([*words, "-I", ROOT / "c", "-I", ROOT / "fleet", "-o", program, source, *parts, library, heap, "-lhiredis"], check=True)
     return program
 
@@ -63,10 +64,11 @@ def free_port():
 class Fleet:
     """A server and the bridges that share it; all of it ends with the `with`."""
 
-    def __init__(self, words, keep=None, syncs="everysec"):
+    def __init__(self, words, keep=None, syncs="everysec", host="127.0.0.1", port=None, settings=()):
         self.words, self.keep, self.syncs = words, keep, syncs  # what a bridge is started by; when the server writes
+        self.host, self.settings = host, settings  # where the server is, and what else it is started by
         self.home = tempfile.mkdtemp(prefix="fleet", dir=MEMORY if os.access(MEMORY, os.W_OK) else None)
-        self.bridges, self.server, self.port = [], None, free_port()
+        self.bridges, self.server, self.port = [], None, port or free_port()
 
     def __enter__(self):
         self.start_server()
@@ -92,8 +94,8 @@ class Fleet:
 
     def start_server(self):
         for _ in range(20):
-            words = ["redis-server", "--port", str(self.port), "--bind", "127.0.0.1", "--dir", self.home, "--appendonly", "yes", "--save", ""]
-            words += ["--appendfsync", self.syncs, "--unixsocket", f"{self.home}/redis"]
+            words = ["redis-server", "--port", str(self.port), "--bind", self.host, "--dir", self.home, "--appendonly", "yes", "--save", ""]
+            words += ["--appendfsync", self.syncs, "--unixsocket", f"{self.home}/redis", *self.settings]
             self.server = subprocess.Popen(words, stdout=subprocess.DEVNULL, stderr=subprocess.DEVNULL)
             if self.answers():
                 return
@@ -142,8 +144,22 @@ class Fleet:
 
     def ask(self, *words):
         """Asks the server by hand."""
-        with socket.create_connection(("127.0.0.1", self.port), timeout=PATIENCE) as it:
+        with socket.create_connection((self.host, self.port), timeout=PATIENCE) as it:
             return asked(it, *words)
+
+    def follow(self, other):
+        """The server becomes a replica of another fleet's, and has all that that one has."""
+        self.ask("REPLICAOF", other.host, other.port)
+        until(self.follows, "the replica is in step with its master")
+
+    def follows(self):
+        """Whether the server is a replica that is in step with its master."""
+        return b"master_link_status:up" in self.ask("INFO", "replication")
+
+    def keeps_all(self):
+        """Whether its file has all that it has: right after a replica got all at once, the file is yet to be written."""
+        said = self.ask("INFO", "persistence")
+        return b"aof_rewrite_in_progress:0" in said and b"aof_rewrite_scheduled:0" in said
 
     def entries(self):
         """How many entries the stream has."""
@@ -158,9 +174,9 @@ class Fleet:
 
     # ---- the bridges ----
 
-    def start(self, *options, url=None, wait=True, at=None):
-        """One more bridge, with a socket of this name."""
-        bridge = Bridge(self, at or f"store{len(self.bridges)}", options, url or f"redis://127.0.0.1:{self.port}")
+    def start(self, *options, url=None, wait=True, at=None, named=()):
+        """One more bridge, with a socket of this name, and more in its environment."""
+        bridge = Bridge(self, at or f"store{len(self.bridges)}", options, url or f"redis://{self.host}:{self.port}", named)
         self.bridges.append(bridge)
         bridge.start()
         if wait:
@@ -176,17 +192,17 @@ class Fleet:
 class Bridge:
     """A dsfleet."""
 
-    def __init__(self, fleet, name, options, url):
-        self.fleet, self.options, self.url = fleet, options, url
+    def __init__(self, fleet, name, options, url, named=()):
+        self.fleet, self.options, self.url, self.named = fleet, options, url, dict(named)
         self.socket = f"{fleet.home}/{name}"
         self.log = f"{self.socket}.log"
-        self.process, self.stopped = None, False
+        self.process, self.starts, self.pauses = None, 0, 0  # pauses: how often it was stopped or resumed
 
     def start(self):
         keep = ["--keep", str(self.fleet.keep)] if self.fleet.keep else []
         with open(self.log, "ab") as log:
-            self.process = subprocess.Popen([*self.fleet.words, *keep, *self.options, self.socket, self.url], stderr=log, stdin=subprocess.DEVNULL)
-        self.stopped = False
+            self.process = subprocess.Popen([*self.fleet.words, *keep, *self.options, self.socket, self.url], stderr=log, stdin=subprocess.DEVNULL, env=os.environ | self.named)
+        self.starts += 1
 
     def serves(self):
         """Waits until it answers."""
@@ -211,10 +227,12 @@ class Bridge:
             self.process = None
 
     def pause(self):
+        self.pauses += 1
         self.process.send_signal(signal.SIGSTOP)
 
     def resume(self):
         self.process.send_signal(signal.SIGCONT)
+        self.pauses += 1
 
     def end(self):
         """By SIGTERM; its status."""
@@ -306,43 +324,96 @@ class Client:
 
 
 class Proxy:
-    """Stands between a bridge and the server. What was connected before `mute` is cut off from then on without a word, but for the first
-    connection of each two."""
+    """Carries what a bridge and the server send each other, but for connections that it swallows: nothing of those is passed on, and
+    neither end hears of it. Connections are counted from 0; a bridge's first one is its teller, its second one its listener."""
 
-    def __init__(self, port):
-        self.port, self.muted, self.listener = port, set(), socket.create_server(("127.0.0.1", 0))
-        self.count = 0
+    def __init__(self, port, *swallowed):
+        self.port, self.muted, self.listener = port, set(swallowed), socket.create_server(("127.0.0.1", 0))
+        self.count, self.open = 0, []
         threading.Thread(target=self.serve, daemon=True).start()
 
     def url(self):
         return f"redis://127.0.0.1:{self.listener.getsockname()[1]}"
 
     def mute(self):
+        """Swallows the listeners of all that is connected."""
         self.muted = {it for it in range(self.count) if it % 2}
 
+    def cut(self):
+        """Cuts all connections."""
+        cut, self.open = self.open, []
+        for it in cut:
+            shut(it)
+
+    def blip(self):
+        """Cuts all connections, and swallows the next listener."""
+        self.muted = {self.count + 1}
+        self.cut()
+
     def close(self):
+        shut(self.listener)
         self.listener.close()
 
     def serve(self):
         try:
             while True:
-                near, _ = self.listener.accept()
-                far = socket.create_connection(("127.0.0.1", self.port))
-                for one, other in ((near, far), (far, near)):
-                    threading.Thread(target=self.carry, args=(self.count, one, other), daemon=True).start()
-                self.count += 1
+                self.join(self.listener.accept()[0])
         except OSError:
             pass
 
-    def carry(self, number, one, other):
+    def join(self, near):
+        """Connects a bridge to the server, or hangs up where there is none."""
+        try:
+            far = socket.create_connection(("127.0.0.1", self.port))
+        except OSError:
+            near.close()
+            return
+        self.open += [near, far]
+        number, self.count = self.count, self.count + 1
+        for one, other, is_answer in ((near, far, False), (far, near, True)):
+            threading.Thread(target=self.carry, args=(number, one, other, is_answer), daemon=True).start()
+
+    def carry(self, number, one, other, is_answer):
         try:
             while some := one.recv(1 << 16):
-                if number not in self.muted:
+                if self.passes(number, is_answer):
                     other.sendall(some)
         except OSError:
             pass
         for it in (one, other):
+            shut(it)  # or else the thread that waits for it keeps it open
             it.close()
+
+    def passes(self, number, is_answer):
+        """Whether what was sent just now is passed on."""
+        return number not in self.muted
+
+
+def shut(connection):
+    try:
+        connection.shutdown(socket.SHUT_RDWR)
+    except OSError:
+        pass
+
+
+class Names:
+    """A name server for the bridges that are started with `named`, whose answer for `fleet.test` is in a file."""
+
+    def __init__(self):
+        self.room = tempfile.mkdtemp(prefix="names")  # a library can't be loaded from MEMORY
+        self.file, library = f"{self.room}/names", f"{self.room}/names.so"
+        words = [os.environ.get("CC", "cc"), "-D_GNU_SOURCE", "-Wall", "-Wextra", "-Werror", "-shared", "-fPIC"]
+        subprocess.run([*words, "-o", library, ROOT / "tests" / "bridges" / "names.c"], check=True)
+        self.named = {"LD_PRELOAD": library, "NAMES": self.file, "ASAN_OPTIONS": "verify_asan_link_order=0"}
+
+    def answer(self, address):
+        """From now on the name has this address, or these with a space between two; `-`: it has none now; None: nothing is answered."""
+        with open(f"{self.file}.new", "w", encoding="ascii") as file:
+            file.write(address or "")
+        os.rename(f"{self.file}.new", self.file)
+
+    def close(self):
+        shutil.rmtree(self.room)
 
 
 # ---- the words of a redis server ----

@@ -8,7 +8,7 @@ import time
 import behaviour
 import model
 import stores
-from fleets import ROOT, Gone, Proxy, until
+from fleets import ROOT, Fleet, Gone, Names, Proxy, until
 from model import lines as reader
 from model.store import Store
 
@@ -217,6 +217,52 @@ def a_connection_that_dies_in_silence(fleet, draw):
     proxy.close()
 
 
+def a_listener_that_is_swallowed(fleet, draw):
+    """A listener's connection that never reaches the server, at the start or after a blip, is given up, and the bridge connects anew."""
+    proxy = Proxy(fleet.port, 1)
+    first, deaf = fleet.start(), fleet.start(url=proxy.url(), wait=False)
+    lines = [number("a", 1, 1)]
+    offer(first, *lines)
+    deaf.serves()
+    shows(deaf, lines)
+    proxy.blip()
+    lines.append(number("b", 1, 1))
+    offer(first, lines[-1])
+    shows(deaf, lines, 15)
+    assert deaf.said().count("the server answers nothing") == 2, deaf.said()
+    proxy.close()
+
+
+def a_rest_that_is_swallowed(fleet, draw):
+    """A listener's connection that dies while nothing comes is given up, too: the server answers a reading within some seconds."""
+    proxy = Proxy(fleet.port)
+    bridge = fleet.start(url=proxy.url())
+    time.sleep(0.5)
+    proxy.mute()
+    until(lambda: bridge.state()["connections"] == "2", "it connects anew", 20)
+    assert "the server answers nothing" in bridge.said(), bridge.said()
+    proxy.close()
+
+
+def a_connection_at_rest(fleet, draw):
+    """The kernel looks after connections at rest, and no child of the process inherits them."""
+    bridge = fleet.start()
+    time.sleep(0.5)
+    port, keeps_alive = f":{fleet.port:04X}", "02"
+    with open("/proc/net/tcp", encoding="ascii") as table:
+        rows = [it.split() for it in table]
+    mine = [it for it in rows if it[2].endswith(port) and it[3] == "01"]
+    assert len(mine) == 2 and all(it[5].startswith(keeps_alive) for it in mine), mine
+    sockets = {f"socket:[{it[9]}]" for it in mine}
+    for it in os.listdir(folder := f"/proc/{bridge.process.pid}/fd"):
+        if os.readlink(f"{folder}/{it}") in sockets:
+            with open(f"/proc/{bridge.process.pid}/fdinfo/{it}", encoding="ascii") as info:
+                flags = re.search(r"^flags:\s*([0-7]+)$", info.read(), re.MULTILINE)[1]
+            assert int(flags, 8) & os.O_CLOEXEC, f"descriptor {it} is inherited: {flags}"
+            sockets.remove(os.readlink(f"{folder}/{it}"))
+    assert not sockets, "not all connections are of the bridge"
+
+
 def trimmed_by_hand(fleet, draw):
     """What is trimmed away before one read it comes to it all the same, since they compare what they hold."""
     first, paused = fleet.start(), fleet.start()
@@ -287,6 +333,144 @@ def ids_that_go_back(fleet, draw):
     shows(fleet.start(), lines)
 
 
+def a_young_stream_that_is_replaced(fleet, draw):
+    """An entry that is flushed before any comparing saw it, and has another one in its place, is told again."""
+    first, other = fleet.start(), fleet.start()
+    time.sleep(draw.uniform(0, 1))
+    offer(first, number("young", 1, 1))
+    fleet.ask("FLUSHALL")
+    offer(first, number("after", 1, 1))
+    until(lambda: number("young", 1, 1).encode() in fleet.told(), "it is told again", 5)
+    shows(other, [number("young", 1, 1), number("after", 1, 1)])
+
+
+def a_stream_that_is_replaced(fleet, draw):
+    """A stream that is deleted, and has more new entries within a second than the bridges knew of, is seen to be another one."""
+    first, other = fleet.start(), fleet.start()
+    lines = numbers("a", 40)
+    for line in lines:
+        offer(other, line)
+    shows(first, lines)
+    time.sleep(REST)  # so that they have seen what is there
+    other_one = "redis.call('DEL', KEYS[1]) for i = 1, 60 do redis.call('XADD', KEYS[1], '*', 'from', 'x', 'items', 'b' .. i .. ARGV[1]) end"
+    fleet.ask("EVAL", other_one, 1, "ds:items", " u32 d 1.1 = 7\n")
+    until(lambda: {it.encode() for it in lines} <= set(fleet.told()), "what was answered is told again", 5)
+    shows(first, lines + [number(f"b{it}", 1, 7) for it in range(1, 61)])
+
+
+def a_failover_and_back(fleet, draw):
+    """A server becomes a replica of one that lacks what it answered for, and then the master again, by one process all the time."""
+    with Fleet([]) as replica:
+        first, other = fleet.start(), fleet.start()
+        lines = numbers("a", 10)
+        offer(first, *lines)
+        replica.follow(fleet)
+        replica.ask("REPLICAOF", "NO", "ONE")
+        late = numbers("late", 5)
+        offer(first, *late)
+        shows(other, lines + late)
+        for at in range(20):
+            replica.ask("XADD", "ds:items", "*", "from", "x", "items", number(f"b{at}", 1, 1) + "\n")
+        fleet.follow(replica)
+        until(lambda: "lost: " in first.said() + other.said(), "it is seen while the server is a replica")
+        assert not {it.encode() for it in late} & set(fleet.told()), "the replica has what its master lacks"
+        until(lambda: first.state()["state"] == "denied" and "READONLY" in first.state()["said"], "a replica is told as one")
+        fleet.ask("REPLICAOF", "NO", "ONE")
+        until(lambda: {it.encode() for it in lines + late} <= set(fleet.told()), "what was answered is told again", 10)
+        shows(first, [*lines, *late, *(number(f"b{at}", 1, 1) for at in range(20))])
+
+
+def an_entry_that_only_counts_miss(fleet, draw):
+    """An entry that somebody deletes after all have read it, between others, is told again."""
+    first, other = fleet.start(), fleet.start()
+    lines = numbers("a", 9)
+    for line in lines:
+        offer(first, line)
+    shows(other, lines)
+    time.sleep(REST)  # so that they have seen what is there
+    fleet.ask("XDEL", "ds:items", fleet.ask("XRANGE", "ds:items", "-", "+")[4][0])
+    until(lambda: {it.encode() for it in lines} <= set(fleet.told()), "it is told again", 5)
+
+
+def a_hole_that_no_count_shows(fleet, draw):
+    """A server that lacks an entry between others, by counts that fit, is told all again: its history is another one, or its run."""
+    with Fleet([]) as replica:
+        first, other = fleet.start(), fleet.start()
+        lines = []
+
+        def tell_and_lose(front):
+            """Tells some changes, and makes a copy of the server in which one of them is missing."""
+            replica.follow(fleet)  # by its first replica a server gets another history
+            time.sleep(REST)
+            more = numbers(front, 9)
+            for line in more:
+                offer(first, line)
+            lines.extend(more)
+            shows(other, lines)
+            time.sleep(REST)  # so that they have seen what is there
+            until(lambda: set(replica.told()) == set(fleet.told()), "the replica has all")
+            replica.ask("REPLICAOF", "NO", "ONE")
+            entry = next(it for it, fields in replica.ask("XRANGE", "ds:items", "-", "+") if fields[3].startswith(f"{front}4 ".encode()))
+            replica.ask("XDEL", "ds:items", entry)
+            replica.ask("HINCRBY", "ds:snapshot", "trimmed", 1)
+
+        def is_whole():
+            return {it.encode() for it in lines} <= set(fleet.told())
+
+        tell_and_lose("a")
+        fleet.follow(replica)
+        until(lambda: not is_whole(), "the replica lacks what its master lacks")
+        fleet.ask("REPLICAOF", "NO", "ONE")
+        until(is_whole, "what another history lacks is told again", 10)
+        tell_and_lose("b")
+        replica.keep_copy()
+        os.rename(f"{replica.home}/copy", f"{fleet.home}/copy")
+        fleet.restore_copy()
+        until(is_whole, "what another run lacks is told again", 10)
+
+
+def counts_that_are_forged(fleet, draw):
+    """A count in the snapshot that no trimming makes is no fault, and the next compaction puts it right."""
+    bridge = fleet.start()
+    lines = numbers("a", 10)
+    offer(bridge, *lines)
+    for at, forged in enumerate((-(2**63), 2**63 - 1, "12x", 10**30, 2**62)):
+        fleet.ask("HSET", "ds:snapshot", "trimmed", forged)
+        time.sleep(1.2)  # so that a comparing has seen it
+        before = bridge.state()["compactions"]
+        for it in range(25):
+            lines.append(number(f"b{at}.{it}", 1, 1))
+            offer(bridge, lines[-1])
+        until(lambda: bridge.state()["compactions"] != before, "the stream is compacted", 5)
+        counted = int(fleet.ask("HGET", "ds:snapshot", "trimmed"))
+        assert 0 < counted < 1000, f"{forged}: {counted}"
+    time.sleep(REST)
+    before = bridge.said().count("lost: ")
+    for it in range(25):
+        offer(bridge, number(f"c{it}", 1, 1))
+    time.sleep(REST)
+    assert bridge.said().count("lost: ") == before, "each compaction looks like a loss"
+    assert bridge.state()["state"] == "instep"
+
+
+def ids_that_go_ahead(fleet, draw):
+    """Ids that the stream gave to no entry that is there cost no connection: nothing is missing."""
+    bridge = fleet.start()
+    offer(bridge, number("a", 1, 1))
+    time.sleep(1.1)
+    fleet.ask("XSETID", "ds:items", "99999999999999-0")
+    time.sleep(2 * REST)
+    assert bridge.state()["connections"] == "1" and bridge.state()["behind"] == "0", bridge.state()
+    fleet.ask("XADD", "ds:items", "*", "from", "x", "items", number("b", 1, 1) + "\n")
+    shows(bridge, [number("a", 1, 1), number("b", 1, 1)])
+    bridge.pause()
+    newest = fleet.ask("XADD", "ds:items", "*", "from", "x", "items", number("c", 1, 1) + "\n")
+    fleet.ask("XDEL", "ds:items", newest)
+    bridge.resume()
+    time.sleep(2 * REST)
+    assert bridge.state()["connections"] == "1", bridge.said()
+
+
 def snapshots_of_all_kinds(fleet, draw):
     """A snapshot of the far future, one that is cut short, one without items, and none: nothing is lost, and bridges go on."""
     first, other = fleet.start(), fleet.start()
@@ -334,6 +518,38 @@ def junk(fleet, draw):
     said = bridge.said()
     assert all(it.decode() in said for it in entries) and "\x1b" not in said, said
     assert bridge.state()["state"] == "instep"
+
+
+def a_flood_of_junk(fleet, draw):
+    """Lines that can't be read are logged up to some a second, and then counted."""
+    bridge = fleet.start()
+    for at in range(20):
+        fleet.ask("XADD", "ds:items", "*", "from", "x", "items", "".join(f"junk{at}.{it}\n" for it in range(500)))
+    until(lambda: bridge.state()["unread"] == "10000", "all of it is counted")
+    shows(bridge, [])
+    until(lambda: "more that were refused or unread" in bridge.said(), "what isn't logged is counted", 5)
+    told = bridge.said().count("unread: entry")
+    withheld = sum(int(it) for it in re.findall(r"and (\d+) more", bridge.said()))
+    assert told < 200 and told + withheld == 10000, f"{told} lines, and {withheld} withheld"
+
+
+def steady_load(fleet, draw):
+    """While changes come all the time, nobody seems to differ, and nothing is told again."""
+    bridges = [fleet.start() for _ in range(3)]
+    offer(bridges[2], *numbers("a", 300))
+    before, count, differing = fleet.entries(), 0, 0
+    end = time.monotonic() + 22
+    with bridges[0].client() as one, bridges[1].client() as two:
+        while time.monotonic() < end:
+            count += 1
+            for name, client in (("one", one), ("two", two)):
+                client.send(f"offer {number(f'{name}.n{count % 50}', count, 1)}")
+            assert (one.answer(), two.answer()) == (["taken"], ["taken"])
+            time.sleep(0.05)
+            differing += any(it.state()["differing"] != "0" for it in bridges) if count % 10 == 0 else 0
+    assert differing == 0, f"in {differing} looks of {count // 10} somebody seems to differ"
+    told = fleet.entries() - before
+    assert told == 2 * count, f"{2 * count} changes are {told} entries"
 
 
 # ---- refused ----
@@ -397,6 +613,146 @@ def a_full_store(fleet, draw):
     for bridge in (first, other):
         shows(bridge, [*lines[:4090], lines[-1], "! b 1", number("c", 1, 1)])
         until(lambda: "refused full" not in bridge.state(), "it is refused no more", 5)
+
+
+def more_than_two_stores_hold(fleet, draw):
+    """What neither a store nor the one beside it has a place for isn't compacted away, until all is read once more."""
+    bridge = fleet.start()
+    lines = [number(f"k{it}", 1, 1, "a" if it < 4096 else "b") for it in range(8400)]
+    for at in range(0, len(lines), 100):
+        fleet.ask("XADD", "ds:items", "*", "from", "x", "items", "".join(f"{it}\n" for it in lines[at : at + 100]))
+    until(lambda: "nothing is compacted" in bridge.said(), "it is full", 120)
+    until(lambda: bridge.state()["state"] == "instep", "all is read", 120)
+    time.sleep(REST)
+    missing = {it.encode() for it in lines} - set(fleet.told())
+    assert not missing, f"{len(missing)} items are compacted away"
+    offer(bridge, "! a 1")
+    until(lambda: fleet.entries() <= 20, "once there is room all is read, and compacted", 120)
+    missing = {it.encode() for it in lines[4096:]} - set(fleet.told())
+    assert not missing, f"{len(missing)} items are gone after all was read"
+
+
+# ---- scopes ----
+
+
+def a_stream_of_another_scope(fleet, draw):
+    """A bridge of another scope than the stream's is refused before it serves anybody; the stream's field outlives what is done to it."""
+
+    def scope():
+        return fleet.ask("HGET", "ds:snapshot", "scope")
+
+    first = fleet.start()
+    assert scope() == b"everything"
+    for options in (("--scope", "rack1\\..* 15"), ("--scope", ".* 15")):
+        refused = fleet.start(*options, wait=False)
+        until(lambda: refused.process.poll() is not None or os.path.exists(refused.socket), "it ends, or serves", 10)
+        assert refused.process.poll() == 2 and not os.path.exists(refused.socket), refused.said()
+        assert "badscope: the stream's scope is `everything`" in refused.said(), refused.said()
+        fleet.bridges.remove(refused)
+    lines = numbers("a", 60)
+    for line in lines:
+        offer(first, line)
+    until(lambda: fleet.entries() <= 20, "the stream is compacted")
+    assert scope() == b"everything", "the compaction lost it"
+    for meddling in (["DEL", "ds:snapshot"], ["FLUSHALL"], ["HDEL", "ds:snapshot", "scope"]):
+        fleet.ask(*meddling)
+        until(lambda: scope() == b"everything", f"it is written again after {meddling}", 5)
+    assert first.end() == 0
+    fleet.bridges.clear()
+    fleet.ask("HDEL", "ds:snapshot", "scope")  # a stream of a bridge that wrote none
+    other = fleet.start("--scope", "rack1\\..* 15")
+    assert scope() == b"rack1\\..* 15" and other.all() == held(lines)
+
+
+def a_scope_that_changes(fleet, draw):
+    """A bridge that serves, and finds another scope, answers no change and compacts nothing until the scope is put right."""
+    bridge = fleet.start()
+    offer(bridge, *numbers("a", 10))
+    fleet.ask("HSET", "ds:snapshot", "scope", "b.* 2")
+    until(lambda: bridge.state()["state"] == "badscope", "it is seen", 5)
+    for at in range(30):
+        fleet.ask("XADD", "ds:items", "*", "from", "x", "items", number(f"b{at}", 1, 1) + "\n")
+    with bridge.client() as client:
+        client.send(f"offer {number('c', 1, 1)}")
+        assert not client.has_answer(REST) and fleet.entries() >= 30, "it tells, or compacts"
+        assert bridge.all()[-1] == "shown 11", "it reads a stream of another scope"
+        fleet.ask("HSET", "ds:snapshot", "scope", "everything")
+        assert client.answer() == ["taken"]
+    shows(bridge, [*numbers("a", 10), *(number(f"b{at}", 1, 1) for at in range(30)), number("c", 1, 1)])
+
+
+# ---- addresses ----
+
+
+def a_name_that_is_not_answered(fleet, draw):
+    """While a name server doesn't answer, clients are answered, the address that worked last is called, and a signal ends the bridge."""
+    names = Names()
+    names.answer(f"127.0.0.3 {fleet.host}")  # nobody is at the first one
+    bridge = fleet.start(url=f"redis://fleet.test:{fleet.port}", named=names.named)
+    offer(bridge, number("a", 1, 1))
+    names.answer(None)
+    fleet.kill_server()
+    slowest = 0
+    for _ in range(30):
+        begun = time.monotonic()
+        assert bridge.all() == held([number("a", 1, 1)])
+        slowest = max(slowest, time.monotonic() - begun)
+        time.sleep(0.1)
+    assert slowest < 1, f"a client waited for {slowest:.1f} s"
+    fleet.start_server()
+    offer(bridge, number("b", 1, 1))
+    names.answer("-")
+    fleet.kill_server()
+    fleet.start_server()
+    offer(bridge, number("c", 1, 1))
+    names.answer(None)
+    fleet.kill_server()
+    time.sleep(0.5)
+    begun = time.monotonic()
+    if len(fleet.words) == 1:  # valgrind complains of the thread that is left
+        assert bridge.end() == 0
+    assert time.monotonic() - begun < 3, "the signal waits for the name"
+    names.answer(fleet.host)
+    fleet.start_server()
+    names.close()
+
+
+def a_server_that_is_demoted(fleet, draw):
+    """A server that becomes a replica is left, and its name is looked up anew: there is the new master."""
+    names = Names()
+    names.answer(fleet.host)
+    bridge = fleet.start(url=f"redis://fleet.test:{fleet.port}", named=names.named)
+    offer(bridge, number("a", 1, 1))
+    with Fleet([], host="127.0.0.2", port=fleet.port) as master:
+        master.follow(fleet)
+        master.ask("REPLICAOF", "NO", "ONE")
+        fleet.follow(master)
+        names.answer(master.host)
+        offer(bridge, number("b", 1, 1))
+        assert number("b", 1, 1).encode() in master.told()
+        master.ask("CONFIG", "SET", "replica-serve-stale-data", "no")
+        master.ask("REPLICAOF", "127.0.0.1", 1)
+        until(lambda: "MASTERDOWN" in bridge.said(), "a replica with no master is told as one", 10)
+        fleet.ask("REPLICAOF", "NO", "ONE")
+        names.answer(fleet.host)
+        offer(bridge, number("c", 1, 1))
+        assert number("c", 1, 1).encode() in fleet.told()
+    names.close()
+
+
+def a_cluster(fleet, draw):
+    """What a cluster refuses is told with what to do about it."""
+    with Fleet(fleet.words, settings=("--cluster-enabled", "yes")) as cluster:
+        cluster.ask("CLUSTER", "ADDSLOTSRANGE", 0, 16383)
+        until(lambda: b"cluster_state:ok" in cluster.ask("CLUSTER", "INFO"), "the cluster is there")
+        plain = cluster.start(wait=False)
+        until(lambda: "give the stream a name in braces, as {ds}" in plain.said(), "keys of two nodes", 10)
+        named = cluster.start("--stream", "{rack1}")
+        offer(named, number("a", 1, 1))
+        slot = cluster.ask("CLUSTER", "KEYSLOT", "{rack1}:items")
+        cluster.ask("CLUSTER", "SETSLOT", slot, "NODE", cluster.ask("CLUSTER", "MYID"))
+        assert named.state()["state"] == "instep"
+        cluster.end()
 
 
 # ---- clients, sockets, words ----
@@ -500,20 +856,6 @@ def who_hangs_up(fleet, draw):
     shows(other, [number("a", 1, 1)])
 
 
-def the_last_newline(fleet, draw):
-    """Who sends its last line without a newline and no more is answered, and let go."""
-    bridge = fleet.start()
-    with bridge.client() as client:
-        client.it.sendall(f"offer {number('a', 1, 1)}\nall".encode())
-        client.it.shutdown(1)
-        assert (client.answer(), client.answer()) == (["taken"], [number("a", 1, 1), "shown 1"])
-        try:
-            client.answer()
-            raise AssertionError("it isn't let go")
-        except Gone:
-            pass
-
-
 def sockets_are_taken_over(fleet, draw):
     """The socket of one that was killed is taken over, that of one that lives is not; a signal ends it, and its socket."""
     bridge = fleet.start()
@@ -611,5 +953,10 @@ def meddled_types(fleet, draw):
         assert client.answer() == ["taken"]
 
 
+from client_scenes import *  # those of clients, which use the functions above
+
 SCENES = [it for it in dict(globals()).values() if callable(it) and getattr(it, "__code__", None) and it.__code__.co_varnames[:2] == ("fleet", "draw")]
-COMPACTED = ("a_start_behind_a_compaction", "a_snapshot_that_is_lost", "paused_and_trimmed_under", "a_clash", "meddled_types")  # with few entries kept
+COMPACTED = (  # with few entries kept
+    "a_start_behind_a_compaction", "a_snapshot_that_is_lost", "paused_and_trimmed_under", "a_clash", "meddled_types", "counts_that_are_forged",
+    "more_than_two_stores_hold", "a_stream_of_another_scope", "a_scope_that_changes",
+)

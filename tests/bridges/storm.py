@@ -1,18 +1,30 @@
-"""Publishers at some bridges, for a while, under kills and meddling; then all stores hold the same, and what the model says."""
+"""Publishers at some bridges, for a while, under kills and meddling; then all stores hold the same, and what the model says.
+
+A rough storm has failovers, swallowed connections, bridges of another scope, and clients that hang up or read nothing, too.
+"""
+import collections
+import contextlib
+import os
 import random
 import threading
 import time
 
 from fleets import Fleet, Gone, until
+from rough import Prober, Rapids, Rude
 
 from model import lines as reader
 from model.store import Store
 
+PLAIN, MEDDLED, ROUGH = KINDS = ("storm", "storm with meddling", "rough storm")  # by the seed
 BRIDGES = 5
 NAMES = 300  # of each publisher: so many that a change that is lost has none after it
 PACE = 0.25  # seconds between two kills, on average
 REST = 0.002  # seconds that a publisher rests between two rounds of changes, so that the model keeps up
-KILLS = 10  # at least
+GRAVE = ("killed", "failovers")
+GRAVE_LEAST = {PLAIN: 10, MEDDLED: 10, ROUGH: 5}  # how often they happen in all, however slow the machine is
+LIMIT = 5  # seconds that an answer of a bridge that runs may take: a machine may be busy, and a bridge that stands still takes longer
+REFUSED = 2  # the status of a bridge of another scope
+FOLLOWED = ("--repl-diskless-sync-delay", "0")  # a replica that has nothing gets all at once
 
 # By hand, as somebody who has the keys.
 HANDS = (
@@ -148,105 +160,212 @@ def covered(line, held, floor):
 class Storm:
     """What was done in a run."""
 
-    def __init__(self, words, seed, meddles, bridges=BRIDGES):
-        self.words, self.seed, self.meddles, self.count = words, seed, meddles, bridges
+    def __init__(self, words, seed, kind=None, bridges=BRIDGES):
+        self.words, self.seed, self.count = words, seed, bridges
+        self.kind = kind or KINDS[seed % len(KINDS)]
+        self.meddles, self.is_rough = self.kind != PLAIN, self.kind == ROUGH
         self.draw = random.Random(seed)
-        self.done, self.is_fragile = {}, False
+        self.done, self.is_fragile = collections.Counter(), False
+        self.publishers, self.rude, self.probers, self.master, self.replica, self.rapids = [], [], [], None, None, None
 
     def run(self, seconds):
         """A line of what was done and seen; it raises AssertionError where stores differ, or something is missing."""
         # A server that is to sync each second may hold its writes back for two, so that one that is killed loses what it answered; those
         # who live tell that again, but here all die at once, too.
-        with Fleet(self.words, keep=60, syncs="always") as fleet:
+        with contextlib.ExitStack() as held:
+            fleet = self.master = held.enter_context(Fleet(self.words, keep=60, syncs="always", settings=FOLLOWED))
+            if self.is_rough:
+                self.replica = held.enter_context(Fleet([], syncs="always", settings=FOLLOWED))
+                self.replica.follow(fleet)
+                self.rapids = held.enter_context(contextlib.closing(Rapids(fleet.port, self.seed)))
             for _ in range(self.count):
-                fleet.start(wait=False)
+                fleet.start(wait=False, url=self.rapids and self.rapids.url())
             for bridge in fleet.bridges:
                 bridge.serves()
-            self.publishers = [Publisher(bridge, at, self.seed * 100 + at) for at, bridge in enumerate(fleet.bridges)]
-            for it in self.publishers:
-                it.start()
+            self.begin(fleet)
             end = time.monotonic() + seconds
-            while time.monotonic() < end or sum(count for it, count in self.done.items() if it.endswith("killed")) < KILLS:
+            while time.monotonic() < end or self.grave() < GRAVE_LEAST[self.kind]:
                 time.sleep(self.draw.uniform(0.3 * PACE, 1.7 * PACE))
                 self.strike(fleet)
             done = self.judged(fleet)
             fleet.end()
             return done
 
-    def did(self, what):
-        self.done[what] = self.done.get(what, 0) + 1
+    def begin(self, fleet):
+        for at, bridge in enumerate(fleet.bridges):
+            self.publishers.append(Publisher(bridge, at, self.seed * 100 + at))
+            self.probers.append(Prober(bridge))
+            if self.is_rough:
+                self.rude.append(Rude(bridge, at, self.seed * 100 + at))
+        for it in (*self.publishers, *self.probers, *self.rude):
+            it.start()
+
+    def grave(self):
+        return sum(count for it, count in self.done.items() if it.endswith(GRAVE))
+
+    # ---- what happens ----
 
     def strike(self, fleet):
         """Something bad happens."""
-        bridge, chance = self.draw.choice(fleet.bridges), self.draw.random()
-        if self.meddles and chance < 0.4:
-            self.did("meddlings")
-            meddling = self.draw.choice(HANDS)
-            if meddling in LOSSES:  # what is lost has to be held by somebody
-                self.is_fragile = True
-                for it in fleet.bridges:
-                    it.serves()
-            fleet.ask(*meddling)
-            return
-        dies = chance < 0.6 or chance >= 0.9
-        if self.is_fragile and dies:
-            self.heal(fleet)
-        if chance < 0.6:
-            self.did("bridges killed")
-            bridge.kill()
-            bridge.start()
-        elif chance < 0.7:
-            self.did("bridges paused")
-            bridge.pause()
-            time.sleep(self.draw.uniform(0.1, 0.6))
-            bridge.resume()
-        elif chance < 0.9:
-            self.did("servers killed")
-            fleet.kill_server()
-            time.sleep(self.draw.uniform(0, 0.3))
-            fleet.start_server()
+        if self.is_rough and self.draw.random() < 0.3:
+            self.draw.choice((self.fail_over, self.fail_over, self.meet_stranger, self.cut_connections))(fleet)
+        elif self.meddles and self.draw.random() < 0.4:
+            self.meddle(fleet)
         else:
-            self.did("all killed")
-            for it in fleet.bridges:
-                it.process.kill()
-            fleet.kill_server()
-            for it in fleet.bridges:
-                it.kill()
-            fleet.start_server()
-            for it in fleet.bridges:
-                it.start()
+            acts, chances = zip((self.kill_bridge, 6), (self.pause_bridge, 1), (self.kill_server, 2), (self.kill_all, 1))
+            act = self.draw.choices(acts, chances)[0]
+            if self.is_fragile and act != self.pause_bridge:
+                self.heal(fleet)
+            act(fleet)
+
+    def meddle(self, fleet):
+        self.done["meddlings"] += 1
+        meddling = self.draw.choice(HANDS)
+        if meddling in LOSSES:
+            self.become_fragile(fleet)
+        self.master.ask(*meddling)
+
+    def kill_bridge(self, fleet):
+        self.done["bridges killed"] += 1
+        bridge = self.draw.choice(fleet.bridges)
+        bridge.kill()
+        bridge.start()
+
+    def pause_bridge(self, fleet):
+        self.done["bridges paused"] += 1
+        bridge = self.draw.choice(fleet.bridges)
+        bridge.pause()
+        time.sleep(self.draw.uniform(0.1, 0.6))
+        bridge.resume()
+
+    def kill_server(self, fleet):
+        self.done["servers killed"] += 1
+        until(self.master.keeps_all, "the server's file has all")
+        self.master.kill_server()
+        time.sleep(self.draw.uniform(0, 0.3))
+        self.master.start_server()
+
+    def kill_all(self, fleet):
+        self.done["all killed"] += 1
+        until(self.master.keeps_all, "the server's file has all")
+        for it in fleet.bridges:
+            it.process.kill()
+        self.master.kill_server()
+        for it in fleet.bridges:
+            it.kill()
+        self.master.start_server()
+        for it in fleet.bridges:
+            it.start()
+
+    def fail_over(self, fleet):
+        """The replica becomes the master, and lacks what the old one answers for until it is left; that one is the replica then."""
+        self.done["failovers"] += 1
+        old, new = self.master, self.replica
+        until(new.follows, "the replica is in step with its master")
+        self.become_fragile(fleet)
+        new.ask("REPLICAOF", "NO", "ONE")
+        time.sleep(self.draw.uniform(0, 0.4))
+        self.done["lines that failovers lost"] += len(set(old.told()) - set(new.told()))
+        dies = self.draw.random() < 0.5
+        if dies:
+            old.kill_server()
+        self.rapids.port = new.port
+        time.sleep(self.draw.uniform(0, 0.4))
+        if dies:
+            old.start_server()
+        old.ask("REPLICAOF", new.host, new.port)
+        self.master, self.replica = new, old
+
+    def meet_stranger(self, fleet):
+        """A bridge of another scope is refused. Where the stream's scope was lost, it would be the first one that writes it."""
+        self.done["strangers refused"] += 1
+        if self.is_fragile:
+            self.heal(fleet)
+        stranger = fleet.start("--scope", "host1\\..* 2", wait=False, url=self.rapids.url(), at="stranger")
+        fleet.bridges.remove(stranger)
+        try:
+            until(lambda: stranger.process.poll() is not None, "a bridge of another scope ends")
+            status, is_there = stranger.process.returncode, os.path.exists(stranger.socket)
+            assert status == REFUSED and not is_there and "badscope" in stranger.said(), f"status {status}: {stranger.said()[-500:]}"
+        finally:
+            stranger.kill()
+        os.remove(stranger.log)
+
+    def cut_connections(self, fleet):
+        self.done["cuts of all connections"] += 1
+        self.rapids.cut()
+
+    def become_fragile(self, fleet):
+        """Before something is lost, somebody has to hold it."""
+        self.is_fragile = True
+        for it in fleet.bridges:
+            it.serves()
 
     def heal(self, fleet):
-        """Where the server lost what it had by hand, those who live have to tell it again before one of them dies."""
-        for it in self.publishers:
-            it.rests = True
+        """Where the server lost what it had, those who live have to tell it again before one of them dies."""
+        self.rest(True)
         for bridge in fleet.bridges:
             bridge.serves()
-        view = fleet.agree()
-        until(lambda: {it.encode() for it in view[:-1]} <= set(fleet.told()), "the server has all again", 10)
-        for it in self.publishers:
-            it.rests = False
+        self.whole(fleet)
+        self.rest(False)
         self.is_fragile = False
 
+    def rest(self, rests):
+        for it in (*self.publishers, *self.rude):
+            it.rests = rests
+        if self.rapids:
+            self.rapids.calm = rests
+
+    def whole(self, fleet):
+        """Waits until all hold the same, and the server has all of it, and the scope; what they hold."""
+
+        def seen():
+            view = fleet.agree()
+            return view if {it.encode() for it in view[:-1]} <= set(self.master.told()) else None
+
+        until(lambda: self.master.ask("HGET", "ds:snapshot", "scope"), "the server has the scope again", 10)
+        return until(seen, "the server has all again", 10)
+
+    # ---- what came of it ----
+
     def judged(self, fleet):
-        for it in self.publishers:
+        self.rest(True)
+        for it in (*self.publishers, *self.rude):
             it.ended = True
-        for it in self.publishers:
+        for it in (*self.publishers, *self.rude):
             it.join(60)
             if it.is_alive():
-                raise AssertionError(f"publisher {it.number} waits for an answer for ever")
+                raise AssertionError(f"a client of {it.bridge.socket} waits for an answer for ever")
+        for it in self.publishers:
             if it.wrong:
                 raise it.wrong
         begun = time.monotonic()
         for bridge in fleet.bridges:
             bridge.serves()
-        view = fleet.agree()
+        view = self.whole(fleet)
         took = time.monotonic() - begun
-        sent = [line for it in self.publishers for line in it.sent]
+        sent = [line for it in (*self.publishers, *self.rude) for line in it.sent]
         answered = [line for it in self.publishers for line in it.answered]
-        self.compare(view, sent, answered)
-        done = ", ".join(f"{count} {what}" for what, count in sorted(self.done.items()))
-        return f"{len(answered)} changes answered of {len(sent)}, {len(view) - 1} held, {done}; all agree {took:.2f} s behind the last"
+        self.compare(view, sent, answered + [line for it in self.rude for line in it.kept()])
+        changes = f"{len(answered)} changes answered of {len(sent)}, {len(view) - 1} held"
+        return f"{changes}, {self.report()}; all agree {took:.2f} s after the last"
+
+    def report(self):
+        """What was done, and how long an answer took at most."""
+        for it in self.probers:
+            it.ended = True
+            it.join(60)
+            assert it.count, f"{it.bridge.socket} never answered a probe"
+        slowest = max(it.slowest for it in self.probers)
+        done = [f"{count} {what}" for what, count in sorted(self.done.items())]
+        if self.is_rough:
+            done += [f"{count} {what}" for what, count in self.rapids.did().items()]
+            done.append(f"{sum(len(it.hung_up) for it in self.rude)} clients that hung up")
+            done.append(f"{sum(it.asked for it in self.rude)} that read nothing")
+        asked = f"{sum(it.count for it in self.probers)} probes, the slowest answer after {slowest:.2f} s"
+        if slowest > LIMIT:
+            raise AssertionError(f"{asked}, which may take {LIMIT} s; {', '.join(done)}")
+        return ", ".join([*done, asked])
 
     def compare(self, view, sent, answered):
         """What is held is what the model says of all that was answered, and of what was sent and seen there."""

@@ -8,6 +8,8 @@ from typing import List, Tuple
 
 ROOT = pathlib.Path(__file__).resolve().parents[2]
 MADE = "made by tests/dsctl/manual from the program's help"
+HELP = "help"  # the command whose words are those of the others
+MANY = 16  # so many numbers aren't offered one by one
 EXAMPLES = ("Example session", "Two replicas", "A driver that dies")  # how the paragraphs begin that show something
 SEE_ALSO = [
     "\\fBrlwrap\\fR(1), which adds history and editing: \\fBrlwrap dsctl\\fR.",
@@ -102,13 +104,14 @@ def manual(version, whole, parts):
     short = whole["short"].about.split("\n")[0]
     help_ = whole["long"]
     lines = [f'.\\" {MADE}', f'.TH DSCTL 1 "" "{version}" "User Commands"', ".SH NAME", shown(f"dsctl - {short[0].lower()}{short[1:]}"), ".SH SYNOPSIS"]
-    for usage in [help_.usage] + [it.usage for it, _ in parts.values()]:
+    for usage in [help_.usage, *(it.usage for it, _ in parts.values()), f"dsctl {HELP} [COMMAND]"]:
         lines += [f"\\fB{shown(usage)}\\fR", ".br"]
     about, rest = blocks(help_.about), blocks(help_.rest)
     description, title, lines_of_scripts = about[""].partition("Lines of a script:\n")
     lines += [".SH DESCRIPTION", *paragraphs(description.strip()), ".SH OPTIONS", *entries(help_.options), ".SH COMMANDS"]
     for name, (it, _) in parts.items():
         lines += [f".SS {name}", *paragraphs(it.about), *entries(it.options)]
+    lines += [f".SS {HELP}", shown(dict(help_.commands)[HELP])]
     limits = parts["replay"][0].rest.rpartition("\n\n")[2]
     lines += [".SH LINES", *paragraphs(title + lines_of_scripts), ".PP", *paragraphs(limits)]
     lines += [".SH REFUSALS", *paragraphs(rest[""]), ".SH EXIT STATUS", *paragraphs(rest["EXIT STATUS"])]
@@ -121,44 +124,80 @@ def words_of(rows):
     return [word.split()[0] for names, _ in rows for word in names.split(", ")]
 
 
+def numbers_of(rows):
+    """What may stand in the place of each option's number, by the option: what its text names, if that is a few numbers."""
+    return {word.split()[0]: few(told) for names, told in rows for word in names.split(", ") if " " in word}
+
+
+def few(told):
+    """The numbers that a text names, as `1 or 2` or `1 to 8`; none where they are many."""
+    each = re.match(r"(\d+) or (\d+)\b", told)
+    if each:
+        return list(each.groups())
+    first, last = map(int, re.search(r"\b(\d+) to (\d+)\b", told).groups())
+    return [str(it) for it in range(first, last + 1)] if last - first < MANY else []
+
+
 def bash(whole, parts):
     """Completions for bash."""
-    commands = "|".join(parts)
-    cases = "".join(f'        {name}) words="{" ".join(words_of(it.options))}" ;;\n' for name, (it, _) in parts.items())
-    first = " ".join([*parts, *words_of(whole["long"].options)])
+    options = {name: " ".join(words_of(it.options)) for name, (it, _) in parts.items()}
+    options |= {HELP: " ".join(parts)}
+    commands = "|".join(options)
+    cases = "".join(f'        {name}) words="{words}" ;;\n' for name, words in options.items())
+    numbers = {(name, word): " ".join(few) for name, (it, _) in parts.items() for word, few in numbers_of(it.options).items()}
+    values = "".join(f'        {name}:{word}) words="{few}" is_number=1 ;;\n' for (name, word), few in numbers.items())
+    first = " ".join([*options, *words_of(whole["long"].options)])
     return f"""# Completions for bash, {MADE}.
 _dsctl() {{
-    local at command= words="{first}"
+    local at command= is_number= words="{first}"
+    local current=${{COMP_WORDS[COMP_CWORD]}} before=${{COMP_WORDS[COMP_CWORD - 1]}}
     for ((at = 1; at < COMP_CWORD; at++)); do
-        case ${{COMP_WORDS[at]}} in
-            {commands}) command=${{COMP_WORDS[at]}} ;;
+        case ${{command:-${{COMP_WORDS[at]}}}} in
+            {commands}) command=${{command:-${{COMP_WORDS[at]}}}} ;;
         esac
     done
     case $command in
 {cases}    esac
-    COMPREPLY=($(compgen -W "$words" -- "${{COMP_WORDS[COMP_CWORD]}}"))
+    # bash takes an equals sign for a word of its own
+    if [[ $current == "=" ]]; then
+        current=
+    elif [[ $before == "=" ]]; then
+        before=${{COMP_WORDS[COMP_CWORD - 2]}}
+    fi
+    case $command:$before in
+{values}    esac
+    COMPREPLY=($(compgen -W "$words" -- "$current"))
+    # a number is no file, so bash's own completion of files isn't asked for one
+    [[ -z $is_number ]] || compopt +o default 2> /dev/null || :
 }}
 complete -o default -F _dsctl dsctl
 """
 
 
-def quoted(text):
-    """A text in quotes that both zsh and fish read."""
-    return "'" + text.replace("'", "") + "'"
+def quoted_for_zsh(text):
+    """A text in quotes for zsh, which has no escape within them: the quotes end before an apostrophe."""
+    return "'" + text.replace("'", "'\\''") + "'"
+
+
+def quoted_for_fish(text):
+    """A text in quotes for fish."""
+    return "'" + text.replace("\\", "\\\\").replace("'", "\\'") + "'"
 
 
 def zsh(whole, parts):
     """Completions for zsh."""
 
-    def argument(word, told):
+    def argument(word, told, numbers):
         option, _, value = word.partition(" ")
-        told = told.replace("[", "(").replace("]", ")")
-        return quoted(f"{option}[{told}]" + ":number:" * bool(value))
+        told = told.replace("[", "(").replace("]", ")").replace(":", "\\:")
+        few = numbers.get(option)
+        return quoted_for_zsh(f"{option}[{told}]" + (f":number:({' '.join(few)})" if few else ":number: " if value else ""))
 
     def arguments(rows):
-        return " ".join(argument(word, told) for names, told in rows for word in names.split(", "))
+        numbers = numbers_of(rows)
+        return " ".join(argument(word, told, numbers) for names, told in rows for word in names.split(", "))
 
-    commands = " ".join(quoted(f"{name}:{told}") for name, told in whole["long"].commands)
+    commands = " ".join(quoted_for_zsh(f"{name}:{told}") for name, told in whole["long"].commands)
     cases = "".join(f"        {name}) _arguments {arguments(it.options)} ;;\n" for name, (it, _) in parts.items())
     return f"""#compdef dsctl
 # Completions for zsh, {MADE}.
@@ -172,7 +211,8 @@ _dsctl() {{
     shift words
     (( CURRENT-- ))
     case $words[1] in
-{cases}    esac
+{cases}        {HELP}) _describe command commands ;;
+    esac
 }}
 if [[ $funcstack[1] = _dsctl ]]; then
     _dsctl "$@"
@@ -185,17 +225,23 @@ fi
 def fish(whole, parts):
     """Completions for fish."""
 
-    def option(condition, names, told):
+    def option(condition, names, told, numbers):
         words = [it.partition(" ") for it in names.split(", ")]
         flags = " ".join(f"-l {it[2:]}" if it.startswith("--") else f"-s {it[1:]}" for it, _, _ in words)
-        valued = " -x" * any(value for _, _, value in words)
-        return f"complete -c dsctl -n {condition} {flags}{valued} -d {quoted(told)}"
+        few = next((numbers[it] for it, _, value in words if value), None)
+        valued = "" if few is None else " -x" + f" -a '{' '.join(few)}'" * bool(few)
+        return f"complete -c dsctl -n {condition} {flags}{valued} -d {quoted_for_fish(told)}"
+
+    def options(condition, rows):
+        numbers = numbers_of(rows)
+        return [option(condition, *row, numbers) for row in rows]
 
     lines = [f"# Completions for fish, {MADE}.", "complete -c dsctl -f"]
-    lines += [f"complete -c dsctl -n __fish_use_subcommand -a {name} -d {quoted(told)}" for name, told in whole["long"].commands]
-    lines += [option("__fish_use_subcommand", *row) for row in whole["long"].options]
+    lines += [f"complete -c dsctl -n __fish_use_subcommand -a {name} -d {quoted_for_fish(told)}" for name, told in whole["long"].commands]
+    lines += options("__fish_use_subcommand", whole["long"].options)
     for name, (it, _) in parts.items():
-        lines += [option(f"'__fish_seen_subcommand_from {name}'", *row) for row in it.options]
+        lines += options(f"'__fish_seen_subcommand_from {name}'", it.options)
+    lines.append(f"complete -c dsctl -n '__fish_seen_subcommand_from {HELP}' -a '{' '.join(parts)}'")
     return "\n".join(lines) + "\n"
 
 
@@ -203,7 +249,7 @@ def made(program):
     """The texts that the program's help makes, by their paths."""
     program = os.path.abspath(program)
     whole = {"short": read_help(said(program, "-h")), "long": read_help(said(program, "--help"))}
-    names = [name for name, _ in whole["long"].commands]
+    names = [name for name, _ in whole["long"].commands if name != HELP]
     parts = {name: (read_help(said(program, name, "--help")), name) for name in names}
     version = said(program, "--version").strip()
     return {

@@ -17,6 +17,7 @@ SESSION = re.compile(r"(?<=\n\n)    > .*\n(?:    .*\n)*")  # within a document
 BAD_LINE = re.compile(rb"^badline (\d+) (\d+)$", re.MULTILINE)  # within answers
 BAD_SETTINGS = re.compile(rb"bad \w+( \d+)?\n")  # all that is printed of settings with a fault
 BAD_TRACE = re.compile(rb"(?:illegal|badline) (\d+)\n")  # all that is printed of a trace that isn't legal
+WRONG_LINE = rb"line %s(?:, byte \d+)?: "  # how the sentence about a trace begins, which names a byte where a part of the line is bad
 SECONDS = 120  # the longest that one run may take, on a busy machine too
 
 
@@ -169,9 +170,9 @@ def unexplained(output, error):
         is_one = error.count(b"\n") == 1 and error.endswith(b"\n")
         return None if is_one else f"standard error is {error[:200]!r}, wanted one line"
     trace = BAD_TRACE.fullmatch(output)
-    wanted = [b"line %s: " % trace[1]] if trace else [b"line %s, byte %s: " % it for it in BAD_LINE.findall(output)]
+    wanted = [WRONG_LINE % trace[1]] if trace else [b"line %s, byte %s: " % it for it in BAD_LINE.findall(output)]
     told = error.splitlines()
-    if len(told) == len(wanted) and all(map(bytes.startswith, told, wanted)):
+    if len(told) == len(wanted) and all(map(re.match, wanted, told)):
         return None
     return f"standard error is {error[:200]!r}, wanted a line for each of {wanted[:3]}"
 

@@ -3,7 +3,7 @@ from . import asking
 from .layout import Layout
 from .picture import Picture
 
-MOST = 120  # rows of a picture
+MOST = 120  # rows of a picture, where no other number is asked for
 
 
 def drawn(program, script, first=None, last=None):
@@ -17,11 +17,19 @@ def picture_of(rows, shown, name):
     return Picture(Layout(rows, shown), name).svg()
 
 
-def chosen(rows, first, last):
-    """Which rows are shown: those that were asked for; else all, or of many those that change something, up to so many."""
+def chosen(rows, first, last, most=MOST):
+    """Which rows are shown: those that were asked for; else all, or of many those that change something, up to `most` rows."""
     if first is not None:
         return set(range(first - 1, min(last or len(rows), len(rows))))
     every = range(len(rows))
-    if len(rows) > MOST:
-        every = [it for it in every if it == 0 or rows[it].held != rows[it - 1].held or rows[it].is_refused][:MOST]
+    if len(rows) > most:
+        every = [it for it in every if it == 0 or rows[it].held != rows[it - 1].held or rows[it].is_refused][:most]
     return set(every)
+
+
+def left_out(rows, shown):
+    """What isn't shown of a script, in words, or None where all of it is."""
+    missing = [it + 1 for it in range(len(rows)) if it not in shown]
+    if not missing:
+        return None
+    return f"{len(missing)} of {len(rows)} lines aren't shown, the last of them line {missing[-1]}"

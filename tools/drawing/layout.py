@@ -174,11 +174,12 @@ class Layout:
             self.texts[number] = self.wrapped(row)
             steps = [it.step for it in (*self.story.strokes, *self.story.notes) if it.row == number]
             y += max(LEAST_ROW, 10 + 13 * len(self.texts[number]), 10 + STEP * (max(steps, default=0) + 1))
+        y = self.fold(len(self.rows), y)
         self.bottom = max([y, *free.values()])
         self.height = self.bottom + 74
 
     def fold(self, number, y):
-        """Room above a row for how many lines before it aren't shown."""
+        """Room above a row, or below the last one, for how many lines before it aren't shown."""
         before = max((it for it in self.texts), default=-1)
         if number - before == 1:
             return y

@@ -10,6 +10,7 @@ CHANGE = re.compile(r"\S+ \w+ (\S+) (\d+)\.\d+ [=-]")  # any change as an item
 ASKED = re.compile(r"(?:publish|delete) \S+ (?:new |over )?\S+ \w+ (\d+)\.\d+")
 SERVERS = {"file": "file server", "net": "network server"}
 MAKERS = ("check", "since", "snapshot", "page")
+ACTING = ("service", "tick", "death", "beat")  # lines to RS, whose actions are a step each
 RS = "RS"
 
 
@@ -86,7 +87,8 @@ class Teller:
             self.step = 0
             if not row.last.startswith("badline "):
                 getattr(self, row.words[0], self.nothing)(row)
-                self.owe(row)
+                if row.words[0] not in ACTING:
+                    self.owe_all(row, row.words[2] if row.words[0] == "deliver" else row.side)
 
     # ---- lives ----
 
@@ -202,15 +204,17 @@ class Teller:
             self.story.breaks.append((f"m{row.words[1]}", self.at))
             self.note(f"m{row.words[1]}", "cleared")
 
-    def owe(self, row):
-        """Notices that a store owes, each to a subscription."""
-        side = row.words[2] if row.words[0] == "deliver" else row.side
-        self.step = max(0, self.step - 1)
+    def owe(self, line, side):
+        """The notices of an `owed` line, at the step under way, each to a subscription."""
+        mask = int(line.split(" ")[1], 16)
+        for number in (it for it in range(128) if mask >> it & 1):
+            self.note(subscriber(side, number), "notice", True)
+
+    def owe_all(self, row, side):
+        """What a row owes that is one step."""
         for line in row.answer:
             if asking.OWED.fullmatch(line):
-                mask = int(line.split(" ")[1], 16)
-                for number in (it for it in range(128) if mask >> it & 1):
-                    self.note(subscriber(side, number), "notice", True)
+                self.owe(line, side)
 
     # ---- RS and what it does ----
 
@@ -239,7 +243,10 @@ class Teller:
         """RS's actions, each with the store's answer below it."""
         for number, line in enumerate(row.answer):
             words = line.split(" ")
-            if words[0] == "start":
+            if asking.OWED.fullmatch(line):
+                self.step -= 1  # the action above
+                self.owe(line, row.side)
+            elif words[0] == "start":
                 self.begin(words[1], int(words[2].split("/")[0]), words[2])
                 self.stroke(RS, driver(words[1]), tone=int(words[2].split("/")[0]), is_start=True)
             elif words[0] in ("kill", "ping"):

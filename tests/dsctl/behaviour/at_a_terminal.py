@@ -1,11 +1,13 @@
 """What somebody at a terminal is shown: the greeting, the prompts, and the places of bad lines."""
 import os
+import re
 import subprocess
 
 import harness
 import terminal
 
 from .running import expect
+from .samples import GOOD
 
 NO_HEADER = b"line 1: a header was expected, `trace 2 INCARNATION FIRST RING SUBS KEYS`\n"
 GREETING = b"dsctl: `help` shows the lines, ^D ends. A bad line ends nothing\n"
@@ -48,14 +50,68 @@ def stops_where_it_is_asked_to(program):
 def takes_words_of_its_own_at_the_prompt(program):
     """At the prompt an empty line is nothing, `help` and `?` show the lines, `quit` and `exit` end: none is a line of the script."""
     lines = harness.run([program, "-h"], b"").output.partition(b"Lines of a script")[2]
-    for word in (b"help", b"?", b" help  "):
+    for word in (b"help", b"?", b" help  ", b"HELP", b"help help"):
         ran = terminal.session(program, [], [b"\n", b"  \n", word + b"\n", b"shwo\n"])
         assert lines in ran.seen and b"badline 1 0" in ran.seen and ran.status == 1, f"{word}: {ran}"
-    for word in (b"quit", b"exit"):
+    for word in (b"quit", b"exit", b"Quit"):
         ran = terminal.session(program, [], [b"show\n", word + b"\n"])
         assert (ran.seen, ran.status) == (GREETING + b"> show\nshown 0\n> " + word + b"\n", 0), f"{ran}"
-    for word in (b"help", b"?", b"quit", b"exit", b""):
+    for word in (b"help", b"help nocaller", b"?", b"quit", b"exit", b""):
         expect(harness.run([program], word + b"\n"), b"badline 1 0\n", 1)
+
+
+# What help says of a word at the prompt: what its rows begin with, and what they have.
+EXPLAINED = [
+    (b"help publish", [b"  publish CALLER new NAME KIND EPOCH.SEQ = VALUE\n"], b"put a value in the caller's name"),
+    (b"help offer", [b"  offer CHANGE ", b"  offer FLOOR "], b"merge one change, whoever made it\n"),
+    (b"help settings", [b"  settings REST "], b"RS begins with the services of a settings text"),
+    (b"help label", [b"  label  GENERATION/SLOT, the endpoint of a driver"], b"0 for a put and 1 for a tombstone\n"),
+    (b"? mem", [b"  mem    up to 1024 bytes in lower-case hex\n"], b""),
+    (b"help nocaller", [b"  nocaller "], b"RS hasn't published it yet\n"),
+    (b"HELP refused nocaller", [b"  nocaller "], b"RS hasn't published it yet\n"),
+    (b"help noroom", [b"  noroom "], b"takes far less than `\\w`\n"),
+    (b"help oldendpoint", [b"  oldendpoint ", b"  oldendpoint "], b"the request wasn't last sent to ENDPOINT\n"),
+    (b"help stale", [b"  stale ", b"  stale "], b"it comes too late\n"),
+    (b"help refused", [b"  refused WORD "], b""),
+]
+# What it says of a word that it doesn't have.
+UNEXPLAINED = [
+    (b"help nocallr", b"`nocallr` isn't a line, an answer, a refusal or a kind, the nearest is `nocaller`: see help\n"),
+    (b"help retreive", b"`retreive` isn't a line, an answer, a refusal or a kind, the nearest is `retrieve`: see help\n"),
+    (b"help xyzzy", b"`xyzzy` isn't a line, an answer, a refusal or a kind: see help\n"),
+]
+
+
+def explains_a_word_at_the_prompt(program):
+    """At the prompt `help WORD` shows what the help has of a line, an answer, a refusal or a kind, and else the nearest such word."""
+    rows = harness.run([program, "--help"], b"").output
+    for line, begins, has in EXPLAINED:
+        said = said_at_the_prompt(program, line)
+        found = [it + b"\n" for it in said.splitlines() if not it.startswith(b"   ")]
+        assert len(found) == len(begins) and all(map(bytes.startswith, found, begins)) and has in said, f"{line}: {said!r}"
+        assert all(it in rows.splitlines() for it in said.splitlines()), f"{line}: not all of the help: {said!r}"
+    for line, wanted in UNEXPLAINED:
+        assert said_at_the_prompt(program, line) == wanted, line
+
+
+def explains_each_word_at_the_prompt(program):
+    """At the prompt help explains each refusal that docs/refusals.md has, and each line that its short help has."""
+    document = (harness.DOCUMENTS / "refusals.md").read_text()
+    refusals = re.findall(r"`(\w+)`", "".join(re.findall("^## .*$", document, re.MULTILINE)))
+    typed = [f"help {it}\n".encode() for it in refusals] + [b"help %s\n" % it.split()[0] for it in GOOD]
+    ran = terminal.session(program, [], typed)
+    assert ran.status == 0 and b"isn't" not in re.sub(rb"(?m)^ .*$", b"", ran.seen), f"{ran.seen[-600:]}"
+    said = re.split(rb"^> help (\w+)\n", ran.seen, flags=re.MULTILINE)[1:]
+    silent = [word for word, told in zip(said[::2], said[1::2]) if not told.startswith(b"  " + word + b" ")]
+    assert len(said) == 2 * len(typed) and not silent, f"{silent}"
+
+
+def said_at_the_prompt(program, line):
+    """What a line is answered at the prompt, which has to leave the script alone."""
+    ran = terminal.session(program, [], [line + b"\n"])
+    before, after = GREETING + b"> " + line + b"\n", b"> \n"
+    assert ran.status == 0 and ran.seen.startswith(before) and ran.seen.endswith(after), f"{ran}"
+    return ran.seen[len(before) : -len(after)]
 
 
 def takes_a_line_in_two_pieces(program):

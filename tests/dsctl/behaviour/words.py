@@ -147,8 +147,18 @@ def points_at_standard_input(program):
         assert (ran.status, ran.output) == (2, b"") and b"standard input" not in ran.error, f"{words}: {ran}"
 
 
-def tells_of_help_by_other_words(program):
-    """Who asks for help by a word is told which one it is."""
-    for words in (["help"], ["help", "replay"]):
-        ran = harness.run([program, *words], b"")
-        assert (ran.status, ran.output) == (2, b"") and b"dsctl --help" in ran.error, f"{words}: {ran}"
+def shows_help_by_a_word(program):
+    """`dsctl help` and `dsctl help WORD` print what --help prints; of a word that is none usage is told."""
+    for words in ([], *([name] for name in NAMES)):
+        asked, wanted = harness.run([program, "help", *words], b"bad\n"), harness.run([program, *words, "--help"], b"")
+        assert (asked.status, asked.output, asked.error) == (0, wanted.output, b"") and wanted.output, f"{words}: {asked}"
+    for words in (["script.ds"], ["replya"], ["replay", "more"]):
+        ran = harness.run([program, "help", *words], b"")
+        assert (ran.status, ran.output) == (2, b"") and ran.error, f"{words}: {ran}"
+
+
+def tells_its_version(program):
+    """`--version` is the program's name and the version in the file VERSION, and nothing else."""
+    version = (harness.TESTS.parent / "VERSION").read_text()
+    for word in ("--version", "-V"):
+        expect(harness.run([program, word], b"bad\n"), f"dsctl {version}".encode(), 0, b"")

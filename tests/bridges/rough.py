@@ -1,0 +1,134 @@
+"""What a rough storm has besides publishers: a network that swallows connections, clients that hang up or read nothing, and probers."""
+import collections
+import math
+import random
+import threading
+import time
+
+from fleets import TICK, Gone, Proxy
+
+SWALLOWED = 0.15  # of all connections
+FOR_GOOD = 0.4  # of those that are swallowed
+LONGEST_STALL = 7  # seconds; a bridge waits five for an answer
+LATEST_STALL = 10  # seconds that a connection is carried before it is swallowed, where it isn't from its start on
+QUICK_NAMES = 200  # of the clients that hang up at once, of each bridge
+DEAF = 20  # clients of each bridge that read nothing, at a time
+PROBES = ("state", "retrieve host0.n0 u32")
+REST = 0.02  # seconds between two probes
+
+
+class Fate:
+    """When a connection is swallowed, for how long, and which of its directions."""
+
+    def __init__(self, draw):
+        self.begins = time.monotonic() + draw.choice((0, draw.uniform(0, LATEST_STALL)))
+        self.lasts = math.inf if draw.random() < FOR_GOOD else draw.uniform(0.2, LONGEST_STALL)
+        self.answers_alone = draw.random() < 0.5
+        self.ends = None  # known once it has begun
+
+
+class Rapids(Proxy):
+    """A proxy that swallows some connections, or their answers alone: for good, or for a while, after which all of it comes late.
+
+    While it is calm, no connection begins to be swallowed; those that are stay so.
+    """
+
+    def __init__(self, port, seed):
+        self.draw, self.fates, self.calm = random.Random(seed), {}, False
+        super().__init__(port)
+
+    def join(self, near):
+        self.fates[self.count] = Fate(self.draw) if self.draw.random() < SWALLOWED else None
+        super().join(near)
+
+    def passes(self, number, is_answer):
+        fate, now = self.fates[number], time.monotonic()
+        if not fate or (fate.answers_alone and not is_answer):
+            return True
+        if fate.ends is None:
+            if self.calm or now < fate.begins:
+                return True
+            fate.ends = now + fate.lasts
+        if fate.lasts == math.inf:
+            return False
+        while time.monotonic() < fate.ends:
+            time.sleep(TICK)
+        return True
+
+    def did(self):
+        begun = [it for it in list(self.fates.values()) if it and it.ends]
+        for_good = sum(it.lasts == math.inf for it in begun)
+        return {"connections swallowed for good": for_good, "for a while": len(begun) - for_good}
+
+
+class Rude(threading.Thread):
+    """Clients of a bridge that send changes and hang up at once, or that ask for everything and read nothing."""
+
+    def __init__(self, bridge, number, seed):
+        super().__init__(daemon=True)
+        self.bridge, self.number, self.draw = bridge, number, random.Random(seed)
+        self.sent, self.hung_up, self.asked, self.deaf = [], [], 0, collections.deque()
+        self.ended = self.rests = False
+
+    def run(self):
+        while not self.ended:
+            time.sleep(self.draw.uniform(0, 0.1))
+            try:
+                if not self.rests:
+                    self.draw.choice((self.hang_up, self.hang_up, self.read_nothing))()
+            except OSError:
+                pass  # the bridge is dead, or busy with others who connect
+        while self.deaf:
+            self.deaf.pop().it.close()
+
+    def hang_up(self):
+        run = self.bridge.starts
+        with self.bridge.client() as client:
+            count = self.draw.choice((1, 1, 5))
+            lines = [self.item(len(self.sent) + it) for it in range(1, count + 1)]
+            self.sent += lines
+            for line in lines:
+                client.send(f"offer {line}")
+                time.sleep(self.draw.choice((0, self.draw.uniform(0, 0.01))))  # so that some come after one that waits for the server
+        self.hung_up.append((run, lines))
+
+    def item(self, seq):
+        return f"host{self.number}.quick{seq % QUICK_NAMES} u32 host{self.number}.quick 1.{seq} = {seq % 1000}"
+
+    def kept(self):
+        """What was sent to the run of the bridge that lives: all of it has to be there."""
+        return [line for run, lines in self.hung_up if run == self.bridge.starts for line in lines]
+
+    def read_nothing(self):
+        self.deaf.append(self.bridge.client())
+        self.deaf[-1].send(*["all"] * self.draw.choice((1, 10)))
+        self.asked += 1
+        if len(self.deaf) > DEAF:
+            self.deaf.popleft().it.close()
+
+
+class Prober(threading.Thread):
+    """A client that asks all the time; `slowest` is how many seconds an answer took at most. Those of a stopped bridge don't count."""
+
+    def __init__(self, bridge):
+        super().__init__(daemon=True)
+        self.bridge, self.slowest, self.count, self.ended = bridge, 0, 0, False
+
+    def run(self):
+        while not self.ended:
+            try:
+                with self.bridge.client() as client:
+                    while not self.ended:
+                        self.probe(client)
+                        time.sleep(REST)
+            except TimeoutError:
+                self.slowest = math.inf
+            except (OSError, Gone):
+                time.sleep(REST)
+
+    def probe(self, client):
+        pauses, begun = self.bridge.pauses, time.monotonic()
+        client.ask(PROBES[self.count % len(PROBES)])
+        took = time.monotonic() - begun
+        if pauses % 2 == 0 and pauses == self.bridge.pauses:
+            self.slowest, self.count = max(self.slowest, took), self.count + 1
