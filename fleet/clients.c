@@ -1,13 +1,16 @@
 /* The clients of dsfleet. See clients.h. */
 #include "clients.h"
+#include "clock.h"
 #include "lines.h"
 #include <errno.h>
-#include <stdio.h>
+#include <linux/sockios.h>
 #include <stdlib.h>
 #include <string.h>
+#include <sys/ioctl.h>
 #include <sys/socket.h>
 #include <unistd.h>
 
+/* The others keep their order, from the oldest client to the newest. */
 static void drop(struct clients *clients, size_t at) {
     struct client *client = clients->client[at];
     close(client->socket);
@@ -15,7 +18,9 @@ static void drop(struct clients *clients, size_t at) {
     text_free(&client->held);
     text_free(&client->out);
     free(client);
-    clients->client[at] = clients->client[--clients->count];
+    clients->count--;
+    memmove(clients->client + at, clients->client + at + 1, (clients->count - at) * sizeof *clients->client);
+    if (at < clients->first) clients->first--;
 }
 
 bool clients_add(struct clients *clients, int socket) {
@@ -25,35 +30,78 @@ bool clients_add(struct clients *clients, int socket) {
         return false;
     }
     client->socket = socket;
+    client->moved = clock_now();
     clients->client[clients->count++] = client;
     return true;
 }
+
+/* Bytes of answers that wait for a client. */
+static size_t backlog(const struct client *client) { return client->held.length + client->out.length; }
 
 /* Whether its next lines may be answered: its last ones are, and it reads. */
 static bool is_free(const struct client *client) { return !client->held.length && client->out.length < CLIENT_WAITS; }
 
 struct pollfd clients_watched(const struct client *client) {
-    bool reads = !client->ended && is_free(client) && client->in.length < CLIENT_READS, writes = client->out.length > 0;
-    bool rests = client->ended && !writes;
-    return (struct pollfd){.fd = rests ? -1 : client->socket, .events = (short)((reads ? POLLIN : 0) | (writes ? POLLOUT : 0))};
+    bool reads = !client->ended && (client->gone || (is_free(client) && client->in.length < CLIENT_READS));
+    bool writes = client->out.length > 0;
+    return (struct pollfd){.fd = client->socket, .events = (short)((reads ? POLLIN : 0) | (writes ? POLLOUT : 0))};
 }
 
-void clients_read(struct client *client) {
-    if (!text_room(&client->in, CLIENT_READS)) return;
-    ssize_t got = recv(client->socket, client->in.bytes + client->in.length, CLIENT_READS, MSG_DONTWAIT);
-    if (got > 0) client->in.length += (size_t)got;
-    else if (got == 0 || (errno != EAGAIN && errno != EINTR)) client->ended = true;
+/* Gives up a client's answers. The lines that it sent before are still read. */
+static void hang_up(struct client *client) {
+    client->gone = true;
+    text_free(&client->held);
+    text_free(&client->out);
 }
+
+void clients_read(struct client *client, short events) {
+    char some[CLIENT_READS];
+    if (events & (POLLHUP | POLLERR)) hang_up(client);
+    if (!(events & (POLLIN | POLLHUP | POLLERR))) return;
+    ssize_t got = recv(client->socket, some, sizeof some, MSG_DONTWAIT);
+    if (got > 0 && !text_put(&client->in, some, (size_t)got)) client->failed = true;
+    if (got == 0 || (got < 0 && errno != EAGAIN && errno != EINTR)) client->ended = true;
+}
+
+/* ---- slow clients ---- */
+
+/* Whether a client left an answer unread for long, which is kept here or by the system. */
+static bool is_slow(const struct client *client, uint64_t now) {
+    int unread = 0;
+    if (now < client->moved + CLIENT_SLOW) return false;
+    return client->out.length || (!ioctl(client->socket, SIOCOUTQ, &unread) && unread > 0);
+}
+
+/* Drops the client that has read nothing for longest, where the slow ones have more than half of the places, or of
+ * the room. */
+static bool drop_slowest(struct clients *clients, bool for_place) {
+    uint64_t now = clock_now();
+    size_t places = 0, room = 0, slowest = 0;
+    for (size_t i = 0; i < clients->count; i++) {
+        const struct client *client = clients->client[i];
+        if (!is_slow(client, now)) continue;
+        if (!places || client->moved < clients->client[slowest]->moved) slowest = i;
+        places++;
+        room += client->out.length;
+    }
+    if (for_place ? places <= CLIENTS / 2 : room <= CLIENTS_WAIT / 2) return false;
+    const char *needed = for_place ? "place" : "room";
+    log_say(clients->log, "slow: a client that doesn't read is dropped, since others need its %s", needed);
+    drop(clients, slowest);
+    return true;
+}
+
+bool clients_make_place(struct clients *clients) { return drop_slowest(clients, true); }
 
 /* ---- lines ---- */
 
-/* How many bytes the next line from a byte on has, and without its newline; 0: there is no whole one. At the end the last newline may be
- * missing. */
+/* Returns how many bytes the next whole line from a byte on has, and its length without the newline; 0 where there is
+ * none. Bytes without a newline aren't a line, even if no more can come. */
 static size_t next_line(const struct client *client, size_t from, size_t *length) {
     size_t left = client->in.length - from;
     const char *line = client->in.bytes + from, *newline = left ? memchr(line, '\n', left) : NULL;
     *length = newline ? (size_t)(newline - line) : left;
-    return newline ? *length + 1 : client->ended ? left : 0;
+    return newline ? *length + 1 : 0;
 }
 
 /* Drops the lines that are done. Of one that is too long already no more is kept than tells that it was. */
@@ -75,102 +123,189 @@ static int listened(const char *line, size_t length) {
     return sub < 128 ? sub : -1;
 }
 
+static bool print_number(struct text *to, uint64_t number, const char *end) {
+    return text_print(to, "%llu%s", (unsigned long long)number, end);
+}
+
+static bool print_count(struct text *to, const char *name, uint64_t count) {
+    return text_print(to, "%s ", name) && print_number(to, count, "\n");
+}
+
 static bool print_state(const struct ds_fleet *fleet, struct text *to) {
     struct ds_fleet_state state;
     ds_fleet_state(fleet, &state);
-    bool put = text_print(to, "state %s\nserver %s\nlast %s\nbehind %llu\nposition %llu\nuntold %llu\n", ds_fleet_word(state.word),
-                          *state.server ? state.server : "-", state.last, (unsigned long long)state.behind,
-                          (unsigned long long)state.position, (unsigned long long)state.untold);
-    put = put && text_print(to, "told %llu\nread %llu\nconnections %llu\ncompactions %llu\ndiffering %u\nunread %llu\n",
-                            (unsigned long long)state.entries_told, (unsigned long long)state.entries_read,
-                            (unsigned long long)state.connections, (unsigned long long)state.compactions, state.differing,
-                            (unsigned long long)state.unread);
-    for (uint32_t i = 0; put && i <= DS_NOROOM; i++)
-        if (state.refused[i]) put = text_print(to, "refused %s %llu\n", ds_fleet_refusal(i), (unsigned long long)state.refused[i]);
-    return put && text_print(to, "said %s\n", *state.said ? state.said : "-");
+    const char *server = *state.server ? state.server : "-", *said = *state.said ? state.said : "-";
+    const struct { const char *name; uint64_t count; } counts[] = {
+        {"behind", state.behind}, {"position", state.position}, {"untold", state.untold},
+        {"told", state.entries_told}, {"read", state.entries_read}, {"connections", state.connections},
+        {"compactions", state.compactions}, {"differing", state.differing}, {"unread", state.unread},
+    };
+    bool put = text_print(to, "state %s\nserver %s\nlast %s\n", ds_fleet_word(state.word), server, state.last);
+    for (size_t i = 0; put && i < sizeof counts / sizeof *counts; i++) put = print_count(to, counts[i].name, counts[i].count);
+    for (uint32_t i = 0; put && i <= DS_NOROOM; i++) {
+        if (!state.refused[i]) continue;
+        put = text_print(to, "refused ") && print_count(to, ds_fleet_refusal(i), state.refused[i]);
+    }
+    return put && text_print(to, "said %s\n", said);
 }
 
-/* Puts the lines of an answer; false where memory is wanting. */
-static bool answered(struct clients *clients, struct client *client, const char *line, size_t length, struct text *to, bool *holds) {
+static bool is_state(const char *line, size_t length) { return length == 5 && !memcmp(line, "state", 5); }
+
+static bool is_short(const char *line, size_t length) {
+    return lines_is_short(line, length) || is_state(line, length) || listened(line, length) >= 0;
+}
+
+/* Whether a line may be answered now. */
+static bool may_answer(const struct clients *clients, const struct client *client, const char *line, size_t length) {
+    bool fits = is_short(line, length);
+    if (client->gone) return true;
+    if (clients->waiting >= CLIENTS_WAIT) return fits && backlog(client) < CLIENT_FEW;
+    return (fits || !clients->hurries) && backlog(client) < CLIENT_WAITS;
+}
+
+/* Puts the lines of an answer. Returns false where memory runs out. */
+static bool answered(struct clients *clients, struct client *client, const char *line, size_t length, bool *holds) {
     struct lines_said said = {.place = CLIENT_LINE};
     enum lines_word word = LINES_BAD;
+    struct text *to = &client->held;
     int sub = client->too_long ? -1 : listened(line, length);
     if (sub >= 0) {
         client->listens[sub / 8] |= (uint8_t)(1 << sub % 8);
         return text_print(to, "listening %d\n", sub);
     }
-    if (!client->too_long && length == 5 && !memcmp(line, "state", 5)) return print_state(clients->fleet, to);
+    if (!client->too_long && is_state(line, length)) return print_state(clients->fleet, to);
     if (!client->too_long) word = lines_answer(clients->store, line, length, to, &said);
     client->too_long = false;
     clients_owe(clients, said.owed);
     *holds |= said.holds;
     if (word == LINES_NOREQUEST) return text_print(to, "norequest\n");
-    if (word == LINES_BAD) return text_print(to, "badline %llu %llu\n", (unsigned long long)client->lines, (unsigned long long)said.place);
+    if (word == LINES_BAD) {
+        return text_print(to, "badline ") && print_number(to, client->lines, " ") && print_number(to, said.place, "\n");
+    }
     return word == LINES_ANSWERED;
 }
 
-/* Answers the lines of a client that have come. Where one is answered that a change is held, all these answers wait for the stream. */
+/* Carries out a line of a client that hung up. Only lines with short answers may be changes; nobody reads the others. */
+static void carry_out(struct clients *clients, struct client *client, const char *line, size_t length) {
+    struct lines_said said;
+    bool is_whole = !client->too_long;
+    client->too_long = false;
+    if (!is_whole || !lines_is_short(line, length)) return;
+    lines_answer(clients->store, line, length, NULL, &said);
+    clients_owe(clients, said.owed);
+}
+
+/* Notes that a line isn't answered now. */
+static void refuse(struct clients *clients, const struct client *client) {
+    clients->refused = true;
+    clients->crowded |= clients->waiting >= CLIENTS_WAIT && backlog(client) < CLIENT_FEW;
+}
+
+/* Answers the lines of a client that have come. Where one is answered that a change is held, all these answers wait
+ * for the stream; so a line whose answer may be long is answered by itself. */
 static bool answer_lines(struct clients *clients, struct client *client) {
-    struct text answers = {0};
     size_t done = 0, length, used;
-    bool fine = true, holds = false;
-    while (fine && answers.length < CLIENT_WAITS && (used = next_line(client, done, &length)) > 0) {
+    bool fine = true, holds = false, alone = false;
+    while (fine && !alone && (used = next_line(client, done, &length)) > 0) {
+        const char *line = client->in.bytes + done;
+        bool may = may_answer(clients, client, line, length);
+        alone = !client->gone && !is_short(line, length);
+        if (!may) refuse(clients, client);
+        if (!may || (alone && done)) break;
+        size_t before = backlog(client);
         client->lines++;
-        fine = answered(clients, client, client->in.bytes + done, length, &answers, &holds) && text_put(&answers, "\n", 1);
+        if (client->gone) carry_out(clients, client, line, length);
+        else fine = answered(clients, client, line, length, &holds) && text_put(&client->held, "\n", 1);
+        clients->waiting += backlog(client) - before;
+        clients->long_one |= alone;
         done += used;
     }
     drop_lines(client, done);
-    client->mark = holds ? ds_fleet_mark(clients->fleet) : 0;
-    fine = fine && text_put(holds ? &client->held : &client->out, answers.bytes, answers.length);
-    text_free(&answers);
+    if (holds) client->mark = ds_fleet_mark(clients->fleet);
+    else fine &= text_move(&client->out, &client->held);
     return fine;
 }
 
+/* Room for long answers goes to the client that was refused it first, and to the newest one, by turns: the one waits
+ * for long after many that don't read, the other for ever after those that come later. */
 void clients_answer(struct clients *clients) {
-    for (size_t i = clients->count; i-- > 0;) {
-        if (!is_free(clients->client[i]) || answer_lines(clients, clients->client[i])) continue;
-        fputs("dsfleet: noroom: a client is dropped\n", stderr);
-        drop(clients, i);
+    size_t count = clients->count, first = clients->first;
+    uint64_t end = clock_now() + CLIENTS_TURN;
+    clients->crowded = clients->refused = clients->long_one = false;
+    for (size_t i = 0; i < count; i++) {
+        size_t at = clients->newest ? count - 1 - i : (clients->first + i) % count;
+        struct client *client = clients->client[at];
+        bool was_refused = clients->refused;
+        if (is_free(client) && !answer_lines(clients, client)) client->failed = true;
+        if (clients->refused && !was_refused && !clients->newest) first = at;
+        clients->hurries = clock_now() >= end;
     }
+    clients->first = first;
+    clients->newest ^= clients->long_one;
+    clients->hurries = false;
 }
 
 /* ---- notices, and what is written ---- */
 
 void clients_owe(struct clients *clients, const uint8_t owed[16]) {
-    for (size_t i = 0; i < clients->count; i++)
-        for (int byte = 0; byte < 16; byte++) clients->client[i]->due[byte] |= owed[byte] & clients->client[i]->listens[byte];
+    for (size_t i = 0; i < clients->count; i++) {
+        struct client *client = clients->client[i];
+        for (size_t byte = 0; byte < sizeof client->due; byte++) client->due[byte] |= owed[byte] & client->listens[byte];
+    }
 }
 
-/* A notice says no more than that there is something, so that one of each subscription is enough for who doesn't read. */
+/* A notice says no more than that there is something, so that one of each subscription is enough for a client that
+ * doesn't read. */
 static void put_notices(struct client *client) {
-    for (int sub = 0; sub < 128 && client->out.length < CLIENT_WAITS; sub++)
-        if (client->due[sub / 8] >> sub % 8 & 1 && text_print(&client->out, "notice %d\n\n", sub)) client->due[sub / 8] &= (uint8_t)~(1 << sub % 8);
+    for (int sub = 0; sub < 128 && client->out.length < CLIENT_WAITS && !client->gone; sub++) {
+        bool is_due = client->due[sub / 8] >> sub % 8 & 1;
+        if (is_due && text_print(&client->out, "notice %d\n\n", sub)) client->due[sub / 8] &= (uint8_t)~(1 << sub % 8);
+    }
 }
 
 static void let_go(struct clients *clients, struct client *client) {
     if (!client->held.length) return;
-    if (!client->mark) client->mark = ds_fleet_mark(clients->fleet); /* memory was wanting */
+    if (!client->mark) client->mark = ds_fleet_mark(clients->fleet); /* memory ran out */
     if (!ds_fleet_is_told(clients->fleet, client->mark)) return;
-    if (text_put(&client->out, client->held.bytes, client->held.length)) client->held.length = 0;
+    text_move(&client->out, &client->held);
 }
 
-/* False: the client is gone. */
-static bool write_out(struct client *client) {
-    ssize_t put = client->out.length ? send(client->socket, client->out.bytes, client->out.length, MSG_DONTWAIT | MSG_NOSIGNAL) : 0;
-    if (put > 0) text_drop(&client->out, (size_t)put);
-    if (put < 0) return errno == EAGAIN || errno == EINTR;
-    return !(client->ended && !client->in.length && !client->held.length && !client->out.length);
+static void write_out(struct client *client) {
+    uint64_t now = clock_now();
+    if (!client->out.length) return;
+    ssize_t put = send(client->socket, client->out.bytes, client->out.length, MSG_DONTWAIT | MSG_NOSIGNAL);
+    if (put < 0 && errno != EAGAIN && errno != EINTR) hang_up(client);
+    if (put <= 0) return;
+    text_drop(&client->out, (size_t)put);
+    client->moved = now;
+}
+
+/* Whether nothing is left to be done for a client. */
+static bool is_done(const struct client *client) {
+    size_t length;
+    return client->failed || (client->ended && !backlog(client) && !next_line(client, 0, &length));
+}
+
+/* Whether a client has a line that may be answered. */
+static bool is_ready(const struct clients *clients, const struct client *client) {
+    size_t length;
+    return is_free(client) && next_line(client, 0, &length) && may_answer(clients, client, client->in.bytes, length);
 }
 
 bool clients_write(struct clients *clients) {
     bool ready = false;
+    clients->waiting = 0;
     for (size_t i = clients->count; i-- > 0;) {
         struct client *client = clients->client[i];
         let_go(clients, client);
         put_notices(client);
-        if (!write_out(client)) drop(clients, i);
-        else ready |= is_free(client) && client->in.length && (client->ended || memchr(client->in.bytes, '\n', client->in.length));
+        write_out(client);
+        if (client->failed) log_say(clients->log, "noroom: a client is dropped");
+        if (is_done(client)) drop(clients, i);
+        else clients->waiting += backlog(client);
     }
+    if (clients->crowded && clients->waiting >= CLIENTS_WAIT) ready = drop_slowest(clients, false);
+    for (size_t i = 0; i < clients->count && !ready; i++) ready = is_ready(clients, clients->client[i]);
     return ready;
 }
 

@@ -1,43 +1,74 @@
-/* The clients of dsfleet: their lines are answered by the store, once the stream has what they changed. Used by dsfleet.c alone. */
+/* The clients of dsfleet: their lines are answered by the store, once the stream has what they changed. Used by
+ * dsfleet.c alone.
+ *
+ * The store's handle keeps the text of its last answer alone, and the carrier asks it in each turn. So an answer is
+ * fetched whole, and a question whose answer may be long isn't asked before there is room for it: CLIENTS_WAIT bytes
+ * over all clients, past which each may have CLIENT_FEW bytes of short answers. Half of that room, and half of the
+ * places, are for clients that read: where a client needs one and slow clients have more than their half, the one
+ * that has read nothing for longest is dropped. */
 #ifndef DS_FLEET_CLIENTS_H
 #define DS_FLEET_CLIENTS_H
 
 #include "ds_fleet.h"
+#include "log.h"
 #include "text.h"
 #include <poll.h>
 
-enum { CLIENTS = 512 /* at once */, CLIENT_LINE = 4096, CLIENT_READS = 1 << 16, CLIENT_WAITS = 1 << 20 /* bytes that wait for who doesn't read */ };
+enum {
+    CLIENTS = 512,           /* at once */
+    CLIENT_LINE = 4096,      /* bytes of a line */
+    CLIENT_READS = 1 << 16,  /* bytes that are read at a time */
+    CLIENT_WAITS = 1 << 20,  /* bytes that wait for a client before more is answered */
+    CLIENT_FEW = 1 << 14,    /* the same, where CLIENTS_WAIT is used up */
+    CLIENTS_WAIT = 64 << 20, /* bytes that wait for all clients */
+    CLIENT_SLOW = 1000,      /* milliseconds: a client that leaves an answer unread for so long is slow */
+    CLIENTS_TURN = 50        /* milliseconds of one turn after which no long answer begins */
+};
 
 struct client {
     int socket;
     bool ended;            /* no more comes from it */
+    bool gone;             /* it reads no more answers: it hung up */
+    bool failed;           /* out of memory for it */
     bool too_long;         /* the line that is being read */
     uint64_t lines;        /* how many it has sent */
+    uint64_t moved;        /* when it last had no answer to read, or read some of one, in milliseconds */
     struct text in, held, out; /* held: answers to what isn't in the stream yet; out: what is to be written */
-    uint64_t mark;         /* what is held may go once all in front of this mark is told */
+    uint64_t mark;         /* held may be written once everything before this mark is in the stream */
     uint8_t listens[16], due[16]; /* the subscriptions whose notices it wants, and those of them that it has to be sent */
 };
 
 struct clients {
     struct ds_handle *store;
     struct ds_fleet *fleet;
+    struct log *log;
     struct client *client[CLIENTS];
-    size_t count;
+    size_t count, first; /* first: the one whose lines are answered first */
+    size_t waiting;      /* bytes of answers that wait for all of them */
+    bool refused;        /* of this turn: a line wasn't answered yet, */
+    bool crowded;        /* one of them until there is room for its answer; */
+    bool long_one;       /* a line was answered whose answer may be long; */
+    bool hurries;        /* no more of these */
+    bool newest;         /* in this turn the newest client comes first */
 };
 
-/* Takes in a client by its socket, which is closed with it. False where there are too many, or memory is wanting: it is closed then. */
+/* Takes in a client by its socket, which is closed with it. Returns false, and closes the socket, where there are too
+ * many clients or memory runs out. */
 bool clients_add(struct clients *clients, int socket);
-/* How a client is to be watched by poll: for reading while its last lines are answered and it reads its answers, for writing where something
- * is to be written; not at all once no more comes from it, since poll would tell that again and again. */
+/* Drops a slow client for one that waits to be taken in, where slow clients have more than half of the places. */
+bool clients_make_place(struct clients *clients);
+/* How a client is to be watched by poll: for reading while its last lines are answered and it reads its answers, for
+ * writing where something is to be written; and always for hanging up, which poll reports by itself. */
 struct pollfd clients_watched(const struct client *client);
-/* Reads what a client has sent. */
-void clients_read(struct client *client);
-/* Answers the lines of each client whose last ones are answered. */
+/* Reads what a client has sent, or notes that it hung up, by what poll reported. */
+void clients_read(struct client *client, short events);
+/* Answers the lines of each client whose last ones are answered. Of a client that hung up only the changes are
+ * carried out. */
 void clients_answer(struct clients *clients);
-/* Owes the notices of a mask to who listens. */
+/* Owes the notices of a mask to clients that listen. */
 void clients_owe(struct clients *clients, const uint8_t owed[16]);
-/* Lets go what was held and is told by now, writes what can be written, and drops who is gone. True: a client has lines that can be
- * answered at once. */
+/* Releases held answers whose changes are in the stream by now, writes what can be written, and drops clients that
+ * have all their answers or hung up. Returns true where a client has lines that can be answered at once. */
 bool clients_write(struct clients *clients);
 /* Whether each client has all its answers. */
 bool clients_are_done(const struct clients *clients);

@@ -4,7 +4,8 @@
  * The store behind the handle is proved; this carrier is tested. It need not be more than this: items join, so that holders to
  * which the same items came hold the same, in whatever order and however often they came.
  *
- * A fleet owns two connections, one descriptor (the bell), and the text that no server has answered for yet; what it is given by
+ * A fleet owns two connections, one descriptor (the bell), and the text that no server has answered for yet. While the name in its URL is
+ * looked up it has a thread, which takes no signal and calls getaddrinfo alone; no call waits for it. What it is given by
  * ds_fleet_open it copies, but for the handle, which stays the caller's and has to be open until ds_fleet_close. The handle is used
  * within these calls alone, so there is one thread at a time over it and its fleet; they ask the store, so who wants the text of an
  * answer of its own fetches it first. There is nothing global, but that the caller has to ignore SIGPIPE. A server is redis 7 or
@@ -29,7 +30,9 @@ enum ds_fleet_word {
     DS_FLEET_DENIED, /* the server answers by an error, which stands in the state: it is asked again by a later step, and nothing is lost */
     DS_FLEET_NOROOM, /* memory is wanting: call again, nothing is lost */
     DS_FLEET_CLOSED, /* no store is open in the handle */
-    DS_FLEET_BADURL, DS_FLEET_NOTLS, DS_FLEET_BADNAME, DS_FLEET_BADSCOPE, DS_FLEET_SYSTEM /* ds_fleet_open alone; SYSTEM: errno says why */
+    DS_FLEET_BADURL, DS_FLEET_NOTLS, DS_FLEET_BADNAME, /* of ds_fleet_open alone */
+    DS_FLEET_BADSCOPE, /* of ds_fleet_open: it can't be read. Of a step: the stream has another one. Nothing is told; it is asked again */
+    DS_FLEET_SYSTEM    /* of ds_fleet_open alone; errno says why */
 };
 
 enum { DS_FLEET_KEEP = 1000, DS_FLEET_ID = 48, DS_FLEET_SAID = 256 /* bytes of a text, with its zero */ };
@@ -40,7 +43,7 @@ typedef void ds_fleet_tell(void *context, const char *line);
 struct ds_fleet_options {
     const char *url;      /* redis://[[USER]:PASSWORD@]HOST[:PORT][/DATABASE], or unix://[[USER]:PASSWORD@]/PATH */
     const char *stream;   /* the front of the names of its three keys, 1 to 128 bytes; NULL: "ds" */
-    const char *pattern;  /* the scope: what the pattern matches whole, of the kinds; the same for all who share a stream */
+    const char *pattern;  /* the scope: what the pattern matches whole, of the kinds; the same for all who share a stream, or `badscope` */
     uint8_t kinds;        /* a sum of enum ds_kinds; 0: everything, and then pattern may be anything */
     long keep;            /* a stream with more entries is compacted; 0: DS_FLEET_KEEP */
     ds_fleet_tell *tell;  /* is told of what was refused, of servers met and lost, and of compactions; may be NULL */
@@ -55,7 +58,8 @@ enum ds_fleet_word ds_fleet_open(struct ds_fleet **fleet, struct ds_handle *stor
 
 /* Tells what is new, and merges what others told. It waits until the store is in step, for so many milliseconds at most; 0 waits for
  * nothing. The first DS_FLEET_INSTEP says that the store has caught up: serve nobody before, since a publisher that begins with
- * less than is known would number its versions anew. To be called when the bell rings, and behind each change of the store. */
+ * less than is known would number its versions anew. DS_FLEET_BADSCOPE ends the step at once. To be called when the bell rings, and after
+ * each change of the store. */
 enum ds_fleet_word ds_fleet_step(struct ds_fleet *fleet, unsigned patience);
 
 /* A descriptor that can be read when there is something to step for: what others told, an answer, a second that is over. It is the
@@ -83,7 +87,7 @@ struct ds_fleet_state {
     uint64_t connections, compactions;
     uint64_t unread;                      /* lines and entries that no item could be read from */
     uint64_t refused[DS_NOROOM + 1];      /* of how many keys and owners an item is refused now, by enum ds_refusal */
-    unsigned differing;                   /* how many others held something else a second ago */
+    unsigned differing;                   /* how many others held something else when they had read the same entries */
     char server[DS_FLEET_ID];             /* the run of the server that was met, or nothing */
     char said[DS_FLEET_SAID];             /* why the server went or was denied last, in its words, or nothing */
 };

@@ -1,21 +1,37 @@
-/* dsfleet: a store for the programs of one host, in step with those of other hosts over a redis stream. docs/fleet.md. */
+/* dsfleet: a store for the programs of one host, in step with those of other hosts over a redis stream.
+ * docs/fleet.md. */
 #include "clients.h"
+#include "clock.h"
 #include "ds_fleet.h"
+#include "log.h"
+#include "place.h"
 #include <errno.h>
-#include <fcntl.h>
 #include <getopt.h>
+#include <malloc.h>
 #include <signal.h>
 #include <stdio.h>
 #include <stdlib.h>
 #include <string.h>
-#include <sys/file.h>
+#include <sys/resource.h>
 #include <sys/signalfd.h>
 #include <sys/socket.h>
-#include <sys/un.h>
 #include <time.h>
 #include <unistd.h>
 
-enum { DONE = 0, USAGE = 2, FAILED = 3, RING = 4096, BACKLOG = 128, LAST_SECONDS = 2 /* for what clients wait for at the end */ };
+#ifndef DS_VERSION
+#define DS_VERSION "unknown"
+#endif
+
+enum { DONE = 0, USAGE = 2, FAILED = 3 }; /* statuses */
+
+enum {
+    RING = 4096,
+    SECOND = 1000,     /* milliseconds */
+    LAST = 2 * SECOND, /* for what clients wait for at the end */
+    REST = 100,        /* before a client is taken in again, where none could be */
+    DESCRIPTORS = 32,  /* that aren't clients' */
+    LARGE = 1 << 20    /* bytes of a large block of memory */
+};
 
 static const char help[] =
     "usage: dsfleet [--stream NAME] [--scope 'PATTERN KINDS'] [--keep N] SOCKET REDIS-URL\n"
@@ -29,11 +45,15 @@ static const char help[] =
     "  --stream NAME     the front of the names of the keys in redis: ds\n"
     "  --scope 'P K'     shares what the pattern P matches whole, of the kinds K, 1 to 15; else everything\n"
     "  --keep N          compacts a stream of more than N entries: 1000\n"
-    "  -h, --help        this\n"
+    "  --version         prints the version\n"
+    "  -h, --help        prints this\n"
     "\n"
     "Lines: offer publish delete sweep retrieve nameof subscribe check since snapshot page show all, as of dsctl;\n"
     "`listen SUB`, upon which `notice SUB` comes whenever the subscription is owed one; `state`.\n"
-    "Statuses: 0 ended by a signal, 2 usage, 3 a failure, which standard error tells.\n";
+    "Statuses: 0 ended by a signal, 2 usage or a stream of another scope, 3 a failure, which standard error tells.\n";
+
+static const char bad_scope[] = "a scope is a pattern, a space, and kinds from 1 to 15";
+static const char version[] = "dsfleet " DS_VERSION "\n";
 
 struct options { struct ds_fleet_options fleet; const char *socket; };
 
@@ -41,18 +61,18 @@ struct host {
     struct ds_handle store;
     struct ds_fleet *fleet;
     struct clients clients;
-    const char *socket;
-    int lock, listener, signals;
-    bool ended;
+    struct place place;
+    struct log log;
+    const char *url;
+    int signals;
+    uint64_t begun, looked_at, admit_at; /* milliseconds; looked_at: when the lock was looked after */
+    bool ended, told_waiting;
 };
 
-static void tell(void *context, const char *line) {
-    (void)context;
-    fprintf(stderr, "dsfleet: %s\n", line);
-}
+static void tell(void *context, const char *line) { log_say(context, "%s", line); }
 
-static int failed(const char *what) {
-    fprintf(stderr, "dsfleet: %s: %s\n", what, strerror(errno));
+static int failed(struct host *host, const char *what) {
+    log_say(&host->log, "%s: %s", what, strerror(errno));
     return FAILED;
 }
 
@@ -63,14 +83,15 @@ static int usage(const char *why) {
     return USAGE;
 }
 
-/* Cuts the kinds off behind the last space. */
+/* Cuts the kinds off after the last space. */
 static bool read_scope(char *scope, struct ds_fleet_options *options) {
     char *space = strrchr(scope, ' '), *end;
     if (!space) return false;
     long kinds = strtol(space + 1, &end, 10);
     if (*end || end == space + 1 || kinds < 1 || kinds > 15) return false;
     *space = '\0';
-    options->pattern = scope, options->kinds = (uint8_t)kinds;
+    options->pattern = scope;
+    options->kinds = (uint8_t)kinds;
     return true;
 }
 
@@ -80,78 +101,123 @@ static bool read_keep(const char *text, long *keep) {
     return !*end && *text >= '0' && *text <= '9' && *keep >= 1 && *keep <= 1000000000;
 }
 
-/* -1: go on. */
-static int read_words(int count, char **words, struct options *options) {
-    static const struct option known[] = {
-        {"stream", required_argument, NULL, 's'}, {"scope", required_argument, NULL, 'p'}, {"keep", required_argument, NULL, 'k'}, {"help", no_argument, NULL, 'h'}, {0}};
-    opterr = 0;
-    for (int it; (it = getopt_long(count, words, "h", known, NULL)) != -1;) {
-        if (it == 'h') return fputs(help, stdout), DONE;
-        if (it == 's') options->fleet.stream = optarg;
-        else if (it == 'p' && !read_scope(optarg, &options->fleet)) return usage("a scope is a pattern, a space, and kinds from 1 to 15");
-        else if (it == 'k' && !read_keep(optarg, &options->fleet.keep)) return usage("a stream keeps 1 entry or more");
-        else if (it == '?') return usage("no such option, or nothing behind it");
-    }
-    if (count - optind != 2) return usage("a socket and an address of redis are wanted");
-    options->socket = words[optind], options->fleet.url = words[optind + 1];
-    if (!strcmp(options->fleet.url, "-")) options->fleet.url = getenv("DSFLEET_URL");
-    if (!options->fleet.url) return usage("DSFLEET_URL isn't set");
-    if (strlen(options->socket) >= sizeof((struct sockaddr_un *)0)->sun_path) return usage("the socket's path is too long");
-    return -1;
-}
-
-/* ---- the socket ---- */
-
-/* Whoever has the lock beside the socket may take its place; it is let go when its holder ends, however that is. */
-static int take_lock(struct host *host) {
-    char path[sizeof((struct sockaddr_un *)0)->sun_path + 8];
-    snprintf(path, sizeof path, "%s.lock", host->socket);
-    host->lock = open(path, O_CREAT | O_RDWR | O_CLOEXEC, 0600);
-    if (host->lock < 0) return failed(path);
-    if (!flock(host->lock, LOCK_EX | LOCK_NB)) return DONE;
-    if (errno != EWOULDBLOCK) return failed(path);
-    fprintf(stderr, "dsfleet: %s: another one serves it\n", host->socket);
-    return FAILED;
-}
-
-static int serve(struct host *host) {
-    struct sockaddr_un address = {.sun_family = AF_UNIX};
-    snprintf(address.sun_path, sizeof address.sun_path, "%s", host->socket);
-    host->listener = socket(AF_UNIX, SOCK_STREAM | SOCK_NONBLOCK | SOCK_CLOEXEC, 0);
-    if (host->listener < 0) return failed("socket");
-    unlink(host->socket); /* of one that ended without a word: we have the lock */
-    if (bind(host->listener, (struct sockaddr *)&address, sizeof address) || listen(host->listener, BACKLOG)) return failed(host->socket);
-    fprintf(stderr, "dsfleet: serves %s\n", host->socket);
+static int shown(const char *text) {
+    fputs(text, stdout);
     return DONE;
 }
 
-static void admit(struct host *host) {
-    while (host->clients.count < CLIENTS) {
-        int client = accept4(host->listener, NULL, NULL, SOCK_NONBLOCK | SOCK_CLOEXEC);
-        if (client < 0 || !clients_add(&host->clients, client)) return;
+/* Takes an option; -1: continue. */
+static int read_option(int option, char *value, struct options *options) {
+    switch (option) {
+    case 'h': return shown(help);
+    case 'v': return shown(version);
+    case 's': options->fleet.stream = value; return -1;
+    case 'p': return read_scope(value, &options->fleet) ? -1 : usage(bad_scope);
+    case 'k': return read_keep(value, &options->fleet.keep) ? -1 : usage("a stream keeps 1 entry or more");
+    default: return usage("no such option, or no value after it");
+    }
+}
+
+/* -1: continue. */
+static int read_words(int count, char **words, struct options *options) {
+    static const struct option known[] = {
+        {"stream", required_argument, NULL, 's'},
+        {"scope", required_argument, NULL, 'p'},
+        {"keep", required_argument, NULL, 'k'},
+        {"help", no_argument, NULL, 'h'},
+        {"version", no_argument, NULL, 'v'},
+        {0},
+    };
+    opterr = 0;
+    for (int option; (option = getopt_long(count, words, "h", known, NULL)) != -1;) {
+        int status = read_option(option, optarg, options);
+        if (status >= 0) return status;
+    }
+    if (count - optind != 2) return usage("a socket and an address of redis are wanted");
+    options->socket = words[optind];
+    options->fleet.url = words[optind + 1];
+    if (!strcmp(options->fleet.url, "-")) options->fleet.url = getenv("DSFLEET_URL");
+    if (!options->fleet.url) return usage("DSFLEET_URL isn't set");
+    if (strlen(options->socket) >= PLACE_PATH) return usage("the socket's path is too long");
+    return -1;
+}
+
+/* What a fault of usage is, that the carrier reports by a word. */
+static const char *explained(enum ds_fleet_word word) {
+    switch (word) {
+    case DS_FLEET_BADURL:
+        return "an address is redis://[[USER]:PASSWORD@]HOST[:PORT][/DATABASE] or unix://[[USER]:PASSWORD@]/PATH";
+    case DS_FLEET_NOTLS:
+        return "TLS isn't spoken: an address begins with redis:// or unix://, and a tunnel leads to other sites";
+    case DS_FLEET_BADNAME:
+        return "the name of a stream is 1 to 128 printable characters of ASCII and no space";
+    case DS_FLEET_BADSCOPE:
+        return "the pattern of the scope can't be read, or isn't the one that the stream has";
+    case DS_FLEET_NOROOM:
+        return "out of memory";
+    default:
+        return "no store is open";
     }
 }
 
 /* ---- a turn ---- */
 
+/* Takes in the clients that wait, up to CLIENTS. Where one can't be, as out of descriptors, the listener rests, since
+ * poll would report it again and again. */
+static void admit(struct host *host) {
+    struct pollfd waiting = {.fd = host->place.listener, .events = POLLIN};
+    while (poll(&waiting, 1, 0) > 0) {
+        bool is_full = host->clients.count == CLIENTS && !clients_make_place(&host->clients);
+        int client = is_full ? -1 : accept4(host->place.listener, NULL, NULL, SOCK_NONBLOCK | SOCK_CLOEXEC);
+        if (client >= 0 && clients_add(&host->clients, client)) continue;
+        host->admit_at = clock_now() + REST;
+        return;
+    }
+}
+
 /* Waits until there is something to do, and reads what clients sent. */
 static void wait_and_read(struct host *host, bool ready) {
     struct pollfd polled[CLIENTS + 3];
     size_t count = host->clients.count;
+    bool rests = clock_now() < host->admit_at;
     polled[0] = (struct pollfd){.fd = host->signals, .events = POLLIN};
     polled[1] = (struct pollfd){.fd = ds_fleet_bell(host->fleet), .events = POLLIN};
-    polled[2] = (struct pollfd){.fd = count < CLIENTS ? host->listener : -1, .events = POLLIN};
+    polled[2] = (struct pollfd){.fd = rests ? -1 : host->place.listener, .events = POLLIN};
     for (size_t i = 0; i < count; i++) polled[i + 3] = clients_watched(host->clients.client[i]);
-    if (poll(polled, count + 3, ready ? 0 : 1000) <= 0) return;
+    if (poll(polled, count + 3, ready ? 0 : rests ? REST : SECOND) <= 0) return;
     struct signalfd_siginfo signal;
     host->ended |= polled[0].revents && read(host->signals, &signal, sizeof signal) > 0;
-    for (size_t i = 0; i < count; i++)
-        if (polled[i + 3].revents & (POLLIN | POLLHUP | POLLERR)) clients_read(host->clients.client[i]);
+    for (size_t i = 0; i < count; i++) clients_read(host->clients.client[i], polled[i + 3].revents);
     if (polled[2].revents) admit(host);
 }
 
-/* False: it goes on no more. */
-static bool turn(struct host *host, bool *ready) {
+/* The address without its user and password. */
+static const char *public_part(const char *url) {
+    const char *front = strstr(url, "://"), *rest = front ? front + 3 : url;
+    const char *at = *rest == '/' ? NULL : strrchr(rest, '@');
+    return at ? at + 1 : rest;
+}
+
+/* Says once what it waits for, where the socket isn't made at once. */
+static void tell_waiting(struct host *host, enum ds_fleet_word word) {
+    bool is_soon = word == DS_FLEET_LATE && clock_now() < host->begun + SECOND;
+    if (host->told_waiting || host->place.listener >= 0 || is_soon) return;
+    host->told_waiting = true;
+    log_say(&host->log, "waits for the redis server %s; the socket %s is made once the store has caught up",
+            public_part(host->url), host->place.path);
+}
+
+/* What is done each second. */
+static void look_after(struct host *host) {
+    uint64_t now = clock_now();
+    if (now < host->looked_at + SECOND) return;
+    host->looked_at = now;
+    place_keep(&host->place);
+    log_count(&host->log);
+}
+
+/* -1: continue; else the status to end with. */
+static int turn(struct host *host, bool *ready) {
     uint8_t owed[16] = {0};
     wait_and_read(host, *ready);
     clients_answer(&host->clients);
@@ -159,58 +225,103 @@ static bool turn(struct host *host, bool *ready) {
     ds_fleet_owed(host->fleet, owed);
     clients_owe(&host->clients, owed);
     *ready = clients_write(&host->clients);
-    if (word == DS_FLEET_INSTEP && host->listener < 0 && serve(host) != DONE) return false;
-    return word != DS_FLEET_CLOSED;
+    if (word == DS_FLEET_INSTEP && host->place.listener < 0 && !place_serve(&host->place)) return FAILED;
+    tell_waiting(host, word);
+    look_after(host);
+    bool is_misused = word == DS_FLEET_BADSCOPE && host->place.listener < 0; /* one that serves may find its scope again */
+    if (word != DS_FLEET_CLOSED && !is_misused) return -1;
+    log_say(&host->log, "%s: %s", ds_fleet_word(word), explained(word));
+    return is_misused ? USAGE : FAILED;
 }
 
 /* Serves until a signal comes, and then as long as clients wait for answers, but not for ever. */
 static int run(struct host *host) {
     bool ready = false;
-    while (!host->ended)
-        if (!turn(host, &ready)) return FAILED;
-    time_t end = time(NULL) + LAST_SECONDS;
-    while (!clients_are_done(&host->clients) && time(NULL) < end)
-        if (!turn(host, &ready)) return FAILED;
-    return DONE;
+    int status = -1;
+    while (!host->ended && status < 0) status = turn(host, &ready);
+    uint64_t end = clock_now() + LAST;
+    while (status < 0 && !clients_are_done(&host->clients) && clock_now() < end) status = turn(host, &ready);
+    return status < 0 ? DONE : status;
+}
+
+/* ---- beginning and ending ---- */
+
+/* Makes large blocks go back to the system when they are freed. By itself glibc keeps them, once it has freed some. */
+static void give_memory_back(void) {
+#ifdef M_MMAP_THRESHOLD
+    mallopt(M_MMAP_THRESHOLD, LARGE);
+    mallopt(M_TRIM_THRESHOLD, 4 * LARGE);
+#endif
+}
+
+/* Allows as many descriptors as there may be clients, if the system does. */
+static void allow_descriptors(struct host *host) {
+    struct rlimit limit;
+    rlim_t wanted = CLIENTS + DESCRIPTORS;
+    if (getrlimit(RLIMIT_NOFILE, &limit) || limit.rlim_cur >= wanted) return;
+    rlim_t allowed = limit.rlim_cur;
+    limit.rlim_cur = limit.rlim_max < wanted ? limit.rlim_max : wanted;
+    if (!setrlimit(RLIMIT_NOFILE, &limit)) allowed = limit.rlim_cur;
+    if (allowed == wanted) return;
+    log_say(&host->log, "descriptors: %llu are allowed, so fewer than %d clients are served at once",
+            (unsigned long long)allowed, CLIENTS);
+}
+
+/* Lets signals be read from a descriptor. A write to a client that hung up raises none. */
+static bool hold_signals(struct host *host) {
+    sigset_t ends;
+    sigemptyset(&ends);
+    sigaddset(&ends, SIGTERM);
+    sigaddset(&ends, SIGINT);
+    sigaddset(&ends, SIGHUP);
+    sigprocmask(SIG_BLOCK, &ends, NULL);
+    signal(SIGPIPE, SIG_IGN);
+    host->signals = signalfd(-1, &ends, SFD_CLOEXEC);
+    return host->signals >= 0;
 }
 
 static int open_all(struct host *host, const struct options *options) {
     struct timespec it;
-    sigset_t ends;
+    give_memory_back();
+    allow_descriptors(host);
     clock_gettime(CLOCK_REALTIME, &it); /* each run has another incarnation */
-    if (ds_open(&host->store, (uint64_t)it.tv_sec * 1000000000 + (uint64_t)it.tv_nsec, 0, RING)) return fputs("dsfleet: noroom\n", stderr), FAILED;
-    enum ds_fleet_word word = ds_fleet_open(&host->fleet, &host->store, &options->fleet);
-    if (word != DS_FLEET_INSTEP) {
-        fprintf(stderr, "dsfleet: %s\n", ds_fleet_word(word));
-        return word == DS_FLEET_NOROOM || word == DS_FLEET_SYSTEM ? FAILED : USAGE;
+    if (ds_open(&host->store, (uint64_t)it.tv_sec * 1000000000 + (uint64_t)it.tv_nsec, 0, RING)) {
+        log_say(&host->log, "noroom: out of memory");
+        return FAILED;
     }
-    sigemptyset(&ends);
-    sigaddset(&ends, SIGTERM), sigaddset(&ends, SIGINT), sigaddset(&ends, SIGHUP);
-    sigprocmask(SIG_BLOCK, &ends, NULL);
-    signal(SIGPIPE, SIG_IGN);
-    host->signals = signalfd(-1, &ends, SFD_CLOEXEC);
-    host->clients.store = &host->store, host->clients.fleet = host->fleet;
-    return host->signals < 0 ? failed("signalfd") : take_lock(host);
+    enum ds_fleet_word word = ds_fleet_open(&host->fleet, &host->store, &options->fleet);
+    if (word == DS_FLEET_SYSTEM) return failed(host, ds_fleet_word(word));
+    if (word != DS_FLEET_INSTEP) {
+        log_say(&host->log, "%s: %s", ds_fleet_word(word), explained(word));
+        return word == DS_FLEET_NOROOM ? FAILED : USAGE;
+    }
+    host->clients.store = &host->store;
+    host->clients.fleet = host->fleet;
+    host->clients.log = &host->log;
+    host->begun = clock_now();
+    if (!hold_signals(host)) return failed(host, "signalfd");
+    return place_lock(&host->place) ? DONE : FAILED;
 }
 
 static void close_all(struct host *host) {
     clients_close(&host->clients);
-    if (host->listener >= 0) {
-        unlink(host->socket);
-        close(host->listener);
-    }
+    place_leave(&host->place);
     if (host->signals >= 0) close(host->signals);
-    if (host->lock >= 0) close(host->lock);
     ds_fleet_close(host->fleet);
     ds_close(&host->store);
+    log_close(&host->log);
 }
 
 int main(int count, char **words) {
     struct options options = {.fleet = {.tell = tell}};
-    struct host host = {.store = DS_CLOSED, .lock = -1, .listener = -1, .signals = -1};
+    struct host host = {.store = DS_CLOSED, .place = {.lock = -1, .listener = -1}, .signals = -1};
     int status = read_words(count, words, &options);
     if (status >= 0) return status;
-    host.socket = options.socket;
+    log_open(&host.log);
+    host.place.path = options.socket;
+    host.place.log = &host.log;
+    host.url = options.fleet.url;
+    options.fleet.context = &host.log;
     status = open_all(&host, &options);
     if (status == DONE) status = run(&host);
     close_all(&host);

@@ -5,7 +5,10 @@
 #include <stdlib.h>
 #include <string.h>
 
-enum { PIECES = 1 << 16 /* bytes of items that are fetched at a time */ };
+enum {
+    PIECES = 1 << 16, /* bytes of items that are fetched at a time */
+    SHOWN = 400       /* bytes of a line that are logged */
+};
 
 static const uint64_t hash_seed = 14695981039346656037u; /* FNV-1a */
 
@@ -37,14 +40,14 @@ static struct ds_request scoped(const struct items *items, uint32_t command) {
     return request;
 }
 
-static enum ds_fleet_word ask(struct items *items, struct ds_handle *store, uint32_t command, struct ds_answer *answer) {
+static enum ds_fleet_word ask_store(struct items *items, struct ds_handle *store, uint32_t command, struct ds_answer *answer) {
     struct ds_request request = store == items->store ? scoped(items, command) : (struct ds_request){.command = command};
     if (ds_call(store, &request, items->scope.bytes, items->scope.length, answer)) return DS_FLEET_CLOSED;
     return answer->word == DS_REFUSED && answer->refusal == DS_NOROOM ? DS_FLEET_NOROOM : DS_FLEET_INSTEP;
 }
 
 /* Puts the lines of the last answer behind the text, or leaves it as it was. */
-static enum ds_fleet_word fetch(struct ds_handle *store, const struct ds_answer *answer, struct text *to) {
+static enum ds_fleet_word fetch_items(struct ds_handle *store, const struct ds_answer *answer, struct text *to) {
     size_t before = to->length;
     for (uint64_t first = 0; first < answer->pieces;) {
         struct ds_given given = {0};
@@ -60,9 +63,9 @@ static enum ds_fleet_word fetch(struct ds_handle *store, const struct ds_answer 
 
 /* ---- own news ---- */
 
-static enum ds_fleet_word keep(struct items *items, const struct ds_answer *answer) {
+static enum ds_fleet_word keep_untold(struct items *items, const struct ds_answer *answer) {
     size_t before = items->untold.length;
-    enum ds_fleet_word word = fetch(items->store, answer, &items->untold);
+    enum ds_fleet_word word = fetch_items(items->store, answer, &items->untold);
     if (word != DS_FLEET_INSTEP) return word;
     items->gathered += items->untold.length - before;
     items->incarnation = answer->before, items->position = answer->after;
@@ -71,9 +74,9 @@ static enum ds_fleet_word keep(struct items *items, const struct ds_answer *answ
 
 enum ds_fleet_word items_gather_all(struct items *items) {
     struct ds_answer answer;
-    enum ds_fleet_word word = ask(items, items->store, DS_SNAPSHOT, &answer);
+    enum ds_fleet_word word = ask_store(items, items->store, DS_SNAPSHOT, &answer);
     if (word != DS_FLEET_INSTEP) return word;
-    return answer.word == DS_SNAPPED ? keep(items, &answer) : DS_FLEET_BADSCOPE;
+    return answer.word == DS_SNAPPED ? keep_untold(items, &answer) : DS_FLEET_BADSCOPE;
 }
 
 enum ds_fleet_word items_open(struct items *items) { return items_gather_all(items); }
@@ -81,10 +84,10 @@ enum ds_fleet_word items_open(struct items *items) { return items_gather_all(ite
 enum ds_fleet_word items_gather(struct items *items) {
     for (;;) {
         struct ds_answer answer;
-        enum ds_fleet_word word = ask(items, items->store, DS_SINCE, &answer);
+        enum ds_fleet_word word = ask_store(items, items->store, DS_SINCE, &answer);
         if (word != DS_FLEET_INSTEP) return word;
         if (answer.word != DS_JOURNALED) return items_gather_all(items); /* further back than its ring, or another store by now */
-        if ((word = keep(items, &answer)) != DS_FLEET_INSTEP || answer.pieces < ITEMS_MOST) return word;
+        if ((word = keep_untold(items, &answer)) != DS_FLEET_INSTEP || answer.pieces < ITEMS_MOST) return word;
     }
 }
 
@@ -101,12 +104,53 @@ static bool is_news(struct items *items, const char *line, size_t length, uint32
     return true;
 }
 
+/* Somebody may send what can't be read as fast as he likes, and the log is to stay short. */
+static bool may_complain(struct items *items) {
+    if (items->complaints == ITEMS_COMPLAINTS) {
+        items->withheld++;
+        return false;
+    }
+    items->complaints++;
+    return true;
+}
+
+void items_say_withheld(struct items *items) {
+    unsigned long long withheld = items->withheld;
+    if (withheld) items_say(items, "and %llu more that were refused or unread", withheld);
+    items->withheld = items->complaints = 0;
+}
+
 /* entry is NULL for what was told before. */
 static void complain(struct items *items, const char *entry, const char *line, size_t length, uint32_t refusal) {
-    if (!entry) return;
-    int shown = (int)(length && line[length - 1] == '\n' ? length - 1 : length);
-    if (is_news(items, line, length, refusal)) items_say(items, "%s: entry %s: %.*s", ds_fleet_refusal(refusal), entry, shown > 400 ? 400 : shown, line);
+    if (!entry || !is_news(items, line, length, refusal) || !may_complain(items)) return;
+    size_t shown = length && line[length - 1] == '\n' ? length - 1 : length;
+    if (shown > SHOWN) shown = SHOWN;
+    items_say(items, "%s: entry %s: %.*s", ds_fleet_refusal(refusal), entry, (int)shown, line);
 }
+
+void items_unread_entry(struct items *items, const char *entry) {
+    items->unread++;
+    if (may_complain(items)) items_say(items, "unread: entry %s has no items", entry);
+}
+
+static uint64_t refused_now(const struct items *items) {
+    uint64_t count = 0;
+    for (size_t i = 0; i <= DS_NOROOM; i++) count += items->refused[i];
+    return count;
+}
+
+/* Another item that no store here keeps, for want of a place. */
+static void lose(struct items *items) {
+    if (items->lost++) return;
+    items->lost_beside = refused_now(items);
+    items_say(items, "full: what was refused is too much to be kept, so nothing is compacted from here");
+}
+
+bool items_may_regain(const struct items *items) {
+    return items->lost && refused_now(items) <= items->lost_beside / 2;
+}
+
+void items_begin_anew(struct items *items) { items->lost = items->lost_beside = 0; }
 
 /* Keeps a refused line in the second store, by which a newer one of the same key takes its place. */
 static enum ds_fleet_word set_aside(struct items *items, const char *entry, const char *line, size_t length, uint32_t refusal) {
@@ -117,22 +161,30 @@ static enum ds_fleet_word set_aside(struct items *items, const char *entry, cons
     if (ds_call(&items->aside[items->here], &request, line, length, &answer)) return DS_FLEET_CLOSED;
     if (answer.refusal == DS_NOROOM) return DS_FLEET_NOROOM;
     complain(items, entry, line, length, refusal);
-    if (answer.word == DS_STOPPED && !items->lost++) items_say(items, "full: what was refused is too much to be kept, so nothing is compacted from here");
-    if (answer.word == DS_STOPPED || answer.taken) items->refused[refusal <= DS_NOROOM ? refusal : 0]++, items->news = true;
+    if (answer.word == DS_STOPPED && answer.refusal == DS_FULL) lose(items); /* else it keeps another one of this version */
+    if (answer.word == DS_STOPPED || answer.taken) {
+        items->refused[refusal <= DS_NOROOM ? refusal : 0]++;
+        items->news = true;
+    }
     return DS_FLEET_INSTEP;
 }
 
+/* What is lost isn't forgotten: nothing but the stream has it. */
 static void forget_refused(struct items *items) {
     memset(items->refused, 0, sizeof items->refused);
-    items->lost = 0, items->news = false;
+    items->news = false;
 }
 
 /* Merges what was set aside once more; the second store is filled anew by what is still refused. */
 static enum ds_fleet_word offered_again(struct items *items, const struct text *lines) {
-    items->here = !items->here, items->has_aside = false;
+    items->here = !items->here;
+    items->has_aside = false;
     forget_refused(items);
     enum ds_fleet_word word = items_take(items, NULL, lines->bytes, lines->length);
-    if (word != DS_FLEET_INSTEP) items->here = !items->here, items->has_aside = items->news = true;
+    if (word != DS_FLEET_INSTEP) {
+        items->here = !items->here;
+        items->has_aside = items->news = true;
+    }
     ds_close(&items->aside[!items->here]);
     return word;
 }
@@ -142,10 +194,13 @@ enum ds_fleet_word items_retry(struct items *items) {
     struct ds_answer answer;
     if (!items->has_aside || (!items->news && items->tried == items->position)) return DS_FLEET_INSTEP;
     struct ds_handle *aside = &items->aside[items->here];
-    enum ds_fleet_word word = ask(items, aside, DS_SNAPSHOT, &answer);
-    if (word == DS_FLEET_INSTEP) word = fetch(aside, &answer, &lines);
+    enum ds_fleet_word word = ask_store(items, aside, DS_SNAPSHOT, &answer);
+    if (word == DS_FLEET_INSTEP) word = fetch_items(aside, &answer, &lines);
     if (word == DS_FLEET_INSTEP) word = offered_again(items, &lines);
-    if (word == DS_FLEET_INSTEP) items->news = false, items->tried = items->position;
+    if (word == DS_FLEET_INSTEP) {
+        items->news = false;
+        items->tried = items->position;
+    }
     text_free(&lines);
     return word;
 }
@@ -199,7 +254,8 @@ enum ds_fleet_word items_take(struct items *items, const char *entry, const char
     struct text ended = {0};
     if (word != DS_FLEET_INSTEP || !length) return word;
     if (lines[length - 1] == '\n') return take_ended(items, entry, lines, length);
-    word = text_put(&ended, lines, length) && text_put(&ended, "\n", 1) ? take_ended(items, entry, ended.bytes, ended.length) : DS_FLEET_NOROOM;
+    bool fits = text_put(&ended, lines, length) && text_put(&ended, "\n", 1);
+    word = fits ? take_ended(items, entry, ended.bytes, ended.length) : DS_FLEET_NOROOM;
     text_free(&ended);
     return word;
 }
@@ -208,8 +264,8 @@ enum ds_fleet_word items_take(struct items *items, const char *entry, const char
 
 static enum ds_fleet_word put_all(struct items *items, struct ds_handle *store, struct text *to) {
     struct ds_answer answer;
-    enum ds_fleet_word word = ask(items, store, DS_SNAPSHOT, &answer);
-    return word == DS_FLEET_INSTEP ? fetch(store, &answer, to) : word;
+    enum ds_fleet_word word = ask_store(items, store, DS_SNAPSHOT, &answer);
+    return word == DS_FLEET_INSTEP ? fetch_items(store, &answer, to) : word;
 }
 
 enum ds_fleet_word items_all(struct items *items, struct text *to) {
@@ -221,7 +277,7 @@ enum ds_fleet_word items_digest(struct items *items, uint64_t *digest) {
     struct text room = {0};
     struct ds_answer answer;
     struct ds_given given = {0};
-    enum ds_fleet_word word = ask(items, items->store, DS_SNAPSHOT, &answer);
+    enum ds_fleet_word word = ask_store(items, items->store, DS_SNAPSHOT, &answer);
     if (word == DS_FLEET_INSTEP && !text_room(&room, PIECES)) word = DS_FLEET_NOROOM;
     *digest = hash_seed;
     for (uint64_t first = 0; word == DS_FLEET_INSTEP && first < answer.pieces; first += given.count) {

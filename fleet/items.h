@@ -6,7 +6,11 @@
 #include "ds_fleet.h"
 #include "text.h"
 
-enum { ITEMS_MOST = 256 /* lines of one merge, and of one entry */, ITEMS_TOLD = 256 /* keys whose refusal was told */ };
+enum {
+    ITEMS_MOST = 256,     /* lines of one merge, and of one entry */
+    ITEMS_TOLD = 256,     /* keys whose refusal was told */
+    ITEMS_COMPLAINTS = 32 /* lines of the log for what is refused or can't be read, up to the next items_say_withheld */
+};
 
 struct items {
     struct ds_handle *store;
@@ -20,10 +24,14 @@ struct items {
     uint64_t gathered;              /* bytes that untold ever got */
     bool news;                      /* something is refused since items_retry */
     uint64_t tried;                 /* the store's position then */
-    uint64_t unread, lost;          /* lost: items that the second store refused, too */
+    uint64_t unread;
+    uint64_t lost;                  /* items that the second store refused, too, since all was read: the stream alone has them */
+    uint64_t lost_beside;           /* how many were refused when the first of them was lost */
     uint64_t refused[DS_NOROOM + 1];
     uint64_t told[ITEMS_TOLD];      /* hashes of keys and why they were refused */
     size_t told_next;
+    unsigned complaints;            /* since items_say_withheld, */
+    uint64_t withheld;              /* and those past ITEMS_COMPLAINTS */
     uint8_t owed[16];
     ds_fleet_tell *tell;
     void *context;
@@ -40,15 +48,23 @@ enum ds_fleet_word items_gather_all(struct items *items);
 /* Merges lines that came by an entry, whose id is for who is told of what is refused. Own news is gathered first: what comes behind it
  * in the journal is then what was merged, and isn't told again. A refused line ends nothing. */
 enum ds_fleet_word items_take(struct items *items, const char *entry, const char *lines, size_t length);
+/* Counts and logs an entry that has no items. */
+void items_unread_entry(struct items *items, const char *entry);
 /* Offers what was refused again, where something changed since. */
 enum ds_fleet_word items_retry(struct items *items);
+/* Whether half of what was refused when items were lost has been taken in since: then there is room to read what was lost once more. */
+bool items_may_regain(const struct items *items);
+/* All is read anew: what was lost comes again. */
+void items_begin_anew(struct items *items);
 /* Puts all that is held, and all that is refused, behind the text. */
 enum ds_fleet_word items_all(struct items *items, struct text *to);
 /* A number that differs, but for a slip in 2^64, where another store holds something else. */
 enum ds_fleet_word items_digest(struct items *items, uint64_t *digest);
 void items_close(struct items *items);
 
-/* Says a line to who listens. */
+/* Logs a line. */
 void items_say(struct items *items, const char *format, ...);
+/* Logs how many complaints were withheld, and begins to log them again. To be called once a second. */
+void items_say_withheld(struct items *items);
 
 #endif

@@ -1,5 +1,6 @@
 /* One connection to a redis server. See link.h. */
 #include "link.h"
+#include <fcntl.h>
 #include <hiredis/hiredis.h>
 #include <hiredis/sds.h>
 #include <stdarg.h>
@@ -64,7 +65,10 @@ static bool read_host(struct link_address *address, char *text) {
     }
     char *bracket = *text == '[' ? strchr(text, ']') : NULL;
     char *colon = strrchr(bracket ? bracket : text, ':');
-    if (bracket) *bracket = '\0', text++;
+    if (bracket) {
+        *bracket = '\0';
+        text++;
+    }
     address->port = colon ? number(colon + 1, 65535) : 6379;
     if (colon) *colon = '\0';
     address->host = text;
@@ -107,9 +111,17 @@ static void greet(struct link *link, const struct link_address *address) {
     link->asked = 0;
 }
 
-bool link_open(struct link *link, const struct link_address *address, uint64_t now) {
+/* Lets no child have the descriptor; and lets the kernel notice a peer that is gone, also while nothing is asked. */
+static void set_up(redisContext *redis, bool is_local) {
+    int flags = fcntl(redis->fd, F_GETFD);
+    if (flags >= 0) fcntl(redis->fd, F_SETFD, flags | FD_CLOEXEC);
+    if (!is_local) redisEnableKeepAlive(redis);
+}
+
+bool link_open(struct link *link, const struct link_address *address, const char *host, uint64_t now) {
     link_close(link);
-    link->redis = address->path ? redisConnectUnixNonBlock(address->path) : redisConnectNonBlock(address->host, address->port);
+    link->redis = address->path ? redisConnectUnixNonBlock(address->path) : redisConnectNonBlock(host, address->port);
+    if (link->redis && !link->redis->err) set_up(link->redis, address->path);
     if (!link->redis || link->redis->err) {
         note(link, link->redis ? link->redis->errstr : "no memory");
         link_close(link);
@@ -127,15 +139,19 @@ void link_ask(struct link *link, const char *format, ...) {
         if (link->redis) note(link, "a question couldn't be asked");
         link_close(link);
     } else {
-        link->asked++, link->writes = true;
+        link->asked++;
+        link->writes = true;
     }
     va_end(given);
 }
 
 /* Keeps an answer of the round; one to a greeting has to be good. */
 static bool kept(struct link *link, redisReply *answer) {
+    if (!link->greetings && link->came < link->asked) {
+        link->answers[link->came++] = answer;
+        return true;
+    }
     if (!link->greetings) {
-        if (link->came < link->asked) return link->answers[link->came++] = answer, true;
         note(link, "the server answers what wasn't asked");
         freeReplyObject(answer);
         return false;
@@ -147,11 +163,17 @@ static bool kept(struct link *link, redisReply *answer) {
     return good;
 }
 
+/* The connection failed: its own words say why. */
+static bool broken(struct link *link) {
+    note(link, link->redis->errstr);
+    return false;
+}
+
 static bool write_some(struct link *link, uint64_t now) {
     int done = 0;
     if (!link->writes) return true;
     size_t before = sdslen(link->redis->obuf);
-    if (redisBufferWrite(link->redis, &done) != REDIS_OK) return note(link, link->redis->errstr), false;
+    if (redisBufferWrite(link->redis, &done) != REDIS_OK) return broken(link);
     if (sdslen(link->redis->obuf) < before) link->heard = now;
     link->writes = !done;
     return true;
@@ -162,7 +184,7 @@ static bool fill(struct link *link, uint64_t now) {
     redisReader *reader = link->redis->reader;
     for (int times = 0; times < 64 && !link->quiet; times++) {
         size_t before = reader->len;
-        if (redisBufferRead(link->redis) != REDIS_OK) return note(link, link->redis->errstr), false;
+        if (redisBufferRead(link->redis) != REDIS_OK) return broken(link);
         link->quiet = reader->len < before + REDIS_READER_MAX_BUF; /* it reads so much at a time */
         if (reader->len > before) link->heard = now;
     }
@@ -173,10 +195,17 @@ static bool read_some(struct link *link, uint64_t now) {
     if (!fill(link, now)) return false;
     for (;;) {
         void *answer = NULL;
-        if (redisGetReplyFromReader(link->redis, &answer) != REDIS_OK) return note(link, link->redis->errstr), false;
+        if (redisGetReplyFromReader(link->redis, &answer) != REDIS_OK) return broken(link);
         if (!answer) return true;
         if (!kept(link, answer)) return false;
     }
+}
+
+/* Whether answers are missing for longer than any may take. */
+static bool is_silent(struct link *link, uint64_t now) {
+    if (now <= link->heard + link->blocks + LINK_SILENCE) return false;
+    note(link, "the server answers nothing");
+    return true;
 }
 
 enum link_state link_turn(struct link *link, uint64_t now) {
@@ -189,18 +218,23 @@ enum link_state link_turn(struct link *link, uint64_t now) {
         link->heard = now;
         return LINK_IDLE;
     }
-    return link->came == link->asked && !link->greetings ? LINK_ANSWERED : LINK_WAITS;
+    if (link->came == link->asked && !link->greetings) return LINK_ANSWERED;
+    if (!is_silent(link, now)) return LINK_WAITS;
+    link_close(link);
+    return LINK_LOST;
 }
 
 void link_done(struct link *link) {
     for (unsigned i = 0; i < link->came; i++) freeReplyObject(link->answers[i]);
-    link->asked = link->came = 0;
+    link->asked = link->came = link->blocks = 0;
 }
 
 void link_close(struct link *link) {
     link_done(link);
     if (link->redis) redisFree(link->redis);
-    link->redis = NULL, link->greetings = 0, link->writes = link->quiet = false;
+    link->redis = NULL;
+    link->greetings = 0;
+    link->writes = link->quiet = false;
 }
 
 int link_descriptor(const struct link *link) { return link->redis ? link->redis->fd : -1; }

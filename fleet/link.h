@@ -1,4 +1,5 @@
-/* One connection to a redis server, over hiredis: it is asked by rounds of questions and never waits. Used by ds_fleet.c alone. */
+/* One connection to a redis server, over hiredis: it is asked by rounds of questions and never waits. A server that answers nothing for
+ * LINK_SILENCE is taken for gone. Used by ds_fleet.c alone. */
 #ifndef DS_FLEET_LINK_H
 #define DS_FLEET_LINK_H
 
@@ -9,7 +10,11 @@
 struct redisContext;
 struct redisReply;
 
-enum { LINK_MOST = 40 /* questions of one round */, LINK_WORDS = 256 /* bytes of what a server said, with its zero */ };
+enum {
+    LINK_MOST = 40,      /* questions of one round */
+    LINK_WORDS = 256,    /* bytes of what a server said, with its zero */
+    LINK_SILENCE = 5000  /* milliseconds in which something of an answer has to come */
+};
 
 /* Where a server is, and as whom it is spoken to. */
 struct link_address {
@@ -36,18 +41,20 @@ struct link {
     bool writes;                           /* not all that was asked could be written yet */
     bool quiet;                            /* all that had come is read; who hears that more came clears it */
     uint64_t heard;                        /* when bytes last went or came, or nothing was asked, in milliseconds */
+    unsigned blocks;                       /* for how many of them this round may wait at the server before it is answered */
     char said[LINK_WORDS];                 /* why the connection went, or the error of a greeting */
 };
 
 enum link_state {
-    LINK_IDLE,    /* nothing is asked */
-    LINK_WAITS,   /* answers are missing */
-    LINK_ANSWERED, /* all answers of this round stand in answers */
-    LINK_LOST     /* the connection is gone, or there was none; link->said says why */
+    LINK_IDLE,     /* nothing is asked */
+    LINK_WAITS,    /* answers are missing */
+    LINK_ANSWERED, /* all answers of this round are in link->answers */
+    LINK_LOST      /* the connection is gone, or there was none; link->said says why */
 };
 
-/* Begins to connect, and asks what an address needs to be let in. Nothing is waited for but the name of a host, where it is one. */
-bool link_open(struct link *link, const struct link_address *address, uint64_t now);
+/* Begins to connect, and asks what an address needs to be let in. Nothing is waited for: `host` is the host's address in digits, or NULL
+ * where there is a path. */
+bool link_open(struct link *link, const struct link_address *address, const char *host, uint64_t now);
 /* Asks one question of a round, in the format of redisAppendCommand. What is given is copied. */
 void link_ask(struct link *link, const char *format, ...);
 /* Writes and reads what can be without waiting. */

@@ -5,6 +5,8 @@
 #include <stdlib.h>
 #include <string.h>
 
+enum { KEPT = 4096 /* bytes of room that an empty text keeps */ };
+
 bool text_room(struct text *text, size_t more) {
     if (text->room - text->length >= more) return true;
     size_t room = 2 * text->length + more;
@@ -33,6 +35,19 @@ bool text_print(struct text *text, const char *format, ...) {
 void text_drop(struct text *text, size_t length) {
     text->length -= length;
     if (length && text->length) memmove(text->bytes, text->bytes + length, text->length);
+    if (!text->length && text->room > KEPT) text_free(text);
+}
+
+bool text_move(struct text *text, struct text *from) {
+    if (!text->length) {
+        struct text empty = *text;
+        *text = *from;
+        *from = empty;
+        return true;
+    }
+    if (!text_put(text, from->bytes, from->length)) return false;
+    text_drop(from, from->length);
+    return true;
 }
 
 void text_free(struct text *text) {

@@ -7,11 +7,13 @@
 
 struct text { char *bytes; size_t length, room; };
 
-/* Makes room for so many bytes behind the text. These answer false where memory is wanting, and then the text is as it was. */
+/* Makes room for more bytes after the text. These return false where memory runs out; the text is unchanged then. */
 bool text_room(struct text *text, size_t more);
 bool text_put(struct text *text, const void *bytes, size_t length);
 bool text_print(struct text *text, const char *format, ...);
-/* Drops bytes from the front. */
+/* Moves all bytes of another text to the end of this one. */
+bool text_move(struct text *text, struct text *from);
+/* Drops bytes from the front. A text that becomes empty gives large memory back. */
 void text_drop(struct text *text, size_t length);
 void text_free(struct text *text);
 /* How many bytes the first lines have, as many as there are at most. */

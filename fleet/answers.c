@@ -1,0 +1,93 @@
+/* Answers of a redis server. See answers.h. */
+#include "answers.h"
+#include <limits.h>
+#include <stdio.h>
+#include <string.h>
+
+static const long long most_counted = 1LL << 53; /* sums of a few of these don't overflow */
+
+bool is_above(struct entry_id a, struct entry_id b) {
+    return a.first > b.first || (a.first == b.first && a.second > b.second);
+}
+
+bool is_same_entry(struct entry_id a, struct entry_id b) { return a.first == b.first && a.second == b.second; }
+
+const char *read_digits(const char *text, unsigned long long *number) {
+    const char *at = text;
+    for (*number = 0; *at >= '0' && *at <= '9'; at++) {
+        unsigned digit = (unsigned)(*at - '0');
+        if (*number > (ULLONG_MAX - digit) / 10) return NULL;
+        *number = *number * 10 + digit;
+    }
+    return at == text ? NULL : at;
+}
+
+bool read_entry_id(const char *text, struct entry_id *id) {
+    struct entry_id read;
+    const char *at = text ? read_digits(text, &read.first) : NULL;
+    if (!at || *at != '-') return false;
+    at = read_digits(at + 1, &read.second);
+    if (!at || *at) return false;
+    *id = read;
+    return true;
+}
+
+void write_entry_id(char text[DS_FLEET_ID], struct entry_id id) {
+    snprintf(text, DS_FLEET_ID, "%llu-%llu", id.first, id.second);
+}
+
+bool is_text(const redisReply *answer) { return answer && answer->type == REDIS_REPLY_STRING; }
+
+bool is_error(const redisReply *answer) { return answer && answer->type == REDIS_REPLY_ERROR; }
+
+bool is_list_of(const redisReply *answer, size_t count) {
+    return answer && answer->type == REDIS_REPLY_ARRAY && answer->elements == count;
+}
+
+bool is_error_of(const redisReply *answer, const char *word) {
+    return is_error(answer) && !strncmp(answer->str, word, strlen(word));
+}
+
+bool is_no_stream(const redisReply *answer) { return is_error(answer) && strstr(answer->str, "no such key"); }
+
+struct entry_id id_of(const redisReply *answer) {
+    struct entry_id id = NO_ENTRY;
+    if (is_text(answer)) read_entry_id(answer->str, &id);
+    return id;
+}
+
+bool read_count(const redisReply *answer, long long *count) {
+    unsigned long long number = 0;
+    const char *end = is_text(answer) ? read_digits(answer->str, &number) : NULL;
+    *count = 0;
+    if (answer && answer->type == REDIS_REPLY_INTEGER && answer->integer >= 0) {
+        number = (unsigned long long)answer->integer;
+    } else if (!end || *end) {
+        return false;
+    }
+    if (number > (unsigned long long)most_counted) return false;
+    *count = (long long)number;
+    return true;
+}
+
+long long count_of(const redisReply *answer) {
+    long long count;
+    read_count(answer, &count);
+    return count;
+}
+
+redisReply *field_of(const redisReply *fields, const char *name) {
+    if (!fields || fields->type != REDIS_REPLY_ARRAY) return NULL;
+    for (size_t i = 0; i + 1 < fields->elements; i += 2) {
+        if (is_text(fields->element[i]) && !strcmp(fields->element[i]->str, name)) return fields->element[i + 1];
+    }
+    return NULL;
+}
+
+void copy_hex_of(const redisReply *info, const char *name, char copy[DS_FLEET_ID]) {
+    const char *at = is_text(info) ? strstr(info->str, name) : NULL;
+    size_t length = at ? strspn(at + strlen(name), "0123456789abcdef") : 0;
+    if (length >= DS_FLEET_ID) length = DS_FLEET_ID - 1;
+    if (length) memcpy(copy, at + strlen(name), length);
+    copy[length] = '\0';
+}

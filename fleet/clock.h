@@ -1,0 +1,15 @@
+/* The time that no administrator sets. */
+#ifndef DS_FLEET_CLOCK_H
+#define DS_FLEET_CLOCK_H
+
+#include <stdint.h>
+#include <time.h>
+
+/* Returns milliseconds since some moment before the program began. */
+static inline uint64_t clock_now(void) {
+    struct timespec it;
+    clock_gettime(CLOCK_MONOTONIC, &it);
+    return (uint64_t)it.tv_sec * 1000 + (uint64_t)it.tv_nsec / 1000000;
+}
+
+#endif

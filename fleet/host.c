@@ -1,0 +1,149 @@
+/* The addresses of a host. See host.h. */
+#include "host.h"
+#include <fcntl.h>
+#include <netdb.h>
+#include <pthread.h>
+#include <signal.h>
+#include <stdatomic.h>
+#include <stdio.h>
+#include <stdlib.h>
+#include <string.h>
+#include <sys/eventfd.h>
+#include <sys/socket.h>
+#include <unistd.h>
+
+/* A look-up, which the host and its thread share: the last of the two frees it. */
+struct lookup {
+    atomic_int holders;
+    atomic_bool is_answered; /* what follows is written before */
+    int error;               /* of getaddrinfo */
+    unsigned count;
+    char address[HOST_ADDRESSES][HOST_TEXT];
+    int bell;                /* the thread's own descriptor of the host's bell */
+    char name[];
+};
+
+static void let_go(struct lookup *lookup) {
+    if (atomic_fetch_sub(&lookup->holders, 1) > 1) return;
+    close(lookup->bell);
+    free(lookup);
+}
+
+/* ---- in the thread ---- */
+
+static void keep_addresses(struct lookup *lookup, const struct addrinfo *found, int family) {
+    for (; found && lookup->count < HOST_ADDRESSES; found = found->ai_next) {
+        if (found->ai_family != family) continue;
+        char *address = lookup->address[lookup->count];
+        if (!getnameinfo(found->ai_addr, found->ai_addrlen, address, HOST_TEXT, NULL, 0, NI_NUMERICHOST)) lookup->count++;
+    }
+}
+
+static void *look_up(void *given) {
+    struct lookup *lookup = given;
+    struct addrinfo hints = {.ai_family = AF_UNSPEC, .ai_socktype = SOCK_STREAM}, *found = NULL;
+    lookup->error = getaddrinfo(lookup->name, NULL, &hints, &found);
+    if (!lookup->error) {
+        keep_addresses(lookup, found, AF_INET);
+        keep_addresses(lookup, found, AF_INET6);
+        freeaddrinfo(found);
+    }
+    atomic_store(&lookup->is_answered, true);
+    eventfd_write(lookup->bell, 1);
+    let_go(lookup);
+    return NULL;
+}
+
+/* ---- beside the loop ---- */
+
+/* A thread that takes no signal: they are the program's. */
+static bool start_thread(struct lookup *lookup) {
+    pthread_t thread;
+    pthread_attr_t detached;
+    sigset_t all, before;
+    if (pthread_attr_init(&detached)) return false;
+    pthread_attr_setdetachstate(&detached, PTHREAD_CREATE_DETACHED);
+    sigfillset(&all);
+    pthread_sigmask(SIG_SETMASK, &all, &before);
+    int error = pthread_create(&thread, &detached, look_up, lookup);
+    pthread_sigmask(SIG_SETMASK, &before, NULL);
+    pthread_attr_destroy(&detached);
+    return !error;
+}
+
+static bool begin_lookup(struct host *host, uint64_t now) {
+    size_t size = strlen(host->name) + 1;
+    struct lookup *lookup = calloc(1, sizeof *lookup + size);
+    if (!lookup) return false;
+    memcpy(lookup->name, host->name, size);
+    lookup->bell = fcntl(host->bell, F_DUPFD_CLOEXEC, 0);
+    atomic_store(&lookup->holders, 2);
+    if (lookup->bell < 0 || !start_thread(lookup)) {
+        if (lookup->bell >= 0) close(lookup->bell);
+        free(lookup);
+        return false;
+    }
+    host->lookup = lookup;
+    host->asked_at = now;
+    return true;
+}
+
+static enum host_found use(struct host *host, const char *address) {
+    snprintf(host->address, sizeof host->address, "%s", address);
+    return HOST_FOUND;
+}
+
+static enum host_found use_last(struct host *host, const char *said) {
+    host->said = said;
+    return *host->worked ? use(host, host->worked) : HOST_UNKNOWN;
+}
+
+static enum host_found use_answer(struct host *host) {
+    struct lookup *lookup = host->lookup;
+    enum host_found found;
+    host->lookup = NULL;
+    if (lookup->count) {
+        found = use(host, lookup->address[host->turn % lookup->count]);
+    } else {
+        found = use_last(host, lookup->error ? gai_strerror(lookup->error) : "its name has no address");
+    }
+    let_go(lookup);
+    return found;
+}
+
+enum host_found host_find(struct host *host, uint64_t now) {
+    if (host->is_address) return use(host, host->name);
+    if (!host->lookup && !begin_lookup(host, now)) return use_last(host, "no memory or thread to look its name up");
+    if (atomic_load(&host->lookup->is_answered)) return use_answer(host);
+    if (now - host->asked_at < HOST_PATIENCE || !*host->worked) return HOST_SOUGHT;
+    return use(host, host->worked);
+}
+
+static bool is_in_digits(const char *name) {
+    struct addrinfo hints = {.ai_flags = AI_NUMERICHOST}, *found = NULL;
+    if (getaddrinfo(name, NULL, &hints, &found)) return false;
+    freeaddrinfo(found);
+    return strlen(name) < HOST_TEXT;
+}
+
+bool host_open(struct host *host, const char *name) {
+    *host = (struct host){.name = name, .is_address = is_in_digits(name), .said = ""};
+    host->bell = eventfd(0, EFD_NONBLOCK | EFD_CLOEXEC);
+    return host->bell >= 0;
+}
+
+void host_hear(struct host *host) {
+    eventfd_t rung;
+    eventfd_read(host->bell, &rung);
+}
+
+void host_worked(struct host *host) { snprintf(host->worked, sizeof host->worked, "%s", host->address); }
+
+void host_failed(struct host *host) { host->turn++; }
+
+void host_close(struct host *host) {
+    if (host->lookup) let_go(host->lookup);
+    if (host->name && host->bell >= 0) close(host->bell);
+    host->lookup = NULL;
+    host->name = NULL;
+}

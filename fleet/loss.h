@@ -1,0 +1,37 @@
+/* How a bridge notices that a server no longer has what it had: by what the server counts, and by entries that have to be there. Used by
+ * ds_fleet.c alone. */
+#ifndef DS_FLEET_LOSS_H
+#define DS_FLEET_LOSS_H
+
+#include "answers.h"
+
+/* What a server has of a stream. */
+struct stock {
+    struct entry_id snapshot;  /* the entry up to which the snapshot goes; 0-0: there is none, or none of such an entry */
+    struct entry_id generated; /* the last id that the stream gave to an entry */
+    struct entry_id newest;    /* the last entry that is in it */
+    long long bytes;           /* of the snapshot */
+    long long added, gone;     /* entries that were ever added; those that went otherwise than into the snapshot */
+};
+
+/* Reads the answers to XINFO STREAM, and to `at`, `trimmed` and the length of `items` of the snapshot. */
+struct stock read_stock(const redisReply *stream, const redisReply *at, const redisReply *trimmed, const redisReply *bytes);
+/* Whether a server has less than before: the snapshot is older or smaller, or entries went and not into it. */
+bool has_lost(const struct stock *before, const struct stock *now);
+
+/* Entries of one origin, as those that a bridge told. While the stream is the same one, each of them is in it, or in the snapshot. A
+ * stream that was replaced since it was last looked at lacks `sure` or, where no entry was there then, `first`. */
+struct trail {
+    struct entry_id sure;  /* the last entry when the stream was last looked at */
+    struct entry_id first; /* the first one since then */
+    struct entry_id last;  /* the last one of all */
+    struct entry_id asked; /* the last one when the look that runs was asked */
+    struct entry_id later; /* the first one since that */
+};
+
+void trail_add(struct trail *trail, struct entry_id entry);
+/* A look at the stream is asked; trail_looked once it found the entries. A look that isn't answered is asked again. */
+void trail_ask(struct trail *trail);
+void trail_looked(struct trail *trail);
+
+#endif

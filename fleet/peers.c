@@ -1,0 +1,103 @@
+/* The other bridges of a stream. See peers.h. */
+#include "peers.h"
+#include <stdio.h>
+#include <stdlib.h>
+#include <string.h>
+
+enum {
+    DIFFERS = 2,    /* comparings that two differ in before it counts: one of them may have taken in what it refused a moment earlier */
+    DEAD = 2,       /* comparings with no word of another before it counts no more, */
+    BURIED = 60,    /* and before its digest is deleted */
+    HEX_DIGITS = 16 /* of a digest */
+};
+
+void peers_keep(struct peers *peers, struct digest digest) {
+    struct digest *newest = peers->own_count ? &peers->own[(peers->own_count - 1) % OWN_DIGESTS] : NULL;
+    if (newest && is_same_entry(newest->at, digest.at)) {
+        *newest = digest;
+    } else {
+        peers->own[peers->own_count++ % OWN_DIGESTS] = digest;
+    }
+}
+
+bool peers_write(const struct peers *peers, unsigned long long beat, char text[DIGEST_TEXT]) {
+    if (!peers->own_count) return false;
+    const struct digest *newest = &peers->own[(peers->own_count - 1) % OWN_DIGESTS];
+    snprintf(text, DIGEST_TEXT, "%016llx-%llu-%llu-%llu", newest->value, beat, newest->at.first, newest->at.second);
+    return true;
+}
+
+void peers_forget_own(struct peers *peers) { peers->own_count = 0; }
+
+/* Reads `DIGEST-BEAT-FIRST-SECOND`. */
+static bool read_digest(const char *text, struct digest *digest, unsigned long long *beat) {
+    char hex[HEX_DIGITS + 1] = "";
+    if (strspn(text, "0123456789abcdef") != HEX_DIGITS || text[HEX_DIGITS] != '-') return false;
+    memcpy(hex, text, HEX_DIGITS);
+    digest->value = strtoull(hex, NULL, 16);
+    const char *at = read_digits(text + HEX_DIGITS + 1, beat);
+    return at && *at == '-' && read_entry_id(at + 1, &digest->at);
+}
+
+static struct peer *peer_of(struct peers *peers, const char *id) {
+    for (size_t i = 0; i < peers->count; i++) {
+        if (!strcmp(peers->peer[i].id, id)) return &peers->peer[i];
+    }
+    if (peers->count == PEERS || strlen(id) >= PEER_ID) return NULL;
+    struct peer *peer = &peers->peer[peers->count++];
+    *peer = (struct peer){.still = 0};
+    snprintf(peer->id, sizeof peer->id, "%s", id);
+    return peer;
+}
+
+/* Compares a digest with the own one of the same entry; where there is none, what was found last stays. */
+static void judge(const struct peers *peers, struct peer *peer, const struct digest *theirs) {
+    unsigned long kept = peers->own_count < OWN_DIGESTS ? peers->own_count : OWN_DIGESTS;
+    for (unsigned long i = 0; i < kept; i++) {
+        const struct digest *own = &peers->own[i];
+        if (!is_same_entry(own->at, theirs->at)) continue;
+        peer->differs = own->value == theirs->value ? 0 : peer->differs + 1;
+    }
+}
+
+static void compare(struct peers *peers, const char *me, const char *id, const char *text) {
+    struct digest theirs;
+    unsigned long long beat;
+    if (!strcmp(id, me) || !read_digest(text, &theirs, &beat)) return;
+    struct peer *peer = peer_of(peers, id);
+    if (!peer) return;
+    peer->there = true;
+    peer->still = peer->beat == beat ? peer->still + 1 : 0;
+    peer->beat = beat;
+    if (!peer->still) judge(peers, peer, &theirs);
+    if (peer->still >= DEAD) return;
+    peers->differing += peer->differs >= DIFFERS;
+    if (!peer->differs && strcmp(id, me) < 0) peers->is_first = false;
+}
+
+/* Forgets those whose digests are there no longer. */
+static void bury(struct peers *peers) {
+    size_t kept = 0;
+    for (size_t i = 0; i < peers->count; i++) {
+        if (peers->peer[i].there) peers->peer[kept++] = peers->peer[i];
+    }
+    peers->count = kept;
+}
+
+void peers_compare(struct peers *peers, const char *me, const redisReply *digests) {
+    peers->differing = 0;
+    peers->is_first = true;
+    for (size_t i = 0; i < peers->count; i++) peers->peer[i].there = false;
+    for (size_t i = 0; i + 1 < digests->elements; i += 2) {
+        const redisReply *id = digests->element[i], *text = digests->element[i + 1];
+        if (is_text(id) && is_text(text)) compare(peers, me, id->str, text->str);
+    }
+    bury(peers);
+}
+
+const char *peers_gone(const struct peers *peers) {
+    for (size_t i = 0; i < peers->count; i++) {
+        if (peers->peer[i].still >= BURIED) return peers->peer[i].id;
+    }
+    return NULL;
+}
