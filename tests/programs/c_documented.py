@@ -1,4 +1,4 @@
-"""The lines by which docs/c.md builds over the library, for tests/programs/c: they are run as they are written."""
+"""The lines by which docs/reference/c.md builds over the library, for tests/programs/c: they are run as they are written."""
 import pathlib
 import re
 import shutil
@@ -11,7 +11,7 @@ OF_RUST = re.compile(r"rustc |\./driver_rust$")
 
 def shown():
     """The indented lines of the document's section on building."""
-    section = re.search(r"^## Build\n(.*?)^## ", (ROOT / "docs/c.md").read_text(), re.DOTALL | re.MULTILINE)[1]
+    section = re.search(r"^## Build\n(.*?)^## ", (ROOT / "docs/reference/c.md").read_text(), re.DOTALL | re.MULTILINE)[1]
     return re.findall(r"^    (.*)$", section, re.MULTILINE)
 
 
