@@ -81,7 +81,7 @@ enum ds_word {
     DS_BADLINE     /* to a line that is no command's. count: the byte, from 0, from which on it can not be read; nothing changed */
 };
 
-/* Why a request was refused, in the order in which the store judges; after these, why a call was. docs/reference/c.md has a table of them. */
+/* Why a request was refused, in the order in which the store judges; after these, why a call was. docs/reference/refusals.md has a table of them. */
 enum ds_refusal {
     DS_BADSUB = 1, DS_TOOMANY, DS_TOOLONG, DS_BADPATTERN, DS_BADKIND, DS_BADLABEL, DS_BADVERSION, DS_NOCALLER, DS_NOTALLOWED,
     DS_NOTOWNER, DS_CLASH, DS_STALE, DS_EXISTS, DS_NOTFOUND, DS_OLDCURSOR, DS_AHEAD, DS_BEHIND, DS_FULL, DS_WORN, DS_NOROOM,
