@@ -11,7 +11,7 @@ from typing import List
 import harness
 
 PROMPT = b"> "
-PICTURE = re.compile(r"^    \$ dsctl(.*)\n((?:    .*\n)*)", re.MULTILINE)  # within a document
+PICTURE = re.compile(r"(?<=\n\n)    \$ dsctl((?: [\w-]+)*)\n((?:    .*\n)*)", re.MULTILINE)  # within a document
 
 
 @dataclass
