@@ -1,4 +1,4 @@
-use Rattle.std.proofs.Common.{inl, inr, sym, subst}
+use Rattle.std.proofs.Common.{inl, inr, subst}
 use Rattle.ds_machine.specs.declared.command.Command.{Command}
 use Rattle.c_words.specs.Request.{publish_command}
 use Rattle.store_words.specs.declared.wording.Wording.TheVariants.{AsMerge}
