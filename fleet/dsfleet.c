@@ -18,10 +18,6 @@
 #include <time.h>
 #include <unistd.h>
 
-#ifndef DS_VERSION
-#define DS_VERSION "unknown"
-#endif
-
 enum { DONE = 0, USAGE = 2, FAILED = 3 }; /* statuses */
 
 enum {
