@@ -122,7 +122,7 @@ def fault_of(answer: Answer, malformed: Type[ValueError] = ValueError) -> Option
     if answer.word == BAD_LINE:
         return BadLine(f"the line can't be read from byte {answer.count} on")
     if answer.word == NO_REQUEST:
-        return malformed("no store is asked this way: docs/formats.md says what names, values and lines may be")
+        return malformed("no store is asked this way: docs/reference/lines.md says what names, values and lines may be")
     if answer.refusal:
         refused = NUMBERED[answer.refusal]
         version = Version(answer.epoch, answer.seq) if refused is Clash else None
