@@ -18,6 +18,11 @@ pub use shown::Shown;
 pub use store::{Found, Store};
 pub use values::{Cursor, Done, Endpoint, Kind, Kinds, Merged, Owed, Scope, Subscribed, Swept, Value, Version, RS};
 
+/// The examples of the guide.
+#[cfg(doctest)]
+#[doc = include_str!("../../../docs/guide/rust.md")]
+struct Guide;
+
 /// The version of the library for C that this program runs with.
 ///
 /// ```
