@@ -78,7 +78,8 @@ class Handle:
     """Keeps a handle of the library, which the end of its `with` closes."""
 
     def __init__(self, library: Optional[str], closes: str) -> None:
-        path = library or os.environ.get("PENGTAWIS_LIBRARY") or next((it for it in PLACES if os.path.exists(it)), NAME)
+        named = library or os.environ.get("PENGTAWIS_LIBRARY")
+        path = named if named else next((it for it in PLACES if os.path.exists(it)), NAME)
         try:
             self._library, self._closes = loaded(os.fspath(path)), closes
         except OSError as fault:

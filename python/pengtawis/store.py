@@ -13,6 +13,7 @@ from .values import KINDS, Cursor, Done, Endpoint, Items, Merged, Page, Reading,
 MOST = 256  # items of one answer, but for a snapshot's, and of one merge
 V = TypeVar("V", Endpoint, int, str, bytes)
 NONE = (0, 0)
+Pair = Tuple[int, int]  # an endpoint, a version or a cursor
 
 
 class Store(Handle):
@@ -42,14 +43,14 @@ class Store(Handle):
         packed(OPENING, *opening)  # which refuses what is out of range
         self._call("ds_open", *opening)
 
-    def publish(self, caller: Tuple[int, int], name: str, value: Value, version: Tuple[int, int], overwrite: bool = False) -> Done:
+    def publish(self, caller: Pair, name: str, value: Value, version: Pair, overwrite: bool = False) -> Done:
         """Puts a value under a key, over a live entry only with `overwrite`. `changed` is False if it was held already."""
         return done(self._request(Command.PUBLISH, *publication(caller, value, version), name, overwrite=overwrite))
 
     def publish_all(
-        self, caller: Tuple[int, int], entries: Iterable[Tuple[str, Value, Tuple[int, int]]], overwrite: bool = False
+        self, caller: Pair, entries: Iterable[Tuple[str, Value, Pair]], overwrite: bool = False
     ) -> List[Union[Done, Exception]]:
-        """Publishes entries, each a name, a value and a version, by one call of the library. Returns for each what `publish` returns or raises.
+        """Publishes entries, each a name, a value and a version, by one call of the library. Returns what `publish` returns or raises for each.
 
         >>> with Store() as store:
         ...     _ = store.publish(RS, "eth0", Endpoint(3, 16), version=(3, 0))
@@ -59,21 +60,21 @@ class Store(Handle):
         """
         requests, texts, length = [], [], 0
         for name, value, version in entries:
-            text, *parts = publication(caller, value, version)
-            requests.append(request_of(Command.PUBLISH, text, *parts, name, overwrite=overwrite, text_at=length))
-            texts.append(text)
-            length += len(text)
+            parts = publication(caller, value, version)
+            requests.append(request_of(Command.PUBLISH, *parts, name, overwrite=overwrite, text_at=length))
+            texts.append(parts[0])
+            length += len(parts[0])
         answers, count = (Answer * len(requests))(), len(requests)
         self._leave()
         # One call answers all, since none of these answers has a text.
         self._call("ds_run", b"".join(requests), count, b"".join(texts), length, answers, count, byref(c_size_t()))
         return [fault_of(it) or done(it) for it in answers]
 
-    def delete(self, caller: Tuple[int, int], name: str, kind: type, version: Tuple[int, int]) -> Done:
+    def delete(self, caller: Pair, name: str, kind: type, version: Pair) -> Done:
         """Ends a live entry, and leaves a tombstone."""
         return done(self._request(Command.DELETE, b"", caller, version, kinds=KINDS[kind], name=name))
 
-    def sweep(self, caller: Tuple[int, int], owner: str, generation: int) -> Swept:
+    def sweep(self, caller: Pair, owner: str, generation: int) -> Swept:
         """Raises the floor of a dead owner, which drops the entries that it published up to this generation."""
         answer = self._request(Command.SWEEP, b"", caller, number=generation, name=owner)
         return Swept(answer.count, answer.subscriptions())
@@ -87,7 +88,7 @@ class Store(Handle):
             found = str(self._text(), "ascii") if kind is str else self._text()
         return cast(V, found)
 
-    def nameof(self, endpoint: Tuple[int, int]) -> str:
+    def nameof(self, endpoint: Pair) -> str:
         """Returns the least name whose live label holds the endpoint."""
         self._request(Command.NAMEOF, b"", endpoint)
         return str(self._text(), "ascii")
@@ -144,7 +145,7 @@ class Store(Handle):
         return Page(items, cursor, bool(is_last))
 
     def since(
-        self, cursor: Tuple[int, int], pattern: str = ".*", kinds: Iterable[type] = KINDS, most: int = MOST
+        self, cursor: Pair, pattern: str = ".*", kinds: Iterable[type] = KINDS, most: int = MOST
     ) -> Iterator[Reading]:
         """Yields what took effect after a cursor, at most `most` items at a time, with the next cursor. It yields at least once.
 
@@ -242,7 +243,7 @@ class Store(Handle):
         return self._given
 
 
-def publication(caller: Tuple[int, int], value: Value, version: Tuple[int, int]) -> Tuple[Any, ...]:
+def publication(caller: Pair, value: Value, version: Pair) -> Tuple[bytes, Pair, Pair, int, int, int]:
     """Returns the text of a publication, and its other parts up to the name."""
     number, slot = value if isinstance(value, Endpoint) else (value if isinstance(value, int) else 0, 0)
     text = value.encode() if isinstance(value, str) else value if isinstance(value, bytes) else b""
@@ -250,8 +251,8 @@ def publication(caller: Tuple[int, int], value: Value, version: Tuple[int, int])
 
 
 def request_of(
-    command: Command, text: bytes, at: Tuple[int, int] = NONE, version: Tuple[int, int] = NONE, number: int = 0, slot: int = 0,
-    kinds: int = 0, name: str = "", *, cursor: Tuple[int, int] = NONE, sub: int = 0, most: int = 0, overwrite: bool = False,
+    command: Command, text: bytes, at: Pair = NONE, version: Pair = NONE, number: int = 0, slot: int = 0,
+    kinds: int = 0, name: str = "", *, cursor: Pair = NONE, sub: int = 0, most: int = 0, overwrite: bool = False,
     initial: bool = False, under: bool = False, behind: int = 0, text_at: int = 0, text_length: Optional[int] = None,
 ) -> bytes:
     spelled, length = name.encode(), len(text) if text_length is None else text_length

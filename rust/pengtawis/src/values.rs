@@ -92,7 +92,7 @@ impl<K: Into<Kinds>> BitOr<K> for Kinds {
     }
 }
 
-/// A value to be published. A string has at most 1024 printable bytes of ASCII, memory at most 1024 bytes.
+/// A value to be published. A string has at most 256 printable bytes of ASCII, memory at most 1024 bytes.
 #[derive(Clone, Copy, Debug, PartialEq, Eq)]
 pub enum Value<'a> {
     Label(Endpoint),

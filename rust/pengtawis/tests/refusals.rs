@@ -92,7 +92,7 @@ fn a_refusal_changes_nothing() {
 #[test]
 fn what_no_request_has() {
     let mut store = store();
-    let (long, big) = ("n".repeat(65), "s".repeat(1025));
+    let (long, big) = ("n".repeat(65), "s".repeat(257));
     for name in ["", "a b", "ä", &long] {
         assert_eq!(store.publish(ETH, name, 1, Version::new(3, 0), false), Err(Error::NoRequest), "{name}");
         assert_eq!(store.retrieve::<u32>(name), Err(Error::NoRequest), "{name}");

@@ -51,7 +51,7 @@ fn values_of_each_kind() {
 
 #[test]
 fn the_longest_values_and_names() {
-    let (mut store, name, text, bytes) = (with_eth(), "n".repeat(64), "\\".repeat(1024), [0x5a; 1024]);
+    let (mut store, name, text, bytes) = (with_eth(), "n".repeat(64), "\\".repeat(256), [0x5a; 1024]);
     let at = Endpoint::new(4, 17);
     store.publish(RS, &name, at, version(4, 0), false).unwrap();
     store.publish(at, &name, text.as_str(), version(4, 0), false).unwrap();
@@ -157,7 +157,7 @@ fn lines_of_scripts() {
     assert_eq!(store.line("retrieve eth1 label").err(), Some(Error::Refused(Refusal::NotFound)));
     assert_eq!(store.line("retreive eth0 label").err(), Some(Error::BadLine(0)));
     assert_eq!(store.line("side a").err(), Some(Error::NoRequest));
-    let many: String = (0..400).map(|at| format!("s{at:03} str eth0 3.0 = \"{}\"\n", "x".repeat(900))).collect();
+    let many: String = (0..400).map(|at| format!("s{at:03} str eth0 3.0 = \"{}\"\n", "x".repeat(250))).collect();
     store.merge(&lines(&many)).unwrap();
     let text = store.line("snapshot \"s.*\" 15").unwrap().text().unwrap();
     assert_eq!(text, format!("{many}snapshot 400 1 401\n"));
