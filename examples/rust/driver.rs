@@ -16,11 +16,26 @@ fn print(what: &str, word: &str, owed: &Owed) {
     println!("{what}: {word}{}", if owed.contains(INET) { ", and inet is owed a notice" } else { "" });
 }
 
-/// Prints an answer that has items, and says how many these are, and where a since continues.
-fn print_items(what: &str, word: &str, mut shown: Shown<'_>) -> Result<(u64, Cursor), Error> {
+/// Prints a refusal, unless memory ran out: that is the example's own fault.
+fn print_refusal(what: &str, fault: Error) -> Result<(), Error> {
+    match fault {
+        Error::Refused(refusal) if refusal != Refusal::NoRoom => {
+            print(what, &format!("refused {}", refusal.word()), &Owed::default());
+            Ok(())
+        }
+        other => Err(other),
+    }
+}
+
+/// Prints an answer that has items. Returns where a since continues, if there may be more of them.
+fn print_items(what: &str, word: &str, shown: Result<Shown<'_>, Error>) -> Result<Option<Cursor>, Error> {
+    let mut shown = match shown {
+        Ok(shown) => shown,
+        Err(fault) => return print_refusal(what, fault).map(|_| None),
+    };
     print(what, word, &Owed::default());
     std::io::stdout().write_all(shown.items()?.text()).expect("standard output");
-    Ok((shown.count(), shown.cursor()))
+    Ok(if shown.count() == u64::from(MOST) { Some(shown.cursor()) } else { None })
 }
 
 /// RS says that eth0 runs in this generation and slot.
@@ -36,10 +51,7 @@ fn publish_mtus(store: &mut Store, by: Endpoint, bytes: u32, networks: u32) -> R
         let name = if network == 0 { "eth0.mtu".to_string() } else { format!("eth0.mtu{network}") };
         match store.publish(by, &name, bytes, Version::new(by.generation, 0), false) {
             Ok(done) => print("eth0: my mtu", if done.changed { "changed" } else { "known" }, &done.owed),
-            Err(Error::Refused(refusal)) if refusal != Refusal::NoRoom => {
-                print("eth0: my mtu", &format!("refused {}", refusal.word()), &Owed::default());
-            }
-            Err(other) => return Err(other),
+            Err(fault) => print_refusal("eth0: my mtu", fault)?,
         }
     }
     Ok(())
@@ -47,7 +59,7 @@ fn publish_mtus(store: &mut Store, by: Endpoint, bytes: u32, networks: u32) -> R
 
 /// Asks for what inet wasn't shown until there is no more, because one answer has at most `MOST` items.
 fn check(store: &mut Store) -> Result<(), Error> {
-    while print_items("inet: what is new", "checked", store.check(INET, MOST)?)?.0 == u64::from(MOST) {}
+    while print_items("inet: what is new", "checked", store.check(INET, MOST))?.is_some() {}
     Ok(())
 }
 
@@ -71,10 +83,10 @@ fn main() -> Result<(), Box<dyn std::error::Error>> {
 
     print("inet: who is 4/16", "named", &Owed::default());
     println!("{}", store.name_of(second)?);
-    let (mut count, mut cursor) = (u64::from(MOST), Cursor { incarnation: 1, position: 2 });
-    while count == u64::from(MOST) {
-        (count, cursor) = print_items("inet: what came from position 2 on", "journaled", store.since(cursor, None, MOST)?)?;
+    let mut next = Some(Cursor { incarnation: 1, position: 2 });
+    while let Some(cursor) = next {
+        next = print_items("inet: what came from position 2 on", "journaled", store.since(cursor, None, MOST))?;
     }
-    print_items("inet: all that is held", "snapped", store.snapshot(None)?)?;
+    print_items("inet: all that is held", "snapped", store.snapshot(None))?;
     Ok(())
 }

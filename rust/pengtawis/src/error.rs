@@ -97,10 +97,8 @@ pub enum Error {
 pub struct Stopped {
     /// Why the next item was refused.
     pub refusal: Refusal,
-    /// How many items are done, and how many of these took effect or were late.
+    /// How many items are done.
     pub done: u64,
-    pub taken: u64,
-    pub stale: u64,
     /// The subscriptions that are owed a notice of them.
     pub owed: Owed,
 }
@@ -121,10 +119,7 @@ impl Error {
         match answer.word {
             word::NOREQUEST => Some(Error::NoRequest),
             word::BADLINE => Some(Error::BadLine(answer.count)),
-            word::STOPPED => {
-                let (done, taken, stale, owed) = (answer.count, answer.taken, answer.stale, Owed(answer.owed));
-                Some(Error::Stopped(Stopped { refusal: refusal(), done, taken, stale, owed }))
-            }
+            word::STOPPED => Some(Error::Stopped(Stopped { refusal: refusal(), done: answer.count, owed: Owed(answer.owed) })),
             _ if answer.refusal > 0 => Some(Error::Refused(refusal())),
             _ => None,
         }

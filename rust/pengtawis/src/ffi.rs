@@ -1,4 +1,4 @@
-//! What `c/ds.h` declares. Each layout is compared with the header's by `tests/layout.rs` of the gate.
+//! What `c/ds.h` declares. Each layout is compared with the header's by layout.rs.
 
 use std::ffi::c_void;
 

@@ -6,6 +6,8 @@
 mod error;
 mod ffi;
 mod items;
+#[cfg(test)]
+mod layout;
 mod map;
 mod shown;
 mod store;

@@ -16,6 +16,7 @@ use crate::values::{Endpoint, Kinds, Merged, Version};
 /// assert_eq!(drivers.label("eth0")?, Endpoint::new(4, 16));
 /// # Ok::<(), pengtawis::Error>(())
 /// ```
+#[derive(Debug)]
 pub struct Map {
     handle: Handle,
 }

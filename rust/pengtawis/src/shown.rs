@@ -5,6 +5,7 @@ use crate::ffi::{self, stop, Answer, Given, MAX_PIECE};
 use crate::items::Items;
 use crate::store::Store;
 use crate::values::Cursor;
+use std::fmt;
 
 const ROOM: usize = 1 << 16; // bytes that are asked for at a time
 
@@ -26,6 +27,12 @@ pub struct Shown<'store> {
     answer: Answer,
     fetched: u64,
     text: Vec<u8>,
+}
+
+impl fmt::Debug for Shown<'_> {
+    fn fmt(&self, to: &mut fmt::Formatter<'_>) -> fmt::Result {
+        to.debug_struct("Shown").field("count", &self.count()).field("cursor", &self.cursor()).finish_non_exhaustive()
+    }
 }
 
 impl<'store> Shown<'store> {

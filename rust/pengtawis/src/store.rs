@@ -1,6 +1,6 @@
 //! A store in this process.
 
-use crate::error::{Error, Refusal};
+use crate::error::{Error, Refusal, Stopped};
 use crate::ffi::{self, command, word, Answer, Given, Handle, Request, MAX_PIECE};
 use crate::items::Items;
 use crate::shown::Shown;
@@ -25,6 +25,7 @@ const LONGEST_NAME: usize = 64;
 /// assert_eq!(store.retrieve::<u32>("eth0.mtu")?, 1500);
 /// # Ok::<(), pengtawis::Error>(())
 /// ```
+#[derive(Debug)]
 pub struct Store {
     handle: Handle,
 }
@@ -124,7 +125,7 @@ impl Store {
             match part {
                 Ok(answer) => add(&mut total, merged(&answer)),
                 Err(Error::Stopped(it)) => {
-                    add(&mut total, Merged { done: it.done, taken: it.taken, stale: it.stale, owed: it.owed });
+                    add(&mut total, Merged { done: it.done, owed: it.owed, ..Merged::default() });
                     return Err(stopped(total, it.refusal));
                 }
                 Err(Error::Refused(refusal)) if total.done > 0 => return Err(stopped(total, refusal)),
@@ -284,8 +285,7 @@ fn add(total: &mut Merged, part: Merged) {
 }
 
 fn stopped(total: Merged, refusal: Refusal) -> Error {
-    let Merged { done, taken, stale, owed } = total;
-    Error::Stopped(crate::error::Stopped { refusal, done, taken, stale, owed })
+    Error::Stopped(Stopped { refusal, done: total.done, owed: total.owed })
 }
 
 const _: () = assert!(LONGEST_VALUE <= MAX_PIECE);

@@ -66,7 +66,7 @@ pub struct Kinds(pub(crate) u8);
 
 impl Kinds {
     pub const ALL: Kinds = Kinds(15);
-    /// No kind, to which kinds may be added. A scope of none is refused as [`BadKind`](crate::Refusal::BadKind).
+    /// No kind, to which kinds may be added. A map of none is refused as [`BadKind`](crate::Refusal::BadKind).
     pub const NONE: Kinds = Kinds(0);
 }
 

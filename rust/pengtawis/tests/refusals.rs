@@ -38,7 +38,7 @@ fn met() -> Vec<Refusal> {
         it.check(40, 257).err().unwrap(),
         it.subscribe(41, all(&long), true, false).unwrap_err(),
         it.subscribe(41, all("("), true, false).unwrap_err(),
-        it.subscribe(41, Scope::new("a", Kinds::NONE), true, false).unwrap_err(),
+        Map::new("a", Kinds::NONE).unwrap_err().into(),
         it.publish(RS, "rs", Endpoint::new(1, 16), v(1, 0), false).unwrap_err(),
         it.publish(ETH, "n", 1, v(4, 0), false).unwrap_err(),
         it.publish(Endpoint::new(9, 99), "n", 1, v(9, 0), false).unwrap_err(),
@@ -57,7 +57,7 @@ fn met() -> Vec<Refusal> {
         Store::open_with(1, 0, 0).err().unwrap().into(),
         Store::open_with(1, LAST + 1, 1).err().unwrap().into(),
     ];
-    faults.iter().map(|it| it.refusal().unwrap()).collect()
+    faults.iter().map(|it| it.refusal().unwrap_or_else(|| panic!("{faults:?}"))).collect()
 }
 
 #[test]
@@ -101,6 +101,7 @@ fn what_no_request_has() {
     assert_eq!(store.publish(ETH, "s", "\n", Version::new(3, 0), false), Err(Error::NoRequest));
     assert_eq!(store.name_of(Endpoint::new(1 << 21, 0)), Err(Error::NoRequest));
     assert_eq!(store.page(Some(("", Kind::U32)), None, 8).err(), Some(Error::NoRequest));
+    assert_eq!(store.subscribe(1, Scope::new("a", Kinds::NONE), true, false), Err(Error::NoRequest));
     assert_eq!(Map::new(".*", Kind::Label).unwrap().label("a b"), Err(Error::NoRequest));
 }
 

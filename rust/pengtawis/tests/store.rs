@@ -140,7 +140,7 @@ fn a_merge_stops_where_an_item_is_refused() {
     let many: String = (0..300).map(|at| format!("a{at} u32 eth0 3.{at} = 1\n")).collect();
     let told = store.merge(&lines(&format!("{many}eth0 label rs 3.0 = 3/17\nb u32 eth0 3.0 = 1\n")));
     match told {
-        Err(Error::Stopped(Stopped { refusal, done: 300, taken: 300, stale: 0, owed })) => {
+        Err(Error::Stopped(Stopped { refusal, done: 300, owed })) => {
             assert_eq!((refusal, owed.contains(7)), (Refusal::Clash(version(3, 0)), true));
         }
         other => panic!("{other:?}"),

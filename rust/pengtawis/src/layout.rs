@@ -1,10 +1,7 @@
-//! The structs of src/ffi.rs are laid out as tests/programs/c_abi.txt says of those of `c/ds.h`.
+//! The structs of ffi.rs are laid out as tests/programs/c_abi.txt says of those of `c/ds.h`.
 
+use crate::ffi;
 use std::mem::{align_of, size_of};
-
-#[allow(dead_code)]
-#[path = "../src/ffi.rs"]
-mod ffi;
 
 /// A struct's lines, each with the place and the size of a member.
 macro_rules! layout {
