@@ -1,8 +1,8 @@
 """Which function of a program asked for the growth that tests/kit/refuse.c refused, by the words of its stack.
 
-A word of the stack is where a call returns to if a call instruction stands before it in the program's code. From the
-innermost one outwards, the next that counts is one whose call leads to the function that was found last; other words
-are left behind by calls that have ended. Functions of other files that the compiler took in are those that took them in.
+A word of the stack is a return address if a call instruction precedes the place in the program's code. From the innermost one
+outwards, the next address that counts is one whose call leads to the function found last; other words are left by calls that
+have ended. A function that the compiler inlined is part of its caller.
 """
 import bisect
 import re

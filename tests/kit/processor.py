@@ -112,9 +112,9 @@ class Clock:
 
 
 def table(minutes, rest):
-    """The lines that tell the minutes of each crate and part, and of the rest by its name; and what is above its budget.
+    """Returns lines with the minutes of each crate and part, and of the rest by its name; and what is above its budget.
 
-    The crate that took most stands first, and behind the crates stand their sums.
+    The crate that took most is first, and the sums follow the crates.
     """
     crates = [(crate, *(minutes.get((crate, part), 0) for part in PARTS)) for crate in {crate for crate, _ in minutes}]
     crates.sort(key=lambda row: (-sum(row[1:]), row[0]))

@@ -1,7 +1,7 @@
 """What a script's run did: each line with its answer, and what every holder holds after it.
 
-The program is asked once, for more than the script: behind each line what both stores and all maps hold. That makes no message and
-changes nothing, so nothing is needed of the program but its answers.
+The program runs once, on more than the script: each line is followed by lines that show what both stores and all maps hold. These make
+no message and change nothing, so only the program's answers are needed.
 """
 import re
 import subprocess

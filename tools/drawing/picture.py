@@ -15,7 +15,7 @@ LEGEND = [
 
 
 class Picture:
-    """Draws what a layout has placed, from the ground up: arrows pass behind bands."""
+    """Draws what a layout has placed, from the ground up: arrows pass under bands."""
 
     def __init__(self, layout, name):
         self.layout, self.out, self.name = layout, [], name
