@@ -54,13 +54,6 @@ floor_told held count position = record { held = held; count = count; position =
 pub floor_told_same : (v : ContentRecord) (f : Floor) (o : Option Floor) (count position : ℕ) → o ≡ floor_at v.held f.owner → count ≡ length (floors_in v.held) → position ≡ v.journal.position → floor_told o count position ≡ floor_standing_in v f
 floor_told_same v f o count position p q r = λ i. record { held = p i; count = q i; position = r i }
 
-abbrev pub told : Option ChangeRecord → Bool → ℕ → ℕ → ℕ → Standing
-told held void count most position = record { held = held; void = void; count = count; most = most; position = position }
-
-pub told_same : (v : ContentRecord) (c : ChangeRecord) (o : Option ChangeRecord) (void : Bool) (count most position : ℕ) → o ≡ held_at v.held c.key → void ≡ is_void v.held c → count ≡ length (changes_in v.held) → most ≡ v.limits.keys → position ≡ v.journal.position
-    → told o void count most position ≡ standing_in v c
-told_same v c o void count most position p q r x y = λ i. record { held = p i; void = q i; count = r i; most = x i; position = y i }
-
 -- ---- the first cause
 pub asked_cause : (v : ContentRecord) (s : State) (a : AskedChange) (body : Body) (caller : Option (List ℕ)) (t : Standing) (o : Option Cause) → ContentStands v s → caller ≡ name_of v.held a.caller → t ≡ standing_in v (change_asked caller a body)
     → o ≡ first_cause (Some a.version) (against_asked t caller a body) → o ≡ cause_against s a body

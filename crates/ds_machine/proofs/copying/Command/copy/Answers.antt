@@ -1,6 +1,6 @@
 use Rattle.std.proofs.Common.{◌∙◌, ap, sym}
 use Rattle.ds_machine.specs.declared.command.Command.TheVariants.{Publish, Subscribe, Since, Snapshot, Page, Merge}
-use Rattle.ds_services.proofs.copying.command_again.Goals as goal
+use Rattle.ds_machine.proofs.copying.Command.copy.Goals as goal
 
 pub returns-in-Delete : goal.returns-in-Delete
 returns-in-Delete c = sym c.in-Delete.is
@@ -25,17 +25,17 @@ pub returns-in_ok-copy-in-Subscribe : goal.returns-in_ok-copy-in-Subscribe
 returns-in_ok-copy-in-Subscribe c =
     let p = c.in-Subscribe in ap (λ q. Subscribe p.sub q p.initial p.overwrite) c.in_ok-copy-in-Subscribe.ensures ∙ sym p.is
 
-pub returns-in_ok-scope_again-in-Since : goal.returns-in_ok-scope_again-in-Since
-returns-in_ok-scope_again-in-Since c =
-    let p = c.in-Since in ap (λ s. Since s p.cursor p.max) c.in_ok-scope_again-in-Since.ensures ∙ sym p.is
+pub returns-in_ok-copy-in-Since : goal.returns-in_ok-copy-in-Since
+returns-in_ok-copy-in-Since c =
+    let p = c.in-Since in ap (λ s. Since s p.cursor p.max) c.in_ok-copy-in-Since.ensures ∙ sym p.is
 
-pub returns-in_ok-scope_again-in-Snapshot : goal.returns-in_ok-scope_again-in-Snapshot
-returns-in_ok-scope_again-in-Snapshot c =
-    let p = c.in-Snapshot in ap (λ s. Snapshot s) c.in_ok-scope_again-in-Snapshot.ensures ∙ sym p.is
+pub returns-in_ok-copy-in-Snapshot : goal.returns-in_ok-copy-in-Snapshot
+returns-in_ok-copy-in-Snapshot c =
+    let p = c.in-Snapshot in ap (λ s. Snapshot s) c.in_ok-copy-in-Snapshot.ensures ∙ sym p.is
 
-pub returns-in_ok-scope_again-in-Page : goal.returns-in_ok-scope_again-in-Page
-returns-in_ok-scope_again-in-Page c =
-    let p = c.in-Page in ap (λ s. Page s p.after p.max) c.in_ok-scope_again-in-Page.ensures ∙ sym p.is
+pub returns-in_ok-copy-in-Page : goal.returns-in_ok-copy-in-Page
+returns-in_ok-copy-in-Page c =
+    let p = c.in-Page in ap (λ s. Page s p.after p.max) c.in_ok-copy-in-Page.ensures ∙ sym p.is
 
 pub returns-in_ok-copy-in-Merge : goal.returns-in_ok-copy-in-Merge
 returns-in_ok-copy-in-Merge c =
