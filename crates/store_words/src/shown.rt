@@ -25,7 +25,11 @@ pub(crate) fn append_checked(
     ensures unchanged { OnErr result (buffer.new.items ≡ buffer.old.items) }
 {
     let count = items.len() as u64;
-    append_listed(buffer, items, &[(b"checked ", count), (b" ", before), (b" ", after)])
+    append_listed(
+        buffer,
+        items,
+        &[(b"checked ", count), (b" ", before), (b" ", after)],
+    )
 }
 
 /// Appends the lines of the items that took effect from a cursor on, and the line that counts them and gives the cursor

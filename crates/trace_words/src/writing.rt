@@ -24,7 +24,10 @@ pub fn append_header(text: &mut Vec<u8>, header: &Header) -> Result<(), NoRoom>
     } = *header;
     let ring = ring as u64;
     match format {
-        Format::One => append_numbers(text, &[(b"trace 1 ", incarnation), (b" ", first), (b" ", ring)]),
+        Format::One => append_numbers(
+            text,
+            &[(b"trace 1 ", incarnation), (b" ", first), (b" ", ring)],
+        ),
         Format::Two => append_numbers(
             text,
             &[
