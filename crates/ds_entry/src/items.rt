@@ -1,7 +1,6 @@
 //! Lists of items.
 
-ghost use Rattle.std.specs.Prelude.{◌≡◌, ◌≢◌, ◌≤◌, ◌++◌, ◌∷◌, [], List, length, take, drop, slice_get, OnOk, IfErr, OnErr, IfOk};
-ghost use Rattle.ds_entry.specs.declared.item.Item.{Item};
+ghost use Rattle.std.specs.Prelude.{◌≡◌, ◌≢◌, ◌≤◌, ◌++◌, ◌∷◌, [], length, take, drop, slice_get, OnOk, IfErr, OnErr, IfOk};
 ghost use Rattle.ds_entry.specs.Under.{entries_of};
 ghost use Rattle.std.specs.Option.{option_copied};
 
@@ -120,7 +119,7 @@ impl Items {
 // Adds copies of the items at the end. Where there is no room for all of them, the first ones may be there.
 fn push_copies(alloc: Global, items: &mut Vec<Item>, more: &[Item]) -> Result<(), NoRoom>
     ensures added { OnOk result (items.new.items ≡ items.old.items ++ more.now) }
-    ensures some { OnErr result ((part : List Item) × (items.new.items ≡ items.old.items ++ part)) }
+    ensures kept { OnErr result (take (length items.old.items) items.new.items ≡ items.old.items) }
     ensures room { OnErr result (more.now ≢ []) }
 {
     for item in more {

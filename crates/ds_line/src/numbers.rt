@@ -1,6 +1,6 @@
 //! Lines of numbers.
 
-ghost use Rattle.std.specs.Prelude.{◌≡◌, ◌++◌, ◌∷◌, [], OnOk, OnErr};
+ghost use Rattle.std.specs.Prelude.{◌≡◌, ◌++◌, ◌∷◌, [], length, take, OnOk, OnErr};
 ghost use Rattle.std.specs.List.{flat_map};
 ghost use Rattle.std.specs.Fmt.{decimal};
 
@@ -15,17 +15,22 @@ pub fn append_numbers(buffer: &mut Vec<u8>, numbers: &[(&[u8], u64)]) -> Result<
     ensures unchanged { OnErr result (buffer.new.items ≡ buffer.old.items) }
 {
     let start = buffer.len();
-    for (before, number) in numbers {
-        let mut digits = Buffer::new();
-        let digits = digits.format(*number).as_bytes();
-        if append_all(buffer, &[before, digits]).is_err() {
-            buffer.truncate(start);
-            return Err(NoRoom);
-        }
-    }
-    let ended = append(buffer, b"\n");
-    if ended.is_err() {
+    let written = put_numbers(buffer, numbers);
+    if written.is_err() {
         buffer.truncate(start);
     }
-    ended
+    written
+}
+
+// The same, but a part of it may be there where there is no room for all.
+fn put_numbers(buffer: &mut Vec<u8>, numbers: &[(&[u8], u64)]) -> Result<(), NoRoom>
+    ensures written { OnOk result (buffer.new.items
+        ≡ buffer.old.items ++ (flat_map (λ n. n.0.now ++ decimal n.1) numbers.now ++ 10 ∷ [])) }
+    ensures kept { OnErr result (take (length buffer.old.items) buffer.new.items ≡ buffer.old.items) }
+{
+    for (before, number) in numbers {
+        let mut digits = Buffer::new();
+        append_all(buffer, &[before, digits.format(*number).as_bytes()])?;
+    }
+    append(buffer, b"\n")
 }
