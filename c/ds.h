@@ -1,4 +1,4 @@
-/* The data store for C: MINIX 3's DS with generations, versions and floors, as docs/c.md describes it.
+/* The data store for C: MINIX 3's DS with generations, versions and floors, as docs/reference/c.md describes it.
  *
  * A program keeps a handle, opens a store in it, asks it one request after the other, fetches the text of each answer in
  * pieces, and closes it. Who follows stores keeps a map, a handle of its own, and gives it what they say.
@@ -24,6 +24,13 @@
 #ifdef __cplusplus
 extern "C" {
 #endif
+
+/* The version of this header. Versions with one first number have one layout of structs, one set of numbers and every call of the versions
+ * before them. */
+#define DS_VERSION "0.9.0"
+
+/* Returns the version of the library that the program runs with, as `0.9.0`. It is static: nobody frees it. It is plain C, c/ds_version.c. */
+const char *ds_version(void);
 
 /* What may be asked. Each needs the parts that stand behind it; the others may be anything. */
 enum ds_command {
@@ -81,7 +88,30 @@ enum ds_word {
     DS_BADLINE     /* to a line that is no command's. count: the byte, from 0, from which on it can not be read; nothing changed */
 };
 
-/* Why a request was refused, in the order in which the store judges; after these, why a call was. docs/c.md has a table of them. */
+/* Returns the name of a word of enum ds_word in lower case, as `changed`, and "" for every other number. It is static: nobody frees it. */
+static inline const char *ds_word_text(uint32_t word) {
+    switch (word) {
+    case DS_CHANGED: return "changed";
+    case DS_KNOWN: return "known";
+    case DS_SWEPT: return "swept";
+    case DS_FOUND: return "found";
+    case DS_NAMED: return "named";
+    case DS_SUBSCRIBED: return "subscribed";
+    case DS_CHECKED: return "checked";
+    case DS_JOURNALED: return "journaled";
+    case DS_SNAPPED: return "snapped";
+    case DS_PAGED: return "paged";
+    case DS_MERGED: return "merged";
+    case DS_STOPPED: return "stopped";
+    case DS_REFUSED: return "refused";
+    case DS_NOREQUEST: return "norequest";
+    case DS_SHOWN: return "shown";
+    case DS_BADLINE: return "badline";
+    default: return "";
+    }
+}
+
+/* Why a request was refused, in the order in which the store judges; after these, why a call was. docs/reference/refusals.md has a table of them. */
 enum ds_refusal {
     DS_BADSUB = 1, DS_TOOMANY, DS_TOOLONG, DS_BADPATTERN, DS_BADKIND, DS_BADLABEL, DS_BADVERSION, DS_NOCALLER, DS_NOTALLOWED,
     DS_NOTOWNER, DS_CLASH, DS_STALE, DS_EXISTS, DS_NOTFOUND, DS_OLDCURSOR, DS_AHEAD, DS_BEHIND, DS_FULL, DS_WORN, DS_NOROOM,
@@ -178,14 +208,14 @@ uint32_t ds_run(struct ds_handle *handle, const struct ds_request *requests, siz
 
 /* Gives the text of the last answer from piece number first on (they count from 0): as many pieces as fit into room, whole,
  * one behind the other, and says in given how many these are. A piece is a name, a string, memory, or the line of an item,
- * with its newline, as docs/formats.md has it; the lines of one store's answer may be the text of another's DS_MERGE.
+ * with its newline, as docs/reference/lines.md has it; the lines of one store's answer may be the text of another's DS_MERGE.
  * Nothing is lost where room is too small: the next piece is number first + given->count, for as long as no other request
  * was asked. So call it until all of the answer's pieces are fetched, as examples/c/driver.c does; given->count is 0 only where the room
  * has less than DS_MAX_PIECE bytes, memory is wanting, or there is no more.
  * Answers 0, or DS_ISCLOSED, and then room and given are as they were. */
 uint32_t ds_items(struct ds_handle *handle, size_t first, char *room, size_t room_length, struct ds_given *given);
 
-/* Carries out the command that stands on a line of a script, as docs/formats.md has it, whose newline may be missing, and writes the
+/* Carries out the command that stands on a line of a script, as docs/reference/lines.md has it, whose newline may be missing, and writes the
  * answer. The line may be changed or freed afterwards. These are commands of one store:
  *   - offer, publish, delete, sweep, retrieve, nameof, subscribe, check, since, snapshot, page: the answer is that of ds_call for the
  *     same command (an offer is a merge of one item);

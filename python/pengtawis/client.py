@@ -1,4 +1,4 @@
-"""Clients of dsfleet, whose lines and answers are those of docs/fleet.md: one that waits, and one for asyncio."""
+"""Clients of dsfleet, whose lines and answers are those of docs/reference/fleet.md: one that waits, and one for asyncio."""
 from __future__ import annotations
 
 import asyncio
@@ -158,7 +158,7 @@ class AsyncClient:
         call = asyncio.get_running_loop().create_future()
         self._calls.append(call)
         self._writer.write(sent)
-        with contextlib.suppress(OSError):  # of which the call is told
+        with contextlib.suppress(OSError):  # which the call then reports
             await self._writer.drain()
         return _judged(await call)
 
