@@ -1,4 +1,4 @@
-"""What the tests share: the model of a store, and a Store that is asked by the lines of scripts, each as a call."""
+"""What the tests share: the model of a store, and a Store that takes the lines of scripts, each as a call."""
 import pathlib
 import re
 import sys

@@ -1,4 +1,4 @@
-"""Each growth of the library's memory is refused in turn, alone and with all after it.
+"""Each growth of the library's memory is refused once, alone and with all after it.
 
 A call that is refused by NoRoom is made again with memory, and then all answers are as ever: a refused call changed nothing, and no
 item of a check was lost. The library is one that tests/programs/python links with refusing.c.

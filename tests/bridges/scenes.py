@@ -3,6 +3,7 @@ import os
 import re
 import shlex
 import subprocess
+import threading
 import time
 
 import behaviour
@@ -775,6 +776,26 @@ def a_driver_comes_back(fleet, draw):
         given = answers()
         assert given == wanted, f"{command}: {given}, and not {wanted}"
         time.sleep(0.1)
+
+
+def a_shell_script_watches(fleet, draw):
+    """examples/shell/watch.sh prints where a driver is, each time that this changes, and nothing of others; with its end its client ends."""
+    here, there = fleet.start(), fleet.start()
+    here.ask("publish 0/2 new one.eth0 label 3.0 = 3/16")
+    words, named = [ROOT / "examples/shell/watch.sh", there.socket, "one.eth0"], {**os.environ, "DSFLEET_ASK": str(ROOT / "fleet/ask")}
+    with subprocess.Popen(words, env=named, stdin=subprocess.DEVNULL, stdout=subprocess.PIPE, text=True) as watch:
+        late = threading.Timer(60, watch.kill)
+        late.start()
+        assert watch.stdout.readline() == "one.eth0 is at 3/16\n"
+        here.ask("publish 0/2 new oneXeth0 label 1.0 = 1/17")
+        here.ask("delete 0/2 one.eth0 label 3.1")
+        assert watch.stdout.readline() == "one.eth0 is gone\n"
+        here.ask("sweep 0/2 one.eth0 3")
+        here.ask("publish 0/2 new one.eth0 label 4.0 = 4/16")
+        assert watch.stdout.readline() == "one.eth0 is at 4/16\n"
+        watch.terminate()
+        assert watch.wait(30) == 1 and watch.stdout.read() == ""
+        late.cancel()
 
 
 def notices(fleet, draw):
