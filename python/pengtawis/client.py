@@ -3,7 +3,6 @@ from __future__ import annotations
 
 import asyncio
 import collections
-import contextlib
 import socket
 from typing import AsyncIterator, Deque, Dict, Iterator, List, Optional
 
@@ -129,6 +128,37 @@ class Client:
                 self._answers.append(answer)
 
 
+class _Connection(asyncio.Protocol):
+    """Receives answers and notices, those too that come right before dsfleet hangs up, which a StreamReader may lose."""
+
+    def __init__(self) -> None:
+        self.inbox, self.ended = _Inbox(), False
+        self.calls: Deque[asyncio.Future[List[str]]] = collections.deque()  # which wait, in the order of their answers
+        self.came, self.may_write = asyncio.Event(), asyncio.Event()
+        self.may_write.set()
+
+    def data_received(self, some: bytes) -> None:
+        for answer in self.inbox.answers(some):
+            call = self.calls.popleft()
+            if not call.done():
+                call.set_result(answer)
+        self.came.set()
+
+    def connection_lost(self, _: Optional[Exception]) -> None:
+        self.ended = True
+        self.came.set()
+        self.may_write.set()
+        for call in self.calls:
+            if not call.done():
+                call.set_exception(ConnectionError(HUNG_UP))
+
+    def pause_writing(self) -> None:
+        self.may_write.clear()
+
+    def resume_writing(self) -> None:
+        self.may_write.set()
+
+
 class AsyncClient:
     """Asks a dsfleet from asyncio, over a connection that is open until the end of its `async with`. Calls may overlap.
 
@@ -136,55 +166,34 @@ class AsyncClient:
     """
 
     def __init__(self, path: str) -> None:
-        self._path, self._inbox, self._ended = path, _Inbox(), False
-        self._calls: Deque[asyncio.Future[List[str]]] = collections.deque()  # which wait, in the order of their answers
+        self._path = path
 
     async def __aenter__(self) -> AsyncClient:
-        self._reader, self._writer = await asyncio.open_unix_connection(self._path)
-        self._came = asyncio.Event()
-        self._task = asyncio.create_task(self._receive())
+        loop = asyncio.get_running_loop()
+        self._transport, self._connection = await loop.create_unix_connection(_Connection, self._path)
         return self
 
     async def __aexit__(self, *_: object) -> None:
-        self._writer.close()
-        self._task.cancel()
-        await asyncio.wait([self._task])
+        self._transport.close()
+        await asyncio.sleep(0)  # in which the connection ends
 
     async def ask(self, line: str) -> List[str]:
         """Sends a line, and returns the lines of its answer. A refusal is raised as the exception of its word."""
         sent = _sent(line)
-        if self._ended:
+        if self._connection.ended:
             raise ConnectionError(HUNG_UP)
-        call = asyncio.get_running_loop().create_future()
-        self._calls.append(call)
-        self._writer.write(sent)
-        with contextlib.suppress(OSError):  # which the call then reports
-            await self._writer.drain()
+        call: asyncio.Future[List[str]] = asyncio.get_running_loop().create_future()
+        self._connection.calls.append(call)
+        self._transport.write(sent)
+        await self._connection.may_write.wait()
         return _judged(await call)
 
     async def notices(self) -> AsyncIterator[int]:
         """Yields the subscriptions that are owed a notice, after `listen SUB`, as they come. Ends with the connection."""
         while True:
-            for sub in self._inbox.notices():
+            for sub in self._connection.inbox.notices():
                 yield sub
-            if self._ended:
+            if self._connection.ended:
                 return
-            self._came.clear()
-            await self._came.wait()
-
-    async def _receive(self) -> None:
-        try:
-            while some := await self._reader.read(AT_ONCE):
-                for answer in self._inbox.answers(some):
-                    call = self._calls.popleft()
-                    if not call.done():
-                        call.set_result(answer)
-                self._came.set()
-        except OSError:
-            pass
-        finally:
-            self._ended = True
-            self._came.set()
-            for call in self._calls:
-                if not call.done():
-                    call.set_exception(ConnectionError(HUNG_UP))
+            self._connection.came.clear()
+            await self._connection.came.wait()
