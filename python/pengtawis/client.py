@@ -3,8 +3,9 @@ from __future__ import annotations
 
 import asyncio
 import collections
+import contextlib
 import socket
-from typing import AsyncIterator, Deque, Dict, Iterator, List, Optional
+from typing import AsyncIterator, Deque, Dict, Iterator, List, Optional, cast
 
 from .refusals import NUMBERED, BadLine, Refused
 from .values import Version
@@ -128,37 +129,6 @@ class Client:
                 self._answers.append(answer)
 
 
-class _Connection(asyncio.Protocol):
-    """Receives answers and notices, those too that come right before dsfleet hangs up, which a StreamReader may lose."""
-
-    def __init__(self) -> None:
-        self.inbox, self.ended = _Inbox(), False
-        self.calls: Deque[asyncio.Future[List[str]]] = collections.deque()  # which wait, in the order of their answers
-        self.came, self.may_write = asyncio.Event(), asyncio.Event()
-        self.may_write.set()
-
-    def data_received(self, some: bytes) -> None:
-        for answer in self.inbox.answers(some):
-            call = self.calls.popleft()
-            if not call.done():
-                call.set_result(answer)
-        self.came.set()
-
-    def connection_lost(self, _: Optional[Exception]) -> None:
-        self.ended = True
-        self.came.set()
-        self.may_write.set()
-        for call in self.calls:
-            if not call.done():
-                call.set_exception(ConnectionError(HUNG_UP))
-
-    def pause_writing(self) -> None:
-        self.may_write.clear()
-
-    def resume_writing(self) -> None:
-        self.may_write.set()
-
-
 class AsyncClient:
     """Asks a dsfleet from asyncio, over a connection that is open until the end of its `async with`. Calls may overlap.
 
@@ -166,34 +136,65 @@ class AsyncClient:
     """
 
     def __init__(self, path: str) -> None:
-        self._path = path
+        self._path, self._inbox, self._ended = path, _Inbox(), False
+        self._calls: Deque[asyncio.Future[List[str]]] = collections.deque()  # which wait, in the order of their answers
 
     async def __aenter__(self) -> AsyncClient:
-        loop = asyncio.get_running_loop()
-        self._transport, self._connection = await loop.create_unix_connection(_Connection, self._path)
+        self._socket = socket.socket(socket.AF_UNIX)
+        self._socket.setblocking(False)
+        try:
+            await asyncio.get_running_loop().sock_connect(self._socket, self._path)
+            # Writes through a descriptor of its own: a write that fails would lose what is received and not read yet.
+            _, self._writer = await asyncio.open_unix_connection(sock=self._socket.dup())
+        except BaseException:
+            self._socket.close()
+            raise
+        cast(asyncio.ReadTransport, self._writer.transport).pause_reading()
+        self._came = asyncio.Event()
+        self._task = asyncio.create_task(self._receive())
         return self
 
     async def __aexit__(self, *_: object) -> None:
-        self._transport.close()
-        await asyncio.sleep(0)  # in which the connection ends
+        self._writer.close()
+        self._task.cancel()
+        await asyncio.wait([self._task])
+        self._socket.close()
 
     async def ask(self, line: str) -> List[str]:
         """Sends a line, and returns the lines of its answer. A refusal is raised as the exception of its word."""
         sent = _sent(line)
-        if self._connection.ended:
+        if self._ended:
             raise ConnectionError(HUNG_UP)
-        call: asyncio.Future[List[str]] = asyncio.get_running_loop().create_future()
-        self._connection.calls.append(call)
-        self._transport.write(sent)
-        await self._connection.may_write.wait()
+        call = asyncio.get_running_loop().create_future()
+        self._calls.append(call)
+        self._writer.write(sent)
+        with contextlib.suppress(OSError):  # of which the call is told
+            await self._writer.drain()
         return _judged(await call)
 
     async def notices(self) -> AsyncIterator[int]:
         """Yields the subscriptions that are owed a notice, after `listen SUB`, as they come. Ends with the connection."""
         while True:
-            for sub in self._connection.inbox.notices():
+            for sub in self._inbox.notices():
                 yield sub
-            if self._connection.ended:
+            if self._ended:
                 return
-            self._connection.came.clear()
-            await self._connection.came.wait()
+            self._came.clear()
+            await self._came.wait()
+
+    async def _receive(self) -> None:
+        try:
+            while some := await asyncio.get_running_loop().sock_recv(self._socket, AT_ONCE):
+                for answer in self._inbox.answers(some):
+                    call = self._calls.popleft()
+                    if not call.done():
+                        call.set_result(answer)
+                self._came.set()
+        except OSError:
+            pass
+        finally:
+            self._ended = True
+            self._came.set()
+            for call in self._calls:
+                if not call.done():
+                    call.set_exception(ConnectionError(HUNG_UP))
