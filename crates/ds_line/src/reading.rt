@@ -18,6 +18,7 @@ use crate::part_fault::{PartFault, stop_at};
 use crate::parts::kind_at;
 use crate::rules::{has_body, has_owner, has_seq, has_tombstone, has_value, has_version};
 use ds_entry::{Body, Change, Item, Value};
+use ds_names::limits::{LAST_GENERATION, LAST_SEQ};
 use ds_names::{
     Endpoint, Generation, Key, Kind, Name, Version, read_byte, read_decimal, read_endpoint,
 };
@@ -160,7 +161,7 @@ fn version_at(
     ensures { ReadsInto (up_to_epoch key.now owner.now) bytes.now result slot.new }
 {
     *expected = Expected::Epoch;
-    let Some((number, rest)) = read_decimal(bytes, 2097151) else {
+    let Some((number, rest)) = read_decimal(bytes, LAST_GENERATION as u64) else {
         return Err(stop_at(bytes));
     };
     let Some(epoch) = Generation::of(number as u32) else {
@@ -174,7 +175,7 @@ fn version_at(
         return Err(stop_at(rest));
     };
     *expected = Expected::Seq;
-    let Some((seq, rest)) = read_decimal(at, 4294967295) else {
+    let Some((seq, rest)) = read_decimal(at, LAST_SEQ as u64) else {
         return Err(stop_at(at));
     };
     let version = Version {
