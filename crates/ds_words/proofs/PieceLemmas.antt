@@ -19,8 +19,7 @@ use Rattle.ds_line.proofs.LabelLemmas.{rs_is_name, some_value}
 use Rattle.ds_line.proofs.PartLemmas.{part_one}
 use Rattle.ds_line.proofs.OpeningLemmas.{text_at, word_is_word, word_one, key_is, version_is}
 use Rattle.ds_line.proofs.PieceLemmas.{behind, Fixed, One, one_by, Views, view_stops, first_stops, then_stops, after_byte, part_missing, byte_missing, byte_found, byte_stops, stops_from}
-use Rattle.ds_words.specs.Command.{initial_word, mode_word}
-use Rattle.ds_words.specs.Pieces.{an_endpoint, an_initial, a_mode, a_name, a_kind, a_key, a_generation, a_seq, a_version, a_number, a_place, a_kinds, a_value, ValueWantsRoom}
+use Rattle.ds_words.specs.Pieces.{an_endpoint, an_initial, a_mode, a_name, a_kind, a_key, a_generation, a_seq, a_version, a_number, a_place, a_kinds, a_value, ValueWantsRoom, initial_word, mode_word}
 use Rattle.ds_line.proofs.LastValueLemmas.{some_value_of}
 
 -- ---- a byte, and behind it one part

@@ -1,5 +1,5 @@
 -- Each slot of the table: something fits it, two of it at one front are one, and where one stands no longer one goes on.
-use Rattle.std.proofs.Common.{ℕ, false, [], None, refl, sym, ◌∙◌, arith}
+use Rattle.std.proofs.Common.{ℕ, false, [], None, sym, ◌∙◌, arith}
 use Rattle.ds_names.specs.Endpoint.{endpoint_of}
 use Rattle.ds_names.specs.Name.{rs_name}
 use Rattle.ds_names.specs.declared.kind.Kind.{Kind}
@@ -21,8 +21,7 @@ use Rattle.ds_replica.specs.declared.event.Side.TheVariants.{A}
 use Rattle.ds_replica.specs.declared.event.Holder.TheVariants.{Store}
 use Rattle.ds_words.specs.declared.slot.Slot.{Slot}
 use Rattle.ds_words.specs.declared.slot.Slot.TheVariants as slots
-use Rattle.ds_words.specs.Command.{IsVersion}
-use Rattle.ds_words.specs.Pieces.{an_endpoint, a_mode, an_initial, a_name, a_key, a_generation, a_version, a_number, a_place, a_kinds, a_pattern, an_end}
+use Rattle.ds_words.specs.Pieces.{an_endpoint, a_mode, an_initial, a_name, a_key, a_generation, a_version, a_number, a_place, a_kinds, a_pattern, IsVersion}
 use Rattle.ds_words.specs.ServicePieces.{a_request, a_server, a_unit}
 use Rattle.ds_words.specs.Table.{piece_of}
 use Rattle.ds_words.specs.declared.service.Device.TheVariants.{Net}
@@ -141,24 +140,29 @@ slot_one k slots.Id = place_one
 slot_one k slots.Unit = unit_one
 slot_one k slots.End = end_one
 
--- something can stand behind the slot: an item, a value, and the rest of a line, are the last of their line
+-- a slot that ends with the newline of its line
+abbrev pub IsLast : Slot → Type 0
+IsLast slots.Item = Unit {0}
+IsLast slots.Value = Unit {0}
+IsLast slots.Text = Unit {0}
+IsLast slots.End = Unit {0}
+IsLast s = ⊥
+
+-- another slot can follow it
 abbrev pub IsInner : Slot → Type 0
-IsInner slots.Item = ⊥
-IsInner slots.Value = ⊥
-IsInner slots.Text = ⊥
-IsInner s = Unit {0}
+IsInner s = ¬ IsLast s
 
 fixed_apart : (p : Piece) (n : ℕ) → Fixed p n → Apart p
 fixed_apart p n fixed a b bytes r after f can lt h = omega (arith, lt, fixed a, fixed b)
 
 -- where one stands no longer one goes on
 pub slot_apart : (k : Kind) (s : Slot) → IsInner s → Apart (piece_of k s)
-slot_apart k slots.Item inner = absurd inner
+slot_apart k slots.Item inner = absurd (inner tt)
 slot_apart k slots.Caller inner = fixed_apart an_endpoint 2 endpoint_fixed
 slot_apart k slots.Mode inner = fixed_apart a_mode 2 mode_fixed
 slot_apart k slots.Key inner = fixed_apart a_key 4 key_fixed
 slot_apart k slots.Version inner = fixed_apart a_version 4 version_fixed
-slot_apart k slots.Value inner = absurd inner
+slot_apart k slots.Value inner = absurd (inner tt)
 slot_apart k slots.Owner inner = fixed_apart a_name 2 name_fixed
 slot_apart k slots.Generation inner = fixed_apart a_generation 2 generation_fixed
 slot_apart k slots.Endpoint inner = fixed_apart an_endpoint 2 endpoint_fixed
@@ -177,7 +181,7 @@ slot_apart k slots.Holder inner = fixed_apart a_holder 2 holder_fixed
 slot_apart k slots.Count inner = fixed_apart a_count 2 count_fixed
 slot_apart k slots.Scope inner = scope_apart
 slot_apart k slots.Range inner = range_apart
-slot_apart k slots.Text inner = absurd inner
+slot_apart k slots.Text inner = absurd (inner tt)
 slot_apart k slots.Request inner = fixed_apart a_request 2 request_fixed
 slot_apart k slots.Label inner = fixed_apart a_name 2 name_fixed
 slot_apart k slots.Tick inner = fixed_apart a_place 2 place_fixed
@@ -186,4 +190,4 @@ slot_apart k slots.Device inner = device_apart
 slot_apart k slots.Server inner = fixed_apart a_server 2 server_fixed
 slot_apart k slots.Id inner = fixed_apart a_place 2 place_fixed
 slot_apart k slots.Unit inner = fixed_apart a_unit 2 unit_fixed
-slot_apart k slots.End inner = fixed_apart an_end 1 (λ x. refl)
+slot_apart k slots.End inner = absurd (inner tt)

@@ -1,7 +1,5 @@
 pub mod Words
 pub mod Key
-pub mod Command
-pub mod Pieces
 pub mod Query
 pub mod Scope
 pub mod Page
@@ -9,6 +7,9 @@ pub mod World
 pub mod WorldPieces
 pub mod Service
 pub mod ServicePieces
+pub mod Pieces
+pub mod Table
+pub mod Command
 pub mod ServiceEvent
 pub mod Wording
 pub mod Later
@@ -17,7 +18,6 @@ pub mod Publication
 pub mod Retrieval
 pub mod Event
 pub mod Proper
-pub mod Table
 pub mod Reads
 pub mod Row
 pub mod Front
