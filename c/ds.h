@@ -1,4 +1,4 @@
-/* The data store for C: MINIX 3's DS with generations, versions and floors, as docs/c.md describes it.
+/* The data store for C: MINIX 3's DS with generations, versions and floors, as docs/reference/c.md describes it.
  *
  * A program keeps a handle, opens a store in it, asks it one request after the other, fetches the text of each answer in
  * pieces, and closes it. Who follows stores keeps a map, a handle of its own, and gives it what they say.
@@ -81,7 +81,7 @@ enum ds_word {
     DS_BADLINE     /* to a line that is no command's. count: the byte, from 0, from which on it can not be read; nothing changed */
 };
 
-/* Why a request was refused, in the order in which the store judges; after these, why a call was. docs/c.md has a table of them. */
+/* Why a request was refused, in the order in which the store judges; after these, why a call was. docs/reference/refusals.md has a table of them. */
 enum ds_refusal {
     DS_BADSUB = 1, DS_TOOMANY, DS_TOOLONG, DS_BADPATTERN, DS_BADKIND, DS_BADLABEL, DS_BADVERSION, DS_NOCALLER, DS_NOTALLOWED,
     DS_NOTOWNER, DS_CLASH, DS_STALE, DS_EXISTS, DS_NOTFOUND, DS_OLDCURSOR, DS_AHEAD, DS_BEHIND, DS_FULL, DS_WORN, DS_NOROOM,
@@ -178,14 +178,14 @@ uint32_t ds_run(struct ds_handle *handle, const struct ds_request *requests, siz
 
 /* Gives the text of the last answer from piece number first on (they count from 0): as many pieces as fit into room, whole,
  * one behind the other, and says in given how many these are. A piece is a name, a string, memory, or the line of an item,
- * with its newline, as docs/formats.md has it; the lines of one store's answer may be the text of another's DS_MERGE.
+ * with its newline, as docs/reference/lines.md has it; the lines of one store's answer may be the text of another's DS_MERGE.
  * Nothing is lost where room is too small: the next piece is number first + given->count, for as long as no other request
  * was asked. So call it until all of the answer's pieces are fetched, as examples/c/driver.c does; given->count is 0 only where the room
  * has less than DS_MAX_PIECE bytes, memory is wanting, or there is no more.
  * Answers 0, or DS_ISCLOSED, and then room and given are as they were. */
 uint32_t ds_items(struct ds_handle *handle, size_t first, char *room, size_t room_length, struct ds_given *given);
 
-/* Carries out the command that stands on a line of a script, as docs/formats.md has it, whose newline may be missing, and writes the
+/* Carries out the command that stands on a line of a script, as docs/reference/lines.md has it, whose newline may be missing, and writes the
  * answer. The line may be changed or freed afterwards. These are commands of one store:
  *   - offer, publish, delete, sweep, retrieve, nameof, subscribe, check, since, snapshot, page: the answer is that of ds_call for the
  *     same command (an offer is a merge of one item);

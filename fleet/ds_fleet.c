@@ -1,4 +1,4 @@
-/* A store in step with others over a redis stream. See ds_fleet.h, and docs/fleet.md for the protocol.
+/* A store in step with others over a redis stream. See ds_fleet.h, and docs/reference/fleet.md for the protocol.
  *
  * Two connections: the teller asks one round of questions after the other, each a stage below; the listener waits for entries. A step
  * goes on with both as far as it can without waiting, and only then waits. */

@@ -1,5 +1,5 @@
 /* Keeps a store in step with those of other hosts over a redis stream: what takes effect in the store is told to the stream, and
- * what others told is merged. docs/fleet.md draws it.
+ * what others told is merged. docs/reference/fleet.md draws it.
  *
  * The store behind the handle is proved; this carrier is tested. It need not be more than this: items join, so that holders to
  * which the same items came hold the same, in whatever order and however often they came.

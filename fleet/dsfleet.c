@@ -1,5 +1,5 @@
 /* dsfleet: a store for the programs of one host, in step with those of other hosts over a redis stream.
- * docs/fleet.md. */
+ * docs/reference/fleet.md. */
 #include "clients.h"
 #include "clock.h"
 #include "ds_fleet.h"

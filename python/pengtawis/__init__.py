@@ -1,4 +1,4 @@
-"""Pengtawis: where drivers are that crash and restart. docs/python.md is its page.
+"""Pengtawis: where drivers are that crash and restart. docs/guide/python.md is its page.
 
 A `Store` and a `Map` are in this process, over libds. A `Client` and an `AsyncClient` ask a dsfleet. Every refusal is an exception.
 """

@@ -1,4 +1,4 @@
-"""Clients of dsfleet, whose lines and answers are those of docs/fleet.md: one that waits, and one for asyncio."""
+"""Clients of dsfleet, whose lines and answers are those of docs/reference/fleet.md: one that waits, and one for asyncio."""
 from __future__ import annotations
 
 import asyncio

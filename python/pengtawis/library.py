@@ -110,7 +110,7 @@ class Handle:
             raise BadLine(f"the line can't be read from byte {answer.count} on")
         if answer.word == NO_REQUEST:
             fault = BadLine if call == "ds_call_line" else ValueError
-            raise fault("no store is asked this way: docs/formats.md says what names, values and lines may be")
+            raise fault("no store is asked this way: docs/reference/lines.md says what names, values and lines may be")
         if answer.refusal:
             refused = NUMBERED[answer.refusal]
             version = Version(answer.epoch, answer.seq) if refused is Clash else None

@@ -1,4 +1,4 @@
-"""An exception for each refusal. docs/refusals.md shows a session for each word."""
+"""An exception for each refusal. docs/reference/refusals.md shows a session for each word."""
 from __future__ import annotations
 
 from typing import FrozenSet, Optional

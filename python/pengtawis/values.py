@@ -49,7 +49,7 @@ class Floor(NamedTuple):
 
 
 class Items:
-    """Holds changes and floors as their lines in docs/formats.md, which are `text`. Iteration reads them.
+    """Holds changes and floors as their lines in docs/reference/lines.md, which are `text`. Iteration reads them.
 
     >>> list(Items(b"! eth0 3\\n"))
     [Floor(owner='eth0', generation=3)]

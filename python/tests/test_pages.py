@@ -1,4 +1,4 @@
-"""What is written for users: docstrings, docs/python.md, the example, types, and what pip installs."""
+"""What is written for users: docstrings, docs/guide/python.md, the example, types, and what pip installs."""
 import ast
 import contextlib
 import doctest
@@ -20,7 +20,7 @@ import pengtawis
 import servers
 
 PACKAGE = support.ROOT / "python" / "pengtawis"
-PAGE = support.ROOT / "docs" / "python.md"
+PAGE = support.ROOT / "docs" / "guide" / "python.md"
 BLOCK = re.compile(r"(?<=\n\n)(?:    .*\n)+")
 WATCH = support.ROOT / "examples" / "python" / "watch.py"
 PATIENCE = 30  # seconds

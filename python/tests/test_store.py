@@ -29,7 +29,7 @@ def opened(*lines, **words):
 LABEL = "publish 0/2 new eth0 label 3.0 = 3/17"
 OTHER = "publish 0/2 new tty label 4.0 = 4/18"
 MTU = "publish 3/17 new mtu u32 3.1 = 1500"
-# A call for each refusal, as docs/refusals.md shows them; the store took the lines before.
+# A call for each refusal, as docs/reference/refusals.md shows them; the store took the lines before.
 CALLS = {
     "badsub": ([], lambda it: it.subscribe(128, "eth.*")),
     "toomany": ([], lambda it: next(it.since((1, 0), most=257))),

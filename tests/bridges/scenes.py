@@ -762,7 +762,7 @@ def a_driver_comes_back(fleet, draw):
     """The page's session: a driver that is restarted on one host is seen with its new endpoint by the subscriber of another."""
     for name in ("one", "two", "three"):
         fleet.start(at=name)
-    page = (ROOT / "docs" / "fleet.md").read_text()
+    page = (ROOT / "docs" / "guide" / "hosts.md").read_text()
     block = next(it for it in re.findall(r"(?:^    .*\n|^\n)+", page, re.MULTILINE) if "$ fleet/ask" in it)
     for asked in re.split(r"^    \$ ", block, flags=re.MULTILINE)[1:]:
         command, *wanted = [it.removeprefix("    ") for it in asked.rstrip().splitlines()]

@@ -93,13 +93,13 @@ def status_beside(file):
 def all_sessions():
     """Reads each session of the documents: a block of indented lines, of which those that are typed stand behind `>`."""
     sessions = []
-    for document in sorted(DOCUMENTS.glob("*.md")):
+    for document in sorted(DOCUMENTS.rglob("*.md")):
         blocks = [it.group().splitlines() for it in SESSION.finditer(document.read_text())]
         for number, block in enumerate(blocks, 1):
             lines = [it[4:].encode() for it in block]
             typed = b"".join(it[2:] + b"\n" for it in lines if it.startswith(b"> "))
             answered = b"".join(it + b"\n" for it in lines if not it.startswith(b"> "))
-            sessions.append(Session(f"docs/{document.name}: session {number}", typed, answered))
+            sessions.append(Session(f"docs/{document.relative_to(DOCUMENTS)}: session {number}", typed, answered))
     return sessions
 
 

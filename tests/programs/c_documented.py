@@ -1,4 +1,4 @@
-"""The lines by which docs/c.md builds over the library, for tests/programs/c: they are run as they are written."""
+"""The lines by which docs/guide/c.md builds over the library, for tests/programs/c: they are run as they are written."""
 import pathlib
 import re
 import shutil
@@ -10,9 +10,9 @@ OF_RUST = re.compile(r"rustc |\./driver_rust$")
 
 
 def shown():
-    """The indented lines of the document's section on building."""
-    section = re.search(r"^## Build\n(.*?)^## ", (ROOT / "docs/c.md").read_text(), re.DOTALL | re.MULTILINE)[1]
-    return re.findall(r"^    (.*)$", section, re.MULTILINE)
+    """What is typed in the document's section on building."""
+    section = re.search(r"^## Build\n(.*?)^## ", (ROOT / "docs/guide/c.md").read_text(), re.DOTALL | re.MULTILINE)[1]
+    return re.findall(r"^    \$ (.*)$", section, re.MULTILINE)
 
 
 def of_the_example():
