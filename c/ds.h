@@ -25,6 +25,13 @@
 extern "C" {
 #endif
 
+/* The version of this header. Versions with one first number have one layout of structs, one set of numbers and every call of the versions
+ * before them. */
+#define DS_VERSION "0.9.0"
+
+/* Returns the version of the library that the program runs with, as `0.9.0`. It is static: nobody frees it. It is plain C, c/ds_version.c. */
+const char *ds_version(void);
+
 /* What may be asked. Each needs the parts that stand behind it; the others may be anything. */
 enum ds_command {
     DS_PUBLISH,   /* caller, key, version, value, overwrite: puts a value under the key */
@@ -80,6 +87,29 @@ enum ds_word {
     DS_SHOWN,      /* to a line that shows what is held. count: how many items; a piece of text for each */
     DS_BADLINE     /* to a line that is no command's. count: the byte, from 0, from which on it can not be read; nothing changed */
 };
+
+/* Returns the name of a word of enum ds_word in lower case, as `changed`, and "" for every other number. It is static: nobody frees it. */
+static inline const char *ds_word_text(uint32_t word) {
+    switch (word) {
+    case DS_CHANGED: return "changed";
+    case DS_KNOWN: return "known";
+    case DS_SWEPT: return "swept";
+    case DS_FOUND: return "found";
+    case DS_NAMED: return "named";
+    case DS_SUBSCRIBED: return "subscribed";
+    case DS_CHECKED: return "checked";
+    case DS_JOURNALED: return "journaled";
+    case DS_SNAPPED: return "snapped";
+    case DS_PAGED: return "paged";
+    case DS_MERGED: return "merged";
+    case DS_STOPPED: return "stopped";
+    case DS_REFUSED: return "refused";
+    case DS_NOREQUEST: return "norequest";
+    case DS_SHOWN: return "shown";
+    case DS_BADLINE: return "badline";
+    default: return "";
+    }
+}
 
 /* Why a request was refused, in the order in which the store judges; after these, why a call was. docs/reference/refusals.md has a table of them. */
 enum ds_refusal {

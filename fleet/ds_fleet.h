@@ -46,7 +46,8 @@ struct ds_fleet_options {
     const char *pattern;  /* the scope: what the pattern matches whole, of the kinds; the same for all who share a stream, or `badscope` */
     uint8_t kinds;        /* a sum of enum ds_kinds; 0: everything, and then pattern may be anything */
     long keep;            /* a stream with more entries is compacted; 0: DS_FLEET_KEEP */
-    ds_fleet_tell *tell;  /* is told of what was refused, of servers met and lost, and of compactions; may be NULL */
+    ds_fleet_tell *tell;  /* is told of what was refused or can't be read, as often as others send it, of servers met and lost, and of
+                             compactions, by a line `WORD: TEXT`; may be NULL */
     void *context;        /* what tell is given */
 };
 

@@ -9,10 +9,10 @@ from .refusals import (
     IsOpen, NoCaller, NoRoom, NotAllowed, NotFound, NotOwner, OldCursor, Refused, Stale, TooLong, TooMany, Worn,
 )
 from .store import Store
-from .values import RS, Change, Cursor, Done, Endpoint, Floor, Items, Merged, Reading, Subscribed, Swept, Version, read_item
+from .values import RS, Change, Cursor, Done, Endpoint, Floor, Items, Merged, Page, Reading, Subscribed, Swept, Version, read_item
 
 __all__ = [
-    "AsyncClient", "BadLine", "Client", "Map", "Store", "RS", "Change", "Cursor", "Done", "Endpoint", "Floor", "Items", "Merged",
+    "AsyncClient", "BadLine", "Client", "Map", "Store", "RS", "Change", "Cursor", "Done", "Endpoint", "Floor", "Items", "Merged", "Page",
     "Reading", "Subscribed", "Swept", "Version", "read_item", "Ahead", "BadFirst", "BadKind", "BadLabel", "BadPattern", "BadRing",
     "BadSub", "BadVersion", "Behind", "Clash", "Exists", "Full", "IsClosed", "IsOpen", "NoCaller", "NoRoom", "NotAllowed",
     "NotFound", "NotOwner", "OldCursor", "Refused", "Stale", "TooLong", "TooMany", "Worn",

@@ -158,7 +158,7 @@ class AsyncClient:
         call = asyncio.get_running_loop().create_future()
         self._calls.append(call)
         self._writer.write(sent)
-        with contextlib.suppress(OSError):  # of which the call is told
+        with contextlib.suppress(OSError):  # which the call then reports
             await self._writer.drain()
         return _judged(await call)
 

@@ -71,6 +71,7 @@ Swept = NamedTuple("Swept", [("dropped", int), ("owed", FrozenSet[int])])
 Subscribed = NamedTuple("Subscribed", [("stamp", int), ("owed", FrozenSet[int])])
 Merged = NamedTuple("Merged", [("done", int), ("taken", int), ("stale", int), ("owed", FrozenSet[int])])
 Reading = NamedTuple("Reading", [("items", Items), ("cursor", Cursor)])
+Page = NamedTuple("Page", [("items", Items), ("cursor", Cursor), ("is_last", bool)])
 
 
 def read_item(line: str) -> Union[Change, Floor]:

@@ -6,9 +6,7 @@ ghost use Rattle.ds_names.specs.Run.{Begins};
 ghost use Rattle.ds_words.specs.Words.{all_words, text_of};
 ghost use Rattle.ds_words.specs.declared.word.Word.{Word};
 
-use crate::offer::is_offer;
-use crate::publication::is_publish;
-use crate::retrieval::is_retrieve;
+use crate::fast::{is_offer, is_publish, is_retrieve};
 use ds_line::word_at;
 
 /// The word of a command.
