@@ -140,12 +140,8 @@ slot_unbroken k slots.Pattern text inner can = one (quoted text) (unbroken_quote
 slot_unbroken k slots.Kinds n inner can = number n (omega (arith, can.1))
 slot_unbroken k slots.Initial initial inner can = word (initial_word initial) (initial_is_word initial)
 slot_unbroken k slots.Max n inner can = number n (omega (arith, can))
-slot_unbroken k slots.Map n inner can = number n can
 slot_unbroken k slots.Ring n inner can = number n (omega (arith, can.1))
 slot_unbroken k slots.Side side inner can = word (side_word side) (side_is_word side)
-slot_unbroken k slots.Incarnation n inner can = number n can
-slot_unbroken k slots.Position n inner can = number n can
-slot_unbroken k slots.Message n inner can = number n can
 slot_unbroken k slots.Holder holder inner can = one (holder_word holder) (unbroken_holder holder can)
 slot_unbroken k slots.Count count inner can = count_unbroken count can
 slot_unbroken k slots.Scope scope inner can = scope_unbroken scope can
@@ -153,13 +149,11 @@ slot_unbroken k slots.Range x inner can = range_unbroken x.0 x.1 can.0 can.1
 slot_unbroken k slots.Text text inner can = absurd (inner tt)
 slot_unbroken k slots.Request request inner can = word (request_word request) (request_is_word request)
 slot_unbroken k slots.Label name inner can = one name (unbroken_name name can.allowed)
-slot_unbroken k slots.Tick n inner can = number n can
-slot_unbroken k slots.Cause n inner can = number n can
 slot_unbroken k slots.Device device inner can = device_unbroken device can
 slot_unbroken k slots.Server server inner can = word (server_word server) (server_is_word server)
-slot_unbroken k slots.Id n inner can = number n can
 slot_unbroken k slots.Unit n inner can = number n (omega (arith, can))
 slot_unbroken k slots.End x inner can = absurd (inner tt)
+slot_unbroken k s n inner can = number n can
 
 -- what the last one has
 last_ends : (k : Kind) (s : Slot) (x : (piece_of k s).Of) → IsLast s → (piece_of k s).Can x → EndsLine (texts ((piece_of k s).parts x))
