@@ -1,7 +1,7 @@
 /* A store in step with others over a redis stream. See ds_fleet.h, and docs/reference/fleet.md for the protocol.
  *
  * Two connections: the teller asks one round of questions after the other, each a stage below; the listener waits for entries. A step
- * goes on with both as far as it can without waiting, and only then waits. */
+ * continues both as far as it can without waiting, and only then waits. */
 #include "ds_fleet.h"
 #include "answers.h"
 #include "clock.h"
@@ -24,10 +24,10 @@ enum {
     PERIOD = 1000,      /* milliseconds from one comparing to the next */
     SOONEST = 50,       /* before a server is called again, */
     LATEST = 1000,      /* and then twice as long each time, up to this */
-    PATIENCE = 100,     /* before it is asked again what it denied */
+    PATIENCE = 100,     /* before what it denied is tried again */
     BLOCKS = 10000,     /* that a reading may wait at the server for entries */
     ENTRIES = 64,       /* of one reading */
-    PARTS = 32,         /* entries that are told at a time, */
+    PARTS = 32,         /* entries told at a time, */
     PART = 1 << 16,     /* and bytes of lines in one of them, unless one line has more */
     LONGEST_REST = 32,  /* comparings between two tellings of all to others that go on differing */
     STREAM_NAME = 128,  /* bytes of a name at most */
@@ -52,7 +52,7 @@ struct ds_fleet {
     struct link_address address;
     struct host host;
     char *stream, *scope;        /* scope: as the stream's field has it */
-    long keep, length;           /* length: of the stream, when it last was told */
+    long keep, length;           /* length: of the stream, at the last entry told */
     int bell, timer;
     struct link teller, listener;
     uint32_t rings[2];           /* for what the bell watches the teller and the listener */
@@ -61,7 +61,7 @@ struct ds_fleet {
     bool at_end;                 /* all entries that were there are read, so that the next reading may wait */
     bool caught_up;              /* a step was in step already */
     bool gap;                    /* a snapshot is to be read */
-    bool all;                    /* all that is held is to be told */
+    bool all;                    /* tell everything held */
     bool away_said;              /* the log's last word on the server is that it went */
     enum ds_fleet_word parted;   /* while there is no connection: AWAY, or why there is none by choice */
     char me[PEER_ID];            /* the name of this run */
@@ -81,7 +81,7 @@ struct ds_fleet {
     uint64_t digest, digested;   /* digested: the position of the digest */
     bool has_digest;
     unsigned long long beat;
-    unsigned rest, wait;         /* comparings until all is told again to those who differ, and how many they were last */
+    unsigned rest, wait;         /* comparings until it tells everything again to those that differ, and how many these last were */
     struct peers peers;
     struct ds_fleet_state state;
 };
@@ -103,7 +103,7 @@ static void lengthen_pause(struct ds_fleet *fleet) {
     fleet->call_at = clock_now() + fleet->pause - chance % (fleet->pause / 2);
 }
 
-/* Both connections end; all that no answer came for is told again. The same reason is logged again only once a server was of use. */
+/* Both connections end; the next ones tell again what no answer came for. The same reason is logged again only once a server was of use. */
 static enum ds_fleet_word hang_up(struct ds_fleet *fleet, enum ds_fleet_word word, const char *why) {
     if (!fleet->pause || strcmp(fleet->state.said, why)) {
         items_say(&fleet->items, "%s: %s", ds_fleet_word(word), why);
@@ -227,13 +227,13 @@ static bool note_server(struct ds_fleet *fleet, const redisReply *server, const 
     copy_hex_of(replication, "master_replid:", history);
     if (*run && !strcmp(run, fleet->server) && !strcmp(history, fleet->replication)) return false;
     fleet->away_said = true;
-    fleet->all |= *fleet->server != '\0'; /* the first one is told what is untold */
+    fleet->all |= *fleet->server != '\0'; /* the first one gets only what is untold */
     snprintf(fleet->server, sizeof fleet->server, "%s", *run ? run : "unknown");
     snprintf(fleet->replication, sizeof fleet->replication, "%s", history);
     return true;
 }
 
-/* Whether a stream has another scope than this bridge: then it is told nothing, and nothing of it is compacted, since a snapshot from
+/* Whether a stream has another scope than this bridge: then it tells and compacts nothing, since a snapshot from
  * here would lack what isn't under the scope. */
 static bool has_other_scope(const struct ds_fleet *fleet, const redisReply *scope) {
     return is_text(scope) && strcmp(scope->str, fleet->scope);
@@ -245,7 +245,7 @@ static enum ds_fleet_word refuse_scope(struct ds_fleet *fleet, const redisReply 
     return hang_up(fleet, DS_FLEET_BADSCOPE, why);
 }
 
-/* A replica can't be told a scope; while it has the right one it is met, so that a bridge sees what became of the stream. */
+/* A replica takes no scope; while it has the right one it is met, so that a bridge sees what became of the stream. */
 static enum ds_fleet_word on_meeting(struct ds_fleet *fleet) {
     struct redisReply **answers = fleet->teller.answers, *scope = answers[MEETING_SCOPE];
     if (is_error(answers[MEETING_SERVER])) return server_denied(fleet, answers[MEETING_SERVER]);
@@ -265,7 +265,7 @@ static enum ds_fleet_word on_meeting(struct ds_fleet *fleet) {
 
 /* ---- telling ---- */
 
-/* How many bytes of the lines are told by one entry. */
+/* How many bytes of the lines one entry tells. */
 static size_t part_of(const char *lines, size_t length) {
     unsigned count = ITEMS_MOST;
     size_t part = first_lines(lines, length, count);
@@ -294,7 +294,7 @@ static enum ds_fleet_word not_added(struct ds_fleet *fleet, const redisReply *an
     return is_error(answer) ? server_denied(fleet, answer) : server_puzzles(fleet, "no entry was added");
 }
 
-/* What was told is dropped only where each part of it was added. */
+/* The text is dropped only if each part of it was added. */
 static enum ds_fleet_word on_telling(struct ds_fleet *fleet) {
     unsigned parts = fleet->teller.came - 1;
     struct redisReply **answers = fleet->teller.answers;
@@ -470,7 +470,7 @@ static enum ds_fleet_word prepare_snapshot(struct ds_fleet *fleet, struct text *
     return items_all(&fleet->items, held);
 }
 
-/* A transaction is no undoing: where the snapshot couldn't be set, the stream would be trimmed all the same. So a key that denies anything
+/* A transaction undoes nothing: if the snapshot couldn't be set, the stream would be trimmed all the same. So a key that denies anything
  * ends it here. */
 static enum ds_fleet_word on_watching(struct ds_fleet *fleet) {
     struct text held = {0};
@@ -530,7 +530,7 @@ static void ask_for_witnesses(struct ds_fleet *fleet) {
     trail_ask(read);
 }
 
-/* Whether an entry that was told or read is neither in the stream nor in the snapshot. */
+/* Whether an entry told or read is neither in the stream nor in the snapshot. */
 static bool lacks_witness(const struct ds_fleet *fleet, const redisReply *there, const struct stock *stock) {
     for (size_t i = 0; i < WITNESSES; i++) {
         struct entry_id id = fleet->witnesses[i];
@@ -564,7 +564,7 @@ static enum ds_fleet_word ask_comparing(struct ds_fleet *fleet) {
     return DS_FLEET_INSTEP;
 }
 
-/* Where others differ, the first of those that hold the same tells all. Who goes on differing, as by a clash, is told all less and less
+/* If others differ, the first of those that hold the same tells everything. If they still differ, as after a clash, it does less and less
  * often. */
 static void judge_peers(struct ds_fleet *fleet, const redisReply *digests) {
     peers_compare(&fleet->peers, fleet->me, digests);
@@ -583,7 +583,7 @@ static void judge_peers(struct ds_fleet *fleet, const redisReply *digests) {
     }
 }
 
-/* What the server lost is told again. A stream that took the place of another one is read whole, too: one of another history, one that
+/* A bridge tells again what the server lost. A stream that took the place of another one is read whole, too: one of another history, one that
  * ends in front of what was read or has had fewer entries, and one that lacks a witness. */
 static void look_for_loss(struct ds_fleet *fleet, const struct stock *stock, bool is_replaced) {
     fleet->state.behind = stock->newest.first > fleet->last.first ? stock->newest.first - fleet->last.first : 0;
@@ -700,7 +700,7 @@ static enum ds_fleet_word ask_next(struct ds_fleet *fleet) {
     return word == DS_FLEET_INSTEP ? DS_FLEET_LATE : word;
 }
 
-/* Goes on with the teller: LATE where more may come of it at once, else INSTEP or why not. */
+/* Continues the teller: LATE if more may come of it at once, else INSTEP or why not. */
 static enum ds_fleet_word turn_teller(struct ds_fleet *fleet) {
     enum ds_fleet_word word = DS_FLEET_INSTEP;
     switch (link_turn(&fleet->teller, clock_now())) {
@@ -732,7 +732,7 @@ static bool is_in_step(const struct ds_fleet *fleet) {
     return fleet->met && fleet->at_end && !fleet->gap && !fleet->all && !fleet->items.untold.length;
 }
 
-/* Goes as far as it can without waiting. Who is denied one of the two goes on with the other. */
+/* Goes as far as it can without waiting. If one of the two is denied, the other continues. */
 static enum ds_fleet_word turn_both(struct ds_fleet *fleet) {
     enum ds_fleet_word told = DS_FLEET_LATE, heard = DS_FLEET_LATE;
     while (told == DS_FLEET_LATE || heard == DS_FLEET_LATE) {

@@ -1,15 +1,14 @@
-/* Keeps a store in step with those of other hosts over a redis stream: what takes effect in the store is told to the stream, and
- * what others told is merged. docs/reference/fleet.md draws it.
+/* Keeps a store in step with those of other hosts over a redis stream: it tells the stream what takes effect in the store, and merges
+ * what others told. docs/reference/fleet.md draws it.
  *
- * The store behind the handle is proved; this carrier is tested. It need not be more than this: items join, so that holders to
- * which the same items came hold the same, in whatever order and however often they came.
+ * The store behind the handle is proved; this carrier is tested. Items join, so stores with the same items agree, in whatever order and
+ * however often the items arrived.
  *
- * A fleet owns two connections, one descriptor (the bell), and the text that no server has answered for yet. While the name in its URL is
- * looked up it has a thread, which takes no signal and calls getaddrinfo alone; no call waits for it. What it is given by
- * ds_fleet_open it copies, but for the handle, which stays the caller's and has to be open until ds_fleet_close. The handle is used
- * within these calls alone, so there is one thread at a time over it and its fleet; they ask the store, so who wants the text of an
- * answer of its own fetches it first. There is nothing global, but that the caller has to ignore SIGPIPE. A server is redis 7 or
- * newer, and a system Linux. */
+ * A fleet owns two connections, one descriptor (the bell), and the text that no server has answered for yet. While it looks up the name in
+ * its URL it has a thread, which takes no signal and only calls getaddrinfo; no call waits for it. ds_fleet_open copies its arguments,
+ * except the handle, which the caller keeps open until ds_fleet_close. Only these calls use the handle meanwhile, so one thread at a
+ * time may call on it and its fleet. They send requests to the store, so fetch the text of an answer first. There is nothing global; the
+ * caller has to ignore SIGPIPE. The server is redis 7 or newer, the system Linux. */
 #ifndef DS_FLEET_H
 #define DS_FLEET_H
 
@@ -22,61 +21,61 @@ extern "C" {
 
 struct ds_fleet;
 
-/* What a call came to. ds_fleet_word spells them in lower case, without their front. */
+/* The outcome of a call. ds_fleet_word spells it in lower case, without its prefix. */
 enum ds_fleet_word {
-    DS_FLEET_INSTEP, /* all that took effect in the store is in the stream, and all is merged that came from it */
+    DS_FLEET_INSTEP, /* everything that took effect is in the stream, and everything from the stream is merged */
     DS_FLEET_LATE,   /* the time is over; call again */
-    DS_FLEET_AWAY,   /* there is no server, or it went: it is called again by a later step, and nothing is lost */
-    DS_FLEET_DENIED, /* the server answers by an error, which stands in the state: it is asked again by a later step, and nothing is lost */
-    DS_FLEET_NOROOM, /* memory is wanting: call again, nothing is lost */
+    DS_FLEET_AWAY,   /* there is no server, or it went: a later step calls it again, and nothing is lost */
+    DS_FLEET_DENIED, /* the server answers by an error, which is in the state: a later step tries again, and nothing is lost */
+    DS_FLEET_NOROOM, /* out of memory: call again, nothing is lost */
     DS_FLEET_CLOSED, /* no store is open in the handle */
     DS_FLEET_BADURL, DS_FLEET_NOTLS, DS_FLEET_BADNAME, /* of ds_fleet_open alone */
-    DS_FLEET_BADSCOPE, /* of ds_fleet_open: it can't be read. Of a step: the stream has another one. Nothing is told; it is asked again */
+    DS_FLEET_BADSCOPE, /* of ds_fleet_open: it can't be read. Of a step: the stream has another one; it tells nothing, and a later step looks again */
     DS_FLEET_SYSTEM    /* of ds_fleet_open alone; errno says why */
 };
 
 enum { DS_FLEET_KEEP = 1000, DS_FLEET_ID = 48, DS_FLEET_SAID = 256 /* bytes of a text, with its zero */ };
 
-/* What may be told while a step runs: one line, without its newline. */
+/* Takes one line of the log, without its newline, while a step runs. */
 typedef void ds_fleet_tell(void *context, const char *line);
 
 struct ds_fleet_options {
     const char *url;      /* redis://[[USER]:PASSWORD@]HOST[:PORT][/DATABASE], or unix://[[USER]:PASSWORD@]/PATH */
-    const char *stream;   /* the front of the names of its three keys, 1 to 128 bytes; NULL: "ds" */
+    const char *stream;   /* the beginning of the names of its three keys, 1 to 128 bytes; NULL: "ds" */
     const char *pattern;  /* the scope: what the pattern matches whole, of the kinds; the same for all who share a stream, or `badscope` */
     uint8_t kinds;        /* a sum of enum ds_kinds; 0: everything, and then pattern may be anything */
     long keep;            /* a stream with more entries is compacted; 0: DS_FLEET_KEEP */
-    ds_fleet_tell *tell;  /* is told of what was refused or can't be read, as often as others send it, of servers met and lost, and of
-                             compactions, by a line `WORD: TEXT`; may be NULL */
-    void *context;        /* what tell is given */
+    ds_fleet_tell *tell;  /* gets a line `WORD: TEXT` of what was refused or can't be read, as often as others send it, of servers met
+                             and lost, and of compactions; may be NULL */
+    void *context;        /* the first argument of tell */
 };
 
-/* Joins the store of the handle to a stream. What the store holds already is told by the first steps. Nothing is waited for: the
- * server is called by the first step.
- * DS_FLEET_INSTEP: *fleet is to be closed by ds_fleet_close. Else *fleet is NULL, and the word says why: CLOSED, BADURL, NOTLS,
- * BADNAME, BADSCOPE, NOROOM or SYSTEM. */
+/* Joins the store of the handle to a stream, without waiting: the first step calls the server, and the first steps tell what the store
+ * holds already.
+ * Returns DS_FLEET_INSTEP, and then *fleet is to be closed by ds_fleet_close. Else *fleet is NULL, and the word says why: CLOSED, BADURL,
+ * NOTLS, BADNAME, BADSCOPE, NOROOM or SYSTEM. */
 enum ds_fleet_word ds_fleet_open(struct ds_fleet **fleet, struct ds_handle *store, const struct ds_fleet_options *options);
 
-/* Tells what is new, and merges what others told. It waits until the store is in step, for so many milliseconds at most; 0 waits for
- * nothing. The first DS_FLEET_INSTEP says that the store has caught up: serve nobody before, since a publisher that begins with
- * less than is known would number its versions anew. DS_FLEET_BADSCOPE ends the step at once. To be called when the bell rings, and after
- * each change of the store. */
+/* Tells what is new, and merges what others told. It waits until the store is in step, for `patience` milliseconds at most; 0 waits for
+ * nothing. The first DS_FLEET_INSTEP means that the store has caught up: serve no client before, since a publisher that begins with
+ * less than is known would number its versions anew. DS_FLEET_BADSCOPE ends the step at once. Call it when the bell rings, and after each
+ * change of the store. */
 enum ds_fleet_word ds_fleet_step(struct ds_fleet *fleet, unsigned patience);
 
-/* A descriptor that can be read when there is something to step for: what others told, an answer, a second that is over. It is the
- * same one until ds_fleet_close; nobody but these calls reads it. */
+/* Returns a descriptor that can be read when there is something to step for: what others told, an answer, a second that is over. It is
+ * the same one until ds_fleet_close; only these calls read it. */
 int ds_fleet_bell(const struct ds_fleet *fleet);
 
-/* A mark behind all that has taken effect in the store until now; 0 where memory is wanting, or no store is open. */
+/* Returns a mark after everything that has taken effect in the store; 0 if memory runs out, or no store is open. */
 uint64_t ds_fleet_mark(struct ds_fleet *fleet);
-/* Whether the server has answered for all in front of the mark, so that it is in the stream. So one client may be answered while
- * others go on to change the store. */
+/* Returns whether the server has answered for everything before the mark, so that it is in the stream. So one client may get its answer
+ * while others change the store. */
 bool ds_fleet_is_told(const struct ds_fleet *fleet, uint64_t mark);
 
-/* Adds to the mask which subscriptions are owed a notice since it was asked last by what others told, a bit for each. */
+/* Adds to the mask the subscriptions that are owed a notice by what others told since the last call, a bit for each. */
 void ds_fleet_owed(struct ds_fleet *fleet, uint8_t owed[16]);
 
-/* How it stands. */
+/* The state of a fleet. */
 struct ds_fleet_state {
     enum ds_fleet_word word;              /* of the last step */
     bool caught_up;                       /* a step was in step already */
@@ -86,7 +85,7 @@ struct ds_fleet_state {
     uint64_t untold;                      /* bytes of lines that no server has answered for */
     uint64_t entries_told, entries_read;  /* of the stream; read: those of others */
     uint64_t connections, compactions;
-    uint64_t unread;                      /* lines and entries that no item could be read from */
+    uint64_t unread;                      /* lines and entries from which no item could be read */
     uint64_t refused[DS_NOROOM + 1];      /* of how many keys and owners an item is refused now, by enum ds_refusal */
     unsigned differing;                   /* how many others held something else when they had read the same entries */
     char server[DS_FLEET_ID];             /* the run of the server that was met, or nothing */
@@ -95,10 +94,10 @@ struct ds_fleet_state {
 
 void ds_fleet_state(const struct ds_fleet *fleet, struct ds_fleet_state *state);
 
-/* Ends both connections and gives all memory back; the store stays as it is, and open. NULL is no fault. */
+/* Ends both connections and frees all memory; the store is unchanged, and open. NULL is allowed. */
 void ds_fleet_close(struct ds_fleet *fleet);
 
-/* The word in lower case, as `instep`; and that of a refusal of enum ds_refusal, as `clash`. They are never freed. */
+/* Returns the word in lower case, as `instep`; and that of a refusal of enum ds_refusal, as `clash`: static texts. */
 const char *ds_fleet_word(enum ds_fleet_word word);
 const char *ds_fleet_refusal(uint32_t refusal);
 

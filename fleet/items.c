@@ -46,7 +46,7 @@ static enum ds_fleet_word ask_store(struct items *items, struct ds_handle *store
     return answer->word == DS_REFUSED && answer->refusal == DS_NOROOM ? DS_FLEET_NOROOM : DS_FLEET_INSTEP;
 }
 
-/* Puts the lines of the last answer behind the text, or leaves it as it was. */
+/* Appends the lines of the last answer to the text, or leaves it unchanged. */
 static enum ds_fleet_word fetch_items(struct ds_handle *store, const struct ds_answer *answer, struct text *to) {
     size_t before = to->length;
     for (uint64_t first = 0; first < answer->pieces;) {
@@ -91,7 +91,7 @@ enum ds_fleet_word items_gather(struct items *items) {
 
 /* ---- what is refused ---- */
 
-/* What is refused of a key or an owner is told once; of many, of each ITEMS_TOLD at a time. */
+/* A refusal of a key or an owner is logged once; of many keys, ITEMS_TOLD at a time. */
 static bool is_news(struct items *items, const char *line, size_t length, uint32_t refusal) {
     const char *space = memchr(line, ' ', length);
     const char *end = space ? memchr(space + 1, ' ', length - (size_t)(space + 1 - line)) : NULL;
@@ -102,7 +102,7 @@ static bool is_news(struct items *items, const char *line, size_t length, uint32
     return true;
 }
 
-/* entry is NULL for what was told before. */
+/* entry is NULL for what was logged before. */
 static void complain(struct items *items, const char *entry, const char *line, size_t length, uint32_t refusal) {
     if (!entry || !is_news(items, line, length, refusal)) return;
     size_t shown = length && line[length - 1] == '\n' ? length - 1 : length;
@@ -121,11 +121,11 @@ static uint64_t refused_now(const struct items *items) {
     return count;
 }
 
-/* Another item that no store here keeps, for want of a place. */
+/* Another item that no store here has a place for. */
 static void lose(struct items *items) {
     if (items->lost++) return;
     items->lost_beside = refused_now(items);
-    items_say(items, "full: what was refused is too much to be kept, so nothing is compacted from here");
+    items_say(items, "overfull: what was refused is too much to be kept, so nothing is compacted from here");
 }
 
 bool items_may_regain(const struct items *items) {

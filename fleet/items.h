@@ -1,4 +1,4 @@
-/* The store's side of a fleet: what took effect in it as lines to be told, and the lines of others merged into it. Lines are read by the
+/* The store's side of a fleet: what took effect in it as lines for the stream, and the lines of others merged into it. Lines are read by the
  * store alone; here their newlines are counted, and the spaces that end their key. Used by ds_fleet.c alone. */
 #ifndef DS_FLEET_ITEMS_H
 #define DS_FLEET_ITEMS_H
@@ -8,7 +8,7 @@
 
 enum {
     ITEMS_MOST = 256, /* lines of one merge, and of one entry */
-    ITEMS_TOLD = 256  /* keys whose refusal was told */
+    ITEMS_TOLD = 256  /* keys whose refusal was logged */
 };
 
 struct items {
@@ -40,8 +40,8 @@ struct items {
 enum ds_fleet_word items_gather(struct items *items);
 /* Puts all that is held to what is untold, and continues from the store's end. */
 enum ds_fleet_word items_gather_all(struct items *items);
-/* Merges lines that came by an entry, whose id is for who is told of what is refused. Own news is gathered first: what comes behind it
- * in the journal is then what was merged, and isn't told again. A refused line ends nothing. */
+/* Merges lines of an entry, whose id is for the log of what is refused. Own news is gathered first: what comes after it
+ * in the journal is then what was merged, and isn't sent again. A refused line ends nothing. */
 enum ds_fleet_word items_take(struct items *items, const char *entry, const char *lines, size_t length);
 /* Counts and logs an entry that has no items. */
 void items_unread_entry(struct items *items, const char *entry);
@@ -51,7 +51,7 @@ enum ds_fleet_word items_retry(struct items *items);
 bool items_may_regain(const struct items *items);
 /* All is read anew: what was lost comes again. */
 void items_begin_anew(struct items *items);
-/* Puts all that is held, and all that is refused, behind the text. */
+/* Appends everything held, and everything refused, to the text. */
 enum ds_fleet_word items_all(struct items *items, struct text *to);
 /* A number that differs, but for a slip in 2^64, where another store holds something else. */
 enum ds_fleet_word items_digest(struct items *items, uint64_t *digest);

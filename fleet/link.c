@@ -16,7 +16,7 @@ static int digit(char byte) {
     return byte >= 'A' && byte <= 'F' ? byte - 'A' + 10 : -1;
 }
 
-/* Puts the bytes for which %XX stands in their places. */
+/* Replaces each %XX by its byte. */
 static bool spelled(char *text) {
     char *to = text;
     for (const char *from = text; *from; from++, to++) {
@@ -43,7 +43,7 @@ static int number(const char *text, int most) {
     return value;
 }
 
-/* Cuts what stands in front of the last `@` off, and answers what is behind it. NULL: it can't be read. */
+/* Cuts off what is before the last `@`, and returns what is after it. NULL: it can't be read. */
 static char *behind_user(struct link_address *address, char *text) {
     char *at = *text == '/' ? NULL : strrchr(text, '@');
     if (!at) return text;
@@ -75,7 +75,7 @@ static bool read_host(struct link_address *address, char *text) {
     return *text && address->port > 0;
 }
 
-/* Whether the text begins so, and then behind it. */
+/* Whether the text begins so: returns what is after it, or NULL. */
 static char *behind(char *text, const char *front) {
     return strncmp(text, front, strlen(front)) ? NULL : text + strlen(front);
 }
@@ -111,7 +111,7 @@ static void greet(struct link *link, const struct link_address *address) {
     link->asked = 0;
 }
 
-/* Lets no child have the descriptor; and lets the kernel notice a peer that is gone, also while nothing is asked. */
+/* Lets no child have the descriptor; and lets the kernel notice a peer that is gone, also without a question. */
 static void set_up(redisContext *redis, bool is_local) {
     int flags = fcntl(redis->fd, F_GETFD);
     if (flags >= 0) fcntl(redis->fd, F_SETFD, flags | FD_CLOEXEC);

@@ -1,4 +1,4 @@
-/* One connection to a redis server, over hiredis: it is asked by rounds of questions and never waits. A server that answers nothing for
+/* One connection to a redis server, over hiredis: it takes rounds of questions and never waits. A server that answers nothing for
  * LINK_SILENCE is taken for gone. Used by ds_fleet.c alone. */
 #ifndef DS_FLEET_LINK_H
 #define DS_FLEET_LINK_H
@@ -16,7 +16,7 @@ enum {
     LINK_SILENCE = 5000  /* milliseconds in which something of an answer has to come */
 };
 
-/* Where a server is, and as whom it is spoken to. */
+/* Where a server is, and the user and password for it. */
 struct link_address {
     char *text;     /* what the others point into; to be freed by link_forget */
     char *host;     /* or NULL, and then */
@@ -29,7 +29,7 @@ struct link_address {
 enum link_url { LINK_GOOD, LINK_BAD, LINK_TLS, LINK_NOROOM };
 
 /* Reads redis://[[USER]:PASSWORD@]HOST[:PORT][/DATABASE] or unix://[[USER]:PASSWORD@]/PATH; %XX stands for a byte of USER and PASSWORD.
- * LINK_TLS is told of rediss://. Where it isn't LINK_GOOD there is nothing to forget. */
+ * LINK_TLS: it is rediss://. If it isn't LINK_GOOD there is nothing to forget. */
 enum link_url link_read(struct link_address *address, const char *url);
 void link_forget(struct link_address *address);
 
@@ -37,7 +37,7 @@ void link_forget(struct link_address *address);
 struct link {
     struct redisContext *redis;            /* NULL: there is none */
     struct redisReply *answers[LINK_MOST]; /* those of this round that came */
-    unsigned asked, came, greetings;       /* greetings: how many answers stand in front of this round's */
+    unsigned asked, came, greetings;       /* greetings: how many answers come before this round's */
     bool writes;                           /* not all that was asked could be written yet */
     bool quiet;                            /* all that had come is read; who hears that more came clears it */
     uint64_t heard;                        /* when bytes last went or came, or nothing was asked, in milliseconds */
@@ -46,7 +46,7 @@ struct link {
 };
 
 enum link_state {
-    LINK_IDLE,     /* nothing is asked */
+    LINK_IDLE,     /* no round is under way */
     LINK_WAITS,    /* answers are missing */
     LINK_ANSWERED, /* all answers of this round are in link->answers */
     LINK_LOST      /* the connection is gone, or there was none; link->said says why */

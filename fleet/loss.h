@@ -30,7 +30,7 @@ struct trail {
 };
 
 void trail_add(struct trail *trail, struct entry_id entry);
-/* A look at the stream is asked; trail_looked once it found the entries. A look that isn't answered is asked again. */
+/* Asks for a look at the stream; trail_looked once it found the entries. A look without an answer is repeated. */
 void trail_ask(struct trail *trail);
 void trail_looked(struct trail *trail);
 

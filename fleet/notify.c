@@ -1,4 +1,4 @@
-/* What the service manager is told. See notify.h. */
+/* Messages to the service manager. See notify.h. */
 #include "notify.h"
 #include <stdarg.h>
 #include <stddef.h>

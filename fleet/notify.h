@@ -1,4 +1,4 @@
-/* What the service manager is told, by the protocol of sd_notify(3): nothing where NOTIFY_SOCKET names no socket. */
+/* Messages to the service manager, by the protocol of sd_notify(3): none if NOTIFY_SOCKET names no socket. */
 #ifndef DS_FLEET_NOTIFY_H
 #define DS_FLEET_NOTIFY_H
 

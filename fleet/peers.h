@@ -11,7 +11,7 @@ enum {
     PEERS = 128,      /* others whose digests are compared */
     OWN_DIGESTS = 8,  /* the newest ones, which are kept */
     PEER_ID = 33,     /* bytes of the name of a run, with its zero */
-    DIGEST_TEXT = 96  /* bytes of a digest as it is told, with its zero */
+    DIGEST_TEXT = 96  /* bytes of a digest as it is published, with its zero */
 };
 
 struct digest { struct entry_id at; unsigned long long value; };

@@ -43,13 +43,8 @@ impl Store {
             Some(name) => *name,
             None => Name::rs(),
         };
-        Standing {
-            held: content.get_at(place),
-            void: is_void_under(content.floor(&owner), asked),
-            count: content.count(),
-            most: content.limits().keys(),
-            position: content.cursor().position,
-        }
+        let void = is_void_under(content.floor(&owner), asked);
+        self.standing(place, &asked.key, void)
     }
 
     // The first cause against what a caller of this name asks for, where the place of its key is told.
