@@ -128,7 +128,7 @@ made_command : (command : ScriptCommand) (old : SessionContent) (out : List ℕ)
 made_command Show old out new was is a before = (was, (a, refl), came_same old new was a.0 before)
 made_command All old out new was is a before = (was, (a, refl), came_same old new was a.0 before)
 made_command (Entries map) old out new was is a before = (was, (a, refl), came_same old new was a.0 before)
-made_command (Ring ring) old out new was is a before = (no_past, (a, refl), came_opened ring new (omega (arith, is.0)) is.1 a.0)
+made_command (Ring ring) old out new was is a before = (no_past, (a, refl), came_opened ring new (omega (arith, is.0.0)) is.0.1 a.0)
 made_command (Side side) old out new was is a before = (was, (a, refl), came_turned old new was side a.0 before)
 made_command (Settings text) old out new was is a before = made_servers (AnswersSettings text) old out new was a before
 made_command (Service request label tick) old out new was is a before = made_service (request_event request label) tick old out new was a before

@@ -5,7 +5,7 @@ use Rattle.std.specs.List.{All, list_all}
 use Rattle.std.specs.Char.{is_ascii_alphanumeric}
 use Rattle.std.proofs.lemmas.List.Elements.{All-head, All-tail}
 use Rattle.ds_names.specs.Run.{Begins}
-use Rattle.ds_line.specs.Part.{texts, Word}
+use Rattle.ds_line.specs.Part.{part, texts, Word}
 use Rattle.ds_lines.specs.Lines.{EndsLine}
 use Rattle.ds_line.specs.FaultPlace.{Stand}
 use Rattle.ds_line.specs.Piece.{Found, Breaks, StopsIn}
@@ -18,9 +18,11 @@ use Rattle.ds_words.specs.declared.command.ScriptCommand.TheVariants.{Show}
 use Rattle.ds_words.specs.declared.word.Word.TheVariants as words
 use Rattle.ds_words.specs.declared.word.Word.{Word as CommandWord}
 use Rattle.ds_words.specs.Command.{command_word, word_of, behind_word, command_parts, IsCommand, IsCommandFault}
-use Rattle.ds_words.specs.Pieces.{taken_by}
 use Rattle.ds_words.specs.Words.{all_words, text_of}
-use Rattle.ds_words.proofs.StandLemmas.{command_stands, command_parted, newline_last}
+use Rattle.ds_line.proofs.NewlineLemmas.{ends_behind}
+use Rattle.ds_words.proofs.EndLemmas.{behind_ends, unbroken_word}
+use Rattle.ds_words.proofs.StandLemmas.{command_stands, command_parted}
+use Rattle.ds_words.proofs.TableLemmas.{taken_by}
 
 -- ---- words
 
@@ -62,9 +64,14 @@ one_word command line word r s is first second = part_one Word line (word_of com
 
 -- ---- the line's word stands at its front
 
-pub word_begins : (command : ScriptCommand) (line : List ℕ) → IsCommand command → line ≡ texts (command_parts command)
+pub word_begins : (command : ScriptCommand) (line : List ℕ) → line ≡ texts (command_parts command)
     → Begins is_ascii_alphanumeric line (word_of command) (texts (behind_word command))
-word_begins command line can is = record { parts = is; ends = command_parted command can }
+word_begins command line is = record { parts = is; ends = command_parted command }
+
+-- and it ends with its one newline
+pub command_ends : (command : ScriptCommand) → IsCommand command → EndsLine (texts (command_parts command))
+command_ends command is =
+    ends_behind (part Word (word_of command)) (behind_word command) (unbroken_word (word_of command) (word_is command)) (behind_ends command is)
 
 -- ---- the line can't be read
 
@@ -72,7 +79,7 @@ word_begins command line can is = record { parts = is; ends = command_parted com
 pub unknown_word : (line : List ℕ) → ((w : CommandWord) (rest : List ℕ) → ¬ Begins is_ascii_alphanumeric line (text_of w) rest) → IsCommandFault line 0
 unknown_word line other =
     record {
-      none = λ command can text. other (command_word command) (texts (behind_word command)) (word_begins command line can text);
+      none = λ command can text. other (command_word command) (texts (behind_word command)) (word_begins command line text);
       first = record {
         rest = line;
         stops = record {
@@ -91,11 +98,11 @@ line_breaks line rest at w begins s =
     record {
       none = λ command can text.
           let one = one_word command line (text_of w) (texts (behind_word command)) rest (text_is w)
-          (word_begins command line can text) begins in
+          (word_begins command line text) begins in
           let front = texts (behind_word command) in
           let stands : Stand (length (behind_word command)) (behind_word command) front [] =
           subst (λ (t : List ℕ). Stand (length (behind_word command)) (behind_word command) t []) (append-nil front)
-          (command_stands command can) in
+          (command_stands command) in
           s.none command [] (can, same_word (command_word command) w one.0)
           (subst (λ (t : List ℕ). Stand (length (behind_word command)) (behind_word command) t []) one.1 stands);
       first = record {
@@ -151,11 +158,11 @@ pub whole_line : (line rest after : List ℕ) (w : CommandWord) (command : Scrip
 whole_line line rest after w command ends begins found =
     let word = text_of w in
     let is = stand_texts (behind_word command) rest after found.front in
-    let last = newline_last command found.can.0 in
-    let spread : line ≡ (word ++ last.0) ++ 10 ∷ after =
-    begins.parts ∙ ap (λ (t : List ℕ). word ++ t) (is ∙ ap (λ (t : List ℕ). t ++ after) last.1 ∙ append_assoc last.0 (10 ∷ []) after)
-    ∙ sym (append_assoc word last.0 (10 ∷ after)) in
-    let none : after ≡ [] = one_newline (word ++ last.0) after ends.front ends.none (sym ends.parts ∙ spread) in
+    let last = behind_ends command found.can.0 in
+    let spread : line ≡ (word ++ last.front) ++ 10 ∷ after =
+    begins.parts ∙ ap (λ (t : List ℕ). word ++ t) (is ∙ ap (λ (t : List ℕ). t ++ after) last.parts ∙ append_assoc last.front (10 ∷ []) after)
+    ∙ sym (append_assoc word last.front (10 ∷ after)) in
+    let none : after ≡ [] = one_newline (word ++ last.front) after ends.front ends.none (sym ends.parts ∙ spread) in
     let all = texts (behind_word command) in (
       found.can.0,
       begins.parts ∙ ap (λ (t : List ℕ). word ++ t) (is ∙ ap (λ (t : List ℕ). all ++ t) none ∙ append-nil all)

@@ -16,6 +16,7 @@ pub mod RowLemmas
 pub mod OfferLemmas
 pub mod OfferLineLemmas
 pub mod StandLemmas
+pub mod EndLemmas
 pub mod CommandLemmas
 pub mod LaterLemmas
 pub mod FrontLemmas

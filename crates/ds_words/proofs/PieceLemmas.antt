@@ -19,8 +19,7 @@ use Rattle.ds_line.proofs.LabelLemmas.{rs_is_name, some_value}
 use Rattle.ds_line.proofs.PartLemmas.{part_one}
 use Rattle.ds_line.proofs.OpeningLemmas.{text_at, word_is_word, word_one, key_is, version_is}
 use Rattle.ds_line.proofs.PieceLemmas.{behind, Fixed, One, one_by, Views, view_stops, first_stops, then_stops, after_byte, part_missing, byte_missing, byte_found, byte_stops, stops_from}
-use Rattle.ds_words.specs.Command.{initial_word, mode_word}
-use Rattle.ds_words.specs.Pieces.{an_endpoint, an_initial, a_mode, a_name, a_kind, a_key, a_generation, a_seq, a_version, a_number, a_place, a_kinds, a_value, ValueWantsRoom}
+use Rattle.ds_words.specs.Pieces.{an_endpoint, an_initial, a_mode, a_name, a_kind, a_key, a_generation, a_seq, a_version, a_number, a_place, a_kinds, a_value, ValueWantsRoom, initial_word, mode_word}
 use Rattle.ds_line.proofs.LastValueLemmas.{some_value_of}
 
 -- ---- a byte, and behind it one part
@@ -54,9 +53,6 @@ endpoint_is = record { generation = omega arith; slot = omega arith }
 pub no_endpoint : (stop : PartFault) (bytes r : List ℕ) → bytes ≡ 32 ∷ r → stop ≡ BadPart (length r) → ((e : EndpointRecord) (rest : List ℕ) → IsEndpoint e → ¬ Begins is_ascii_digit r (endpoint_text e) rest) → StopsIn an_endpoint stop bytes
 no_endpoint stop bytes r is at none = no_part 32 EndpointRecord IsEndpoint endpoint_part (endpoint_of 0 0) stop bytes r endpoint_is is at none
 
-pub endpoint_fixed : Fixed an_endpoint 2
-endpoint_fixed e = refl
-
 pub endpoint_one : One an_endpoint
 endpoint_one = one_by an_endpoint (λ a b is_a is_b. (refl, λ _. (refl, λ _. tt))) (λ a is. (refl, ((a, is, refl), tt))) (λ a b is_a is_b same. endpoint_text_one a b is_a is_b (ap (text_at 1) same))
 
@@ -81,9 +77,6 @@ no_mode stop bytes r word rest is at all begins other =
     no_part 32 Bool (λ _. Unit {0}) mode_part true stop bytes r tt is at
     (λ x after can there. other x (part_one Word r word (mode_word x) rest after all (mode_is_word x) begins there).0)
 
-pub mode_fixed : Fixed a_mode 2
-mode_fixed overwrite = refl
-
 pub mode_one : One a_mode
 mode_one = one_by a_mode (λ a b is_a is_b. (refl, λ _. (refl, λ _. tt))) (λ a is. (refl, (mode_is_word a, tt))) (λ a b is_a is_b same. modes_one a b (ap (text_at 1) same))
 
@@ -107,9 +100,6 @@ pub no_initial : (stop : PartFault) (bytes r word rest : List ℕ) → bytes ≡
 no_initial stop bytes r word rest is at all begins other =
     no_part 32 Bool (λ _. Unit {0}) initial_part true stop bytes r tt is at
     (λ x after can there. other x (part_one Word r word (initial_word x) rest after all (initial_is_word x) begins there).0)
-
-pub initial_fixed : Fixed an_initial 2
-initial_fixed initial = refl
 
 pub initial_one : One an_initial
 initial_one = one_by an_initial (λ a b is_a is_b. (refl, λ _. (refl, λ _. tt))) (λ a is. (refl, (initial_is_word a, tt))) (λ a b is_a is_b same. initials_one a b (ap (text_at 1) same))
@@ -150,9 +140,6 @@ key_name_stops stop bytes room s = view_stops (behind a_name (λ _. a_kind)) a_k
 pub key_kind_stops : (name : List ℕ) (stop : PartFault) (bytes r : List ℕ) → Found a_name name bytes r → StopsIn a_kind stop r → StopsIn a_key stop bytes
 key_kind_stops name stop bytes r found s = view_stops (behind a_name (λ _. a_kind)) a_key key_view stop bytes (then_stops a_name (λ _. a_kind) 2 stop name bytes r name_fixed name_one found s)
 
-pub key_fixed : Fixed a_key 4
-key_fixed key = refl
-
 pub key_one : One a_key
 key_one =
     one_by a_key (λ a b is_a is_b. (refl, λ _. (refl, λ _. (refl, λ _. (refl, λ _. tt))))) (λ a is. (refl, (is.allowed, (refl, (word_is_word a.kind, tt)))))
@@ -180,9 +167,6 @@ generation_one =
 pub no_number : (stop : PartFault) (bytes r : List ℕ) → bytes ≡ 32 ∷ r → stop ≡ BadPart (length r) → ((n : ℕ) (rest : List ℕ) → n ≤ 4294967295 → ¬ Begins is_ascii_digit r (decimal n) rest) → StopsIn a_number stop bytes
 no_number stop bytes r is at none = no_part 32 ℕ (λ n. n < 2 ^ 32) number_part 0 stop bytes r (omega arith) is at (λ n rest can. none n rest (omega (arith, can)))
 
-pub number_fixed : Fixed a_number 2
-number_fixed n = refl
-
 pub number_one : One a_number
 number_one =
     one_by a_number (λ a b is_a is_b. (refl, λ _. (refl, λ _. tt))) (λ a is. (refl, ((a, omega (arith, is), refl), tt)))
@@ -190,9 +174,6 @@ number_one =
 
 pub no_place : (stop : PartFault) (bytes r : List ℕ) → bytes ≡ 32 ∷ r → stop ≡ BadPart (length r) → ((n : ℕ) (rest : List ℕ) → n ≤ 18446744073709551615 → ¬ Begins is_ascii_digit r (decimal n) rest) → StopsIn a_place stop bytes
 no_place stop bytes r is at none = no_part 32 ℕ (λ n. n < 2 ^ 64) number_part 0 stop bytes r (omega arith) is at (λ n rest can. none n rest (omega (arith, can)))
-
-pub place_fixed : Fixed a_place 2
-place_fixed n = refl
 
 pub place_one : One a_place
 place_one =
@@ -210,9 +191,6 @@ kinds_zero stop bytes r after number is at begins most zero =
     let one = part_one Number r (decimal n) (decimal number) rest after (n, omega (arith, can.1), refl) (number, omega (arith, most), refl) there begins in
     let same : n ≡ number = decimal_injective n number (omega (arith, can.1)) (omega (arith, most)) one.0 in
     zero (subst (λ (k : ℕ). (0 < k) × (k ≤ 15)) same can))
-
-pub kinds_fixed : Fixed a_kinds 2
-kinds_fixed n = refl
 
 pub kinds_one : One a_kinds
 kinds_one =
@@ -236,9 +214,6 @@ version_epoch_stops stop bytes room s =
 pub version_seq_stops : (epoch : ℕ) (stop : PartFault) (bytes r : List ℕ) → Found a_generation epoch bytes r → StopsIn a_seq stop r → StopsIn a_version stop bytes
 version_seq_stops epoch stop bytes r found s =
     view_stops (behind a_generation (λ _. a_seq)) a_version version_view stop bytes (then_stops a_generation (λ _. a_seq) 2 stop epoch bytes r generation_fixed generation_one found s)
-
-pub version_fixed : Fixed a_version 4
-version_fixed version = refl
 
 pub version_one : One a_version
 version_one =

@@ -15,34 +15,14 @@ use Rattle.ds_words.specs.declared.slot.Slot.TheVariants as slots
 use Rattle.ds_words.specs.declared.word.Word.{Word as CommandWord}
 use Rattle.ds_words.specs.declared.word.Word.TheVariants as words
 use Rattle.ds_words.specs.Command.{CommandTakesMemory}
-use Rattle.ds_words.specs.Pieces.{taken_by, TakesCommand}
 use Rattle.ds_words.specs.Reads.{ReadsOr}
 use Rattle.ds_words.specs.Row.{command_in, slot_wants, ReadsRow, GivesCommand, TakesRow}
 use Rattle.ds_words.specs.Table.{slots_of, piece_of, kind_after, row_of, line_of}
 use Rattle.ds_words.proofs.OpenLemmas.{open_first_stops, open_then_stops}
 use Rattle.ds_words.proofs.SlotLemmas.{slot_one, IsInner, slot_apart}
-use Rattle.ds_words.proofs.TableLemmas.{row_some, line_found, line_stops}
+use Rattle.ds_words.proofs.TableLemmas.{taken_by, IsRow, row_first, slots_are, row_some, line_found, line_stops}
 
--- ---- rows, and what of them takes memory
-
--- there are slots, and each but the last can have another behind it
-abbrev IsRow : List Slot → Type 0
-IsRow [] = ⊥
-IsRow (s ∷ []) = Unit {0}
-IsRow (slots.Item ∷ t ∷ ss) = ⊥
-IsRow (slots.Value ∷ t ∷ ss) = ⊥
-IsRow (slots.Text ∷ t ∷ ss) = ⊥
-IsRow (s ∷ t ∷ ss) = IsRow (t ∷ ss)
-
-row_first : (s t : Slot) (ss : List Slot) → IsRow (s ∷ t ∷ ss) → IsInner s × IsRow (t ∷ ss)
-row_first slots.Item t ss is = absurd is
-row_first slots.Value t ss is = absurd is
-row_first slots.Text t ss is = absurd is
-row_first s t ss is = (tt, is)
-
-slots_are : (w : CommandWord) → IsRow (slots_of w)
-slots_are words.Offer = tt
-slots_are w = tt
+-- ---- what of a row takes memory
 
 -- what the slot has takes memory
 abbrev IsBig : (k : Kind) (s : Slot) → (piece_of k s).Of → Type 0
@@ -62,8 +42,8 @@ big_takes words.Publish x big = big
 big_takes w x big = absurd big
 
 inner_wants : (k : Kind) (s : Slot) (bytes : List ℕ) → IsInner s → ¬ slot_wants k s bytes
-inner_wants k slots.Item bytes inner wants = absurd inner
-inner_wants k slots.Value bytes inner wants = absurd inner
+inner_wants k slots.Item bytes inner wants = absurd (inner tt)
+inner_wants k slots.Value bytes inner wants = absurd (inner tt)
 inner_wants k s bytes inner wants = wants
 
 big_stands : (k : Kind) (s : Slot) (bytes : List ℕ) → slot_wants k s bytes
@@ -148,6 +128,13 @@ row_comes k (s ∷ t ∷ ss) bytes done failed row reads =
     (λ x more. row_comes (kind_after k s x) (t ∷ ss) reads.1 (λ y. done (x, y)) failed first.1 more) reads.3
 
 -- ---- what the reader of a line answers
+
+-- of what its word's commands take
+abbrev pub TakesCommand : CommandWord → List ℕ → Result ScriptCommand PartFault → Type 0
+TakesCommand w bytes (Ok command) = (rest : List ℕ) × Found (taken_by w) command bytes rest
+TakesCommand w bytes (Err (BadPart left)) = StopsIn (taken_by w) (BadPart left) bytes
+TakesCommand w bytes (Err NoRoom) =
+    (command : ScriptCommand) × (rest : List ℕ) × Found (taken_by w) command bytes rest × CommandTakesMemory command
 
 -- the reader answers why
 answers_stop : (w : CommandWord) (bytes : List ℕ) (result : Result ScriptCommand PartFault) (stop : PartFault)

@@ -136,9 +136,6 @@ request_is Down = refl
 request_is Refresh = refl
 request_is Restart = refl
 
-pub request_fixed : Fixed a_request 2
-request_fixed request = refl
-
 pub request_one : One a_request
 request_one = words_one Request request_word request_is_word (λ a b same. sym (request_is a) ∙ ap request_at same ∙ request_is b)
 

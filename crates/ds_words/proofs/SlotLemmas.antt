@@ -21,24 +21,21 @@ use Rattle.ds_replica.specs.declared.event.Side.TheVariants.{A}
 use Rattle.ds_replica.specs.declared.event.Holder.TheVariants.{Store}
 use Rattle.ds_words.specs.declared.slot.Slot.{Slot}
 use Rattle.ds_words.specs.declared.slot.Slot.TheVariants as slots
-use Rattle.ds_words.specs.Command.{IsVersion}
-use Rattle.ds_words.specs.Pieces.{an_endpoint, a_mode, an_initial, a_name, a_key, a_generation, a_version, a_number, a_place, a_kinds, a_pattern, an_end}
-use Rattle.ds_words.specs.ServicePieces.{a_request, a_server, a_unit}
+use Rattle.ds_words.specs.Pieces.{a_key, a_version, IsVersion}
 use Rattle.ds_words.specs.Table.{piece_of}
 use Rattle.ds_words.specs.declared.service.Device.TheVariants.{Net}
 use Rattle.ds_words.specs.declared.service.Request.TheVariants.{Up}
 use Rattle.ds_words.specs.declared.service.Server.TheVariants.{Net as NetServer}
-use Rattle.ds_words.specs.WorldPieces.{a_ring, a_side, a_holder, a_count}
 use Rattle.ds_lines.proofs.NewlineLemmas.{unbroken_none}
 use Rattle.ds_words.proofs.OneLemmas.{one_byte, end_one, marked_one}
 use Rattle.ds_words.proofs.OpenLemmas.{Apart}
-use Rattle.ds_words.proofs.PieceLemmas.{endpoint_is, endpoint_fixed, endpoint_one, mode_fixed, mode_one, initial_fixed, initial_one, name_fixed, name_one, key_fixed, key_one, generation_fixed, generation_one, version_fixed, version_one, number_fixed, number_one, place_fixed, place_one, kinds_fixed, kinds_one}
-use Rattle.ds_words.proofs.QueryLemmas.{pattern_fixed, pattern_one}
+use Rattle.ds_words.proofs.PieceLemmas.{endpoint_is, endpoint_one, mode_one, initial_one, name_one, key_one, generation_one, version_one, number_one, place_one, kinds_one}
+use Rattle.ds_words.proofs.QueryLemmas.{pattern_one}
 use Rattle.ds_words.proofs.RangeLemmas.{range_one, range_apart}
 use Rattle.ds_words.proofs.ScopeLemmas.{scope_one, scope_apart}
-use Rattle.ds_words.proofs.ServicePieceLemmas.{text_one, request_fixed, request_one, server_fixed, server_one, unit_fixed, unit_one}
+use Rattle.ds_words.proofs.ServicePieceLemmas.{text_one, request_one, server_one, unit_one}
 use Rattle.ds_words.proofs.DeviceLemmas.{device_one, device_apart}
-use Rattle.ds_words.proofs.WorldPieceLemmas.{ring_fixed, ring_one, side_fixed, side_one, holder_fixed, holder_one, count_fixed, count_one}
+use Rattle.ds_words.proofs.WorldPieceLemmas.{ring_one, side_one, holder_one, count_one}
 
 -- ---- items
 
@@ -76,19 +73,12 @@ some_of k slots.Key = (some_key, rs_is_name)
 some_of k slots.Version = (version_of 0 0, some_version)
 some_of k slots.Value = (some_value k, some_value_of k)
 some_of k slots.Owner = (rs_name, rs_is_name)
-some_of k slots.Generation = (0, omega arith)
 some_of k slots.Endpoint = (endpoint_of 0 0, endpoint_is)
-some_of k slots.Sub = (0, omega arith)
 some_of k slots.Pattern = ([], unbroken_none)
 some_of k slots.Kinds = (1, (omega arith, omega arith))
 some_of k slots.Initial = (false, tt)
-some_of k slots.Max = (0, omega arith)
-some_of k slots.Map = (0, omega arith)
 some_of k slots.Ring = (1, (omega arith, omega arith))
 some_of k slots.Side = (A, tt)
-some_of k slots.Incarnation = (0, omega arith)
-some_of k slots.Position = (0, omega arith)
-some_of k slots.Message = (0, omega arith)
 some_of k slots.Holder = (Store A, tt)
 some_of k slots.Count = (None, tt)
 some_of k slots.Scope = (AllKeys, tt)
@@ -96,13 +86,10 @@ some_of k slots.Range = ((None, 0), (tt, omega arith))
 some_of k slots.Text = ([], unbroken_none)
 some_of k slots.Request = (Up, tt)
 some_of k slots.Label = (rs_name, rs_is_name)
-some_of k slots.Tick = (0, omega arith)
-some_of k slots.Cause = (0, omega arith)
 some_of k slots.Device = (Net 0, omega arith)
 some_of k slots.Server = (NetServer, tt)
-some_of k slots.Id = (0, omega arith)
-some_of k slots.Unit = (0, omega arith)
 some_of k slots.End = (tt, tt)
+some_of k s = (0, omega arith)
 
 -- two of it at one front are one
 pub slot_one : (k : Kind) (s : Slot) → One (piece_of k s)
@@ -120,12 +107,8 @@ slot_one k slots.Pattern = pattern_one
 slot_one k slots.Kinds = kinds_one
 slot_one k slots.Initial = initial_one
 slot_one k slots.Max = number_one
-slot_one k slots.Map = place_one
 slot_one k slots.Ring = ring_one
 slot_one k slots.Side = side_one
-slot_one k slots.Incarnation = place_one
-slot_one k slots.Position = place_one
-slot_one k slots.Message = place_one
 slot_one k slots.Holder = holder_one
 slot_one k slots.Count = count_one
 slot_one k slots.Scope = scope_one
@@ -133,57 +116,36 @@ slot_one k slots.Range = range_one
 slot_one k slots.Text = text_one
 slot_one k slots.Request = request_one
 slot_one k slots.Label = name_one
-slot_one k slots.Tick = place_one
-slot_one k slots.Cause = place_one
 slot_one k slots.Device = device_one
 slot_one k slots.Server = server_one
-slot_one k slots.Id = place_one
 slot_one k slots.Unit = unit_one
 slot_one k slots.End = end_one
+slot_one k s = place_one
 
--- something can stand behind the slot: an item, a value, and the rest of a line, are the last of their line
+-- a slot that ends with the newline of its line
+abbrev pub IsLast : Slot → Type 0
+IsLast slots.Item = Unit {0}
+IsLast slots.Value = Unit {0}
+IsLast slots.Text = Unit {0}
+IsLast slots.End = Unit {0}
+IsLast s = ⊥
+
+-- another slot can follow it
 abbrev pub IsInner : Slot → Type 0
-IsInner slots.Item = ⊥
-IsInner slots.Value = ⊥
-IsInner slots.Text = ⊥
-IsInner s = Unit {0}
+IsInner s = ¬ IsLast s
 
 fixed_apart : (p : Piece) (n : ℕ) → Fixed p n → Apart p
 fixed_apart p n fixed a b bytes r after f can lt h = omega (arith, lt, fixed a, fixed b)
 
 -- where one stands no longer one goes on
 pub slot_apart : (k : Kind) (s : Slot) → IsInner s → Apart (piece_of k s)
-slot_apart k slots.Item inner = absurd inner
-slot_apart k slots.Caller inner = fixed_apart an_endpoint 2 endpoint_fixed
-slot_apart k slots.Mode inner = fixed_apart a_mode 2 mode_fixed
-slot_apart k slots.Key inner = fixed_apart a_key 4 key_fixed
-slot_apart k slots.Version inner = fixed_apart a_version 4 version_fixed
-slot_apart k slots.Value inner = absurd inner
-slot_apart k slots.Owner inner = fixed_apart a_name 2 name_fixed
-slot_apart k slots.Generation inner = fixed_apart a_generation 2 generation_fixed
-slot_apart k slots.Endpoint inner = fixed_apart an_endpoint 2 endpoint_fixed
-slot_apart k slots.Sub inner = fixed_apart a_number 2 number_fixed
-slot_apart k slots.Pattern inner = fixed_apart a_pattern 2 pattern_fixed
-slot_apart k slots.Kinds inner = fixed_apart a_kinds 2 kinds_fixed
-slot_apart k slots.Initial inner = fixed_apart an_initial 2 initial_fixed
-slot_apart k slots.Max inner = fixed_apart a_number 2 number_fixed
-slot_apart k slots.Map inner = fixed_apart a_place 2 place_fixed
-slot_apart k slots.Ring inner = fixed_apart a_ring 2 ring_fixed
-slot_apart k slots.Side inner = fixed_apart a_side 2 side_fixed
-slot_apart k slots.Incarnation inner = fixed_apart a_place 2 place_fixed
-slot_apart k slots.Position inner = fixed_apart a_place 2 place_fixed
-slot_apart k slots.Message inner = fixed_apart a_place 2 place_fixed
-slot_apart k slots.Holder inner = fixed_apart a_holder 2 holder_fixed
-slot_apart k slots.Count inner = fixed_apart a_count 2 count_fixed
+slot_apart k slots.Item inner = absurd (inner tt)
+slot_apart k slots.Key inner = fixed_apart a_key 4 (λ x. refl)
+slot_apart k slots.Version inner = fixed_apart a_version 4 (λ x. refl)
+slot_apart k slots.Value inner = absurd (inner tt)
 slot_apart k slots.Scope inner = scope_apart
 slot_apart k slots.Range inner = range_apart
-slot_apart k slots.Text inner = absurd inner
-slot_apart k slots.Request inner = fixed_apart a_request 2 request_fixed
-slot_apart k slots.Label inner = fixed_apart a_name 2 name_fixed
-slot_apart k slots.Tick inner = fixed_apart a_place 2 place_fixed
-slot_apart k slots.Cause inner = fixed_apart a_place 2 place_fixed
+slot_apart k slots.Text inner = absurd (inner tt)
 slot_apart k slots.Device inner = device_apart
-slot_apart k slots.Server inner = fixed_apart a_server 2 server_fixed
-slot_apart k slots.Id inner = fixed_apart a_place 2 place_fixed
-slot_apart k slots.Unit inner = fixed_apart a_unit 2 unit_fixed
-slot_apart k slots.End inner = fixed_apart an_end 1 (λ x. refl)
+slot_apart k slots.End inner = absurd (inner tt)
+slot_apart k s inner = fixed_apart (piece_of k s) 2 (λ x. refl)

@@ -1,4 +1,4 @@
--- What a command takes stands where its parts are spelled out, begins with a space or a newline, and ends with a newline.
+-- What a command takes stands where its parts are spelled out, and begins with a space or a newline.
 use Rattle.std.proofs.Common.{◌≡◌, ℕ, ◌⊎◌, inl, inr, List, [], ◌∷◌, ◌++◌, length, codes, Option, None, Some, refl, sym, ap, subst, ◌∙◌, append_assoc, append-nil, length-append}
 use Rattle.std.specs.Bool.{IsFalse}
 use Rattle.std.specs.Char.{is_ascii_alphanumeric}
@@ -15,7 +15,6 @@ use Rattle.ds_line.specs.Part.{Class, Byte, Word, Name, Number, Endpoint, Quoted
 use Rattle.ds_line.specs.Spelling.{space, newline, kind_word, quoted, value_part}
 use Rattle.ds_line.specs.ItemSpelling.{item_parts}
 use Rattle.ds_line.specs.FaultPlace.{Stand}
-use Rattle.ds_line.proofs.ItemLemmas.{item_ends}
 use Rattle.ds_line.proofs.LineLemmas.{spelled, AllStand, part_stands, byte_stands}
 use Rattle.ds_line.proofs.PieceLemmas.{stand_join}
 use Rattle.ds_machine.specs.declared.command.Scope.{Scope}
@@ -23,10 +22,9 @@ use Rattle.ds_machine.specs.declared.command.Scope.TheVariants.{All as AllKeys, 
 use Rattle.ds_words.specs.declared.command.ScriptCommand.{ScriptCommand}
 use Rattle.ds_words.specs.declared.slot.Slot.{Slot}
 use Rattle.ds_words.specs.declared.slot.Slot.TheVariants as slots
-use Rattle.ds_words.specs.declared.word.Word.{Word as CommandWord}
-use Rattle.ds_words.specs.declared.word.Word.TheVariants as words
-use Rattle.ds_words.specs.Command.{IsCommand, command_word, behind_word, initial_word, mode_word}
-use Rattle.ds_words.specs.Table.{slots_of, piece_of, kind_after, row_of, line_of}
+use Rattle.ds_words.specs.Command.{command_word, fields_of, behind_word}
+use Rattle.ds_words.specs.Pieces.{initial_word, mode_word}
+use Rattle.ds_words.specs.Table.{slots_of, piece_of, kind_after, row_of}
 use Rattle.store_words.specs.Outcome.{side_word}
 use Rattle.ds_words.specs.World.{holder_word, count_part}
 use Rattle.ds_words.specs.Page.{range_parts}
@@ -35,7 +33,6 @@ use Rattle.ds_words.specs.Service.{class_word, device_parts, request_word, serve
 use Rattle.ds_words.specs.declared.service.Device.{Device}
 use Rattle.ds_words.specs.declared.service.Device.TheVariants.{File, Net}
 use Rattle.ds_words.proofs.OfferLemmas.{item_stands}
-use Rattle.ds_words.proofs.TableLemmas.{row}
 
 -- ---- parts before a space or a newline
 
@@ -171,26 +168,6 @@ slot_parted : (k : Kind) (s : Slot) (x : (piece_of k s).Of) (more : List Part) �
 slot_parted k slots.End x more = inr refl
 slot_parted k s x more = inl refl
 
--- a slot that ends with the newline of its line
-abbrev IsLast : Slot → Type 0
-IsLast slots.Item = Unit {0}
-IsLast slots.Value = Unit {0}
-IsLast slots.Text = Unit {0}
-IsLast slots.End = Unit {0}
-IsLast s = ⊥
-
--- the parts end with a newline
-last_newline : (parts : List Part) → (front : List ℕ) × (texts (parts ++ newline ∷ []) ≡ front ++ 10 ∷ [])
-last_newline parts = (texts parts, flat_map-append (λ (p : Part). p.text) parts (newline ∷ []))
-
-slot_ends : (k : Kind) (s : Slot) (x : (piece_of k s).Of) → IsLast s → (piece_of k s).Can x
-    → (front : List ℕ) × (texts ((piece_of k s).parts x) ≡ front ++ 10 ∷ [])
-slot_ends k slots.Item i last can = let e = item_ends i can in (32 ∷ e.front, ap (λ (t : List ℕ). 32 ∷ t) e.parts)
-slot_ends k slots.Value v last can = last_newline (space ∷ byte 61 ∷ space ∷ value_part v ∷ [])
-slot_ends k slots.Text text last can = last_newline (space ∷ text_parts text)
-slot_ends k slots.End x last can = ([], refl)
-slot_ends k s x last can = absurd last
-
 -- ---- rows
 
 row_parted : (k : Kind) (ss : List Slot) (x : (row_of k ss).Of) → Parted ((row_of k ss).parts x)
@@ -205,35 +182,10 @@ row_stands k (s ∷ t ∷ ss) x =
     let more = row_of (kind_after k s x.0) (t ∷ ss) in
     slot_stands k s x.0 (more.parts x.1) (row_parted (kind_after k s x.0) (t ∷ ss) x.1) (row_stands (kind_after k s x.0) (t ∷ ss) x.1)
 
--- its last slot ends with the newline
-abbrev EndsRow : List Slot → Type 0
-EndsRow [] = ⊥
-EndsRow (s ∷ []) = IsLast s
-EndsRow (s ∷ t ∷ ss) = EndsRow (t ∷ ss)
-
-word_ends : (w : CommandWord) → EndsRow (slots_of w)
-word_ends words.Offer = tt
-word_ends w = tt
-
-row_ends : (k : Kind) (ss : List Slot) (x : (row_of k ss).Of) → EndsRow ss → (row_of k ss).Can x
-    → (front : List ℕ) × (texts ((row_of k ss).parts x) ≡ front ++ 10 ∷ [])
-row_ends k [] x last can = absurd last
-row_ends k (s ∷ []) x last can = slot_ends k s x last can
-row_ends k (s ∷ t ∷ ss) x last can =
-    let here = (piece_of k s).parts x.0 in
-    let more = (row_of (kind_after k s x.0) (t ∷ ss)).parts x.1 in
-    let e = row_ends (kind_after k s x.0) (t ∷ ss) x.1 last can.1 in
-    let text : Part → List ℕ = λ p. p.text in (
-      texts here ++ e.0,
-      flat_map-append text here more ∙ ap (λ (t : List ℕ). texts here ++ t) e.1 ∙ sym (append_assoc (texts here) e.0
-          (10 ∷ [])),
-    )
-
 -- ---- commands
 
-pub command_stands : (command : ScriptCommand) → IsCommand command → AllStand (behind_word command) []
-command_stands command is = let r = row command is in subst (λ (ps : List Part). AllStand ps []) r.parts (row_stands U32 (slots_of
-    (command_word command)) r.fields)
+pub command_stands : (command : ScriptCommand) → AllStand (behind_word command) []
+command_stands command = row_stands U32 (slots_of (command_word command)) (fields_of command)
 
 parted_ends : (ps : List Part) → Parted ps → Ends is_ascii_alphanumeric (texts ps)
 parted_ends [] parted = tt
@@ -241,14 +193,5 @@ parted_ends (p ∷ ps) (inl e) = subst (λ (q : Part). Ends is_ascii_alphanumeri
 parted_ends (p ∷ ps) (inr e) = subst (λ (q : Part). Ends is_ascii_alphanumeric (texts (q ∷ ps))) (sym e) refl
 
 -- the command's word ends where they begin
-pub command_parted : (command : ScriptCommand) → IsCommand command → Ends is_ascii_alphanumeric (texts (behind_word command))
-command_parted command is =
-    let r = row command is in
-    subst (λ (ps : List Part). Ends is_ascii_alphanumeric (texts ps)) r.parts (parted_ends ((line_of
-    (command_word command)).parts r.fields) (row_parted U32 (slots_of (command_word command)) r.fields))
-
-pub newline_last : (command : ScriptCommand) → IsCommand command → (front : List ℕ) × (texts (behind_word command) ≡ front ++ 10 ∷ [])
-newline_last command is =
-    let r = row command is in
-    let e = row_ends U32 (slots_of (command_word command)) r.fields (word_ends (command_word command)) r.can in
-    (e.0, ap texts (sym r.parts) ∙ e.1)
+pub command_parted : (command : ScriptCommand) → Ends is_ascii_alphanumeric (texts (behind_word command))
+command_parted command = parted_ends (behind_word command) (row_parted U32 (slots_of (command_word command)) (fields_of command))

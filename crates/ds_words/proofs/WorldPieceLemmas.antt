@@ -13,7 +13,7 @@ use Rattle.ds_line.specs.declared.part_fault.PartFault.{PartFault}
 use Rattle.ds_line.specs.declared.part_fault.PartFault.TheVariants.{BadPart}
 use Rattle.ds_line.proofs.PartLemmas.{part_one}
 use Rattle.ds_line.proofs.OpeningLemmas.{text_at}
-use Rattle.ds_line.proofs.PieceLemmas.{Fixed, One, one_by}
+use Rattle.ds_line.proofs.PieceLemmas.{One, one_by}
 use Rattle.ds_replica.specs.declared.event.Side.{Side}
 use Rattle.ds_replica.specs.declared.event.Side.TheVariants.{A, B}
 use Rattle.ds_replica.specs.declared.event.Holder.{Holder}
@@ -37,9 +37,6 @@ ring_zero stop bytes r after number is at begins zero =
     let one = part_one Number r (decimal n) (decimal number) rest after (n, omega (arith, can.1), refl) (number, omega (arith, zero), refl) there begins in
     let same : n ≡ number = decimal_injective n number (omega (arith, can.1)) (omega (arith, zero)) one.0 in
     omega (arith, can.0, same, zero))
-
-pub ring_fixed : Fixed a_ring 2
-ring_fixed n = refl
 
 pub ring_one : One a_ring
 ring_one =
@@ -69,9 +66,6 @@ pub no_side : (stop : PartFault) (bytes r word rest : List ℕ) → bytes ≡ 32
 no_side stop bytes r word rest is at all begins other =
     no_part 32 Side (λ _. Unit {0}) side_part A stop bytes r tt is at
     (λ x after can there. other x (part_one Word r word (side_word x) rest after all (side_is_word x) begins there).0)
-
-pub side_fixed : Fixed a_side 2
-side_fixed side = refl
 
 pub side_one : One a_side
 side_one = one_by a_side (λ a b is_a is_b. (refl, λ _. (refl, λ _. tt))) (λ a is. (refl, (side_is_word a, tt))) (λ a b is_a is_b same. sides_one a b (ap (text_at 1) same))
@@ -111,9 +105,6 @@ pub no_holder : (stop : PartFault) (bytes r word rest : List ℕ) → bytes ≡ 
 no_holder stop bytes r word rest is at all begins other =
     no_part 32 Holder IsHolder holder_part (Store A) stop bytes r tt is at
     (λ x after can there. other x can (part_one Word r word (holder_word x) rest after all (holder_is_word x can) begins there).0)
-
-pub holder_fixed : Fixed a_holder 2
-holder_fixed holder = refl
 
 pub holder_one : One a_holder
 holder_one = one_by a_holder (λ a b is_a is_b. (refl, λ _. (refl, λ _. tt))) (λ a is. (refl, (holder_is_word a is, tt))) (λ a b is_a is_b same. holders_one a b is_a is_b (ap (text_at 1) same))
@@ -156,9 +147,6 @@ count_none r star number (Some n) rest can begins = number n rest (omega (arith,
 
 pub no_count : (stop : PartFault) (bytes r : List ℕ) → bytes ≡ 32 ∷ r → stop ≡ BadPart (length r) → ((rest : List ℕ) → r ≢ 42 ∷ rest) → ((n : ℕ) (rest : List ℕ) → n ≤ 4294967295 → ¬ Begins is_ascii_digit r (decimal n) rest) → StopsIn a_count stop bytes
 no_count stop bytes r is at star number = no_part 32 (Option ℕ) IsCount count_part None stop bytes r tt is at (λ x rest can begins. count_none r star number x rest can begins)
-
-pub count_fixed : Fixed a_count 2
-count_fixed count = refl
 
 abbrev count_rest : Piece
 count_rest = one_part (Option ℕ) IsCount count_part

@@ -1,7 +1,5 @@
 pub mod Words
 pub mod Key
-pub mod Command
-pub mod Pieces
 pub mod Query
 pub mod Scope
 pub mod Page
@@ -9,13 +7,15 @@ pub mod World
 pub mod WorldPieces
 pub mod Service
 pub mod ServicePieces
+pub mod Pieces
+pub mod Table
+pub mod Command
 pub mod ServiceEvent
 pub mod Wording
 pub mod Later
 pub mod Fast
 pub mod Event
 pub mod Proper
-pub mod Table
 pub mod Reads
 pub mod Row
 pub mod Front

@@ -1,5 +1,5 @@
 -- What the readers of a command's pieces find. Each piece begins with the byte that parts it from the one before it.
-use Rattle.std.specs.Prelude.{◌≡◌, ℕ, ◌<◌, ◌≤◌, ◌^◌, Bool, List, [], ◌∷◌, Result, Ok, Err}
+use Rattle.std.specs.Prelude.{ℕ, ◌<◌, ◌≤◌, ◌^◌, Bool, true, false, List, [], ◌∷◌, codes}
 use Rattle.std.specs.Fmt.{decimal}
 use Rattle.ds_names.specs.Name.{IsName}
 use Rattle.ds_names.specs.Endpoint.{EndpointRecord, IsEndpoint, endpoint_text}
@@ -11,14 +11,24 @@ use Rattle.ds_entry.specs.declared.body.Body.TheVariants.{Put}
 use Rattle.ds_entry.specs.Change.{IsInPlace}
 use Rattle.ds_line.specs.Part.{part, byte, Word as AWord, Name, Number, Endpoint, Quoted}
 use Rattle.ds_line.specs.Spelling.{space, newline, kind_word, quoted, body_parts}
-use Rattle.ds_line.specs.Piece.{Piece, Found, StopsIn, IsValueOf}
-use Rattle.ds_line.specs.declared.part_fault.PartFault.{PartFault}
-use Rattle.ds_line.specs.declared.part_fault.PartFault.TheVariants.{BadPart, NoRoom}
+use Rattle.ds_line.specs.Piece.{Piece, Found, IsValueOf}
 use Rattle.ds_lines.specs.Lines.{IsUnbroken}
-use Rattle.ds_words.specs.declared.command.ScriptCommand.{ScriptCommand}
-use Rattle.ds_words.specs.Command.{IsCommand, IsVersion, CommandTakesMemory, command_word, behind_word, initial_word, mode_word}
 use Rattle.ds_words.specs.Key.{key_parts, version_parts}
-use Rattle.ds_words.specs.declared.word.Word.{Word}
+
+-- `over` with overwrite, else `new`
+abbrev pub mode_word : Bool → List ℕ
+mode_word true = codes "over"
+mode_word false = codes "new"
+
+-- `first` for a subscription that is shown what is held already, else `later`
+abbrev pub initial_word : Bool → List ℕ
+initial_word true = codes "first"
+initial_word false = codes "later"
+
+-- the numbers of a version are in their ranges
+pub record IsVersion (version : Version) : Type 0 where
+  pub epoch : version.epoch ≤ 2097151
+  pub seq : version.seq < 2 ^ 32
 
 -- an endpoint
 abbrev pub an_endpoint : Piece
@@ -83,13 +93,3 @@ ValueWantsRoom kind bytes = (value : Value) × (rest : List ℕ) × Found (a_val
 -- the newline
 abbrev pub an_end : Piece
 an_end = record { Of = Unit {0}; Can = λ x. Unit {0}; parts = λ x. newline ∷ [] }
-
--- what the commands of a word take
-abbrev pub taken_by : Word → Piece
-taken_by word = record { Of = ScriptCommand; Can = λ (command : ScriptCommand). IsCommand command × (command_word command ≡ word); parts = behind_word }
-
--- what the reader of it answers
-abbrev pub TakesCommand : Word → List ℕ → Result ScriptCommand PartFault → Type 0
-TakesCommand word bytes (Ok command) = (rest : List ℕ) × Found (taken_by word) command bytes rest
-TakesCommand word bytes (Err (BadPart left)) = StopsIn (taken_by word) (BadPart left) bytes
-TakesCommand word bytes (Err NoRoom) = (command : ScriptCommand) × (rest : List ℕ) × Found (taken_by word) command bytes rest × CommandTakesMemory command

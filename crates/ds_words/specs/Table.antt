@@ -1,9 +1,10 @@
 -- The grammar of commands as a table: for each word what stands behind it, slot by slot.
-use Rattle.std.specs.Prelude.{◌≡◌, List, [], ◌∷◌, ◌++◌}
+use Rattle.std.specs.Prelude.{◌≢◌, List, [], ◌∷◌, ◌++◌}
 use Rattle.ds_names.specs.declared.kind.Kind.{Kind}
 use Rattle.ds_names.specs.declared.kind.Kind.TheVariants.{U32}
 use Rattle.ds_entry.specs.declared.item.Item.{Item}
-use Rattle.ds_entry.specs.Item.{IsItem}
+use Rattle.ds_entry.specs.Change.{IsInPlace}
+use Rattle.ds_entry.specs.Item.{IsItem, IsItemInPlace}
 use Rattle.ds_line.specs.Spelling.{space}
 use Rattle.ds_line.specs.ItemSpelling.{item_parts}
 use Rattle.ds_line.specs.Piece.{Piece}
@@ -11,11 +12,9 @@ use Rattle.ds_words.specs.declared.slot.Slot.{Slot}
 use Rattle.ds_words.specs.declared.slot.Slot.TheVariants as slots
 use Rattle.ds_words.specs.declared.word.Word.{Word}
 use Rattle.ds_words.specs.declared.word.Word.TheVariants as words
-use Rattle.ds_words.specs.declared.command.ScriptCommand.{ScriptCommand}
-use Rattle.ds_words.specs.Command.{IsCommand, command_word, behind_word}
 use Rattle.ds_words.specs.Page.{a_range}
 use Rattle.ds_words.specs.Pieces.{an_endpoint, a_mode, an_initial, a_name, a_key, a_generation, a_version, a_number, a_place, a_kinds, a_pattern, a_value, an_end}
-use Rattle.ds_words.specs.Scope.{a_scope}
+use Rattle.ds_words.specs.Scope.{a_scope, ScopeTakesMemory}
 use Rattle.ds_words.specs.ServicePieces.{a_device, a_request, a_server, a_text, a_unit}
 use Rattle.ds_words.specs.WorldPieces.{a_ring, a_side, a_holder, a_count}
 
@@ -115,9 +114,14 @@ row_of k (s ∷ t ∷ ss) = and_then (piece_of k s) (λ (x : (piece_of k s).Of).
 abbrev pub line_of : Word → Piece
 line_of w = row_of U32 (slots_of w)
 
--- the lines of the word's commands are those that its slots make, and each of these is one
-pub record IsByTable (w : Word) : Type 0 where
-  pub makes : (x : (line_of w).Of) → (line_of w).Can x → (command : ScriptCommand) × IsCommand command × (command_word command ≡ w) ×
-      (behind_word command ≡ (line_of w).parts x)
-  pub made : (command : ScriptCommand) → IsCommand command → command_word command ≡ w → (x : (line_of w).Of) × (line_of w).Can x ×
-      ((line_of w).parts x ≡ behind_word command)
+-- What a row has takes memory. One of its slots can, at most: an item, a value or the text of settings, which end the line; or
+-- a pattern or a scope.
+abbrev pub RowTakesMemory : (k : Kind) (ss : List Slot) → (row_of k ss).Of → Type 0
+RowTakesMemory k [] x = ⊥
+RowTakesMemory k (slots.Item ∷ []) i = ¬ IsItemInPlace i
+RowTakesMemory k (slots.Value ∷ []) value = ¬ IsInPlace value
+RowTakesMemory k (slots.Text ∷ []) text = text ≢ []
+RowTakesMemory k (s ∷ []) x = ⊥
+RowTakesMemory k (slots.Pattern ∷ t ∷ ss) x = Unit {0}
+RowTakesMemory k (slots.Scope ∷ t ∷ ss) x = ScopeTakesMemory x.0
+RowTakesMemory k (s ∷ t ∷ ss) x = RowTakesMemory (kind_after k s x.0) (t ∷ ss) x.1

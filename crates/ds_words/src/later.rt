@@ -37,14 +37,16 @@ pub fn read_line_behind(
     read_line(alloc, line)
 }
 
-// Whether the word of a line is `ring`. The word is read only where its bytes stand at the front: most lines begin with
-// others, and `read_line` is to read their word anyway.
+// Whether the word of a line is `ring`. The word is read only if its bytes begin the line: most lines begin with others, and
+// `read_line` reads their word anyway.
 fn has_ring(line: &[u8]) -> bool
     ensures { IsTrue result ↔ ((rest : List ℕ) × Begins is_ascii_alphanumeric line.now (text_of words.Ring) rest) }
 {
-    if !line.starts_with(b"ring") {
-        return false;
+    match line {
+        [b'r', b'i', b'n', b'g', ..] => {
+            let (word, _) = word_at(line);
+            word == b"ring".as_slice()
+        }
+        _ => false,
     }
-    let (word, _) = word_at(line);
-    word == b"ring".as_slice()
 }

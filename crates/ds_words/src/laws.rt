@@ -2,8 +2,10 @@
 
 ghost use Rattle.std.specs.Prelude.{◌≡◌, ℕ, List};
 ghost use Rattle.ds_words.specs.declared.command.ScriptCommand.{ScriptCommand};
-ghost use Rattle.ds_words.specs.Command.{IsLineOf};
+ghost use Rattle.ds_words.specs.Command.{IsCommand, IsLineOf, row_for};
 ghost use Rattle.ds_words.specs.Proper.{LinesAreProper};
+ghost use Rattle.ds_words.specs.Table.{line_of};
+ghost use Rattle.ds_words.specs.declared.word.Word.{Word};
 
 /// The law of commands: a line is one command's only.
 pub fn lines_have_one_command()
@@ -14,4 +16,11 @@ pub fn lines_have_one_command()
 /// and floors that keep their rules.
 pub fn lines_are_proper()
     ensures { LinesAreProper }
+{}
+
+/// The law of the table: what the slots of a word may have is what some command of the word has there. So the lines of a word's
+/// commands are all that its row of slots makes.
+pub fn rows_are_commands()
+    ensures { (word : Word) (fields : (line_of word).Of) → (line_of word).Can fields
+        → (command : ScriptCommand) × IsCommand command × (row_for command ≡ (word, fields)) }
 {}

@@ -43,10 +43,10 @@ pub use fast::{
 };
 pub use fault::CommandFault;
 pub use later::read_line_behind;
-pub use laws::{lines_are_proper, lines_have_one_command};
+pub use laws::{lines_are_proper, lines_have_one_command, rows_are_commands};
 pub use reading::{read_command, read_line};
 pub use service::{Device, Request, Server};
 pub use settings_text::SettingsText;
 pub use slot::Slot;
-pub use table::{lines_are_by_the_table, slots_of};
+pub use table::slots_of;
 pub use word::Word;

@@ -1,9 +1,8 @@
 //! The grammar of commands as a table: for each word, what stands behind it.
 
 ghost use Rattle.std.specs.Prelude.{◌≡◌};
-ghost use Rattle.ds_words.specs.Table.{slots_of, IsByTable};
+ghost use Rattle.ds_words.specs.Table.{slots_of};
 ghost use Rattle.ds_words.specs.Words.{IsOfServices, IsOfWorld};
-ghost use Rattle.ds_words.specs.declared.word.Word.{Word};
 
 use crate::slot::Slot;
 use crate::word::Word;
@@ -82,8 +81,3 @@ fn slots_of_services(word: Word) -> &'static [Slot]
         _ => &[],
     }
 }
-
-/// The law of the table: the lines of a word's commands are those that its slots make, and no others.
-pub fn lines_are_by_the_table()
-    ensures { (word : Word) → IsByTable word }
-{}

@@ -1,11 +1,12 @@
 //! The words that commands begin with.
 
-ghost use Rattle.std.specs.Prelude.{◌≡◌, ◌≢◌, ◌++◌, ℕ, List, IfSome, IfNone};
+ghost use Rattle.std.specs.Prelude.{◌≡◌, ◌≢◌, ℕ, List, IfSome, IfNone};
 ghost use Rattle.std.specs.Char.{is_ascii_alphanumeric};
 ghost use Rattle.ds_names.specs.Run.{Begins};
 ghost use Rattle.ds_words.specs.Words.{all_words, text_of};
 ghost use Rattle.ds_words.specs.declared.word.Word.{Word};
 
+use crate::fast::{is_offer, is_publish, is_retrieve};
 use ds_line::word_at;
 
 /// The word of a command.
@@ -59,32 +60,17 @@ pub(crate) fn word_front(line: &[u8]) -> Option<(Word, &[u8])>
     Some((word, rest))
 }
 
-// The word at the front, where it is one of those that scripts have most of and a space comes behind it: then no other
-// word need be looked at. `None` says nothing.
+// The word at the front, if it is one of the three that scripts have most of and a space follows it. `None` says nothing.
 #[inline(always)]
 fn common_front(line: &[u8]) -> Option<(Word, &[u8])>
     ensures { IfSome result (λ r. Begins is_ascii_alphanumeric line.now (text_of r.0) r.1.now) }
 {
-    let Some((word, rest)) = common_text(line) else {
-        return None;
-    };
-    match rest.first() {
-        Some(b' ') => Some((word, rest)),
-        _ => None,
-    }
-}
-
-// The word of those that scripts have most of whose text begins the line, and what comes behind it.
-#[inline(always)]
-fn common_text(line: &[u8]) -> Option<(Word, &[u8])>
-    ensures { IfSome result (λ r. line.now ≡ text_of r.0 ++ r.1.now) }
-{
-    if let Some(rest) = line.strip_prefix(b"offer") {
-        Some((Word::Offer, rest))
-    } else if let Some(rest) = line.strip_prefix(b"publish") {
-        Some((Word::Publish, rest))
-    } else if let Some(rest) = line.strip_prefix(b"retrieve") {
-        Some((Word::Retrieve, rest))
+    if is_offer(line) {
+        Some((Word::Offer, &line[5..]))
+    } else if is_publish(line) {
+        Some((Word::Publish, &line[7..]))
+    } else if is_retrieve(line) {
+        Some((Word::Retrieve, &line[8..]))
     } else {
         None
     }

@@ -31,10 +31,10 @@ long_no_ring line long is = omega (arith, long, ap length is.2, ring_short is.0 
 -- as what it says
 reads_ring : (line : List ℕ) (ring : ℕ) (read : Result ScriptCommand CommandFault) → EndsLine line → IsRing ring → line ≡ ring_text ring → ReadsCommand line read → read ≡ Ok (Ring ring)
 reads_ring line ring (Ok command) ends is at reads =
-    ap (λ (c : ScriptCommand). Ok c) (same_command command (Ring ring) line ends (omega (arith, ap length at, ring_short ring is.limit)) reads.0 (is.some, is.limit) reads.1 at)
-reads_ring line ring (Err (BadLine place expected)) ends is at reads = absurd (reads.none (Ring ring) (is.some, is.limit) at)
+    ap (λ (c : ScriptCommand). Ok c) (same_command command (Ring ring) line ends (omega (arith, ap length at, ring_short ring is.limit)) reads.0 ((is.some, is.limit), tt) reads.1 at)
+reads_ring line ring (Err (BadLine place expected)) ends is at reads = absurd (reads.none (Ring ring) ((is.some, is.limit), tt) at)
 reads_ring line ring (Err NoRoom) ends is at reads =
-    let same = same_command reads.0 (Ring ring) line ends (omega (arith, ap length at, ring_short ring is.limit)) reads.1 (is.some, is.limit) reads.2 at in
+    let same = same_command reads.0 (Ring ring) line ends (omega (arith, ap length at, ring_short ring is.limit)) reads.1 ((is.some, is.limit), tt) reads.2 at in
     absurd (subst CommandTakesMemory same reads.3)
 
 -- what is told of the line is what it says

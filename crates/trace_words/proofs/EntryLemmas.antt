@@ -27,7 +27,7 @@ use Rattle.trace_words.specs.Text.{TraceEntry, IsEntry, MayAsk, MayMerge, comman
 use Rattle.trace_words.specs.Verdict.{IsLegal}
 use Rattle.trace_words.specs.Walk.{MayComeBehind, EntriesLead}
 use Rattle.trace_words.proofs.AskedLemmas.{pass_one, same_command}
-use Rattle.trace_words.proofs.CommandEndLemmas.{command_ends}
+use Rattle.ds_words.proofs.CommandLemmas.{command_ends}
 use Rattle.trace_words.proofs.MarkLemmas.{marked_first, reply_begins}
 use Rattle.trace_words.proofs.NumberLemmas.{number_one}
 use Rattle.trace_words.proofs.OneReplyLemmas.{reply_is_one}
@@ -79,7 +79,7 @@ asked_one format p q (Line c) (Line d) r s lp lq may_a may_b e =
     let ends = head_is format p (Line c) lp may_a in
     let one = lines_one (line_text p c) (line_text q d) r s ends.1 (head_is format q (Line d) lq may_b).1 e in
     let behind = (pass_one p q (texts (command_parts c)) (texts (command_parts d)) lp lq one.0).1 in
-    let same = same_command c d (texts (command_parts c)) (command_ends c may_a.0 may_a.1) (line_short p c may_a.3) may_a.0 may_b.0 refl behind in
+    let same = same_command c d (texts (command_parts c)) (command_ends c may_a.0) (line_short p c may_a.3) may_a.0 may_b.0 refl behind in
     (ap (λ (x : ScriptCommand). Line x) same, one.1)
 asked_one format p q (Line c) (Merge js) r s lp lq may_a may_b e =
     let one = lines_one (line_text p c) (pass_text q (merge_text (length js))) r (flat_map plus_text js ++ s) (head_is format p (Line c) lp may_a).1 (head_is format q (Merge js) lq may_b).1

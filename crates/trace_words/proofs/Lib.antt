@@ -2,7 +2,6 @@ pub mod SplitLemmas
 pub mod NumberLemmas
 pub mod HeaderLemmas
 pub mod AskedLemmas
-pub mod CommandEndLemmas
 pub mod WalkLemmas
 pub mod TellLemmas
 pub mod MarkLemmas

@@ -29,10 +29,11 @@ use Rattle.ds_machine.specs.Within.{IsWithin}
 use Rattle.ds_machine.proofs.WithinLemmas.{steps_stay_within}
 use Rattle.ds_replica.specs.Bringing.{IsProper}
 use Rattle.ds_replica.specs.CaughtUp.{AreItems}
-use Rattle.ds_replica.proofs.BringLemmas.{learnt_items, one_item}
+use Rattle.ds_replica.proofs.BringLemmas.{learnt_items}
 use Rattle.ds_replica.proofs.GoneLemmas.{step_accepts}
 use Rattle.ds_machine.proofs.OneStepLemmas.{none_some}
 use Rattle.ds_words.specs.Command.{IsCommand, store_command}
+use Rattle.ds_words.proofs.ProperLemmas.{line_proper}
 use Rattle.ds_words.specs.declared.command.ScriptCommand.{ScriptCommand}
 use Rattle.ds_words.specs.declared.command.ScriptCommand.TheVariants as lines
 use Rattle.ds_machine.specs.Batches.{AreFree}
@@ -49,15 +50,6 @@ use Rattle.trace_words.specs.Text.{MayAsk, MayMerge, Carries, CarriesLine, comma
 use Rattle.trace_words.proofs.TombstoneLemmas.{tombstones_are_free, tombstones_are_taken, tombstones_are_items, no_floor_tombstone}
 
 -- ---- what an entry brings
-
-line_proper : (c : ScriptCommand) (command : Command) → IsCommand c → store_command c ≡ Some command → IsProper command
-line_proper (lines.Offer i) command is e = subst IsProper (same_Some (Merge (i ∷ [])) command e) (one_item i is)
-line_proper (lines.Store (Publish caller key version value overwrite)) command is e = subst IsProper (same_Some (Publish caller key version value overwrite) command e) (record { name = is.1; epoch = is.2.epoch; seq = is.2.seq; body = is.3.valid })
-line_proper (lines.Store (Delete caller key version)) command is e = subst IsProper (same_Some (Delete caller key version) command e) (record { name = is.1; epoch = is.2.epoch; seq = is.2.seq; body = tt })
-line_proper (lines.Store (Sweep caller owner generation)) command is e = subst IsProper (same_Some (Sweep caller owner generation) command e) (record { owner = is.1; generation = is.2 })
-line_proper (lines.Store (Merge items)) command is e = absurd is
-line_proper (lines.Store asked) command is e = subst IsProper (same_Some asked command e) tt
-line_proper _ command is e = absurd (none_some command e)
 
 pub asked_proper : (format : Format) (pass : ℕ) (asked : Asked) (command : Command) → MayAsk format pass asked → command_asked asked ≡ Some command → IsProper command
 asked_proper format pass (askeds.Line c) command may e = line_proper c command may.0 e

@@ -27,7 +27,7 @@ use Rattle.trace_words.specs.OneReply.{KeepsFloors, IsTraced}
 use Rattle.trace_words.specs.Verdict.{IsLegal, MayBegin}
 use Rattle.trace_words.specs.Walk.{MayComeBehind, IsBehind, BadHeadsAreWrong, NoReplyBehindEntries, HeadersBegin, BadHeadersAreWrong}
 use Rattle.ds_machine.proofs.ReachedLemmas.{opening_is_reached}
-use Rattle.trace_words.proofs.CommandEndLemmas.{command_ends}
+use Rattle.ds_words.proofs.CommandLemmas.{command_ends}
 use Rattle.trace_words.proofs.HeaderLemmas.{few_limits, header_one}
 use Rattle.trace_words.proofs.SplitLemmas.{lines_one, ends_after}
 
@@ -77,7 +77,7 @@ entry_splits limits e (askeds.Line c) = refl
 entry_splits limits e (askeds.Merge items) = append_assoc (pass_text e.pass (merge_text (length items))) (flat_map plus_text items) (reply_text limits e)
 
 pub head_is : (format : Format) (pass : ℕ) (asked : Asked) → pass ≤ 63 → MayAsk format pass asked → IsHeadOf format pass (head_of asked) (head_text pass (head_of asked)) × EndsLine (head_text pass (head_of asked)) × (length (head_text pass (head_of asked)) ≤ 4097)
-head_is format pass (askeds.Line c) le may = ((le, (may.0, may.1, may.2), refl), pass_line pass (texts (command_parts c)) le (command_ends c may.0 may.1), may.3)
+head_is format pass (askeds.Line c) le may = ((le, (may.0, may.1, may.2), refl), pass_line pass (texts (command_parts c)) le (command_ends c may.0), may.3)
 head_is format pass (askeds.Merge items) le may = ((le, may.0, refl), pass_line pass (merge_text (length items)) le (merge_line (length items) may.0), merge_short pass (length items) le may.0)
 
 -- ---- behind an entry
