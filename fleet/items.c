@@ -125,7 +125,7 @@ static uint64_t refused_now(const struct items *items) {
 static void lose(struct items *items) {
     if (items->lost++) return;
     items->lost_beside = refused_now(items);
-    items_say(items, "full: what was refused is too much to be kept, so nothing is compacted from here");
+    items_say(items, "overfull: what was refused is too much to be kept, so nothing is compacted from here");
 }
 
 bool items_may_regain(const struct items *items) {

@@ -233,7 +233,7 @@ class Store(Handle):
         self._left = None
 
     def _more(self, text: io.BytesIO, call: str, first: int, room: int) -> Given:
-        """Lets the library write more of the last answer's text to where `text` is. No other copy is made of it."""
+        """Lets the library write more of the last answer's text to where `text` is. It isn't copied again."""
         end = text.tell()
         text.seek(end + room - 1)
         text.write(b"\0")

@@ -164,7 +164,7 @@ class Package(unittest.TestCase):
         with tempfile.TemporaryDirectory() as home:
             self.assertEqual(self.opened({"HOME": home}), "FileNotFoundError")
             os.makedirs(f"{home}/.local/lib/pengtawis")
-            os.symlink(library, f"{home}/.local/lib/pengtawis/libds.so")
+            os.symlink(library, f"{home}/.local/lib/pengtawis/libds.so.1")
             self.assertEqual(self.opened({"HOME": home}), "opened")
             self.assertEqual(self.opened({"HOME": home, "PENGTAWIS_LIBRARY": "/nowhere/libds.so"}), "OSError")
             self.assertEqual(self.opened({"HOME": home, "PENGTAWIS_LIBRARY": "/nowhere/libds.so"}, library), "opened")

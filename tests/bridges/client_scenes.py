@@ -318,19 +318,19 @@ def what_it_waits_for(fleet, draw):
     mute.serves()
 
 
-LOGGED = re.compile(r'(INFO|WARN|ERROR) event=[a-z_]+ (text="([^"\\\\]|\\\\["\\\\])*"|lines=\d+)')
+LOGGED = re.compile(r'(INFO|WARN|ERROR) event=[a-z_]+ (text="([^"\\]|\\["\\])*"|lines=\d+)')
 
 
 def what_a_log_line_is(fleet, draw):
     """Each line of the log is a level and pairs of a key and a value, whatever others sent."""
     bridge = fleet.start()
-    fleet.ask("XADD", "ds:items", "*", "from", "x", "items", 'a "quote" and a \\ \x1b\n' + number("b", 1, 1) + "\n")
+    fleet.ask("XADD", "ds:items", "*", "from", "x", "items", 'a "quote" and a \\ \x1b\n' + number("b", 1, 1))
     shows(bridge, [number("b", 1, 1)])
     fleet.kill_server()
     until(lambda: "event=away" in bridge.said(), "the server's end is told")
     lines = bridge.said().splitlines()
     assert all(map(LOGGED.fullmatch, lines)), lines
-    assert r'text="entry' in bridge.said() and r'a \"quote\" and a \\ ?"' in bridge.said(), lines
+    assert r'a \"quote\" and a \\ ?"' in bridge.said(), lines
     assert [it.split()[:2] for it in lines if "serves" in it] == [["INFO", "event=serves"]] and any(it.startswith("WARN event=unread") for it in lines)
 
 
@@ -363,7 +363,7 @@ def metrics_are_read(fleet, draw):
     until(lambda: other.state()["unread"] == "1", "it is read")
     with other.client() as more:
         assert more.ask("nameof 1/1") == ["refused notfound"]
-        now = until(lambda: (lambda it: it if it["dsfleet_in_step"] else None)(metrics_of(other)), "it is in step")
+        now = until(lambda: (lambda it: it if it["dsfleet_in_step"] and not it["dsfleet_lag_seconds"] else None)(metrics_of(other)), "it is in step")
     state, version = other.state(), (ROOT / "VERSION").read_text().strip()
     wanted = {
         "dsfleet_server_connected": 1, "dsfleet_entries": 7, "dsfleet_changes_total": 7, "dsfleet_lag_seconds": 0, "dsfleet_untold_bytes": 0,
@@ -390,11 +390,11 @@ def a_service_manager(fleet, draw):
         manager.settimeout(PATIENCE)
         fleet.pause_server()
         bridge = fleet.start(wait=False, named={"NOTIFY_SOCKET": path})
-        assert manager.recv(512) == b"STATUS=late, 0 clients\nWATCHDOG=1"
-        fleet.resume_server()
         told = manager.recv(512)
+        assert re.fullmatch(rb"STATUS=(late|away), 0 clients\nWATCHDOG=1", told), told
+        fleet.resume_server()
         while told != b"READY=1":
-            assert told.startswith(b"STATUS=late, "), told
+            assert told.startswith(b"STATUS="), told
             told = manager.recv(512)
         with bridge.client() as client:  # at once
             assert client.ask("all") == ["shown 0"]

@@ -40,9 +40,9 @@ pub fn read_change(alloc: Global, bytes: &[u8]) -> Result<(Change, usize), LineF
     read_change_noting(alloc, bytes, &mut expected)
 }
 
-/// Reads a change as `read_change` does, and notes the part that it reads next: at BadLine it is the part that begins
-/// at the place.
-pub fn read_change_noting(
+// Reads a change as `read_change` does, and notes the part that it reads next: at BadLine it is the part that begins
+// at the place.
+fn read_change_noting(
     alloc: Global,
     bytes: &[u8],
     expected: &mut Expected,

@@ -23,7 +23,7 @@ impl Model for Names {
 
 impl Names {
     /// A list of no names. It takes no memory.
-    pub fn new(alloc: Global) -> Names
+    pub(crate) fn new(alloc: Global) -> Names
         ensures { result ≡ [] }
     {
         Names {

@@ -118,9 +118,9 @@ impl Store {
         }
     }
 
-    /// Answers as to `Command::Merge` of the items, which are only lent: they take effect in their order, up to the first that
-    /// is refused. TooMany: more than 256. An item is judged before it is copied, so that want of memory comes last.
-    pub fn merge(&mut self, items: &[Item]) -> Reply
+    /// Answers as `apply` does a Merge of the items, which are only lent. They take effect in their order, up to the first that is
+    /// refused. TooMany: more than 256. An item is judged before it is copied, so out-of-memory comes last.
+    pub fn fast_merge(&mut self, items: &[Item]) -> Reply
         ensures step { ContentSteps self.old (λ s t. Step s (Command.Merge items.now) result t) self.new }
         ensures last { (s : State) → ContentStands self.old s → IsLast s (Command.Merge items.now) result }
         ensures fits { IsReplyTo (Command.Merge items.now) result }

@@ -36,7 +36,7 @@ fn merge_group(store: &mut Store, group: &[Item]) -> Tally
     ensures counted { CountsOf (length group.now) (tally_of result) }
 {
     let _stood = store.cursor();
-    match store.merge(group) {
+    match store.fast_merge(group) {
         Reply::Merged {
             done,
             taken,
