@@ -1,6 +1,6 @@
 //! The answers to `show` and `all`.
 
-ghost use Rattle.std.specs.Prelude.{◌≡◌, ◌<◌, ◌++◌, [], ◌∷◌, List, ℕ, IfOk, OnOk, OnErr, Some, slice_get, length};
+ghost use Rattle.std.specs.Prelude.{◌≡◌, ◌++◌, [], ◌∷◌, IfOk, OnOk, OnErr, length, take};
 ghost use Rattle.std.specs.List.{flat_map};
 ghost use Rattle.ds_line.specs.ItemSpelling.{item_spelling};
 ghost use Rattle.ds_held.specs.Held.{held_items};
@@ -53,7 +53,7 @@ pub(crate) fn append_items(items: &Items, output: &mut Vec<u8>, all: bool) -> Re
 // The same, but some of it may stand where there is no room for all.
 fn append_lines(items: &Items, output: &mut Vec<u8>, all: bool) -> Result<(), NoRoom>
     ensures written { OnOk result (output.new.items ≡ output.old.items ++ shown (picked all items.now)) }
-    ensures some { OnErr result ((part : List ℕ) × (output.new.items ≡ output.old.items ++ part)) }
+    ensures kept { OnErr result (take (length output.old.items) output.new.items ≡ output.old.items) }
 {
     let mut count = 0usize;
     for item in items.as_slice() {

@@ -15,15 +15,8 @@ use ds_names::NoRoom;
 pub fn append_header(text: &mut Vec<u8>, header: &Header) -> Result<(), NoRoom>
     ensures { OnOk result (text.new.items ≡ text.old.items ++ header_text header.now) }
 {
-    let Header {
-        format,
-        incarnation,
-        first,
-        ring,
-        limits,
-    } = *header;
-    let ring = ring as u64;
-    match format {
+    let (incarnation, first, ring) = (header.incarnation, header.first, header.ring as u64);
+    match header.format {
         Format::One => append_numbers(
             text,
             &[(b"trace 1 ", incarnation), (b" ", first), (b" ", ring)],
@@ -34,8 +27,8 @@ pub fn append_header(text: &mut Vec<u8>, header: &Header) -> Result<(), NoRoom>
                 (b"trace 2 ", incarnation),
                 (b" ", first),
                 (b" ", ring),
-                (b" ", limits.subs() as u64),
-                (b" ", limits.keys() as u64),
+                (b" ", header.limits.subs() as u64),
+                (b" ", header.limits.keys() as u64),
             ],
         ),
     }
