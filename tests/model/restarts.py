@@ -168,6 +168,25 @@ class Rs:
         due = [(label, "lose and kill") for label in missed] + [(label, "ping") for label in unasked] + [(label, "resume") for label in rested]
         return due[0] if due else None
 
+    def due(self):
+        """The first tick, from the last event's on, at which a tick has actions, or None."""
+        ticks = [state[1] for state in self.states.values() if state[0] == "waiting"]
+        for label, state in self.states.items():
+            period = self.services[label]["period"]
+            if state[0] == "up" and period:
+                ticks += [state[2] + 2 * period, state[3] + period]
+        first = max(self.tick, min(ticks, default=LAST_TICK + 1))
+        return first if first <= LAST_TICK else None
+
+    def instance(self, endpoint):
+        """The index of the service that runs under the endpoint, or None."""
+        return next((n for n, state in enumerate(self.states.values()) if state[0] == "up" and state[1] == endpoint), None)
+
+    def publishes(self, endpoint, name):
+        """Whether the instance may publish the name."""
+        place = self.instance(endpoint)
+        return place is not None and name in list(self.services.values())[place]["publishes"]
+
     # What is done.
 
     def done(self, label, asked, tick):
@@ -240,6 +259,21 @@ def written(settings):
     return "".join(f"{key} = {toml(it)}\n" for key, it in settings.items())
 
 
+def number(it):
+    """A number that may be missing, as it is printed."""
+    return "none" if it is None else it
+
+
+# What is read of RS between two events, by the word that asks for it.
+READINGS = {
+    "next": lambda rs: f"next {rs.next}",
+    "due": lambda rs: f"due {number(rs.due())}",
+    "service": lambda rs, index: told(dict(enumerate(rs.states.values())).get(index, ("unknown",))),
+    "instance": lambda rs, endpoint: f"instance {number(rs.instance(endpoint))}",
+    "publishes": lambda rs, endpoint, name: "may publish" if rs.publishes(endpoint, name) else "may not publish",
+}
+
+
 class Session:
     """RS and a numberer, which answer commands as the section `rs` of the program for tests does."""
 
@@ -275,8 +309,12 @@ class Session:
             return [told(self.rs.states.get(args[0], ("unknown",)))]
         if verb == "key":
             return [f"key {self.rs.keys.next_key()}"]
+        if verb in READINGS:
+            return [READINGS[verb](self.rs, *args)]
+        before = list(self.rs.states.values())
         actions = self.rs.event(verb, *args)
-        return actions + [f"actions {len(actions)}"]
+        gone = [n for n, (old, new) in enumerate(zip(before, self.rs.states.values())) if new[0] == "gaveup" != old[0]]
+        return actions + [f"actions {len(actions)}"] + [f"gave up {n}" for n in gone]
 
     def _number(self):
         if self.numbers is None:

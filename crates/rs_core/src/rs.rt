@@ -14,6 +14,7 @@ ghost use Rattle.rs_core.specs.Says.{place_of_label};
 
 mod asking;
 mod doing;
+mod reading;
 
 use crate::action::Actions;
 use crate::event::Event;

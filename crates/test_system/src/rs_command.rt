@@ -16,6 +16,16 @@ pub(crate) enum Command {
     State(Name),
     /// `key`: the key of the slot that is free next.
     Key,
+    /// `next`: the generation of the next start.
+    Next,
+    /// `due`: the first tick at which a tick has actions.
+    Due,
+    /// `service INDEX`: what RS knows of the service with this index.
+    Service(usize),
+    /// `instance ENDPOINT`: the index of the service that runs under the endpoint.
+    Instance(Endpoint),
+    /// `publishes ENDPOINT NAME`: whether this instance may publish this name.
+    Publishes(Endpoint, Name),
     /// `numbers GENERATION SEQ`: a numberer begins.
     Numbers { generation: Generation, seq: u32 },
     /// `number`: the numberer's next number.
@@ -30,6 +40,11 @@ pub(crate) fn read_command(line: &str) -> Option<Command> {
     match words.next()? {
         "settings" => Some(Command::Settings(number_at(&mut words)?)),
         "key" => Some(Command::Key),
+        "next" => Some(Command::Next),
+        "due" => Some(Command::Due),
+        "service" => Some(Command::Service(number_at(&mut words)?)),
+        "instance" => Some(Command::Instance(read_endpoint(&mut words)?)),
+        "publishes" => read_publishes(&mut words),
         "number" => Some(Command::Number),
         "rows" => Some(Command::Rows),
         "numbers" => read_numbers(&mut words),
@@ -39,6 +54,10 @@ pub(crate) fn read_command(line: &str) -> Option<Command> {
             tick: number_at(&mut words)?,
         }),
     }
+}
+
+fn read_publishes(words: &mut Split<'_, char>) -> Option<Command> {
+    Some(Command::Publishes(read_endpoint(words)?, name_at(words)?))
 }
 
 fn read_numbers(words: &mut Split<'_, char>) -> Option<Command> {

@@ -1,0 +1,112 @@
+-- The turns of RS and its store: a client's command, a beginning, an event.
+use Rattle.std.specs.Prelude.{◌≡◌, ◌≢◌, ◌⊎◌, ◌≤◌, ◌<◌, ℕ, Bool, true, false, List, [], ◌∷◌, length, replicate, Option, Some, None}
+use Rattle.ds_content.specs.Content.{ContentRecord}
+use Rattle.ds_machine.specs.declared.command.Command.{Command}
+use Rattle.ds_machine.specs.declared.reply.Reply.{Reply}
+use Rattle.ds_serve.specs.Asked.{command_of}
+use Rattle.ds_store.specs.Turns.{Turn}
+use Rattle.rs_settings.specs.Settings.{SettingsRecord}
+use Rattle.rs_core.specs.declared.action.Action.{Action}
+use Rattle.rs_core.specs.declared.event.Event.{Event}
+use Rattle.rs_core.specs.declared.event.Event.TheVariants.{Up, Stop, Refresh, Restart, Death, Beat, Tick}
+use Rattle.rs_core.specs.declared.fault.NewFault.TheVariants as new_faults
+use Rattle.rs_core.specs.declared.fault.RsFault.{RsFault}
+use Rattle.rs_core.specs.declared.fault.RsFault.TheVariants.{UnknownLabel, OldEndpoint, NoRoom}
+use Rattle.rs_core.specs.declared.state.State.TheVariants.{Down}
+use Rattle.rs_core.specs.Slots.{slots_with}
+use Rattle.rs_core.specs.State.{RsRecord, rs_of}
+use Rattle.rs_core.specs.Machine.{asked}
+use Rattle.rs_core.specs.Judging.{refusal, asks, has_actions}
+use Rattle.rs_core.specs.Reading.{given_up}
+use Rattle.rs_core.specs.Step.{RsStep}
+use Rattle.rs_store.specs.ByRs.{is_by_rs}
+use Rattle.rs_store.specs.declared.call.RsReply.{RsReply}
+use Rattle.rs_store.specs.declared.call.RsReply.TheVariants.{Replied, NotAllowed, Begun, Exists, NotBegun, Acted, Refused}
+
+-- ---- a client's command
+
+-- whether a client may not send the command: RS has begun, and is the command's caller
+abbrev pub is_barred : Option RsRecord → Command → Bool
+is_barred None command = false
+is_barred (Some rs) command = is_by_rs command
+
+-- the store takes a turn; or the command is barred, and the store is unchanged
+abbrev pub Asks : Option RsRecord → ContentRecord → Command → RsReply → ContentRecord → Type 0
+Asks services old command (Replied reply) new = (is_barred services command ≡ false) × Turn old command reply new
+Asks services old command NotAllowed new = (is_barred services command ≡ true) × (new ≡ old)
+Asks services old command _ new = ⊥
+
+-- ---- a beginning
+
+-- RS just after it began: every service is down, and the first start has the generation `next`
+abbrev pub begun_with : SettingsRecord → ℕ → RsRecord
+begun_with settings next = rs_of settings (replicate (length settings.services) Down) 0 next (slots_with [] 0)
+
+-- no generation of a first start: it isn't 1 to 2097152, the last of which no start gets
+abbrev pub IsOutOfRange : ℕ → Type 0
+IsOutOfRange next = (next < 1) ⊎ (2097152 < next)
+
+-- RS begins; or the generation is out of range; or memory runs out, for settings with a service
+abbrev pub BeginsFirst : SettingsRecord → ℕ → RsReply → Option RsRecord → Type 0
+BeginsFirst settings next (Begun services slots) new =
+    (¬ IsOutOfRange next) × (services ≡ length settings.services) × (slots ≡ settings.slots) × (new ≡ Some (begun_with settings next))
+BeginsFirst settings next (NotBegun new_faults.OutOfRange) new = IsOutOfRange next × (new ≡ None)
+BeginsFirst settings next (NotBegun new_faults.NoRoom) new = (¬ IsOutOfRange next) × (settings.services ≢ []) × (new ≡ None)
+BeginsFirst settings next _ new = ⊥
+
+-- once RS has begun, every further beginning is refused
+abbrev pub Begins : Option RsRecord → SettingsRecord → ℕ → RsReply → Option RsRecord → Type 0
+Begins None settings next reply new = BeginsFirst settings next reply new
+Begins (Some rs) settings next reply new = (reply ≡ Exists) × (new ≡ Some rs)
+
+-- ---- the store's turns for actions
+
+-- the store takes a turn for the command, if there is one, and this is its reply
+abbrev pub TurnFor : ContentRecord → Option Command → Option Reply → ContentRecord → Type 0
+TurnFor old None None new = new ≡ old
+TurnFor old (Some command) (Some reply) new = Turn old command reply new
+TurnFor old None (Some reply) new = ⊥
+TurnFor old (Some command) None new = ⊥
+
+-- so for each of the actions, in their order
+abbrev pub TurnsFor : ContentRecord → List Action → List (Option Reply) → ContentRecord → Type 0
+TurnsFor old [] [] new = new ≡ old
+TurnsFor old (action ∷ actions) (reply ∷ replies) new =
+    (mid : ContentRecord) × TurnFor old (command_of action) reply mid × TurnsFor mid actions replies new
+TurnsFor old [] (reply ∷ replies) new = ⊥
+TurnsFor old (action ∷ actions) [] new = ⊥
+
+-- ---- an event
+
+-- the reply before RS has begun: no service is known
+abbrev pub without_settings : Event → RsReply
+without_settings (Up label) = Refused UnknownLabel
+without_settings (Stop label) = Refused UnknownLabel
+without_settings (Refresh label) = Refused UnknownLabel
+without_settings (Restart label) = Refused UnknownLabel
+without_settings (Death endpoint cause) = Refused OldEndpoint
+without_settings (Beat endpoint) = Refused OldEndpoint
+without_settings Tick = Acted [] [] None
+
+-- the first fault that stands against the event; or none does, the event has actions, and memory runs out
+abbrev pub Refuses : RsRecord → Event → ℕ → RsFault → Type 0
+Refuses rs event tick NoRoom = (refusal rs event tick ≡ None) × (asks has_actions (asked rs event tick) ≡ true)
+Refuses rs event tick fault = refusal rs event tick ≡ Some fault
+
+-- RS steps, the store takes its turns for the actions, and the service that RS gave up is named; or RS refuses the event, and nothing
+-- changes
+abbrev pub RsServes : Event → ℕ → RsRecord → ContentRecord → RsReply → Option RsRecord → ContentRecord → Type 0
+RsServes event tick rs old (Acted actions replies gone) after new =
+    ((t : RsRecord) × RsStep rs event tick actions t × (after ≡ Some t)) × TurnsFor old actions replies new × (gone ≡ given_up rs event tick)
+RsServes event tick rs old (Refused fault) after new = Refuses rs event tick fault × (after ≡ Some rs) × (new ≡ old)
+RsServes event tick rs old _ after new = ⊥
+
+-- the same, where RS may not have begun
+abbrev pub Serves : Event → ℕ → Option RsRecord → ContentRecord → RsReply → Option RsRecord → ContentRecord → Type 0
+Serves event tick None old reply after new = (reply ≡ without_settings event) × (after ≡ None) × (new ≡ old)
+Serves event tick (Some rs) old reply after new = RsServes event tick rs old reply after new
+
+-- the empty list has room for the replies to the event's actions, of which there are five at most
+pub record HasRoomFor (rs : RsRecord) (event : Event) (tick : ℕ) (replies : List (Option Reply)) (capacity : ℕ) : Type 0 where
+  pub none : replies ≡ []
+  pub room : (asks has_actions (asked rs event tick) ≡ false) ⊎ (5 ≤ capacity)
