@@ -12,7 +12,7 @@ class Pair(Session):
     def __init__(self):
         super().__init__()
         self.world = Store()
-        self.next, self.gone = 1, None
+        self.next, self.first, self.gone = 1, 16, None
 
     def answer(self, command, taken, ample=None):
         if self.rs and command in BY_CALLERS and taken[0] == RS:
@@ -23,7 +23,7 @@ class Pair(Session):
         if self.rs:
             restarts.judged(document(text))
             raise Refused("exists")
-        self.rs = restarts.Rs(document(text), self.next)
+        self.rs = restarts.Rs(document(text), self.next, self.first)
         return [b"services %d slots %d" % (len(self.rs.services), self.rs.slots)]
 
     def event(self, without, *event):
@@ -39,7 +39,7 @@ class Pair(Session):
         """The answer to a line that scripts don't have."""
         word, *rest = line.split()
         if word == b"from":
-            self.next = int(rest[0])
+            self.next, self.first = map(int, rest)
             return []
         if word == b"gave":
             return [b"gave up %s" % str(restarts.number(self.gone)).encode()]

@@ -109,13 +109,13 @@ class Rs:
     """What RS knows. The state of a service is ("down",), ("gaveup",), ("waiting", until, failures) or
     ("up", endpoint, beat, ping, failures)."""
 
-    def __init__(self, settings, next):
+    def __init__(self, settings, next, first=16):
         self.slots, services = judged(settings)
-        if not 1 <= next <= MOST_GENERATION + 1:
+        if not (1 <= next <= MOST_GENERATION + 1 and 16 <= first <= 1024 - self.slots):
             raise Refused("outofrange")
         self.services = {service["label"]: service for service in services}
         self.states = {label: ("down",) for label in self.services}
-        self.next, self.tick, self.keys = next, 0, Slots()
+        self.next, self.first, self.tick, self.keys = next, first, 0, Slots()
 
     def event(self, verb, *args):
         """The actions of an event: its last argument is the tick."""
@@ -215,14 +215,14 @@ class Rs:
         return [f"ping {spelled(endpoint)}"] if asked == "ping" else []
 
     def start(self, label, failures, tick):
-        endpoint = (self.next, 16 + self.keys.take())
+        endpoint = (self.next, self.first + self.keys.take())
         self.next += 1
         self.states[label] = ("up", endpoint, tick, tick, failures)
         return [f"start {label} {spelled(endpoint)}", f"offer {label} label rs {endpoint[0]}.0 = {spelled(endpoint)}"]
 
     def end(self, label, kill, after):
         endpoint = self.states[label][1]
-        self.keys.freed.append(endpoint[1] - 16)
+        self.keys.freed.append(endpoint[1] - self.first)
         self.states[label] = after
         killed = [f"kill {spelled(endpoint)}"] if kill else []
         return killed + [f"offer {label} label rs {endpoint[0]}.1 -", f"sweep {label} {endpoint[0]}"]

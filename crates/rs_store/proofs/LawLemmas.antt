@@ -86,18 +86,18 @@ ask_runs n o c (NotBegun f) old new h = absurd h
 ask_runs n o c (Acted acts replies gone) old new h = absurd h
 ask_runs n o c (Refused fault) old new h = absurd h
 
-begin_runs : (n : ℕ) (settings : SettingsRecord) (next : ℕ) (reply : RsReply) (old new : ContentRecord) → new ≡ old → Run Turn old (entries_by n (Begin settings next) reply) new
-begin_runs n settings next (Replied r) old new e = sym e
-begin_runs n settings next NotAllowed old new e = sym e
-begin_runs n settings next (Begun k l) old new e = sym e
-begin_runs n settings next Exists old new e = sym e
-begin_runs n settings next (NotBegun f) old new e = sym e
-begin_runs n settings next (Acted acts replies gone) old new e = sym e
-begin_runs n settings next (Refused fault) old new e = sym e
+begin_runs : (n : ℕ) (settings : SettingsRecord) (next first : ℕ) (reply : RsReply) (old new : ContentRecord) → new ≡ old → Run Turn old (entries_by n (Begin settings next first) reply) new
+begin_runs n settings next first (Replied r) old new e = sym e
+begin_runs n settings next first NotAllowed old new e = sym e
+begin_runs n settings next first (Begun k l) old new e = sym e
+begin_runs n settings next first Exists old new e = sym e
+begin_runs n settings next first (NotBegun f) old new e = sym e
+begin_runs n settings next first (Acted acts replies gone) old new e = sym e
+begin_runs n settings next first (Refused fault) old new e = sym e
 
 call_runs : (n : ℕ) (command : RsCommand) (reply : RsReply) (old new : PairRecord) → RsTurn old command reply new → Run Turn old.store (entries_by n command reply) new.store
 call_runs n (Ask c) reply old new h = ask_runs n old.services c reply old.store new.store h.0
-call_runs n (Begin settings next) reply old new h = begin_runs n settings next reply old.store new.store h.1
+call_runs n (Begin settings next first) reply old new h = begin_runs n settings next first reply old.store new.store h.1
 call_runs n (Tell event tick) reply old new h = serve_runs n event tick old.services reply old.store new.services new.store h
 
 pub store_turns_run : StoreTurnsRun
@@ -134,8 +134,8 @@ asks_act_not o c (Refused fault) old new h = absurd h
 one_goes : (command : RsCommand) (reply : RsReply) (old new : PairRecord) (rs : RsRecord) → old.services ≡ Some rs → RsTurn old command reply new → Goes rs reply new.services
 one_goes (Ask c) reply old new rs e h =
     (rs, h.1 ∙ e, subst (λ (l : List (List Action)). RsRun rs l rs) (sym (asks_act_not old.services c reply old.store new.store h.0)) refl)
-one_goes (Begin settings next) reply old new rs e h =
-    let begins = subst (λ (o : Option RsRecord). Begins o settings next reply new.services) e h.0 in
+one_goes (Begin settings next first) reply old new rs e h =
+    let begins = subst (λ (o : Option RsRecord). Begins o settings next first reply new.services) e h.0 in
     subst (λ (r : RsReply). Goes rs r new.services) (sym begins.0) (rs, begins.1, refl)
 one_goes (Tell event tick) reply old new rs e h =
     served event tick rs reply old.store new.services new.store (subst (λ (o : Option RsRecord). Serves event tick o old.store reply new.services new.store) e h)
@@ -165,19 +165,19 @@ OffersNone reply rest = flat_map offers (actions_in reply ++ rest) ≡ flat_map 
 asks_none : (o : Option RsRecord) (c : Command) (reply : RsReply) (old new : ContentRecord) (rest : List (List Action)) → Asks o old c reply new → OffersNone reply rest
 asks_none o c reply old new rest h = ap (λ (l : List (List Action)). flat_map offers (l ++ rest)) (asks_act_not o c reply old new h)
 
-begins_none : (settings : SettingsRecord) (next : ℕ) (reply : RsReply) (after : Option RsRecord) (rest : List (List Action)) → BeginsFirst settings next reply after → OffersNone reply rest
-begins_none settings next (Replied r) after rest h = absurd h
-begins_none settings next NotAllowed after rest h = absurd h
-begins_none settings next (Begun k l) after rest h = refl
-begins_none settings next Exists after rest h = absurd h
-begins_none settings next (NotBegun f) after rest h = refl
-begins_none settings next (Acted acts replies gone) after rest h = absurd h
-begins_none settings next (Refused fault) after rest h = absurd h
+begins_none : (settings : SettingsRecord) (next first : ℕ) (reply : RsReply) (after : Option RsRecord) (rest : List (List Action)) → BeginsFirst settings next first reply after → OffersNone reply rest
+begins_none settings next first (Replied r) after rest h = absurd h
+begins_none settings next first NotAllowed after rest h = absurd h
+begins_none settings next first (Begun k l) after rest h = refl
+begins_none settings next first Exists after rest h = absurd h
+begins_none settings next first (NotBegun f) after rest h = refl
+begins_none settings next first (Acted acts replies gone) after rest h = absurd h
+begins_none settings next first (Refused fault) after rest h = absurd h
 
 offers_none : (command : RsCommand) (reply : RsReply) (old new : PairRecord) (rest : List (List Action)) → old.services ≡ None → RsTurn old command reply new → OffersNone reply rest
 offers_none (Ask c) reply old new rest e h = asks_none old.services c reply old.store new.store rest h.0
-offers_none (Begin settings next) reply old new rest e h =
-    begins_none settings next reply new.services rest (subst (λ (o : Option RsRecord). Begins o settings next reply new.services) e h.0)
+offers_none (Begin settings next first) reply old new rest e h =
+    begins_none settings next first reply new.services rest (subst (λ (o : Option RsRecord). Begins o settings next first reply new.services) e h.0)
 offers_none (Tell event tick) reply old new rest e h =
     let is = subst (λ (o : Option RsRecord). Serves event tick o old.store reply new.services new.store) e h in
     subst (λ (r : RsReply). OffersNone r rest) (sym is.0) (none_told event rest)
@@ -267,9 +267,9 @@ serve_alone n event tick rs (NotBegun f) old after new h = absurd h
 one_alone : (n : ℕ) (command : RsCommand) (reply : RsReply) (old new : PairRecord) (rs : RsRecord) → old.services ≡ Some rs → RsTurn old command reply new → RsIsAlone n command reply
 one_alone n (Ask c) reply old new rs e h =
     ask_alone n rs c reply old.store new.store (subst (λ (o : Option RsRecord). Asks o old.store c reply new.store) e h.0)
-one_alone n (Begin settings next) reply old new rs e h =
-    let begins = subst (λ (o : Option RsRecord). Begins o settings next reply new.services) e h.0 in
-    subst (λ (r : RsReply). RsIsAlone n (Begin settings next) r) (sym begins.0) refl
+one_alone n (Begin settings next first) reply old new rs e h =
+    let begins = subst (λ (o : Option RsRecord). Begins o settings next first reply new.services) e h.0 in
+    subst (λ (r : RsReply). RsIsAlone n (Begin settings next first) r) (sym begins.0) refl
 one_alone n (Tell event tick) reply old new rs e h =
     serve_alone n event tick rs reply old.store new.services new.store (subst (λ (o : Option RsRecord). Serves event tick o old.store reply new.services new.store) e h)
 
@@ -314,21 +314,21 @@ serve_settles event tick (Some rs) (Begun m l) c d x y a b h k = absurd h
 serve_settles event tick (Some rs) Exists c d x y a b h k = absurd h
 serve_settles event tick (Some rs) (NotBegun f) c d x y a b h k = absurd h
 
-begin_settles : (o : Option RsRecord) (settings : SettingsRecord) (next : ℕ) (reply : RsReply) (a b : Option RsRecord) → Begins o settings next reply a → Begins o settings next reply b → a ≡ b
-begin_settles (Some rs) settings next reply a b h k = h.1 ∙ sym k.1
-begin_settles None settings next (Begun m l) a b h k = h.3 ∙ sym k.3
-begin_settles None settings next (NotBegun new_faults.OutOfRange) a b h k = h.1 ∙ sym k.1
-begin_settles None settings next (NotBegun new_faults.NoRoom) a b h k = h.2 ∙ sym k.2
-begin_settles None settings next (Replied r) a b h k = absurd h
-begin_settles None settings next NotAllowed a b h k = absurd h
-begin_settles None settings next Exists a b h k = absurd h
-begin_settles None settings next (Acted acts replies gone) a b h k = absurd h
-begin_settles None settings next (Refused fault) a b h k = absurd h
+begin_settles : (o : Option RsRecord) (settings : SettingsRecord) (next first : ℕ) (reply : RsReply) (a b : Option RsRecord) → Begins o settings next first reply a → Begins o settings next first reply b → a ≡ b
+begin_settles (Some rs) settings next first reply a b h k = h.1 ∙ sym k.1
+begin_settles None settings next first (Begun m l) a b h k = h.3 ∙ sym k.3
+begin_settles None settings next first (NotBegun new_faults.OutOfRange) a b h k = h.1 ∙ sym k.1
+begin_settles None settings next first (NotBegun new_faults.NoRoom) a b h k = h.2 ∙ sym k.2
+begin_settles None settings next first (Replied r) a b h k = absurd h
+begin_settles None settings next first NotAllowed a b h k = absurd h
+begin_settles None settings next first Exists a b h k = absurd h
+begin_settles None settings next first (Acted acts replies gone) a b h k = absurd h
+begin_settles None settings next first (Refused fault) a b h k = absurd h
 
 one_settles : (command : RsCommand) (reply : RsReply) (old other a b : PairRecord) → old.services ≡ other.services → RsTurn old command reply a → RsTurn other command reply b → a.services ≡ b.services
 one_settles (Ask c) reply old other a b e h k = h.1 ∙ e ∙ sym k.1
-one_settles (Begin settings next) reply old other a b e h k =
-    begin_settles other.services settings next reply a.services b.services (subst (λ (o : Option RsRecord). Begins o settings next reply a.services) e h.0) k.0
+one_settles (Begin settings next first) reply old other a b e h k =
+    begin_settles other.services settings next first reply a.services b.services (subst (λ (o : Option RsRecord). Begins o settings next first reply a.services) e h.0) k.0
 one_settles (Tell event tick) reply old other a b e h k =
     serve_settles event tick other.services reply old.store other.store a.store b.store a.services b.services
     (subst (λ (o : Option RsRecord). Serves event tick o old.store reply a.services a.store) e h) k

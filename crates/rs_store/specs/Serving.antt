@@ -1,5 +1,5 @@
 -- The turns of RS and its store: a client's command, a beginning, an event.
-use Rattle.std.specs.Prelude.{◌≡◌, ◌≢◌, ◌⊎◌, ◌≤◌, ◌<◌, ℕ, Bool, true, false, List, [], ◌∷◌, length, replicate, Option, Some, None}
+use Rattle.std.specs.Prelude.{◌≡◌, ◌≢◌, ◌⊎◌, ◌≤◌, ℕ, Bool, true, false, List, [], ◌∷◌, length, replicate, Option, Some, None}
 use Rattle.ds_content.specs.Content.{ContentRecord}
 use Rattle.ds_machine.specs.declared.command.Command.{Command}
 use Rattle.ds_machine.specs.declared.reply.Reply.{Reply}
@@ -13,8 +13,9 @@ use Rattle.rs_core.specs.declared.fault.NewFault.TheVariants as new_faults
 use Rattle.rs_core.specs.declared.fault.RsFault.{RsFault}
 use Rattle.rs_core.specs.declared.fault.RsFault.TheVariants.{UnknownLabel, OldEndpoint, NoRoom}
 use Rattle.rs_core.specs.declared.state.State.TheVariants.{Down}
-use Rattle.rs_core.specs.Slots.{slots_with}
+use Rattle.rs_core.specs.Slots.{new_slots}
 use Rattle.rs_core.specs.State.{RsRecord, rs_of}
+use Rattle.rs_core.specs.Kept.{IsOutOfRange}
 use Rattle.rs_core.specs.Machine.{asked}
 use Rattle.rs_core.specs.Judging.{refusal, asks, has_actions}
 use Rattle.rs_core.specs.Reading.{given_up}
@@ -38,26 +39,24 @@ Asks services old command _ new = ⊥
 
 -- ---- a beginning
 
--- RS just after it began: every service is down, and the first start has the generation `next`
-abbrev pub begun_with : SettingsRecord → ℕ → RsRecord
-begun_with settings next = rs_of settings (replicate (length settings.services) Down) 0 next (slots_with [] 0)
+-- RS just after it began: every service is down, the first start has the generation `next`, and its slots begin at `first`
+abbrev pub begun_with : SettingsRecord → ℕ → ℕ → RsRecord
+begun_with settings next first = rs_of settings (replicate (length settings.services) Down) 0 next (new_slots first)
 
--- no generation of a first start: it isn't 1 to 2097152, the last of which no start gets
-abbrev pub IsOutOfRange : ℕ → Type 0
-IsOutOfRange next = (next < 1) ⊎ (2097152 < next)
-
--- RS begins; or the generation is out of range; or memory runs out, for settings with a service
-abbrev pub BeginsFirst : SettingsRecord → ℕ → RsReply → Option RsRecord → Type 0
-BeginsFirst settings next (Begun services slots) new =
-    (¬ IsOutOfRange next) × (services ≡ length settings.services) × (slots ≡ settings.slots) × (new ≡ Some (begun_with settings next))
-BeginsFirst settings next (NotBegun new_faults.OutOfRange) new = IsOutOfRange next × (new ≡ None)
-BeginsFirst settings next (NotBegun new_faults.NoRoom) new = (¬ IsOutOfRange next) × (settings.services ≢ []) × (new ≡ None)
-BeginsFirst settings next _ new = ⊥
+-- RS begins; or a number is out of its range; or memory runs out, for settings with a service
+abbrev pub BeginsFirst : SettingsRecord → ℕ → ℕ → RsReply → Option RsRecord → Type 0
+BeginsFirst settings next first (Begun services slots) new =
+    (¬ IsOutOfRange settings.slots next first) × (services ≡ length settings.services) × (slots ≡ settings.slots)
+    × (new ≡ Some (begun_with settings next first))
+BeginsFirst settings next first (NotBegun new_faults.OutOfRange) new = IsOutOfRange settings.slots next first × (new ≡ None)
+BeginsFirst settings next first (NotBegun new_faults.NoRoom) new =
+    (¬ IsOutOfRange settings.slots next first) × (settings.services ≢ []) × (new ≡ None)
+BeginsFirst settings next first _ new = ⊥
 
 -- once RS has begun, every further beginning is refused
-abbrev pub Begins : Option RsRecord → SettingsRecord → ℕ → RsReply → Option RsRecord → Type 0
-Begins None settings next reply new = BeginsFirst settings next reply new
-Begins (Some rs) settings next reply new = (reply ≡ Exists) × (new ≡ Some rs)
+abbrev pub Begins : Option RsRecord → SettingsRecord → ℕ → ℕ → RsReply → Option RsRecord → Type 0
+Begins None settings next first reply new = BeginsFirst settings next first reply new
+Begins (Some rs) settings next first reply new = (reply ≡ Exists) × (new ≡ Some rs)
 
 -- ---- the store's turns for actions
 

@@ -10,5 +10,5 @@ use Rattle.rs_store.specs.Serving.{Asks, Begins, Serves}
 -- RS, and turns of the store for its actions
 abbrev pub RsTurn : PairRecord → RsCommand → RsReply → PairRecord → Type 0
 RsTurn old (Ask command) reply new = Asks old.services old.store command reply new.store × (new.services ≡ old.services)
-RsTurn old (Begin settings next) reply new = Begins old.services settings next reply new.services × (new.store ≡ old.store)
+RsTurn old (Begin settings next first) reply new = Begins old.services settings next first reply new.services × (new.store ≡ old.store)
 RsTurn old (Tell event tick) reply new = Serves event tick old.services old.store reply new.services new.store

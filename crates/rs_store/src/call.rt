@@ -13,8 +13,12 @@ use rs_settings::Settings;
 pub enum RsCommand {
     /// A client's command to the store.
     Ask(Command),
-    /// RS begins with these settings, and its first start has the generation `next`.
-    Begin { settings: Settings, next: u32 },
+    /// RS begins with these settings. Its first start has the generation `next`, and its slots begin at `first`.
+    Begin {
+        settings: Settings,
+        next: u32,
+        first: u16,
+    },
     /// An event for RS at a tick.
     Tell { event: Event, tick: u64 },
 }

@@ -64,9 +64,11 @@ impl RsStore {
     {
         match command {
             RsCommand::Ask(command) => ask(&self.services, &mut self.store, command),
-            RsCommand::Begin { settings, next } => {
-                begin(self.alloc, &mut self.services, settings, next)
-            }
+            RsCommand::Begin {
+                settings,
+                next,
+                first,
+            } => begin(self.alloc, &mut self.services, settings, next, first),
             RsCommand::Tell { event, tick } => serve(
                 self.alloc,
                 &mut self.services,

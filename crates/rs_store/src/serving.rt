@@ -33,19 +33,26 @@ pub fn ask(services: &Option<Rs>, store: &mut Store, command: Command) -> RsRepl
     RsReply::Replied(turn(store, command))
 }
 
-/// Begins RS with settings: every service is down, and the first start has the generation `next`, which is 1 where no earlier run
-/// of RS is to be continued.
+/// Begins RS with settings: every service is down, the first start has the generation `next`, and its slots begin at `first`. Of a
+/// system with one RS these are 1 and 16. A later run continues at the generation that the earlier one had next; two hosts that
+/// exchange what they hold have slots apart.
 ///
-/// Refusals in their order: Exists, where RS has begun; OutOfRange, where `next` isn't 1 to 2097152; NoRoom, and only where the
-/// settings have a service. A refused beginning changes nothing.
-pub fn begin(alloc: Global, services: &mut Option<Rs>, settings: Settings, next: u32) -> RsReply
-    ensures { Begins services.old settings next result services.new }
+/// Refusals in their order: Exists, where RS has begun; OutOfRange, where `next` isn't 1 to 2097152, `first` is below 16, or the
+/// last slot above 1023; NoRoom, and only where the settings have a service. A refused beginning changes nothing.
+pub fn begin(
+    alloc: Global,
+    services: &mut Option<Rs>,
+    settings: Settings,
+    next: u32,
+    first: u16,
+) -> RsReply
+    ensures { Begins services.old settings next first result services.new }
 {
     if services.is_some() {
         return RsReply::Exists;
     }
     let (count, slots) = (settings.services().len(), settings.slots());
-    match Rs::new(alloc, settings, next) {
+    match Rs::from_slot(alloc, settings, next, first) {
         Ok(rs) => {
             *services = Some(rs);
             RsReply::Begun {

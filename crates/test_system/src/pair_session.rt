@@ -1,7 +1,7 @@
 //! Lines, sent to RS and its store as one machine.
 //!
 //! They are the lines of scripts that a store or RS answers, and are answered as a script answers them. Five lines are this section's
-//! own: `from GENERATION`, with which RS begins at a later `settings`; `due`, `next` and `state LABEL`, as in a section of RS; and
+//! own: `from GENERATION SLOT`, with which RS begins at a later `settings`; `due`, `next` and `state LABEL`, as in a section of RS; and
 //! `gave up`, the index of the service that the last event made RS give up.
 
 use crate::rs_telling::tell_state;
@@ -22,8 +22,9 @@ use test_words::{Failure, name_at, number_at};
 pub(crate) struct PairSession {
     alloc: Global,
     pair: RsStore,
-    // The generation with which RS begins.
+    // The generation of the first start, and the first slot, with which RS begins.
     next: u32,
+    first: u16,
     // The service that the last event made RS give up.
     given_up: Option<usize>,
 }
@@ -38,6 +39,7 @@ impl PairSession {
             alloc,
             pair,
             next: 1,
+            first: 16,
             given_up: None,
         })
     }
@@ -46,12 +48,13 @@ impl PairSession {
     pub(crate) fn take(&mut self, text: &mut Vec<u8>, line: &str) -> Result<(), Failure> {
         let mut words = line.split(' ');
         match words.next() {
-            Some("from") => match number_at(&mut words) {
-                Some(next) => {
+            Some("from") => match (number_at(&mut words), number_at(&mut words)) {
+                (Some(next), Some(first)) => {
                     self.next = next;
+                    self.first = first;
                     Ok(())
                 }
-                None => Err(Failure::BadLine),
+                _ => Err(Failure::BadLine),
             },
             Some("due") => Ok(tell_number(text, "due ", self.due())?),
             Some("next") => Ok(tell_number(text, "next ", self.next_generation())?),
@@ -103,8 +106,13 @@ impl PairSession {
     fn begin(&mut self, text: &mut Vec<u8>, settings: &SettingsText) -> Result<(), Failure> {
         match read(self.alloc, settings.bytes()) {
             Ok(settings) => {
-                let next = self.next;
-                self.send(text, Wording::AsMerge, RsCommand::Begin { settings, next })
+                let (next, first) = (self.next, self.first);
+                let command = RsCommand::Begin {
+                    settings,
+                    next,
+                    first,
+                };
+                self.send(text, Wording::AsMerge, command)
             }
             Err(fault) => match fault.cause {
                 SettingsCause::NoRoom => Err(Failure::NoRoom),
