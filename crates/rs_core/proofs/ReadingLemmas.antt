@@ -64,7 +64,7 @@ any_due-step tick i ss ts service state h k at here =
     rw (drop_more ss i service h, drop_more ts i state k, s, ← here) refl
 
 pub any_due-end : (tick i : ℕ) (ss : List Service) (ts : List State) → length ss ≤ i → length ts ≤ i → any_due tick (drop i ss) (drop i ts) ≡ false
-any_due-end tick i ss ts h k = rw (drop_all i ss h, drop_all i ts k) refl
+any_due-end tick i ss ts h k = ap (λ (l : List Service). any_due tick l (drop i ts)) (drop_all i ss h) ∙ ap (λ (l : List State). any_due tick [] l) (drop_all i ts k)
 
 -- ---- what is due
 
@@ -76,7 +76,7 @@ is_some-or : {X : Type 0} (a b : Option X) → is_some (option_or a b) ≡ (is_s
 is_some-or None b = refl
 is_some-or (Some x) b = refl
 
-is_found : Sought → ℕ → List Service → List State → Bool
+abbrev is_found : Sought → ℕ → List Service → List State → Bool
 is_found what i ss ts = is_some (first_sought what i ss ts)
 
 found_first : (what : Sought) (i : ℕ) (s : Service) (ss : List Service) (t : State) (ts : List State)
@@ -163,23 +163,23 @@ waits_when test (Up r) e = false_true e
 waits_when test GaveUp e = false_true e
 
 -- what is due at a tick has actions
-acts_at : (s : RsRecord) (place : ℕ) (deed : Deed) → Type 0
-acts_at s place deed = actions_of s (service_at s place) (state_at s place) deed ≢ []
+abbrev ActsAt : RsRecord → ℕ → Deed → Type 0
+ActsAt s place deed = actions_of s (service_at s place) (state_at s place) deed ≢ []
 
 cons_not : {X : Type 0} (x : X) (xs : List X) → x ∷ xs ≢ []
 cons_not x xs = λ e. let n : x ∷ xs ≡ [] = e in cc
 
-lose_acts : (s : RsRecord) (tick place : ℕ) → service_place s (sought.Missed tick) ≡ Some place → acts_at s place (Lose true)
+lose_acts : (s : RsRecord) (tick place : ℕ) → service_place s (sought.Missed tick) ≡ Some place → ActsAt s place (Lose true)
 lose_acts s tick place e =
     let is = runs_when (λ r. nat_le (2 * (service_at s place).period) (tick - r.beat)) (state_at s place) (and_second (nat_lt 0 (service_at s place).period) _ (is_there s (sought.Missed tick) place e)) in
     subst (λ (z : State). actions_of s (service_at s place) z (Lose true) ≢ []) (sym is.1) (cons_not _ _)
 
-ping_acts : (s : RsRecord) (tick place : ℕ) → service_place s (sought.Silent tick) ≡ Some place → acts_at s place Ping
+ping_acts : (s : RsRecord) (tick place : ℕ) → service_place s (sought.Silent tick) ≡ Some place → ActsAt s place Ping
 ping_acts s tick place e =
     let is = runs_when (λ r. nat_le (service_at s place).period (tick - r.ping)) (state_at s place) (and_second (nat_lt 0 (service_at s place).period) _ (is_there s (sought.Silent tick) place e)) in
     subst (λ (z : State). actions_of s (service_at s place) z Ping ≢ []) (sym is.1) (cons_not _ _)
 
-start_acts : (s : RsRecord) (tick place : ℕ) → service_place s (sought.Rested tick) ≡ Some place → acts_at s place Resume
+start_acts : (s : RsRecord) (tick place : ℕ) → service_place s (sought.Rested tick) ≡ Some place → ActsAt s place Resume
 start_acts s tick place e =
     let is = waits_when (λ p. nat_le p.until tick) (state_at s place) (is_there s (sought.Rested tick) place e) in
     subst (λ (z : State). actions_of s (service_at s place) z Resume ≢ []) (sym is.1) (cons_not _ _)
@@ -187,31 +187,31 @@ start_acts s tick place e =
 same_plan : (p q : Plan) → Some p ≡ Some q → p ≡ q
 same_plan p q e = cc
 
-due_acts : (s : RsRecord) (tick : ℕ) (p : Plan) → due s tick ≡ Some p → acts_at s p.place p.deed
+due_acts : (s : RsRecord) (tick : ℕ) (p : Plan) → due s tick ≡ Some p → ActsAt s p.place p.deed
 due_acts s tick p e = by (service_place s (sought.Missed tick)) refl (service_place s (sought.Silent tick)) refl (service_place s (sought.Rested tick)) refl e
   where
-    one : (deed : Deed) (place : ℕ) → Some (plan deed place) ≡ Some p → acts_at s place deed → acts_at s p.place p.deed
-    one deed place q acts = subst (λ (z : Plan). acts_at s z.place z.deed) (same_plan (plan deed place) p q) acts
+    one : (deed : Deed) (place : ℕ) → Some (plan deed place) ≡ Some p → ActsAt s place deed → ActsAt s p.place p.deed
+    one deed place q acts = subst (λ (z : Plan). ActsAt s z.place z.deed) (same_plan (plan deed place) p q) acts
 
     by : (m : Option ℕ) → service_place s (sought.Missed tick) ≡ m → (n : Option ℕ) → service_place s (sought.Silent tick) ≡ n → (o : Option ℕ) → service_place s (sought.Rested tick) ≡ o
-        → option_or (option_map (plan (Lose true)) m) (option_or (option_map (plan Ping) n) (option_map (plan Resume) o)) ≡ Some p → acts_at s p.place p.deed
+        → option_or (option_map (plan (Lose true)) m) (option_or (option_map (plan Ping) n) (option_map (plan Resume) o)) ≡ Some p → ActsAt s p.place p.deed
     by (Some i) f n g o h q = one (Lose true) i q (lose_acts s tick i f)
     by None f (Some i) g o h q = one Ping i q (ping_acts s tick i g)
     by None f None g (Some i) h q = one Resume i q (start_acts s tick i h)
     by None f None g None h q = absurd (let n : None ≡ Some p = q in cc)
 
-same_asked : (a b : Option Plan) → Ok a ≡ Ok b → a ≡ b
-same_asked a b e = cc
+same_asked : (a b : Option Plan) (x : Result (Option Plan) RsFault) → x ≡ Ok a → x ≡ Ok b → a ≡ b
+same_asked a b x e f = cc
 
 pub ticks_act : TicksActWhenDue
 ticks_act s t tick actions (None, free, is, h) = (λ e. false_true (sym (ap is_some none) ∙ e), λ some. absurd (some h.done))
   where
     none : due s tick ≡ None
-    none = same_asked (due s tick) None is
+    none = same_asked (due s tick) None (asked s Tick tick) refl is
 ticks_act s t tick actions (Some p, free, is, h) = (λ e. λ q. due_acts s tick p there (sym h.done ∙ q), λ some. ap is_some there)
   where
     there : due s tick ≡ Some p
-    there = same_asked (due s tick) (Some p) is
+    there = same_asked (due s tick) (Some p) (asked s Tick tick) refl is
 
 -- ---- a service that is given up
 

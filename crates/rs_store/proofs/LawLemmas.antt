@@ -25,6 +25,7 @@ use Rattle.rs_core.specs.declared.deed.Plan.{Plan}
 use Rattle.rs_core.specs.declared.event.Event.{Event}
 use Rattle.rs_core.specs.declared.event.Event.TheVariants as events
 use Rattle.rs_core.specs.declared.fault.NewFault.TheVariants as new_faults
+use Rattle.rs_core.specs.declared.fault.RsFault.{RsFault}
 use Rattle.rs_core.specs.Machine.{asked}
 use Rattle.rs_core.specs.State.{RsRecord}
 use Rattle.rs_core.specs.Step.{RsStep, IsCarriedOut}
@@ -289,8 +290,8 @@ rs_alone (x ∷ es) old new rs e run =
 
 -- ---- what replies settle
 
-same_plan : (p q : Option Plan) → Ok p ≡ Ok q → p ≡ q
-same_plan p q e = cc
+same_plan : (p q : Option Plan) (x : Result (Option Plan) RsFault) → x ≡ Ok p → x ≡ Ok q → p ≡ q
+same_plan p q x e f = cc
 
 carried_alike : (s : RsRecord) (tick : ℕ) (p : Option Plan) (acts : List Action) (t u : RsRecord) → IsCarriedOut s tick p acts t → IsCarriedOut s tick p acts u → t ≡ u
 carried_alike s tick None acts t u h k = h.after ∙ sym k.after
@@ -298,7 +299,7 @@ carried_alike s tick (Some p) acts t u h k = h.after ∙ sym k.after
 
 step_settles : (s : RsRecord) (event : Event) (tick : ℕ) (acts : List Action) (t u : RsRecord) → RsStep s event tick acts t → RsStep s event tick acts u → t ≡ u
 step_settles s event tick acts t u h k =
-    let same : h.0 ≡ k.0 = same_plan h.0 k.0 (sym h.2 ∙ k.2) in
+    let same : h.0 ≡ k.0 = same_plan h.0 k.0 (asked s event tick) h.2 k.2 in
     carried_alike s tick k.0 acts t u (subst (λ (p : Option Plan). IsCarriedOut s tick p acts t) same h.3) k.3
 
 serve_settles : (event : Event) (tick : ℕ) (o : Option RsRecord) (reply : RsReply) (c d x y : ContentRecord) (a b : Option RsRecord)

@@ -104,10 +104,13 @@ fn room_for(alloc: Global, rs: &Rs, event: &Event, tick: u64) -> Option<Vec<Opti
     ensures room { IfSome result (λ replies. HasRoomFor rs.now event.now tick replies.items (vec_capacity replies)) }
     ensures wanted { IfNone result (asks has_actions (asked rs.now event.now tick) ≡ true) }
 {
-    if rs.acts(event, tick) {
-        return Vec::with_capacity(alloc, MOST_ACTIONS).ok();
+    if !rs.acts(event, tick) {
+        return Some(Vec::new(alloc));
     }
-    Some(Vec::new(alloc))
+    match Vec::with_capacity(alloc, MOST_ACTIONS) {
+        Ok(replies) => Some(replies),
+        Err(_) => None,
+    }
 }
 
 // The refusal of an event for which memory ran out: the first fault that stands against it, or else NoRoom.

@@ -1,9 +1,9 @@
 //! What is read of RS between two events.
 
-ghost use Rattle.std.specs.Prelude.{◌≡◌, ◌<◌, ◌≤◌, ◌^◌, ◌⊎◌, ℕ, length, slice_get, is_some, IfSome};
+ghost use Rattle.std.specs.Prelude.{◌≡◌, ◌<◌, ◌≤◌, ◌^◌, ℕ, nat_le, length, slice_get, is_some, IfSome};
 ghost use Rattle.rs_core.specs.Machine.{asked, due, failures_of};
 ghost use Rattle.rs_core.specs.Judging.{asks, has_actions};
-ghost use Rattle.rs_core.specs.Reading.{given_up, gives_up, is_from, place_of_instance, publishes_at};
+ghost use Rattle.rs_core.specs.Reading.{any_due, given_up, gives_up, is_from, place_of_instance, publishes_at, IsFrom};
 
 use crate::deed::Deed;
 use crate::due::first_due;
@@ -53,11 +53,10 @@ impl Rs {
         ensures first { (tick : ℕ) → self.now.tick ≤ tick → tick ≤ 2 ^ 62 → is_some (due self.now tick) ≡ is_from result tick }
         ensures range { IfSome result (λ first. (self.now.tick ≤ first) × (first ≤ 2 ^ 62)) }
     {
-        let first = first_due(self.settings.services(), self.states.as_slice())?;
-        if first > LAST_TICK {
-            return None;
+        match self.first_due() {
+            Some(first) => self.reached(first),
+            None => None,
         }
-        Some(self.not_before_now(first))
     }
 
     /// Returns what RS knows of the service at an index of the settings. `None` past the end.
@@ -85,12 +84,26 @@ impl Rs {
         }
     }
 
-    // The tick, or the last event's where that is later.
-    fn not_before_now(&self, tick: u64) -> u64
-        ensures later { (self.now.tick ≤ result) × (tick ≤ result) }
-        ensures value { (result ≡ tick) ⊎ (result ≡ self.now.tick) }
+    // The first tick at which something is due of some service, which may be before the last event's.
+    fn first_due(&self) -> Option<u64>
+        ensures { IsFrom (λ tick. any_due tick self.now.settings.services self.now.states) result }
     {
-        if tick < self.tick { self.tick } else { tick }
+        first_due(self.settings.services(), self.states.as_slice())
+    }
+
+    // The tick, or the last event's where that is later. `None` for a tick that RS never takes.
+    #[tactic(auto, using(std::proofs::lemmas::Bool::Decides::nat_tests))]
+    fn reached(&self, first: u64) -> Option<u64>
+        ensures first { (tick : ℕ) → self.now.tick ≤ tick → tick ≤ 2 ^ 62 → is_from result tick ≡ nat_le first tick }
+        ensures range { IfSome result (λ tick. (self.now.tick ≤ tick) × (tick ≤ 2 ^ 62)) }
+    {
+        if first > LAST_TICK {
+            return None;
+        }
+        if first < self.tick {
+            return Some(self.tick);
+        }
+        Some(first)
     }
 }
 
