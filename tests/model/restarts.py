@@ -271,6 +271,7 @@ READINGS = {
     "service": lambda rs, index: told(dict(enumerate(rs.states.values())).get(index, ("unknown",))),
     "instance": lambda rs, endpoint: f"instance {number(rs.instance(endpoint))}",
     "publishes": lambda rs, endpoint, name: "may publish" if rs.publishes(endpoint, name) else "may not publish",
+    "labels": lambda rs, endpoint, name: "may not publish",
 }
 
 

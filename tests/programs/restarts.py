@@ -78,7 +78,7 @@ class Script(demos.Script):
         drawn = self.random
         self.ask(*drawn.choice([
             ("key",), ("next",), ("due",), ("due",), ("service", drawn.randint(0, 64)), ("instance", self.endpoint()),
-            ("publishes", self.endpoint(), f"name{drawn.randint(0, 7)}.{drawn.randint(0, 2)}"),
+            (drawn.choice(["publishes", "publishes", "labels"]), self.endpoint(), f"name{drawn.randint(0, 7)}.{drawn.randint(0, 2)}"),
         ]))
 
     def tick(self):

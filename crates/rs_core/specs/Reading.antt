@@ -1,7 +1,8 @@
 -- What is read of RS between two events.
 use Rattle.std.specs.Prelude.{◌≡◌, ◌≢◌, ◌↔◌, ℕ, ◌+◌, ◌≤◌, ◌^◌, Bool, true, false, ◌||◌, nat_le, nat_lt, List, [], ◌∷◌, Option, Some, None, is_some, Result, Ok, Err, if◌then◌else◌}
 use Rattle.ds_names.specs.Endpoint.{EndpointRecord}
-use Rattle.rs_settings.specs.Shared.{has_name}
+use Rattle.ds_names.specs.declared.key.Key.{Key}
+use Rattle.rs_settings.specs.Declared.{is_declared}
 use Rattle.rs_settings.specs.declared.service.Service.{Service}
 use Rattle.rs_core.specs.declared.action.Action.{Action}
 use Rattle.rs_core.specs.declared.deed.Deed.{Deed}
@@ -70,7 +71,7 @@ StepsGiveUp = (s t : RsRecord) (event : Event) (tick : ℕ) (actions : List Acti
 abbrev pub place_of_instance : RsRecord → EndpointRecord → Option ℕ
 place_of_instance s endpoint = service_place s (sought.Instance endpoint)
 
--- whether the service with this index lists the name among those that it publishes
-abbrev pub publishes_at : RsRecord → Option ℕ → List ℕ → Bool
-publishes_at s None name = false
-publishes_at s (Some i) name = has_name (service_at s i).publishes name
+-- whether the service with this index declares the key
+abbrev pub declares_at : RsRecord → Option ℕ → Key → Bool
+declares_at s None key = false
+declares_at s (Some i) key = is_declared (service_at s i) key

@@ -1,6 +1,6 @@
 //! What RS is asked.
 
-use ds_names::{Endpoint, Generation, Name};
+use ds_names::{Endpoint, Generation, Key, Kind, Name};
 use rs_core::Event;
 use std::str::Split;
 use test_words::{name_at, number_at};
@@ -24,8 +24,8 @@ pub(crate) enum Command {
     Service(usize),
     /// `instance ENDPOINT`: the index of the service that runs under the endpoint.
     Instance(Endpoint),
-    /// `publishes ENDPOINT NAME`: whether this instance may publish this name.
-    Publishes(Endpoint, Name),
+    /// `publishes ENDPOINT NAME`: whether this instance may publish a number under this name, and `labels` whether a label.
+    Publishes(Endpoint, Key),
     /// `numbers GENERATION SEQ`: a numberer begins.
     Numbers { generation: Generation, seq: u32 },
     /// `number`: the numberer's next number.
@@ -44,7 +44,8 @@ pub(crate) fn read_command(line: &str) -> Option<Command> {
         "due" => Some(Command::Due),
         "service" => Some(Command::Service(number_at(&mut words)?)),
         "instance" => Some(Command::Instance(read_endpoint(&mut words)?)),
-        "publishes" => read_publishes(&mut words),
+        "publishes" => read_publishes(Kind::U32, &mut words),
+        "labels" => read_publishes(Kind::Label, &mut words),
         "number" => Some(Command::Number),
         "rows" => Some(Command::Rows),
         "numbers" => read_numbers(&mut words),
@@ -56,8 +57,10 @@ pub(crate) fn read_command(line: &str) -> Option<Command> {
     }
 }
 
-fn read_publishes(words: &mut Split<'_, char>) -> Option<Command> {
-    Some(Command::Publishes(read_endpoint(words)?, name_at(words)?))
+fn read_publishes(kind: Kind, words: &mut Split<'_, char>) -> Option<Command> {
+    let endpoint = read_endpoint(words)?;
+    let name = name_at(words)?;
+    Some(Command::Publishes(endpoint, Key { name, kind }))
 }
 
 fn read_numbers(words: &mut Split<'_, char>) -> Option<Command> {

@@ -88,7 +88,7 @@ impl Session {
             Command::Due => tell_number(text, "due ", rs.due()),
             Command::Service(index) => tell_state(text, rs.state_of(index)),
             Command::Instance(endpoint) => tell_index(text, "instance ", rs.place_of_instance(endpoint)),
-            Command::Publishes(endpoint, name) => tell_publishes(text, rs.may_publish(endpoint, &name)),
+            Command::Publishes(endpoint, key) => tell_publishes(text, rs.may_publish(endpoint, &key)),
             _ => tell_numbers(text, &[("key ", rs.next_key() as u64)]),
         }
     }

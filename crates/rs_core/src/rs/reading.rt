@@ -3,7 +3,7 @@
 ghost use Rattle.std.specs.Prelude.{◌≡◌, ◌<◌, ◌≤◌, ◌^◌, ℕ, nat_le, length, slice_get, is_some, IfSome};
 ghost use Rattle.rs_core.specs.Machine.{asked, due, failures_of};
 ghost use Rattle.rs_core.specs.Judging.{asks, has_actions};
-ghost use Rattle.rs_core.specs.Reading.{any_due, given_up, gives_up, is_from, place_of_instance, publishes_at, IsFrom};
+ghost use Rattle.rs_core.specs.Reading.{any_due, declares_at, given_up, gives_up, is_from, place_of_instance, IsFrom};
 
 use crate::deed::Deed;
 use crate::due::first_due;
@@ -12,7 +12,7 @@ use crate::finding::Sought;
 use crate::judging::has_actions;
 use crate::rs::Rs;
 use crate::state::State;
-use ds_names::{Endpoint, Name};
+use ds_names::{Endpoint, Key};
 use rs_settings::Service;
 
 /// The last tick that RS takes.
@@ -74,12 +74,12 @@ impl Rs {
         self.place(Sought::Instance(endpoint))
     }
 
-    /// Returns whether the instance with the endpoint may publish the name: it runs, and its settings list the name in `publishes`.
-    pub fn may_publish(&self, endpoint: Endpoint, name: &Name) -> bool
-        ensures { result ≡ publishes_at self.now (place_of_instance self.now endpoint) name.now }
+    /// Returns whether the instance with the endpoint may publish under the key: it runs, and its service declares the key.
+    pub fn may_publish(&self, endpoint: Endpoint, key: &Key) -> bool
+        ensures { result ≡ declares_at self.now (place_of_instance self.now endpoint) key.now }
     {
         match self.place_of_instance(endpoint) {
-            Some(place) => self.service_at(place).publishes.has(name),
+            Some(place) => self.service_at(place).declares(key),
             None => false,
         }
     }
