@@ -3,7 +3,7 @@ use Rattle.std.specs.Prelude.{if◌then◌else◌, ℕ, ◌==◌, Bool, not, nat
 use Rattle.ds_names.specs.declared.key.Key.{Key}
 use Rattle.ds_entry.specs.Change.{is_of_kind}
 use Rattle.ds_entry.specs.declared.body.Body.{Body}
-pub use Rattle.rs_settings.specs.Declared.{is_declared}
+pub use Rattle.rs_settings.specs.Dealing.{is_declared}
 use Rattle.rs_core.specs.declared.state.State.{State}
 use Rattle.rs_core.specs.declared.state.State.TheVariants.{Down, Up, Waiting, GaveUp}
 use Rattle.rs_core.specs.declared.state.Running.{Running}

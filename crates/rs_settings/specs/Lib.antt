@@ -6,4 +6,4 @@ pub mod Settings
 pub mod Apart
 pub mod Draft
 pub mod Ascending
-pub mod Declared
+pub mod Dealing

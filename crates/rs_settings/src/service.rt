@@ -1,7 +1,7 @@
 //! Services.
 
 ghost use Rattle.std.specs.Prelude.{◌≡◌, IfOk};
-ghost use Rattle.rs_settings.specs.Declared.{is_declared};
+ghost use Rattle.rs_settings.specs.Dealing.{is_declared};
 
 use crate::class::Class;
 use crate::names::Names;
