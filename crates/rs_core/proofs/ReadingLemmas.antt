@@ -7,7 +7,7 @@ use Rattle.std.proofs.Math.ListN.{set, length-set}
 use Rattle.std.proofs.lemmas.Bool.{cases_lt, le-leb, lt-leb}
 use Rattle.std.proofs.lemmas.Bool.Decides.{nat_tests}
 use Rattle.std.proofs.lemmas.List.{drop_more, drop_all, get_or-set_same}
-use Rattle.std.proofs.lemmas.Option.{get_or_from_slice_get}
+use Rattle.std.proofs.lemmas.Option.{get_or_from_slice_get, same_Some}
 use Rattle.rs_settings.specs.declared.service.Service.{Service}
 use Rattle.rs_core.specs.declared.action.Action.{Action}
 use Rattle.rs_core.specs.declared.deed.Deed.{Deed}
@@ -68,13 +68,13 @@ any_due-end tick i ss ts h k = ap (λ (l : List Service). any_due tick l (drop i
 
 -- ---- what is due
 
-is_some-map : {X Y : Type 0} (f : X → Y) (o : Option X) → is_some (option_map f o) ≡ is_some o
-is_some-map f None = refl
-is_some-map f (Some x) = refl
-
-is_some-or : {X : Type 0} (a b : Option X) → is_some (option_or a b) ≡ (is_some a || is_some b)
-is_some-or None b = refl
-is_some-or (Some x) b = refl
+-- of three things that may be there, one is
+some_of_three : {X : Type 0} (f g h : ℕ → X) (m n o : Option ℕ)
+    → is_some (option_or (option_map f m) (option_or (option_map g n) (option_map h o))) ≡ (is_some m || (is_some n || is_some o))
+some_of_three f g h (Some i) n o = refl
+some_of_three f g h None (Some i) o = refl
+some_of_three f g h None None (Some i) = refl
+some_of_three f g h None None None = refl
 
 abbrev is_found : Sought → ℕ → List Service → List State → Bool
 is_found what i ss ts = is_some (first_sought what i ss ts)
@@ -105,15 +105,7 @@ found_due tick i (s ∷ ss) (t ∷ ts) =
 
 pub due_is_any : (s : RsRecord) (tick : ℕ) → is_some (due s tick) ≡ any_due tick s.settings.services s.states
 due_is_any s tick =
-    let missed = service_place s (sought.Missed tick) in
-    let silent = service_place s (sought.Silent tick) in
-    let rested = service_place s (sought.Rested tick) in
-    is_some-or (option_map (plan (Lose true)) missed) (option_or (option_map (plan Ping) silent) (option_map (plan Resume) rested))
-    ∙ ap (λ (b : Bool). b || is_some (option_or (option_map (plan Ping) silent) (option_map (plan Resume) rested))) (is_some-map (plan (Lose true)) missed)
-    ∙ ap (λ (b : Bool). is_some missed || b) (
-        is_some-or (option_map (plan Ping) silent) (option_map (plan Resume) rested)
-        ∙ ap (λ (b : Bool). b || is_some (option_map (plan Resume) rested)) (is_some-map (plan Ping) silent)
-        ∙ ap (λ (b : Bool). is_some silent || b) (is_some-map (plan Resume) rested))
+    some_of_three (plan (Lose true)) (plan Ping) (plan Resume) (service_place s (sought.Missed tick)) (service_place s (sought.Silent tick)) (service_place s (sought.Rested tick))
     ∙ found_due tick 0 s.settings.services s.states
 
 -- ---- what a tick does
@@ -142,10 +134,6 @@ is_there s what i e =
 false_true : {P : Type 0} → false ≡ true → P
 false_true e = absurd (let n : false ≡ true = e in cc)
 
-and_second : (a b : Bool) → a && b ≡ true → b ≡ true
-and_second true b e = e
-and_second false b e = false_true e
-
 -- an instance runs where a test of one holds
 abbrev Runs : State → Type 0
 Runs state = (r : Running) × (state ≡ Up r)
@@ -155,6 +143,11 @@ runs_when test (Up r) e = (r, refl)
 runs_when test Down e = false_true e
 runs_when test (Waiting p) e = false_true e
 runs_when test GaveUp e = false_true e
+
+-- also where it is tested beside another test
+runs_also : (b : Bool) (test : Running → Bool) (state : State) → b && when_up test state ≡ true → Runs state
+runs_also true test state e = runs_when test state e
+runs_also false test state e = false_true e
 
 waits_when : (test : Pause → Bool) (state : State) → when_waiting test state ≡ true → (p : Pause) × (state ≡ Waiting p)
 waits_when test (Waiting p) e = (p, refl)
@@ -171,12 +164,12 @@ cons_not x xs = λ e. let n : x ∷ xs ≡ [] = e in cc
 
 lose_acts : (s : RsRecord) (tick place : ℕ) → service_place s (sought.Missed tick) ≡ Some place → ActsAt s place (Lose true)
 lose_acts s tick place e =
-    let is = runs_when (λ r. nat_le (2 * (service_at s place).period) (tick - r.beat)) (state_at s place) (and_second (nat_lt 0 (service_at s place).period) _ (is_there s (sought.Missed tick) place e)) in
+    let is = runs_also (nat_lt 0 (service_at s place).period) (λ r. nat_le (2 * (service_at s place).period) (tick - r.beat)) (state_at s place) (is_there s (sought.Missed tick) place e) in
     subst (λ (z : State). actions_of s (service_at s place) z (Lose true) ≢ []) (sym is.1) (cons_not _ _)
 
 ping_acts : (s : RsRecord) (tick place : ℕ) → service_place s (sought.Silent tick) ≡ Some place → ActsAt s place Ping
 ping_acts s tick place e =
-    let is = runs_when (λ r. nat_le (service_at s place).period (tick - r.ping)) (state_at s place) (and_second (nat_lt 0 (service_at s place).period) _ (is_there s (sought.Silent tick) place e)) in
+    let is = runs_also (nat_lt 0 (service_at s place).period) (λ r. nat_le (service_at s place).period (tick - r.ping)) (state_at s place) (is_there s (sought.Silent tick) place e) in
     subst (λ (z : State). actions_of s (service_at s place) z Ping ≢ []) (sym is.1) (cons_not _ _)
 
 start_acts : (s : RsRecord) (tick place : ℕ) → service_place s (sought.Rested tick) ≡ Some place → ActsAt s place Resume
@@ -200,7 +193,8 @@ due_acts s tick p e = by (service_place s (sought.Missed tick)) refl (service_pl
     by None f None g (Some i) h q = one Resume i q (start_acts s tick i h)
     by None f None g None h q = absurd (let n : None ≡ Some p = q in cc)
 
-same_asked : (a b : Option Plan) (x : Result (Option Plan) RsFault) → x ≡ Ok a → x ≡ Ok b → a ≡ b
+-- a result is of one plan
+pub same_asked : (a b : Option Plan) (x : Result (Option Plan) RsFault) → x ≡ Ok a → x ≡ Ok b → a ≡ b
 same_asked a b x e f = cc
 
 pub ticks_act : TicksActWhenDue
@@ -259,9 +253,6 @@ runs_within [] i r e = absurd (let n : Down ≡ Up r = e in cc)
 runs_within (x ∷ xs) zero r e = omega arith
 runs_within (x ∷ xs) (suc i) r e = let n : i < length xs = runs_within xs i r e in omega arith
 
-same_number : (m n : ℕ) → Some m ≡ Some n → m ≡ n
-same_number m n e = cc
-
 up_not_given_up : (r : Running) (state : State) → state ≡ Up r → state ≢ GaveUp
 up_not_given_up r state e = λ f. absurd (let n : Up r ≡ GaveUp = sym e ∙ f in cc)
 
@@ -282,7 +273,7 @@ steps_give_up s t event tick actions (Some p, free, is, h) i = (onward, back)
     given = ap (given_up_in s) is
 
     tested : (b : Bool) → gives_up p.deed service (state_at s p.place) ≡ b → cond b (Some p.place) None ≡ Some i → (p.place ≡ i) × (gives_up p.deed service (state_at s p.place) ≡ true)
-    tested true q e = (same_number p.place i e, q)
+    tested true q e = (same_Some p.place i e, q)
     tested false q e = absurd (let n : None ≡ Some i = e in cc)
 
     onward : given_up s event tick ≡ Some i → (state_at t i ≡ GaveUp) × (state_at s i ≢ GaveUp)

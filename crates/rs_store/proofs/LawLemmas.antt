@@ -1,5 +1,5 @@
 -- What a history of RS and its store is to each of the two.
-use Rattle.std.proofs.Common.{◌≡◌, ℕ, Bool, true, false, List, [], ◌∷◌, ◌++◌, Option, Some, None, Ok, Result, refl, sym, ap, subst, ◌∙◌, append_assoc, append-nil}
+use Rattle.std.proofs.Common.{◌≡◌, ℕ, Bool, true, false, List, [], ◌∷◌, ◌++◌, Option, Some, None, refl, sym, ap, subst, ◌∙◌, append_assoc, append-nil}
 use Rattle.std.specs.Prelude.{filter}
 use Rattle.std.specs.List.{flat_map}
 use Rattle.history.specs.declared.entry.Entry.{Entry}
@@ -11,6 +11,7 @@ use Rattle.ds_entry.specs.declared.body.Body.{Body}
 use Rattle.ds_entry.specs.declared.body.Body.TheVariants.{Put, Gone}
 use Rattle.ds_entry.specs.SingleNumbered.{IsSingleNumbered}
 use Rattle.ds_entry.proofs.Members.{Contains-nil}
+use Rattle.rs_core.proofs.ReadingLemmas.{same_asked}
 use Rattle.rs_core.proofs.RunLemmas.{labels_single_numbered}
 use Rattle.ds_machine.specs.State.{State}
 use Rattle.ds_machine.specs.declared.command.Command.{Command}
@@ -25,7 +26,6 @@ use Rattle.rs_core.specs.declared.deed.Plan.{Plan}
 use Rattle.rs_core.specs.declared.event.Event.{Event}
 use Rattle.rs_core.specs.declared.event.Event.TheVariants as events
 use Rattle.rs_core.specs.declared.fault.NewFault.TheVariants as new_faults
-use Rattle.rs_core.specs.declared.fault.RsFault.{RsFault}
 use Rattle.rs_core.specs.Machine.{asked}
 use Rattle.rs_core.specs.State.{RsRecord}
 use Rattle.rs_core.specs.Step.{RsStep, IsCarriedOut}
@@ -37,7 +37,7 @@ use Rattle.rs_store.specs.declared.call.RsCommand.TheVariants.{Ask, Begin, Tell}
 use Rattle.rs_store.specs.declared.call.RsReply.{RsReply}
 use Rattle.rs_store.specs.declared.call.RsReply.TheVariants.{Replied, NotAllowed, Begun, Exists, NotBegun, Acted, Refused}
 use Rattle.rs_store.specs.Pair.{PairRecord}
-use Rattle.rs_store.specs.Serving.{Asks, Begins, BeginsFirst, Serves, RsServes, TurnFor, TurnsFor, is_barred, without_settings}
+use Rattle.rs_store.specs.Serving.{ClientTurn, BeginTurn, BeginsFirst, EventTurn, RsServes, TurnFor, TurnsFor, passes_for_rs, before_beginning}
 use Rattle.rs_store.specs.Turns.{RsTurn}
 use Rattle.rs_store.specs.Laws.{entry_if, entries_for, entries_by, store_entries, StoreTurnsRun, actions_in, actions_by, RsTurnsRun, HistoriesKeepLabels, RsAloneIsRs, StandAlike, PairsSettle}
 
@@ -56,7 +56,7 @@ all_for n (x ∷ acts) (r ∷ rs) a b all =
 all_for n [] (r ∷ rs) a b all = absurd all
 all_for n (x ∷ acts) [] a b all = absurd all
 
-none_asked : (n : ℕ) (event : Event) (tick : ℕ) (other : Event) → entries_by n (Tell other tick) (without_settings event) ≡ []
+none_asked : (n : ℕ) (event : Event) (tick : ℕ) (other : Event) → entries_by n (Tell other tick) (before_beginning event) ≡ []
 none_asked n (events.Up l) tick other = refl
 none_asked n (events.Stop l) tick other = refl
 none_asked n (events.Refresh l) tick other = refl
@@ -66,7 +66,7 @@ none_asked n (events.Beat e) tick other = refl
 none_asked n events.Tick tick other = refl
 
 serve_runs : (n : ℕ) (event : Event) (tick : ℕ) (o : Option RsRecord) (reply : RsReply) (old : ContentRecord) (after : Option RsRecord) (new : ContentRecord)
-    → Serves event tick o old reply after new → Run Turn old (entries_by n (Tell event tick) reply) new
+    → EventTurn event tick o old reply after new → Run Turn old (entries_by n (Tell event tick) reply) new
 serve_runs n event tick None reply old after new h =
     subst (λ (r : RsReply). Run Turn old (entries_by n (Tell event tick) r) new) (sym h.0)
     (subst (λ (es : List (Entry Command Reply)). Run Turn old es new) (sym (none_asked n event tick event)) (sym h.2))
@@ -78,7 +78,7 @@ serve_runs n event tick (Some rs) (Begun k l) old after new h = absurd h
 serve_runs n event tick (Some rs) Exists old after new h = absurd h
 serve_runs n event tick (Some rs) (NotBegun f) old after new h = absurd h
 
-ask_runs : (n : ℕ) (o : Option RsRecord) (c : Command) (reply : RsReply) (old new : ContentRecord) → Asks o old c reply new → Run Turn old (entries_by n (Ask c) reply) new
+ask_runs : (n : ℕ) (o : Option RsRecord) (c : Command) (reply : RsReply) (old new : ContentRecord) → ClientTurn o old c reply new → Run Turn old (entries_by n (Ask c) reply) new
 ask_runs n o c (Replied r) old new h = (new, h.1, refl)
 ask_runs n o c NotAllowed old new h = sym h.1
 ask_runs n o c (Begun k l) old new h = absurd h
@@ -123,7 +123,7 @@ served event tick rs Exists old after new h = absurd h
 served event tick rs (NotBegun f) old after new h = absurd h
 
 -- a client's command has no actions
-asks_act_not : (o : Option RsRecord) (c : Command) (reply : RsReply) (old new : ContentRecord) → Asks o old c reply new → actions_in reply ≡ []
+asks_act_not : (o : Option RsRecord) (c : Command) (reply : RsReply) (old new : ContentRecord) → ClientTurn o old c reply new → actions_in reply ≡ []
 asks_act_not o c (Replied r) old new h = refl
 asks_act_not o c NotAllowed old new h = refl
 asks_act_not o c (Begun k l) old new h = absurd h
@@ -136,10 +136,10 @@ one_goes : (command : RsCommand) (reply : RsReply) (old new : PairRecord) (rs : 
 one_goes (Ask c) reply old new rs e h =
     (rs, h.1 ∙ e, subst (λ (l : List (List Action)). RsRun rs l rs) (sym (asks_act_not old.services c reply old.store new.store h.0)) refl)
 one_goes (Begin settings next first) reply old new rs e h =
-    let begins = subst (λ (o : Option RsRecord). Begins o settings next first reply new.services) e h.0 in
+    let begins = subst (λ (o : Option RsRecord). BeginTurn o settings next first reply new.services) e h.0 in
     subst (λ (r : RsReply). Goes rs r new.services) (sym begins.0) (rs, begins.1, refl)
 one_goes (Tell event tick) reply old new rs e h =
-    served event tick rs reply old.store new.services new.store (subst (λ (o : Option RsRecord). Serves event tick o old.store reply new.services new.store) e h)
+    served event tick rs reply old.store new.services new.store (subst (λ (o : Option RsRecord). EventTurn event tick o old.store reply new.services new.store) e h)
 
 pub rs_turns_run : RsTurnsRun
 rs_turns_run [] old new rs e run = (rs, ap (λ (p : PairRecord). p.services) (sym run) ∙ e, refl)
@@ -151,7 +151,7 @@ rs_turns_run (x ∷ es) old new rs e run =
 -- ---- labels
 
 -- before RS has begun nothing is offered
-none_told : (event : Event) (rest : List (List Action)) → flat_map offers (actions_in (without_settings event) ++ rest) ≡ flat_map offers rest
+none_told : (event : Event) (rest : List (List Action)) → flat_map offers (actions_in (before_beginning event) ++ rest) ≡ flat_map offers rest
 none_told (events.Up l) rest = refl
 none_told (events.Stop l) rest = refl
 none_told (events.Refresh l) rest = refl
@@ -163,7 +163,7 @@ none_told events.Tick rest = refl
 abbrev OffersNone : RsReply → List (List Action) → Type 0
 OffersNone reply rest = flat_map offers (actions_in reply ++ rest) ≡ flat_map offers rest
 
-asks_none : (o : Option RsRecord) (c : Command) (reply : RsReply) (old new : ContentRecord) (rest : List (List Action)) → Asks o old c reply new → OffersNone reply rest
+asks_none : (o : Option RsRecord) (c : Command) (reply : RsReply) (old new : ContentRecord) (rest : List (List Action)) → ClientTurn o old c reply new → OffersNone reply rest
 asks_none o c reply old new rest h = ap (λ (l : List (List Action)). flat_map offers (l ++ rest)) (asks_act_not o c reply old new h)
 
 begins_none : (settings : SettingsRecord) (next first : ℕ) (reply : RsReply) (after : Option RsRecord) (rest : List (List Action)) → BeginsFirst settings next first reply after → OffersNone reply rest
@@ -178,9 +178,9 @@ begins_none settings next first (Refused fault) after rest h = absurd h
 offers_none : (command : RsCommand) (reply : RsReply) (old new : PairRecord) (rest : List (List Action)) → old.services ≡ None → RsTurn old command reply new → OffersNone reply rest
 offers_none (Ask c) reply old new rest e h = asks_none old.services c reply old.store new.store rest h.0
 offers_none (Begin settings next first) reply old new rest e h =
-    begins_none settings next first reply new.services rest (subst (λ (o : Option RsRecord). Begins o settings next first reply new.services) e h.0)
+    begins_none settings next first reply new.services rest (subst (λ (o : Option RsRecord). BeginTurn o settings next first reply new.services) e h.0)
 offers_none (Tell event tick) reply old new rest e h =
-    let is = subst (λ (o : Option RsRecord). Serves event tick o old.store reply new.services new.store) e h in
+    let is = subst (λ (o : Option RsRecord). EventTurn event tick o old.store reply new.services new.store) e h in
     subst (λ (r : RsReply). OffersNone r rest) (sym is.0) (none_told event rest)
 
 pub histories_keep_labels : HistoriesKeepLabels
@@ -246,7 +246,7 @@ all_by_rs n (x ∷ acts) [] a b h = absurd h
 abbrev RsIsAlone : ℕ → RsCommand → RsReply → Type 0
 RsIsAlone n command reply = by_rs_in (entries_by n command reply) ≡ flat_map commands (actions_in reply)
 
-ask_alone : (n : ℕ) (rs : RsRecord) (c : Command) (reply : RsReply) (old new : ContentRecord) → Asks (Some rs) old c reply new → RsIsAlone n (Ask c) reply
+ask_alone : (n : ℕ) (rs : RsRecord) (c : Command) (reply : RsReply) (old new : ContentRecord) → ClientTurn (Some rs) old c reply new → RsIsAlone n (Ask c) reply
 ask_alone n rs c (Replied r) old new h = let none : is_by_rs c ≡ false = h.0 in rw none refl
 ask_alone n rs c NotAllowed old new h = refl
 ask_alone n rs c (Begun k l) old new h = absurd h
@@ -267,12 +267,12 @@ serve_alone n event tick rs (NotBegun f) old after new h = absurd h
 
 one_alone : (n : ℕ) (command : RsCommand) (reply : RsReply) (old new : PairRecord) (rs : RsRecord) → old.services ≡ Some rs → RsTurn old command reply new → RsIsAlone n command reply
 one_alone n (Ask c) reply old new rs e h =
-    ask_alone n rs c reply old.store new.store (subst (λ (o : Option RsRecord). Asks o old.store c reply new.store) e h.0)
+    ask_alone n rs c reply old.store new.store (subst (λ (o : Option RsRecord). ClientTurn o old.store c reply new.store) e h.0)
 one_alone n (Begin settings next first) reply old new rs e h =
-    let begins = subst (λ (o : Option RsRecord). Begins o settings next first reply new.services) e h.0 in
+    let begins = subst (λ (o : Option RsRecord). BeginTurn o settings next first reply new.services) e h.0 in
     subst (λ (r : RsReply). RsIsAlone n (Begin settings next first) r) (sym begins.0) refl
 one_alone n (Tell event tick) reply old new rs e h =
-    serve_alone n event tick rs reply old.store new.services new.store (subst (λ (o : Option RsRecord). Serves event tick o old.store reply new.services new.store) e h)
+    serve_alone n event tick rs reply old.store new.services new.store (subst (λ (o : Option RsRecord). EventTurn event tick o old.store reply new.services new.store) e h)
 
 asked_join : (xs ys : List (List Action)) → flat_map commands xs ++ flat_map commands ys ≡ flat_map commands (xs ++ ys)
 asked_join [] ys = refl
@@ -290,20 +290,17 @@ rs_alone (x ∷ es) old new rs e run =
 
 -- ---- what replies settle
 
-same_plan : (p q : Option Plan) (x : Result (Option Plan) RsFault) → x ≡ Ok p → x ≡ Ok q → p ≡ q
-same_plan p q x e f = cc
-
 carried_alike : (s : RsRecord) (tick : ℕ) (p : Option Plan) (acts : List Action) (t u : RsRecord) → IsCarriedOut s tick p acts t → IsCarriedOut s tick p acts u → t ≡ u
 carried_alike s tick None acts t u h k = h.after ∙ sym k.after
 carried_alike s tick (Some p) acts t u h k = h.after ∙ sym k.after
 
 step_settles : (s : RsRecord) (event : Event) (tick : ℕ) (acts : List Action) (t u : RsRecord) → RsStep s event tick acts t → RsStep s event tick acts u → t ≡ u
 step_settles s event tick acts t u h k =
-    let same : h.0 ≡ k.0 = same_plan h.0 k.0 (asked s event tick) h.2 k.2 in
+    let same : h.0 ≡ k.0 = same_asked h.0 k.0 (asked s event tick) h.2 k.2 in
     carried_alike s tick k.0 acts t u (subst (λ (p : Option Plan). IsCarriedOut s tick p acts t) same h.3) k.3
 
 serve_settles : (event : Event) (tick : ℕ) (o : Option RsRecord) (reply : RsReply) (c d x y : ContentRecord) (a b : Option RsRecord)
-    → Serves event tick o c reply a x → Serves event tick o d reply b y → a ≡ b
+    → EventTurn event tick o c reply a x → EventTurn event tick o d reply b y → a ≡ b
 serve_settles event tick None reply c d x y a b h k = h.1 ∙ sym k.1
 serve_settles event tick (Some rs) (Acted acts replies gone) c d x y a b h k =
     let same : h.0.0 ≡ k.0.0 = step_settles rs event tick acts h.0.0 k.0.0 h.0.1 k.0.1 in
@@ -315,7 +312,7 @@ serve_settles event tick (Some rs) (Begun m l) c d x y a b h k = absurd h
 serve_settles event tick (Some rs) Exists c d x y a b h k = absurd h
 serve_settles event tick (Some rs) (NotBegun f) c d x y a b h k = absurd h
 
-begin_settles : (o : Option RsRecord) (settings : SettingsRecord) (next first : ℕ) (reply : RsReply) (a b : Option RsRecord) → Begins o settings next first reply a → Begins o settings next first reply b → a ≡ b
+begin_settles : (o : Option RsRecord) (settings : SettingsRecord) (next first : ℕ) (reply : RsReply) (a b : Option RsRecord) → BeginTurn o settings next first reply a → BeginTurn o settings next first reply b → a ≡ b
 begin_settles (Some rs) settings next first reply a b h k = h.1 ∙ sym k.1
 begin_settles None settings next first (Begun m l) a b h k = h.3 ∙ sym k.3
 begin_settles None settings next first (NotBegun new_faults.OutOfRange) a b h k = h.1 ∙ sym k.1
@@ -329,10 +326,10 @@ begin_settles None settings next first (Refused fault) a b h k = absurd h
 one_settles : (command : RsCommand) (reply : RsReply) (old other a b : PairRecord) → old.services ≡ other.services → RsTurn old command reply a → RsTurn other command reply b → a.services ≡ b.services
 one_settles (Ask c) reply old other a b e h k = h.1 ∙ e ∙ sym k.1
 one_settles (Begin settings next first) reply old other a b e h k =
-    begin_settles other.services settings next first reply a.services b.services (subst (λ (o : Option RsRecord). Begins o settings next first reply a.services) e h.0) k.0
+    begin_settles other.services settings next first reply a.services b.services (subst (λ (o : Option RsRecord). BeginTurn o settings next first reply a.services) e h.0) k.0
 one_settles (Tell event tick) reply old other a b e h k =
     serve_settles event tick other.services reply old.store other.store a.store b.store a.services b.services
-    (subst (λ (o : Option RsRecord). Serves event tick o old.store reply a.services a.store) e h) k
+    (subst (λ (o : Option RsRecord). EventTurn event tick o old.store reply a.services a.store) e h) k
 
 services_settle : (es : List (Entry RsCommand RsReply)) (old other a b : PairRecord) → old.services ≡ other.services → Run RsTurn old es a → Run RsTurn other es b → a.services ≡ b.services
 services_settle [] old other a b e h k = ap (λ (p : PairRecord). p.services) (sym h) ∙ e ∙ ap (λ (p : PairRecord). p.services) k

@@ -1,12 +1,9 @@
 -- The store's turns for RS's actions, one after another.
-use Rattle.std.proofs.Common.{◌≡◌, ℕ, suc, ◌+◌, take, ◌≤◌, min, arith, List, [], ◌∷◌, ◌++◌, length, Option, Some, refl, sym, ap, subst, ◌∙◌}
+use Rattle.std.proofs.Common.{◌≡◌, suc, List, [], ◌∷◌, ◌++◌, length, Option, Some, refl, sym, ap, subst, ◌∙◌}
 use Rattle.ds_content.specs.Content.{ContentRecord}
 use Rattle.ds_machine.specs.declared.reply.Reply.{Reply}
 use Rattle.ds_serve.specs.Asked.{command_of}
 use Rattle.rs_core.specs.declared.action.Action.{Action}
-use Rattle.std.specs.List.{slice_get}
-use Rattle.std.proofs.lemmas.List.{length-take, take_more}
-use Rattle.std.proofs.lemmas.Option.{slice_get_within, get_or_from_slice_get}
 use Rattle.rs_store.specs.Serving.{TurnFor, TurnsFor}
 
 -- one more action after them
@@ -23,10 +20,3 @@ turns_long [] [] a b none = refl
 turns_long (y ∷ acts) (q ∷ rs) a b all = ap suc (turns_long acts rs all.0 b all.2)
 turns_long [] (q ∷ rs) a b all = absurd all
 turns_long (y ∷ acts) [] a b all = absurd all
-
-pub less_taken : {X : Type 0} (xs : List X) (i : ℕ) → length (take i xs) ≤ i
-less_taken xs i = let e : length (take i xs) ≡ min i (length xs) = length-take i xs in omega (arith, e)
-
--- the elements before an index, and the one at it
-pub next_taken : {X : Type 0} (xs : List X) (i : ℕ) (x : X) → slice_get xs i ≡ Some x → take i xs ++ x ∷ [] ≡ take (i + 1) xs
-next_taken {X} xs i x e = sym (take_more xs i x (slice_get_within xs i x e) ∙ ap (λ (y : X). take i xs ++ y ∷ []) (get_or_from_slice_get xs i x x e))

@@ -27,36 +27,36 @@ use Rattle.rs_store.specs.declared.call.RsReply.TheVariants.{Replied, NotAllowed
 -- ---- a client's command
 
 -- whether a client may not send the command: RS has begun, and is the command's caller
-abbrev pub is_barred : Option RsRecord → Command → Bool
-is_barred None command = false
-is_barred (Some rs) command = is_by_rs command
+abbrev pub passes_for_rs : Option RsRecord → Command → Bool
+passes_for_rs None command = false
+passes_for_rs (Some rs) command = is_by_rs command
 
 -- the store takes a turn; or the command is barred, and the store is unchanged
-abbrev pub Asks : Option RsRecord → ContentRecord → Command → RsReply → ContentRecord → Type 0
-Asks services old command (Replied reply) new = (is_barred services command ≡ false) × Turn old command reply new
-Asks services old command NotAllowed new = (is_barred services command ≡ true) × (new ≡ old)
-Asks services old command _ new = ⊥
+abbrev pub ClientTurn : Option RsRecord → ContentRecord → Command → RsReply → ContentRecord → Type 0
+ClientTurn services old command (Replied reply) new = (passes_for_rs services command ≡ false) × Turn old command reply new
+ClientTurn services old command NotAllowed new = (passes_for_rs services command ≡ true) × (new ≡ old)
+ClientTurn services old command _ new = ⊥
 
 -- ---- a beginning
 
 -- RS just after it began: every service is down, the first start has the generation `next`, and its slots begin at `first`
-abbrev pub begun_with : SettingsRecord → ℕ → ℕ → RsRecord
-begun_with settings next first = rs_of settings (replicate (length settings.services) Down) 0 next (new_slots first)
+abbrev pub begun_from : SettingsRecord → ℕ → ℕ → RsRecord
+begun_from settings next first = rs_of settings (replicate (length settings.services) Down) 0 next (new_slots first)
 
 -- RS begins; or a number is out of its range; or memory runs out, for settings with a service
 abbrev pub BeginsFirst : SettingsRecord → ℕ → ℕ → RsReply → Option RsRecord → Type 0
 BeginsFirst settings next first (Begun services slots) new =
     (¬ IsOutOfRange settings.slots next first) × (services ≡ length settings.services) × (slots ≡ settings.slots)
-    × (new ≡ Some (begun_with settings next first))
+    × (new ≡ Some (begun_from settings next first))
 BeginsFirst settings next first (NotBegun new_faults.OutOfRange) new = IsOutOfRange settings.slots next first × (new ≡ None)
 BeginsFirst settings next first (NotBegun new_faults.NoRoom) new =
     (¬ IsOutOfRange settings.slots next first) × (settings.services ≢ []) × (new ≡ None)
 BeginsFirst settings next first _ new = ⊥
 
 -- once RS has begun, every further beginning is refused
-abbrev pub Begins : Option RsRecord → SettingsRecord → ℕ → ℕ → RsReply → Option RsRecord → Type 0
-Begins None settings next first reply new = BeginsFirst settings next first reply new
-Begins (Some rs) settings next first reply new = (reply ≡ Exists) × (new ≡ Some rs)
+abbrev pub BeginTurn : Option RsRecord → SettingsRecord → ℕ → ℕ → RsReply → Option RsRecord → Type 0
+BeginTurn None settings next first reply new = BeginsFirst settings next first reply new
+BeginTurn (Some rs) settings next first reply new = (reply ≡ Exists) × (new ≡ Some rs)
 
 -- ---- the store's turns for actions
 
@@ -78,32 +78,32 @@ TurnsFor old (action ∷ actions) [] new = ⊥
 -- ---- an event
 
 -- the reply before RS has begun: no service is known
-abbrev pub without_settings : Event → RsReply
-without_settings (Up label) = Refused UnknownLabel
-without_settings (Stop label) = Refused UnknownLabel
-without_settings (Refresh label) = Refused UnknownLabel
-without_settings (Restart label) = Refused UnknownLabel
-without_settings (Death endpoint cause) = Refused OldEndpoint
-without_settings (Beat endpoint) = Refused OldEndpoint
-without_settings Tick = Acted [] [] None
+abbrev pub before_beginning : Event → RsReply
+before_beginning (Up label) = Refused UnknownLabel
+before_beginning (Stop label) = Refused UnknownLabel
+before_beginning (Refresh label) = Refused UnknownLabel
+before_beginning (Restart label) = Refused UnknownLabel
+before_beginning (Death endpoint cause) = Refused OldEndpoint
+before_beginning (Beat endpoint) = Refused OldEndpoint
+before_beginning Tick = Acted [] [] None
 
 -- the first fault that stands against the event; or none does, the event has actions, and memory runs out
-abbrev pub Refuses : RsRecord → Event → ℕ → RsFault → Type 0
-Refuses rs event tick NoRoom = (refusal rs event tick ≡ None) × (asks has_actions (asked rs event tick) ≡ true)
-Refuses rs event tick fault = refusal rs event tick ≡ Some fault
+abbrev pub RsRefuses : RsRecord → Event → ℕ → RsFault → Type 0
+RsRefuses rs event tick NoRoom = (refusal rs event tick ≡ None) × (asks has_actions (asked rs event tick) ≡ true)
+RsRefuses rs event tick fault = refusal rs event tick ≡ Some fault
 
 -- RS steps, the store takes its turns for the actions, and the service that RS gave up is named; or RS refuses the event, and nothing
 -- changes
 abbrev pub RsServes : Event → ℕ → RsRecord → ContentRecord → RsReply → Option RsRecord → ContentRecord → Type 0
 RsServes event tick rs old (Acted actions replies gone) after new =
     ((t : RsRecord) × RsStep rs event tick actions t × (after ≡ Some t)) × TurnsFor old actions replies new × (gone ≡ given_up rs event tick)
-RsServes event tick rs old (Refused fault) after new = Refuses rs event tick fault × (after ≡ Some rs) × (new ≡ old)
+RsServes event tick rs old (Refused fault) after new = RsRefuses rs event tick fault × (after ≡ Some rs) × (new ≡ old)
 RsServes event tick rs old _ after new = ⊥
 
 -- the same, where RS may not have begun
-abbrev pub Serves : Event → ℕ → Option RsRecord → ContentRecord → RsReply → Option RsRecord → ContentRecord → Type 0
-Serves event tick None old reply after new = (reply ≡ without_settings event) × (after ≡ None) × (new ≡ old)
-Serves event tick (Some rs) old reply after new = RsServes event tick rs old reply after new
+abbrev pub EventTurn : Event → ℕ → Option RsRecord → ContentRecord → RsReply → Option RsRecord → ContentRecord → Type 0
+EventTurn event tick None old reply after new = (reply ≡ before_beginning event) × (after ≡ None) × (new ≡ old)
+EventTurn event tick (Some rs) old reply after new = RsServes event tick rs old reply after new
 
 -- the empty list has room for the replies to the event's actions, of which there are five at most
 pub record HasRoomFor (rs : RsRecord) (event : Event) (tick : ℕ) (replies : List (Option Reply)) (capacity : ℕ) : Type 0 where

@@ -20,7 +20,10 @@ pub enum RsCommand {
         first: u16,
     },
     /// An event for RS at a tick.
-    Tell { event: Event, tick: u64 },
+    Tell {
+        event: Event,
+        tick: u64,
+    },
 }
 
 /// A reply.
@@ -31,7 +34,10 @@ pub enum RsReply {
     /// A client's command has RS as its caller. Once RS has begun, only RS sends such commands.
     NotAllowed,
     /// RS began, with settings of `services` services and `slots` slots.
-    Begun { services: usize, slots: u32 },
+    Begun {
+        services: usize,
+        slots: u32,
+    },
     /// RS had begun before, and continues.
     Exists,
     /// Why RS didn't begin.

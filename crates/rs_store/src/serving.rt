@@ -7,7 +7,7 @@ ghost use Rattle.rs_core.specs.Judging.{asks, has_actions};
 ghost use Rattle.rs_core.specs.Machine.{asked};
 ghost use Rattle.ds_serve.specs.Asked.{command_of as command_for};
 ghost use Rattle.ds_store.specs.Turns.{Turn};
-ghost use Rattle.rs_store.specs.Serving.{Asks, Begins, HasRoomFor, Refuses, Serves, TurnFor, TurnsFor, without_settings as reply_without};
+ghost use Rattle.rs_store.specs.Serving.{ClientTurn, BeginTurn, HasRoomFor, RsRefuses, EventTurn, TurnFor, TurnsFor, before_beginning as reply_without};
 
 use crate::by_rs::is_by_rs;
 use crate::call::RsReply;
@@ -25,7 +25,7 @@ const MOST_ACTIONS: usize = 5;
 /// Passes a client's command to the store. Once RS has begun, a command with RS as its caller is refused as NotAllowed, before any
 /// other cause, and the store is unchanged.
 pub fn ask(services: &Option<Rs>, store: &mut Store, command: Command) -> RsReply
-    ensures { Asks services.now store.old command result store.new }
+    ensures { ClientTurn services.now store.old command result store.new }
 {
     if services.is_some() && is_by_rs(&command) {
         return RsReply::NotAllowed;
@@ -46,7 +46,7 @@ pub fn begin(
     next: u32,
     first: u16,
 ) -> RsReply
-    ensures { Begins services.old settings next first result services.new }
+    ensures { BeginTurn services.old settings next first result services.new }
 {
     if services.is_some() {
         return RsReply::Exists;
@@ -75,7 +75,7 @@ pub fn serve(
     event: Event,
     tick: u64,
 ) -> RsReply
-    ensures { Serves event tick services.old store.old result services.new store.new }
+    ensures { EventTurn event tick services.old store.old result services.new store.new }
 {
     steps_say();
     let Some(rs) = services else {
@@ -116,7 +116,7 @@ fn room_for(alloc: Global, rs: &Rs, event: &Event, tick: u64) -> Option<Vec<Opti
 // The refusal of an event for which memory ran out: the first fault that stands against it, or else NoRoom.
 fn out_of_room(rs: &Rs, event: &Event, tick: u64) -> RsFault
     requires { asks has_actions (asked rs.now event.now tick) ≡ true }
-    ensures { Refuses rs.now event.now tick result }
+    ensures { RsRefuses rs.now event.now tick result }
 {
     match rs.refusal(event, tick) {
         Some(fault) => fault,

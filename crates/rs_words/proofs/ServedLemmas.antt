@@ -1,10 +1,10 @@
 -- The lines of actions and replies, one after another.
-use Rattle.std.proofs.Common.{◌≡◌, ℕ, zero, suc, ◌+◌, List, [], ◌∷◌, ◌++◌, length, take, Option, Some, None, Result, Ok, Err, OnErr, refl, sym, ap, subst, ◌∙◌, append_assoc, append-nil, arith}
+use Rattle.std.proofs.Common.{◌≡◌, ℕ, zero, suc, ◌+◌, List, [], ◌∷◌, ◌++◌, length, take, Option, Some, None, refl, sym, ap, subst, ◌∙◌, append_assoc, append-nil, arith}
 use Rattle.std.specs.List.{slice_get}
 use Rattle.ds_machine.specs.declared.reply.Reply.{Reply}
 use Rattle.rs_core.specs.declared.action.Action.{Action}
 use Rattle.service_words.specs.Actions.{action_line}
-use Rattle.rs_words.specs.Served.{acted_lines, reply_lines_if, AppendsSome}
+use Rattle.rs_words.specs.Served.{acted_lines, reply_lines_if}
 
 abbrev line_with : Action → Option (Option Reply) → List ℕ
 line_with x reply = action_line x ++ reply_lines_if reply
@@ -29,18 +29,3 @@ acted_more (y ∷ acts) (r ∷ rs) (suc i) x e =
     ∙ ap (λ (l : List ℕ). action_line y ++ (here ++ l)) (acted_more acts rs i x e)
     ∙ ap (λ (l : List ℕ). action_line y ++ l) (sym (append_assoc here (acted_lines (take i acts) rs) more))
     ∙ sym (append_assoc (action_line y) (here ++ acted_lines (take i acts) rs) more)
-
--- a line after the others, and the reply's lines after it
-pub lines_after : (start out line first now mid new : List ℕ) → now ≡ start ++ out → mid ≡ now ++ line → new ≡ mid ++ first → new ≡ start ++ (out ++ (line ++ first))
-lines_after start out line first now mid new one two three =
-    three ∙ ap (λ (l : List ℕ). l ++ first) (two ∙ ap (λ (l : List ℕ). l ++ line) one) ∙ append_assoc (start ++ out) line first ∙ append_assoc start out (line ++ first)
-
--- what was appended to the old bytes is still there where no more was
-pub some_after : {X E : Type 0} (result : Result X E) (old part now new : List ℕ) → now ≡ old ++ part → OnErr result (new ≡ now) → OnErr result (AppendsSome old new)
-some_after (Ok x) old part now new after same = tt
-some_after (Err e) old part now new after same = (part, same ∙ after)
-
--- a fact holds on each error
-pub on_each : {X E : Type 0} {P : Type 0} (result : Result X E) → P → OnErr result P
-on_each (Ok x) p = tt
-on_each (Err e) p = p

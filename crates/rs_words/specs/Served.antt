@@ -1,5 +1,5 @@
 -- The lines that answer RS and its store.
-use Rattle.std.specs.Prelude.{◌≡◌, ℕ, List, [], ◌∷◌, ◌++◌, length, Option, Some, None}
+use Rattle.std.specs.Prelude.{ℕ, List, [], ◌∷◌, ◌++◌, length, Option, Some, None}
 use Rattle.ds_held.specs.Limits.{larger}
 use Rattle.ds_machine.specs.declared.refusal.Refusal.TheVariants as refusals
 use Rattle.ds_machine.specs.declared.reply.Reply.{Reply}
@@ -50,7 +50,3 @@ served_lines wording Exists = exists_line
 served_lines wording (NotBegun fault) = start_fault_line fault
 served_lines wording (Acted actions replies gone) = all_acted_lines actions replies
 served_lines wording (Refused fault) = rs_fault_line fault
-
--- the bytes after begin with those before
-abbrev pub AppendsSome : (before after : List ℕ) → Type 0
-AppendsSome before after = (part : List ℕ) × (after ≡ before ++ part)

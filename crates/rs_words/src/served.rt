@@ -2,7 +2,8 @@
 
 ghost use Rattle.std.specs.Prelude.{◌≡◌, ◌++◌, OnOk, OnErr};
 ghost use Rattle.std.specs.Option.{option_copied};
-ghost use Rattle.rs_words.specs.Served.{all_acted_lines, not_allowed_lines, reply_lines_if, served_lines, start_fault_line, AppendsSome};
+ghost use Rattle.rs_words.specs.Served.{all_acted_lines, not_allowed_lines, reply_lines_if, served_lines, start_fault_line};
+ghost use Rattle.service_words.specs.Appending.{AppendsSome};
 
 use ds_held::Limits;
 use ds_machine::{Refusal, Reply};
@@ -18,11 +19,7 @@ use store_words::{Wording, append_reply};
 
 /// Appends the lines of a reply, as a script prints them: a line for each action, below it the store's reply to it, and then how many
 /// actions there are. `wording` is that of the reply to a client's Merge. Where memory runs out, the buffer is unchanged.
-pub fn append_served(
-    buffer: &mut Vec<u8>,
-    wording: Wording,
-    reply: &RsReply,
-) -> Result<(), NoRoom>
+pub fn append_served(buffer: &mut Vec<u8>, wording: Wording, reply: &RsReply) -> Result<(), NoRoom>
     ensures written { OnOk result (buffer.new.items ≡ buffer.old.items ++ served_lines wording reply.now) }
     ensures unchanged { OnErr result (buffer.new.items ≡ buffer.old.items) }
 {
@@ -33,7 +30,9 @@ pub fn append_served(
         RsReply::Exists => append_exists(buffer),
         RsReply::NotBegun(fault) => append_start_fault(buffer, *fault),
         RsReply::Acted {
-            actions, replies, ..
+            actions,
+            replies,
+            ..
         } => append_acted(buffer, actions, replies),
         RsReply::Refused(fault) => append_rs_fault(buffer, *fault),
     }

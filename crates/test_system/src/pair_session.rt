@@ -88,7 +88,11 @@ impl PairSession {
         }
     }
 
-    fn answer_command(&mut self, text: &mut Vec<u8>, command: ScriptCommand) -> Result<(), Failure> {
+    fn answer_command(
+        &mut self,
+        text: &mut Vec<u8>,
+        command: ScriptCommand,
+    ) -> Result<(), Failure> {
         let wording = command.wording();
         if let Some((event, tick)) = command.service_event() {
             return self.send(text, wording, RsCommand::Tell { event, tick });

@@ -87,8 +87,15 @@ impl Session {
             Command::Next => tell_numbers(text, &[("next ", u64::from(rs.next_generation()))]),
             Command::Due => tell_number(text, "due ", rs.due()),
             Command::Service(index) => tell_state(text, rs.state_of(index)),
-            Command::Instance(endpoint) => tell_index(text, "instance ", rs.place_of_instance(endpoint)),
-            Command::Publishes(endpoint, key) => tell_publishes(text, rs.may_publish(endpoint, &key)),
+            Command::Instance(endpoint) => tell_index(
+                text,
+                "instance ",
+                rs.place_of_instance(endpoint),
+            ),
+            Command::Publishes(endpoint, key) => tell_publishes(
+                text,
+                rs.may_publish(endpoint, &key),
+            ),
             _ => tell_numbers(text, &[("key ", rs.next_key() as u64)]),
         }
     }
@@ -126,7 +133,14 @@ fn tell_service(text: &mut Vec<u8>, rs: &Option<Rs>, label: &Name) -> Result<(),
 }
 
 fn tell_publishes(text: &mut Vec<u8>, may: bool) -> Result<(), NoRoom> {
-    tell(text, if may { b"may publish" } else { b"may not publish" })
+    tell(
+        text,
+        if may {
+            b"may publish"
+        } else {
+            b"may not publish"
+        },
+    )
 }
 
 fn tell_event(
@@ -148,11 +162,7 @@ fn tell_event(
 }
 
 // The actions of an event, and the service that RS gave up by it.
-fn tell_step(
-    text: &mut Vec<u8>,
-    actions: &Actions,
-    given_up: Option<usize>,
-) -> Result<(), NoRoom> {
+fn tell_step(text: &mut Vec<u8>, actions: &Actions, given_up: Option<usize>) -> Result<(), NoRoom> {
     tell_actions(text, actions)?;
     if given_up.is_none() {
         return Ok(());

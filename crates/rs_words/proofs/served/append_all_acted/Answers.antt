@@ -5,7 +5,8 @@ use Rattle.std.specs.Option.{option_copied}
 use Rattle.ds_machine.specs.declared.reply.Reply.{Reply}
 use Rattle.service_words.specs.Actions.{action_line}
 use Rattle.rs_words.specs.Served.{acted_lines, reply_lines_if}
-use Rattle.rs_words.proofs.ServedLemmas.{acted_more, lines_after, on_each, some_after}
+use Rattle.service_words.proofs.AppendLemmas.{lines_after, on_each, some_after}
+use Rattle.rs_words.proofs.ServedLemmas.{acted_more}
 use Rattle.rs_words.proofs.served.append_all_acted.Goals as goal
 
 pub returns-in_err-append_action-clause-some : goal.returns-in_err-append_action-clause-some
