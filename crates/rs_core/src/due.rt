@@ -35,10 +35,7 @@ fn due_of(service: &Service, state: &State) -> Option<u64>
                 return None;
             }
             let period = u64::from(service.period);
-            earlier(
-                later(running.beat, 2 * period),
-                later(running.ping, period),
-            )
+            earlier(later(running.beat, 2 * period), later(running.ping, period))
         }
         State::Waiting(pause) => Some(pause.until),
         State::Down | State::GaveUp => None,
