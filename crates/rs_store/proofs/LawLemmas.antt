@@ -11,7 +11,7 @@ use Rattle.ds_entry.specs.declared.body.Body.{Body}
 use Rattle.ds_entry.specs.declared.body.Body.TheVariants.{Put, Gone}
 use Rattle.ds_entry.specs.SingleNumbered.{IsSingleNumbered}
 use Rattle.ds_entry.proofs.Members.{Contains-nil}
-use Rattle.rs_core.proofs.ReadingLemmas.{same_asked}
+use Rattle.rs_core.proofs.ReadingLemmas.{step_settles}
 use Rattle.rs_core.proofs.RunLemmas.{labels_single_numbered}
 use Rattle.ds_machine.specs.State.{State}
 use Rattle.ds_machine.specs.declared.command.Command.{Command}
@@ -22,12 +22,9 @@ use Rattle.ds_store.proofs.TurnLemmas.{turns_run}
 use Rattle.ds_store.proofs.SettledLemmas.{histories_settle}
 use Rattle.rs_core.specs.declared.action.Action.{Action}
 use Rattle.rs_core.specs.declared.action.Action.TheVariants.{Kill, Start, Ping, Offer, Sweep}
-use Rattle.rs_core.specs.declared.deed.Plan.{Plan}
 use Rattle.rs_core.specs.declared.event.Event.{Event}
 use Rattle.rs_core.specs.declared.event.Event.TheVariants as events
-use Rattle.rs_core.specs.Machine.{asked}
 use Rattle.rs_core.specs.State.{RsRecord}
-use Rattle.rs_core.specs.Step.{RsStep, IsCarriedOut}
 use Rattle.rs_core.specs.Run.{RsRun, RsActs, offers}
 use Rattle.rs_settings.specs.Settings.{SettingsRecord}
 use Rattle.rs_store.specs.ByRs.{is_by_rs}
@@ -69,7 +66,7 @@ serve_runs : (n : ℕ) (event : Event) (tick : ℕ) (o : Option RsRecord) (reply
 serve_runs n event tick None reply old after new h =
     subst (λ (r : RsReply). Run Turn old (entries_by n (Tell event tick) r) new) (sym h.0)
     (subst (λ (es : List (Entry Command Reply)). Run Turn old es new) (sym (none_asked n event tick event)) (sym h.2))
-serve_runs n event tick (Some rs) (Acted acts replies gone) old after new h = all_for n acts replies old new h.1
+serve_runs n event tick (Some rs) (Acted acts replies given) old after new h = all_for n acts replies old new h.1
 serve_runs n event tick (Some rs) (Refused fault) old after new h = sym h.2
 serve_runs n event tick (Some rs) (Replied r) old after new h = absurd h
 serve_runs n event tick (Some rs) NotAllowed old after new h = absurd h
@@ -83,7 +80,7 @@ ask_runs n o c NotAllowed old new h = sym h.1
 ask_runs n o c (Begun k l) old new h = absurd h
 ask_runs n o c Exists old new h = absurd h
 ask_runs n o c (NotBegun f) old new h = absurd h
-ask_runs n o c (Acted acts replies gone) old new h = absurd h
+ask_runs n o c (Acted acts replies given) old new h = absurd h
 ask_runs n o c (Refused fault) old new h = absurd h
 
 begin_runs : (n : ℕ) (settings : SettingsRecord) (next first : ℕ) (reply : RsReply) (old new : ContentRecord) → new ≡ old → Run Turn old (entries_by n (Begin settings next first) reply) new
@@ -92,7 +89,7 @@ begin_runs n settings next first NotAllowed old new e = sym e
 begin_runs n settings next first (Begun k l) old new e = sym e
 begin_runs n settings next first Exists old new e = sym e
 begin_runs n settings next first (NotBegun f) old new e = sym e
-begin_runs n settings next first (Acted acts replies gone) old new e = sym e
+begin_runs n settings next first (Acted acts replies given) old new e = sym e
 begin_runs n settings next first (Refused fault) old new e = sym e
 
 call_runs : (n : ℕ) (command : RsCommand) (reply : RsReply) (old new : PairRecord) → RsTurn old command reply new → Run Turn old.store (entries_by n command reply) new.store
@@ -113,7 +110,7 @@ Goes rs reply after = (t : RsRecord) × (after ≡ Some t) × RsRun rs (actions_
 
 served : (event : Event) (tick : ℕ) (rs : RsRecord) (reply : RsReply) (old : ContentRecord) (after : Option RsRecord) (new : ContentRecord)
     → RsServes event tick rs old reply after new → Goes rs reply after
-served event tick rs (Acted acts replies gone) old after new h = (h.0.0, h.0.2, (h.0.0, (event, tick, h.0.1), refl))
+served event tick rs (Acted acts replies given) old after new h = (h.0.0, h.0.2, (h.0.0, (event, tick, h.0.1), refl))
 served event tick rs (Refused fault) old after new h = (rs, h.1, refl)
 served event tick rs (Replied r) old after new h = absurd h
 served event tick rs NotAllowed old after new h = absurd h
@@ -128,7 +125,7 @@ asks_act_not o c NotAllowed old new h = refl
 asks_act_not o c (Begun k l) old new h = absurd h
 asks_act_not o c Exists old new h = absurd h
 asks_act_not o c (NotBegun f) old new h = absurd h
-asks_act_not o c (Acted acts replies gone) old new h = absurd h
+asks_act_not o c (Acted acts replies given) old new h = absurd h
 asks_act_not o c (Refused fault) old new h = absurd h
 
 one_goes : (command : RsCommand) (reply : RsReply) (old new : PairRecord) (rs : RsRecord) → old.services ≡ Some rs → RsTurn old command reply new → Goes rs reply new.services
@@ -171,7 +168,7 @@ begins_none settings next first NotAllowed after rest h = absurd h
 begins_none settings next first (Begun k l) after rest h = refl
 begins_none settings next first Exists after rest h = absurd h
 begins_none settings next first (NotBegun f) after rest h = refl
-begins_none settings next first (Acted acts replies gone) after rest h = absurd h
+begins_none settings next first (Acted acts replies given) after rest h = absurd h
 begins_none settings next first (Refused fault) after rest h = absurd h
 
 offers_none : (command : RsCommand) (reply : RsReply) (old new : PairRecord) (rest : List (List Action)) → old.services ≡ None → RsTurn old command reply new → OffersNone reply rest
@@ -251,12 +248,12 @@ ask_alone n rs c NotAllowed old new h = refl
 ask_alone n rs c (Begun k l) old new h = absurd h
 ask_alone n rs c Exists old new h = absurd h
 ask_alone n rs c (NotBegun f) old new h = absurd h
-ask_alone n rs c (Acted acts replies gone) old new h = absurd h
+ask_alone n rs c (Acted acts replies given) old new h = absurd h
 ask_alone n rs c (Refused fault) old new h = absurd h
 
 serve_alone : (n : ℕ) (event : Event) (tick : ℕ) (rs : RsRecord) (reply : RsReply) (old : ContentRecord) (after : Option RsRecord) (new : ContentRecord)
     → RsServes event tick rs old reply after new → RsIsAlone n (Tell event tick) reply
-serve_alone n event tick rs (Acted acts replies gone) old after new h = all_by_rs n acts replies old new h.1 ∙ sym (append-nil (commands acts))
+serve_alone n event tick rs (Acted acts replies given) old after new h = all_by_rs n acts replies old new h.1 ∙ sym (append-nil (commands acts))
 serve_alone n event tick rs (Refused fault) old after new h = refl
 serve_alone n event tick rs (Replied r) old after new h = absurd h
 serve_alone n event tick rs NotAllowed old after new h = absurd h
@@ -289,19 +286,10 @@ rs_alone (x ∷ es) old new rs e run =
 
 -- ---- what replies settle
 
-carried_alike : (s : RsRecord) (tick : ℕ) (p : Option Plan) (acts : List Action) (t u : RsRecord) → IsCarriedOut s tick p acts t → IsCarriedOut s tick p acts u → t ≡ u
-carried_alike s tick None acts t u h k = h.after ∙ sym k.after
-carried_alike s tick (Some p) acts t u h k = h.after ∙ sym k.after
-
-step_settles : (s : RsRecord) (event : Event) (tick : ℕ) (acts : List Action) (t u : RsRecord) → RsStep s event tick acts t → RsStep s event tick acts u → t ≡ u
-step_settles s event tick acts t u h k =
-    let same : h.0 ≡ k.0 = same_asked h.0 k.0 (asked s event tick) h.2 k.2 in
-    carried_alike s tick k.0 acts t u (subst (λ (p : Option Plan). IsCarriedOut s tick p acts t) same h.3) k.3
-
 serve_settles : (event : Event) (tick : ℕ) (o : Option RsRecord) (reply : RsReply) (c d x y : ContentRecord) (a b : Option RsRecord)
     → EventTurn event tick o c reply a x → EventTurn event tick o d reply b y → a ≡ b
 serve_settles event tick None reply c d x y a b h k = h.1 ∙ sym k.1
-serve_settles event tick (Some rs) (Acted acts replies gone) c d x y a b h k =
+serve_settles event tick (Some rs) (Acted acts replies given) c d x y a b h k =
     let same : h.0.0 ≡ k.0.0 = step_settles rs event tick acts h.0.0 k.0.0 h.0.1 k.0.1 in
     h.0.2 ∙ ap (λ (t : RsRecord). Some t) same ∙ sym k.0.2
 serve_settles event tick (Some rs) (Refused fault) c d x y a b h k = h.1 ∙ sym k.1
@@ -318,7 +306,7 @@ begin_settles None settings next first (NotBegun f) a b h k = h.2 ∙ sym k.2
 begin_settles None settings next first (Replied r) a b h k = absurd h
 begin_settles None settings next first NotAllowed a b h k = absurd h
 begin_settles None settings next first Exists a b h k = absurd h
-begin_settles None settings next first (Acted acts replies gone) a b h k = absurd h
+begin_settles None settings next first (Acted acts replies given) a b h k = absurd h
 begin_settles None settings next first (Refused fault) a b h k = absurd h
 
 one_settles : (command : RsCommand) (reply : RsReply) (old other a b : PairRecord) → old.services ≡ other.services → RsTurn old command reply a → RsTurn other command reply b → a.services ≡ b.services

@@ -37,7 +37,7 @@ entries_for n _ _ = []
 -- the store's turns in one turn of both
 abbrev pub entries_by : ℕ → RsCommand → RsReply → List (Entry Command Reply)
 entries_by n (Ask command) (Replied reply) = entry n command reply ∷ []
-entries_by n (Tell event tick) (Acted actions replies gone) = entries_for n actions replies
+entries_by n (Tell event tick) (Acted actions replies given) = entries_for n actions replies
 entries_by n _ _ = []
 
 -- the store's turns in a history
@@ -52,7 +52,7 @@ StoreTurnsRun = (es : List (Entry RsCommand RsReply)) (old new : PairRecord) →
 
 -- the actions of one turn
 abbrev pub actions_in : RsReply → List (List Action)
-actions_in (Acted actions replies gone) = actions ∷ []
+actions_in (Acted actions replies given) = actions ∷ []
 actions_in _ = []
 
 -- the actions of a history, for each event that wasn't refused

@@ -22,5 +22,5 @@ owed_by_all replies = fold owed_with 0 replies
 -- the mask of a reply of RS and its store: that of all of the store's replies in it
 abbrev pub owed_in : RsReply → ℕ
 owed_in (Replied reply) = owed_by reply
-owed_in (Acted actions replies gone) = owed_by_all replies
+owed_in (Acted actions replies given) = owed_by_all replies
 owed_in _ = 0

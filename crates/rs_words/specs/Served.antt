@@ -48,5 +48,5 @@ served_lines wording NotAllowed = not_allowed_lines
 served_lines wording (Begun services slots) = settings_line services slots
 served_lines wording Exists = exists_line
 served_lines wording (NotBegun fault) = start_fault_line fault
-served_lines wording (Acted actions replies gone) = all_acted_lines actions replies
+served_lines wording (Acted actions replies given) = all_acted_lines actions replies
 served_lines wording (Refused fault) = rs_fault_line fault
