@@ -24,6 +24,7 @@ use Rattle.rs_core.specs.declared.action.Action.{Action}
 use Rattle.rs_core.specs.declared.action.Action.TheVariants.{Kill, Start, Ping, Offer, Sweep}
 use Rattle.rs_core.specs.declared.event.Event.{Event}
 use Rattle.rs_core.specs.declared.event.Event.TheVariants as events
+use Rattle.rs_core.specs.declared.fault.NewFault.TheVariants as new_faults
 use Rattle.rs_core.specs.State.{RsRecord}
 use Rattle.rs_core.specs.Run.{RsRun, RsActs, offers}
 use Rattle.rs_settings.specs.Settings.{SettingsRecord}
@@ -302,7 +303,8 @@ serve_settles event tick (Some rs) (NotBegun f) c d x y a b h k = absurd h
 begin_settles : (o : Option RsRecord) (settings : SettingsRecord) (next first : ℕ) (reply : RsReply) (a b : Option RsRecord) → BeginTurn o settings next first reply a → BeginTurn o settings next first reply b → a ≡ b
 begin_settles (Some rs) settings next first reply a b h k = h.1 ∙ sym k.1
 begin_settles None settings next first (Begun m l) a b h k = h.3 ∙ sym k.3
-begin_settles None settings next first (NotBegun f) a b h k = h.2 ∙ sym k.2
+begin_settles None settings next first (NotBegun new_faults.OutOfRange) a b h k = h.1 ∙ sym k.1
+begin_settles None settings next first (NotBegun new_faults.NoRoom) a b h k = h.2 ∙ sym k.2
 begin_settles None settings next first (Replied r) a b h k = absurd h
 begin_settles None settings next first NotAllowed a b h k = absurd h
 begin_settles None settings next first Exists a b h k = absurd h

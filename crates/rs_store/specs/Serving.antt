@@ -1,5 +1,5 @@
 -- The turns of RS and its store: a client's command, a beginning, an event.
-use Rattle.std.specs.Prelude.{◌≡◌, ◌≢◌, ◌⊎◌, ◌≤◌, ◌↔◌, ℕ, Bool, true, false, List, [], ◌∷◌, length, replicate, Option, Some, None}
+use Rattle.std.specs.Prelude.{◌≡◌, ◌≢◌, ◌⊎◌, ◌≤◌, ℕ, Bool, true, false, List, [], ◌∷◌, length, replicate, Option, Some, None}
 use Rattle.ds_content.specs.Content.{ContentRecord}
 use Rattle.ds_machine.specs.declared.command.Command.{Command}
 use Rattle.ds_machine.specs.declared.reply.Reply.{Reply}
@@ -10,7 +10,6 @@ use Rattle.rs_core.specs.declared.action.Action.{Action}
 use Rattle.rs_core.specs.declared.event.Event.{Event}
 use Rattle.rs_core.specs.declared.event.Event.TheVariants.{Up, Stop, Refresh, Restart, Death, Beat, Tick}
 use Rattle.rs_core.specs.declared.fault.NewFault.TheVariants as new_faults
-use Rattle.rs_core.specs.declared.fault.NewFault.TheVariants.{OutOfRange}
 use Rattle.rs_core.specs.declared.fault.RsFault.{RsFault}
 use Rattle.rs_core.specs.declared.fault.RsFault.TheVariants.{UnknownLabel, OldEndpoint, NoRoom}
 use Rattle.rs_core.specs.declared.state.State.TheVariants.{Down}
@@ -49,8 +48,9 @@ abbrev pub BeginsFirst : SettingsRecord → ℕ → ℕ → RsReply → Option R
 BeginsFirst settings next first (Begun services slots) new =
     (¬ IsOutOfRange settings.slots next first) × (services ≡ length settings.services) × (slots ≡ settings.slots)
     × (new ≡ Some (begun_from settings next first))
-BeginsFirst settings next first (NotBegun fault) new =
-    ((fault ≡ OutOfRange) ↔ IsOutOfRange settings.slots next first) × (fault ≡ new_faults.NoRoom → settings.services ≢ []) × (new ≡ None)
+BeginsFirst settings next first (NotBegun new_faults.OutOfRange) new = IsOutOfRange settings.slots next first × (new ≡ None)
+BeginsFirst settings next first (NotBegun new_faults.NoRoom) new =
+    (¬ IsOutOfRange settings.slots next first) × (settings.services ≢ []) × (new ≡ None)
 BeginsFirst settings next first _ new = ⊥
 
 -- once RS has begun, every further beginning is refused
