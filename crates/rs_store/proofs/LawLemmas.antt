@@ -1,12 +1,17 @@
 -- What a history of RS and its store is to each of the two.
-use Rattle.std.proofs.Common.{◌≡◌, ℕ, Bool, true, false, List, [], ◌∷◌, ◌++◌, Option, Some, None, refl, sym, ap, subst, ◌∙◌, append_assoc, append-nil}
+use Rattle.std.proofs.Common.{◌≡◌, ℕ, Bool, cond, List, [], ◌∷◌, ◌++◌, Option, Some, None, refl, sym, ap, subst, ◌∙◌, append_assoc, append-nil}
 use Rattle.std.specs.Prelude.{filter}
 use Rattle.std.specs.List.{flat_map}
+use Rattle.std.proofs.lemmas.List.{map-append}
+use Rattle.std.proofs.lemmas.List.Elements.{filter-append, filter_map-append}
 use Rattle.history.specs.declared.entry.Entry.{Entry}
-use Rattle.history.specs.History.{Run}
+use Rattle.history.specs.History.{Run, entry}
 use Rattle.history.proofs.RunLemmas.{run_join, path_join}
 use Rattle.ds_content.specs.Content.{ContentRecord}
 use Rattle.ds_content.specs.Stands.{ContentStands}
+use Rattle.ds_names.specs.Endpoint.{endpoint_of}
+use Rattle.ds_names.specs.declared.key.Key.{Key}
+use Rattle.ds_names.specs.declared.version.Version.{Version}
 use Rattle.ds_entry.specs.declared.body.Body.{Body}
 use Rattle.ds_entry.specs.declared.body.Body.TheVariants.{Put, Gone}
 use Rattle.ds_entry.specs.SingleNumbered.{IsSingleNumbered}
@@ -16,7 +21,7 @@ use Rattle.rs_core.proofs.RunLemmas.{labels_single_numbered}
 use Rattle.ds_machine.specs.State.{State}
 use Rattle.ds_machine.specs.declared.command.Command.{Command}
 use Rattle.ds_machine.specs.declared.reply.Reply.{Reply}
-use Rattle.ds_serve.specs.Asked.{command_of, commands}
+use Rattle.ds_serve.specs.Asked.{asking_for, command_of, commands}
 use Rattle.ds_store.specs.Turns.{Turn, commands_of}
 use Rattle.ds_store.proofs.TurnLemmas.{turns_run}
 use Rattle.ds_store.proofs.SettledLemmas.{histories_settle}
@@ -194,28 +199,26 @@ histories_keep_labels (x ∷ es) old new e run =
 
 -- ---- commands in RS's name
 
-by_rs_in : List (Entry Command Reply) → List Command
+abbrev by_rs_in : List (Entry Command Reply) → List Command
 by_rs_in es = filter is_by_rs (commands_of es)
 
 by_rs_join : (es fs : List (Entry Command Reply)) → by_rs_in (es ++ fs) ≡ by_rs_in es ++ by_rs_in fs
-by_rs_join [] fs = refl
-by_rs_join (e ∷ es) fs = by (is_by_rs e.command) refl
-  where
-    by : (b : Bool) → is_by_rs e.command ≡ b → by_rs_in ((e ∷ es) ++ fs) ≡ by_rs_in (e ∷ es) ++ by_rs_in fs
-    by true q = rw q (ap (λ (l : List Command). e.command ∷ l) (by_rs_join es fs))
-    by false q = rw q (by_rs_join es fs)
+by_rs_join es fs =
+    ap (λ (l : List Command). filter is_by_rs l) (map-append (λ (e : Entry Command Reply). e.command) es fs) ∙ filter-append is_by_rs (commands_of es) (commands_of fs)
 
--- a command for an action has RS as its caller
+-- a command for a change of RS's has RS as its caller
+asked_one : (n : ℕ) (key : Key) (version : Version) (body : Body) (r : Reply)
+    → by_rs_in (entry n (asking_for (endpoint_of 0 2) key version body) r ∷ []) ≡ asking_for (endpoint_of 0 2) key version body ∷ []
+asked_one n key version (Put v) r = refl
+asked_one n key version Gone r = refl
+
+-- so has a command for an action
 asked_by_rs : (n : ℕ) (x : Action) (r : Option Reply) (a b : ContentRecord) → TurnFor a (command_of x) r b → by_rs_in (entry_if n (command_of x) r) ≡ commands (x ∷ [])
 asked_by_rs n (Kill e) None a b h = refl
 asked_by_rs n (Start l e) None a b h = refl
 asked_by_rs n (Ping e) None a b h = refl
 asked_by_rs n (Sweep f) (Some r) a b h = refl
-asked_by_rs n (Offer c) (Some r) a b h = by c.body refl
-  where
-    by : (d : Body) → c.body ≡ d → by_rs_in (entry_if n (command_of (Offer c)) (Some r)) ≡ commands (Offer c ∷ [])
-    by (Put v) q = rw q refl
-    by Gone q = rw q refl
+asked_by_rs n (Offer c) (Some r) a b h = asked_one n c.key c.version c.body r
 asked_by_rs n (Kill e) (Some r) a b h = absurd h
 asked_by_rs n (Start l e) (Some r) a b h = absurd h
 asked_by_rs n (Ping e) (Some r) a b h = absurd h
@@ -223,11 +226,7 @@ asked_by_rs n (Sweep f) None a b h = absurd h
 asked_by_rs n (Offer c) None a b h = absurd h
 
 commands_join : (x : Action) (acts : List Action) → commands (x ∷ []) ++ commands acts ≡ commands (x ∷ acts)
-commands_join x acts = by (command_of x) refl
-  where
-    by : (o : Option Command) → command_of x ≡ o → commands (x ∷ []) ++ commands acts ≡ commands (x ∷ acts)
-    by None q = rw q refl
-    by (Some c) q = rw q refl
+commands_join x acts = sym (filter_map-append command_of (x ∷ []) acts)
 
 all_by_rs : (n : ℕ) (acts : List Action) (rs : List (Option Reply)) (a b : ContentRecord) → TurnsFor a acts rs b → by_rs_in (entries_for n acts rs) ≡ commands acts
 all_by_rs n [] [] a b h = refl
@@ -244,7 +243,7 @@ abbrev RsIsAlone : ℕ → RsCommand → RsReply → Type 0
 RsIsAlone n command reply = by_rs_in (entries_by n command reply) ≡ flat_map commands (actions_in reply)
 
 ask_alone : (n : ℕ) (rs : RsRecord) (c : Command) (reply : RsReply) (old new : ContentRecord) → ClientTurn (Some rs) old c reply new → RsIsAlone n (Ask c) reply
-ask_alone n rs c (Replied r) old new h = let none : is_by_rs c ≡ false = h.0 in rw none refl
+ask_alone n rs c (Replied r) old new h = ap (λ (b : Bool). cond b (c ∷ []) []) h.0
 ask_alone n rs c NotAllowed old new h = refl
 ask_alone n rs c (Begun k l) old new h = absurd h
 ask_alone n rs c Exists old new h = absurd h
