@@ -12,11 +12,11 @@ static int error_of(uint32_t refusal) {
     case DS_NOTFOUND: return -ESRCH;
     case DS_FULL: case DS_WORN: return -ENOSPC;
     case DS_NOROOM: return -ENOMEM;
-    default: return -EINVAL; /* what DS has no word for, too: an older version, a clash */
+    default: return -EINVAL; /* also what DS has no error for: an older version, a clash */
     }
 }
 
-/* Fetches the item that waits for memory, for whomever it was shown to. */
+/* Fetches the item that waits for memory, for the caller that it was shown to. */
 static int fetched(struct ds_caller *caller) {
     struct ds_server *server = caller->server;
     struct ds_caller *waits = server->waits;
@@ -32,7 +32,8 @@ static int fetched(struct ds_caller *caller) {
     return 0;
 }
 
-/* Asks the store, keeps whom it owes a notice, and gives the error. The text of the last answer is gone then, so what waits comes first. */
+/* Calls the store, notes which subscriptions are owed a notice, and returns the error. A call drops the last answer's text, so a
+ * waiting item is fetched first. */
 static int asked(struct ds_caller *caller, const struct ds_request *request, const void *text, size_t length, struct ds_answer *answer) {
     int error = fetched(caller);
     if (error) return error;
@@ -44,7 +45,7 @@ static int asked(struct ds_caller *caller, const struct ds_request *request, con
     return error_of(answer->refusal);
 }
 
-/* A request of the caller for a key. */
+/* Makes a request of the caller for a key. */
 static int named(struct ds_request *to, uint32_t command, const struct ds_caller *caller, const char *name, uint8_t kind) {
     size_t length = strlen(name);
     if (length > sizeof to->name) return -E2BIG;
@@ -56,7 +57,7 @@ static int named(struct ds_request *to, uint32_t command, const struct ds_caller
     return 0;
 }
 
-/* A change of the caller's own: it has the caller's generation, and the next number. A number is used up where it took effect. */
+/* Makes a change of the caller's: it has the caller's generation, and the next number. The number is spent if the change takes effect. */
 static int changed(struct ds_caller *caller, struct ds_request *request, const void *text, size_t length) {
     struct ds_answer answer;
     request->epoch = request->generation, request->seq = caller->seq + 1;
@@ -97,7 +98,7 @@ int ds_publish_mem(struct ds_caller *caller, const char *name, const void *value
     return length > 1024 ? -E2BIG : publish(caller, name, DS_MEM, 0, value, length, flags);
 }
 
-/* Retrieves an entry, and the text of it, of at most *length bytes. */
+/* Retrieves an entry and its text, of at most *length bytes. */
 static int retrieve(struct ds_caller *caller, const char *name, uint8_t kind, struct ds_answer *answer, char *text, size_t *length) {
     struct ds_request request;
     struct ds_given given;
@@ -150,7 +151,7 @@ int ds_retrieve_mem(struct ds_caller *caller, const char *name, void *value, siz
     return retrieve(caller, name, DS_MEM, &answer, value, length);
 }
 
-/* RS deletes a label in the generation that the label has; its number is 1. */
+/* Deletes a label, in the label's own generation, with number 1; only RS may. */
 int ds_delete_label(struct ds_caller *caller, const char *label) {
     struct ds_request request;
     struct ds_answer answer;
@@ -182,7 +183,7 @@ int ds_subscribe(struct ds_caller *caller, const char *pattern, int flags) {
     return asked(caller, &request, pattern, request.text_length, &answer);
 }
 
-/* An item: an entry, its deletion, or a floor, whose type is 0. */
+/* An item: an entry, a deletion, or a floor, whose type is 0. */
 struct item {
     char key[DS_MAX_KEYLEN];
     char owner[DS_MAX_KEYLEN];
@@ -203,7 +204,7 @@ static int type_of(const char *kind) {
     return 0;
 }
 
-/* Reads the line of an item: NAME KIND OWNER VERSION = VALUE, the same with - for a deletion, or ! OWNER GENERATION. */
+/* Reads the line of an item: NAME KIND OWNER VERSION = VALUE, NAME KIND OWNER VERSION - for a deletion, or ! OWNER GENERATION. */
 static int read_item(const char *line, struct item *item) {
     char kind[8];
     char sign;
@@ -220,11 +221,11 @@ static int read_item(const char *line, struct item *item) {
     return 0;
 }
 
-/* A mark stands for an entry that ds_check gave. It is odd if the entry was there then, and even if it was its deletion. */
+/* The mark of an entry that ds_check returned. It is odd if the entry was there, and even if it was deleted. */
 enum { MARK_IS_THERE = 1, MARK_IS_TAKEN = 2 };
 
-/* Returns the even mark of an entry: a hash (FNV-1a) of its name and type. If two entries have one hash, which happens to one store in
- * 2^39 or fewer, a deletion may be given that should be passed over. */
+/* Returns the even mark of an entry: a hash (FNV-1a) of its name and type. If two entries have one hash, as in at most one store in
+ * 2^39, a deletion may be returned that should be passed over. */
 static uint64_t mark_of(const struct item *item) {
     uint64_t hash = 0xcbf29ce484222325 ^ (uint64_t)item->type;
     for (const char *byte = item->key; *byte != '\0'; byte++) {
@@ -233,7 +234,7 @@ static uint64_t mark_of(const struct item *item) {
     return (hash & ~(uint64_t)MARK_IS_THERE) | MARK_IS_TAKEN;
 }
 
-/* Returns where the mark is, else the first free place; NULL if there is none, since floors ended entries and others took their places. */
+/* Returns the place of the mark, or the first free one; NULL if all are taken, as when others took the places of swept entries. */
 static uint64_t *place_of(struct ds_caller *caller, uint64_t mark) {
     for (size_t i = 0; i < DS_MAX_KEYS; i++) {
         uint64_t *place = &caller->given[(mark / 4 + i) % DS_MAX_KEYS];
@@ -244,7 +245,7 @@ static uint64_t *place_of(struct ds_caller *caller, uint64_t mark) {
     return NULL;
 }
 
-/* Marks the item as given, and returns true; or false for the deletion of an entry that the caller wasn't given as being there. */
+/* Marks the item as returned, and returns 1; or 0 for the deletion of an entry that the caller wasn't given. */
 static int is_for(struct ds_caller *caller, const struct item *item) {
     uint64_t mark = mark_of(item);
     uint64_t *place = item->type == 0 ? NULL : place_of(caller, mark);
@@ -262,7 +263,7 @@ static int is_for(struct ds_caller *caller, const struct item *item) {
     return 1;
 }
 
-/* Asks for the next item, and fetches it. */
+/* Checks for the next item, and fetches it. */
 static int shown(struct ds_caller *caller) {
     struct ds_request request = {0};
     struct ds_answer answer;
@@ -292,7 +293,7 @@ int ds_check(struct ds_caller *caller, char *key, int *type, ds_endpoint_t *owne
     if (error) return error;
     strcpy(key, item.key);
     *type = item.type;
-    *owner = 2; /* RS, who has no label */
+    *owner = 2; /* RS, which has no label */
     if (strcmp(item.owner, "rs") != 0 && ds_retrieve_label_endpt(caller, item.owner, owner) != 0) {
         *owner = 0; /* an owner that is gone has no endpoint */
         caller->refusal = 0;

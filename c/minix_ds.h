@@ -1,14 +1,13 @@
-/* MINIX 3's calls of the data store (DS), over ds.h: what a driver, a server or RS of that system calls, with its flags and errors.
+/* The calls of MINIX 3's data store (DS), over ds.h: those of a driver, a server or RS, with MINIX's flags and errors.
  *
- * Callers share a struct ds_server, which has the store's handle: it begins as DS_SERVER_CLOSED, and is opened and closed by ds_open
- * and ds_close of its store. Each has a struct ds_caller of its own, which begins with zeros and stays where it is while its server
- * is open: the caller's endpoint, by which the store knows it, its subscription, and the number of its last change. Endpoints here are
- * generation * 1024 + slot. The calls are those of MINIX 3.3's lib/libsys/ds.c, written from knowledge of them and not beside them. The
- * numbers of the errors are those of errno.h, negative, as MINIX gives them; the store's own refusals, of which some share one error,
- * stand in the caller's refusal.
+ * Callers share a struct ds_server, which has the store's handle. It begins as DS_SERVER_CLOSED; ds_open and ds_close of its store open
+ * and close it. Each caller has a struct ds_caller of its own, which begins with zeros and isn't moved while its server is open: the
+ * endpoint by which the store knows the caller, its subscription, and the number of its last change. An endpoint is
+ * generation * 1024 + slot. The calls are those of MINIX 3.3's lib/libsys/ds.c, written from knowledge of them, not copied. Errors are
+ * those of errno.h, negative, as in MINIX. Several refusals of the store share one error; the caller's field refusal has the store's own.
  *
- * Left out: ds_publish_map, ds_snapshot_map and ds_retrieve_map, which share memory, and getsysinfo. These calls are tested, and
- * not proved; the store below them is. */
+ * Left out: ds_publish_map, ds_snapshot_map and ds_retrieve_map, which share memory, and getsysinfo. These calls are tested; the
+ * store below them is proved. */
 #ifndef MINIX_DS_H
 #define MINIX_DS_H
 
@@ -26,35 +25,35 @@ typedef uint32_t ds_endpoint_t;
 #define DSF_OVERWRITE 0x01000
 #define DSF_INITIAL 0x02000
 
-#define DS_MAX_KEYLEN 65 /* a key has at most 64 bytes, and a zero behind them */
+#define DS_MAX_KEYLEN 65 /* a key has at most 64 bytes, and a zero after them */
 
 #define DS_MAX_LINE DS_MAX_PIECE /* bytes of the line of an item */
 #define DS_MAX_KEYS 4096         /* keys that a store holds */
 
 struct ds_caller;
 
-/* A store, and who shares it. */
+/* A store that callers share. */
 struct ds_server {
     struct ds_handle store;
-    struct ds_caller *waits; /* to whom an item was shown that isn't fetched yet, since memory was wanting, or NULL */
+    struct ds_caller *waits; /* the caller whose item isn't fetched yet, since memory ran out, or NULL */
 };
 #define DS_SERVER_CLOSED { DS_CLOSED, NULL }
 
-/* Who calls. sub is its subscription, 0 to 127, of which each caller has one of its own. */
+/* A caller. sub is its subscription, 0 to 127; no two callers share one. */
 struct ds_caller {
     struct ds_server *server;
     ds_endpoint_t endpoint;
     uint32_t sub;
     uint32_t seq;      /* the number of its last change in this generation; begins at 0 */
-    uint32_t refusal;  /* of enum ds_refusal: by what its last call was refused, or 0 */
-    uint8_t owed[16];  /* the subscriptions that are owed a notice since it was cleared, a bit for each; who calls clears it */
-    char line[DS_MAX_LINE + 1]; /* the item that was shown and not given yet, or nothing */
-    uint64_t given[DS_MAX_KEYS]; /* a mark for each entry that ds_check gave, and 0 where a place is free: 32 KB, so no call takes memory */
+    uint32_t refusal;  /* of enum ds_refusal: why its last call was refused, or 0 */
+    uint8_t owed[16];  /* a bit for each subscription that is owed a notice; the caller clears it */
+    char line[DS_MAX_LINE + 1]; /* the item that was shown but not returned yet, or nothing */
+    uint64_t given[DS_MAX_KEYS]; /* a mark for each entry that ds_check returned, 0 if free: 32 KB, so no call takes memory */
 };
 
-/* RS, whose endpoint is 0/2, says where a service is. A label of the same endpoint again changes nothing. */
+/* Publishes where a service is; only RS, whose endpoint is 0/2, may. The same endpoint again changes nothing. */
 int ds_publish_label(struct ds_caller *caller, const char *label, ds_endpoint_t endpoint, int flags);
-/* The caller publishes a number, a string, or memory of at most 1024 bytes, of its own. */
+/* Publishes a number, a string, or memory of at most 1024 bytes, in the caller's name. */
 int ds_publish_u32(struct ds_caller *caller, const char *name, uint32_t value, int flags);
 int ds_publish_str(struct ds_caller *caller, const char *name, const char *value, int flags);
 int ds_publish_mem(struct ds_caller *caller, const char *name, const void *value, size_t length, int flags);
@@ -62,9 +61,9 @@ int ds_publish_mem(struct ds_caller *caller, const char *name, const void *value
 int ds_retrieve_label_name(struct ds_caller *caller, char *name, ds_endpoint_t endpoint); /* name: DS_MAX_KEYLEN bytes */
 int ds_retrieve_label_endpt(struct ds_caller *caller, const char *label, ds_endpoint_t *endpoint);
 int ds_retrieve_u32(struct ds_caller *caller, const char *name, uint32_t *value);
-/* At most length bytes, and a zero behind them: value has length + 1. A longer string is E2BIG, and nothing is written. */
+/* Retrieves at most length bytes, and a zero after them: value has length + 1. A longer string is E2BIG, and nothing is written. */
 int ds_retrieve_str(struct ds_caller *caller, const char *name, char *value, size_t length);
-/* *length says how much value has, and is told how much it got. */
+/* *length is the size of value, and becomes the number of bytes retrieved. */
 int ds_retrieve_mem(struct ds_caller *caller, const char *name, void *value, size_t *length);
 
 int ds_delete_label(struct ds_caller *caller, const char *label);
@@ -72,13 +71,12 @@ int ds_delete_u32(struct ds_caller *caller, const char *name);
 int ds_delete_str(struct ds_caller *caller, const char *name);
 int ds_delete_mem(struct ds_caller *caller, const char *name);
 
-/* Follows the entries whose names the pattern matches whole, of the types in flags, or of all where there is none. */
+/* Subscribes to entries whose whole name matches the pattern, of the types in flags, or of all types if flags has none. */
 int ds_subscribe(struct ds_caller *caller, const char *pattern, int flags);
-/* The next entry that changed: its name, type and owner. ENOENT where there is none. key: DS_MAX_KEYLEN bytes. Gives the deletion of an
- * entry that it gave to this caller before, under the entry's name, which then isn't there; passes over every other deletion, since DS
- * forgets what was deleted. Of a floor the name is its owner's, and the type 0. ENOMEM loses none: the same entry is given by the next
- * check. Until it is fetched, each call of those who share the server fetches it first, and is ENOMEM where that fails; so let nobody ask
- * the store beside these calls. */
+/* Returns the name, type and owner of the next entry that changed; ENOENT if there is none. key has DS_MAX_KEYLEN bytes. A deletion is
+ * returned only of an entry that this caller was given before, by its name, which is no longer there; DS, too, forgets deleted entries.
+ * A floor has its owner's name, and type 0. ENOMEM loses nothing: the next check returns the same entry. Until then, each call of a
+ * caller that shares the server fetches the entry first, and returns ENOMEM if that fails. So use the store by these calls alone. */
 int ds_check(struct ds_caller *caller, char *key, int *type, ds_endpoint_t *owner);
 
 #endif

@@ -1,6 +1,7 @@
 /* The clients of dsfleet. See clients.h. */
 #include "clients.h"
 #include "clock.h"
+#include "figures.h"
 #include "lines.h"
 #include <errno.h>
 #include <linux/sockios.h>
@@ -86,7 +87,7 @@ static bool drop_slowest(struct clients *clients, bool for_place) {
     }
     if (for_place ? places <= CLIENTS / 2 : room <= CLIENTS_WAIT / 2) return false;
     const char *needed = for_place ? "place" : "room";
-    log_say(clients->log, "slow: a client that doesn't read is dropped, since others need its %s", needed);
+    log_say(clients->log, LOG_WARN, "slow: a client that doesn't read is dropped, since others need its %s", needed);
     drop(clients, slowest);
     return true;
 }
@@ -123,36 +124,8 @@ static int listened(const char *line, size_t length) {
     return sub < 128 ? sub : -1;
 }
 
-static bool print_number(struct text *to, uint64_t number, const char *end) {
-    return text_print(to, "%llu%s", (unsigned long long)number, end);
-}
-
-static bool print_count(struct text *to, const char *name, uint64_t count) {
-    return text_print(to, "%s ", name) && print_number(to, count, "\n");
-}
-
-static bool print_state(const struct ds_fleet *fleet, struct text *to) {
-    struct ds_fleet_state state;
-    ds_fleet_state(fleet, &state);
-    const char *server = *state.server ? state.server : "-", *said = *state.said ? state.said : "-";
-    const struct { const char *name; uint64_t count; } counts[] = {
-        {"behind", state.behind}, {"position", state.position}, {"untold", state.untold},
-        {"told", state.entries_told}, {"read", state.entries_read}, {"connections", state.connections},
-        {"compactions", state.compactions}, {"differing", state.differing}, {"unread", state.unread},
-    };
-    bool put = text_print(to, "state %s\nserver %s\nlast %s\n", ds_fleet_word(state.word), server, state.last);
-    for (size_t i = 0; put && i < sizeof counts / sizeof *counts; i++) put = print_count(to, counts[i].name, counts[i].count);
-    for (uint32_t i = 0; put && i <= DS_NOROOM; i++) {
-        if (!state.refused[i]) continue;
-        put = text_print(to, "refused ") && print_count(to, ds_fleet_refusal(i), state.refused[i]);
-    }
-    return put && text_print(to, "said %s\n", said);
-}
-
-static bool is_state(const char *line, size_t length) { return length == 5 && !memcmp(line, "state", 5); }
-
 static bool is_short(const char *line, size_t length) {
-    return lines_is_short(line, length) || is_state(line, length) || listened(line, length) >= 0;
+    return lines_is_short(line, length) || figures_asked(line, length) || listened(line, length) >= 0;
 }
 
 /* Whether a line may be answered now. */
@@ -173,14 +146,14 @@ static bool answered(struct clients *clients, struct client *client, const char 
         client->listens[sub / 8] |= (uint8_t)(1 << sub % 8);
         return text_print(to, "listening %d\n", sub);
     }
-    if (!client->too_long && is_state(line, length)) return print_state(clients->fleet, to);
+    if (!client->too_long && figures_asked(line, length)) return figures_put(clients, line, to);
     if (!client->too_long) word = lines_answer(clients->store, line, length, to, &said);
     client->too_long = false;
     clients_owe(clients, said.owed);
     *holds |= said.holds;
     if (word == LINES_NOREQUEST) return text_print(to, "norequest\n");
     if (word == LINES_BAD) {
-        return text_print(to, "badline ") && print_number(to, client->lines, " ") && print_number(to, said.place, "\n");
+        return text_print(to, "badline %llu %llu\n", (unsigned long long)client->lines, (unsigned long long)said.place);
     }
     return word == LINES_ANSWERED;
 }
@@ -300,7 +273,7 @@ bool clients_write(struct clients *clients) {
         let_go(clients, client);
         put_notices(client);
         write_out(client);
-        if (client->failed) log_say(clients->log, "noroom: a client is dropped");
+        if (client->failed) log_say(clients->log, LOG_WARN, "noroom: a client is dropped");
         if (is_done(client)) drop(clients, i);
         else clients->waiting += backlog(client);
     }

@@ -1,9 +1,10 @@
-/* A store in step with others over a redis stream. See ds_fleet.h, and docs/fleet.md for the protocol.
+/* A store in step with others over a redis stream. See ds_fleet.h, and docs/reference/fleet.md for the protocol.
  *
  * Two connections: the teller asks one round of questions after the other, each a stage below; the listener waits for entries. A step
  * goes on with both as far as it can without waiting, and only then waits. */
 #include "ds_fleet.h"
 #include "answers.h"
+#include "clock.h"
 #include "host.h"
 #include "items.h"
 #include "link.h"
@@ -17,7 +18,6 @@
 #include <sys/epoll.h>
 #include <sys/random.h>
 #include <sys/timerfd.h>
-#include <time.h>
 #include <unistd.h>
 
 enum {
@@ -86,12 +86,6 @@ struct ds_fleet {
     struct ds_fleet_state state;
 };
 
-static uint64_t now(void) {
-    struct timespec it;
-    clock_gettime(CLOCK_MONOTONIC, &it);
-    return (uint64_t)it.tv_sec * 1000 + (uint64_t)it.tv_nsec / 1000000;
-}
-
 /* ---- the server comes and goes ---- */
 
 static void keep_words(struct ds_fleet *fleet, const char *words) {
@@ -106,7 +100,7 @@ static void lengthen_pause(struct ds_fleet *fleet) {
     fleet->pause = fleet->pause ? 2 * fleet->pause : SOONEST;
     if (fleet->pause > LATEST) fleet->pause = LATEST;
     if (getrandom(&chance, sizeof chance, GRND_NONBLOCK) != sizeof chance) chance = 0;
-    fleet->call_at = now() + fleet->pause - chance % (fleet->pause / 2);
+    fleet->call_at = clock_now() + fleet->pause - chance % (fleet->pause / 2);
 }
 
 /* Both connections end; all that no answer came for is told again. The same reason is logged again only once a server was of use. */
@@ -150,7 +144,7 @@ static const char *hint_of(const redisReply *error) {
 static enum ds_fleet_word server_puzzles(struct ds_fleet *fleet, const char *why) {
     if (strcmp(fleet->state.said, why)) items_say(&fleet->items, "denied: %s", why);
     keep_words(fleet, why);
-    fleet->ask_at = now() + PATIENCE;
+    fleet->ask_at = clock_now() + PATIENCE;
     return DS_FLEET_DENIED;
 }
 
@@ -163,7 +157,7 @@ static enum ds_fleet_word server_denied(struct ds_fleet *fleet, const redisReply
 
 /* An address to call, or a word: the name is being looked up, or it has none. */
 static enum ds_fleet_word find_host(struct ds_fleet *fleet) {
-    uint64_t time = now();
+    uint64_t time = clock_now();
     if (fleet->address.path) return DS_FLEET_INSTEP;
     switch (host_find(&fleet->host, time)) {
     case HOST_FOUND: return DS_FLEET_INSTEP;
@@ -178,12 +172,12 @@ static enum ds_fleet_word call_server(struct ds_fleet *fleet) {
     if (is_connected(fleet)) return DS_FLEET_INSTEP;
     const struct link *lost = fleet->teller.redis ? &fleet->listener : &fleet->teller;
     if (fleet->met || fleet->teller.redis || fleet->listener.redis) return server_went(fleet, lost->said);
-    if (now() < fleet->call_at) return fleet->parted;
+    if (clock_now() < fleet->call_at) return fleet->parted;
     enum ds_fleet_word word = find_host(fleet);
     if (word != DS_FLEET_INSTEP) return word;
     fleet->rings[0] = fleet->rings[1] = 0;
-    if (!link_open(&fleet->teller, &fleet->address, fleet->host.address, now())) return server_went(fleet, fleet->teller.said);
-    if (!link_open(&fleet->listener, &fleet->address, fleet->host.address, now())) return server_went(fleet, fleet->listener.said);
+    if (!link_open(&fleet->teller, &fleet->address, fleet->host.address, clock_now())) return server_went(fleet, fleet->teller.said);
+    if (!link_open(&fleet->listener, &fleet->address, fleet->host.address, clock_now())) return server_went(fleet, fleet->listener.said);
     return DS_FLEET_INSTEP;
 }
 
@@ -209,7 +203,7 @@ static void begin_anew(struct ds_fleet *fleet) {
 static void reopen_listener(struct ds_fleet *fleet) {
     link_close(&fleet->listener);
     fleet->rings[1] = 0;
-    link_open(&fleet->listener, &fleet->address, fleet->host.address, now());
+    link_open(&fleet->listener, &fleet->address, fleet->host.address, clock_now());
 }
 
 /* ---- meeting ---- */
@@ -336,8 +330,8 @@ static enum ds_fleet_word keep_digest(struct ds_fleet *fleet) {
 
 /* While entries come, all bridges take a digest where the second of the ids changes, so that they take it at the same entry. */
 static void keep_digest_of_second(struct ds_fleet *fleet, struct entry_id next) {
-    if (!fleet->caught_up || next.first / PERIOD == fleet->last.first / PERIOD || now() < fleet->digest_at) return;
-    fleet->digest_at = now() + PERIOD / 2; /* who reads what is old needn't take one for each second of it */
+    if (!fleet->caught_up || next.first / PERIOD == fleet->last.first / PERIOD || clock_now() < fleet->digest_at) return;
+    fleet->digest_at = clock_now() + PERIOD / 2; /* who reads what is old needn't take one for each second of it */
     keep_digest(fleet);
 }
 
@@ -551,7 +545,6 @@ static enum ds_fleet_word ask_comparing(struct ds_fleet *fleet) {
     enum ds_fleet_word word = items_retry(&fleet->items);
     if (word == DS_FLEET_INSTEP && rests) word = keep_digest(fleet);
     if (word != DS_FLEET_INSTEP) return word;
-    items_say_withheld(&fleet->items);
     fleet->stage = COMPARING;
     fleet->asked = fleet->last;
     link_ask(&fleet->teller, "INFO replication");
@@ -613,7 +606,7 @@ static void look_for_loss(struct ds_fleet *fleet, const struct stock *stock, boo
 
 /* A connection that says nothing while it waits may be dead, and nobody told us: what was there a second ago hasn't come. */
 static bool is_deaf(const struct ds_fleet *fleet) {
-    return fleet->looked && fleet->at_end && is_above(fleet->stock.newest, fleet->last) && now() > fleet->listener.heard + PERIOD;
+    return fleet->looked && fleet->at_end && is_above(fleet->stock.newest, fleet->last) && clock_now() > fleet->listener.heard + PERIOD;
 }
 
 /* Looks at the answers to what was asked in one transaction. */
@@ -682,7 +675,7 @@ static bool is_compacting_due(const struct ds_fleet *fleet, uint64_t time) {
 
 /* What the teller asks next, if anything is to be asked: LATE where something is. */
 static enum ds_fleet_word ask_next(struct ds_fleet *fleet) {
-    uint64_t time = now();
+    uint64_t time = clock_now();
     enum ds_fleet_word word = DS_FLEET_INSTEP;
     if (time < fleet->ask_at) return DS_FLEET_DENIED;
     if (fleet->at_end && fleet->all) {
@@ -710,7 +703,7 @@ static enum ds_fleet_word ask_next(struct ds_fleet *fleet) {
 /* Goes on with the teller: LATE where more may come of it at once, else INSTEP or why not. */
 static enum ds_fleet_word turn_teller(struct ds_fleet *fleet) {
     enum ds_fleet_word word = DS_FLEET_INSTEP;
-    switch (link_turn(&fleet->teller, now())) {
+    switch (link_turn(&fleet->teller, clock_now())) {
     case LINK_LOST: return server_went(fleet, fleet->teller.said);
     case LINK_IDLE: return ask_next(fleet);
     case LINK_WAITS: return DS_FLEET_INSTEP;
@@ -721,11 +714,11 @@ static enum ds_fleet_word turn_teller(struct ds_fleet *fleet) {
 
 static enum ds_fleet_word turn_listener(struct ds_fleet *fleet) {
     enum ds_fleet_word word = DS_FLEET_INSTEP;
-    switch (link_turn(&fleet->listener, now())) {
+    switch (link_turn(&fleet->listener, clock_now())) {
     case LINK_LOST: return server_went(fleet, fleet->listener.said);
     case LINK_WAITS: return DS_FLEET_INSTEP;
     case LINK_IDLE:
-        if (!fleet->met || fleet->gap || now() < fleet->ask_at) return DS_FLEET_INSTEP;
+        if (!fleet->met || fleet->gap || clock_now() < fleet->ask_at) return DS_FLEET_INSTEP;
         ask_reading(fleet);
         return DS_FLEET_LATE;
     case LINK_ANSWERED:
@@ -766,7 +759,7 @@ static void watch_link(struct ds_fleet *fleet, struct link *link, uint32_t *ring
 
 /* Lets the bell ring at the next time at which there is something to do by itself. */
 static void set_bell(struct ds_fleet *fleet, enum ds_fleet_word word) {
-    uint64_t at = fleet->compare_at, soonest = PATIENCE, time = now();
+    uint64_t at = fleet->compare_at, soonest = PATIENCE, time = clock_now();
     if (!is_connected(fleet)) {
         at = fleet->call_at;
         soonest = 1;
@@ -786,7 +779,7 @@ static void set_bell(struct ds_fleet *fleet, enum ds_fleet_word word) {
 /* The host's name is looked up: it may be called at once. */
 static void hear_host(struct ds_fleet *fleet) {
     host_hear(&fleet->host);
-    if (!is_connected(fleet)) fleet->call_at = now();
+    if (!is_connected(fleet)) fleet->call_at = clock_now();
 }
 
 /* Waits for the bell, and notes who rang it. */
@@ -812,7 +805,7 @@ static bool ends_step(enum ds_fleet_word word) {
 }
 
 enum ds_fleet_word ds_fleet_step(struct ds_fleet *fleet, unsigned patience) {
-    uint64_t end = now() + patience;
+    uint64_t end = clock_now() + patience;
     hear_bell(fleet, 0);
     for (;;) {
         enum ds_fleet_word word = items_gather(&fleet->items);
@@ -820,7 +813,7 @@ enum ds_fleet_word ds_fleet_step(struct ds_fleet *fleet, unsigned patience) {
         set_bell(fleet, word);
         fleet->state.word = word;
         if (word == DS_FLEET_INSTEP) fleet->caught_up = true;
-        uint64_t time = now();
+        uint64_t time = clock_now();
         if (ends_step(word) || time >= end) return word;
         hear_bell(fleet, end - time < PERIOD ? (int)(end - time) : PERIOD);
     }
@@ -928,7 +921,7 @@ enum ds_fleet_word ds_fleet_open(struct ds_fleet **fleet, struct ds_handle *stor
     made->parted = DS_FLEET_AWAY;
     made->away_said = true;
     enum ds_fleet_word word = read_options(made, options);
-    if (word == DS_FLEET_INSTEP) word = items_open(&made->items);
+    if (word == DS_FLEET_INSTEP) word = items_gather_all(&made->items);
     if (word == DS_FLEET_INSTEP) word = make_bell(made);
     if (word == DS_FLEET_INSTEP) {
         *fleet = made;

@@ -1,5 +1,5 @@
 /* Keeps a store in step with those of other hosts over a redis stream: what takes effect in the store is told to the stream, and
- * what others told is merged. docs/fleet.md draws it.
+ * what others told is merged. docs/reference/fleet.md draws it.
  *
  * The store behind the handle is proved; this carrier is tested. It need not be more than this: items join, so that holders to
  * which the same items came hold the same, in whatever order and however often they came.
@@ -46,7 +46,8 @@ struct ds_fleet_options {
     const char *pattern;  /* the scope: what the pattern matches whole, of the kinds; the same for all who share a stream, or `badscope` */
     uint8_t kinds;        /* a sum of enum ds_kinds; 0: everything, and then pattern may be anything */
     long keep;            /* a stream with more entries is compacted; 0: DS_FLEET_KEEP */
-    ds_fleet_tell *tell;  /* is told of what was refused, of servers met and lost, and of compactions; may be NULL */
+    ds_fleet_tell *tell;  /* is told of what was refused or can't be read, as often as others send it, of servers met and lost, and of
+                             compactions, by a line `WORD: TEXT`; may be NULL */
     void *context;        /* what tell is given */
 };
 

@@ -1,9 +1,10 @@
 /* dsfleet: a store for the programs of one host, in step with those of other hosts over a redis stream.
- * docs/fleet.md. */
+ * docs/reference/fleet.md. */
 #include "clients.h"
 #include "clock.h"
 #include "ds_fleet.h"
 #include "log.h"
+#include "notify.h"
 #include "place.h"
 #include <errno.h>
 #include <getopt.h>
@@ -17,10 +18,6 @@
 #include <sys/socket.h>
 #include <time.h>
 #include <unistd.h>
-
-#ifndef DS_VERSION
-#define DS_VERSION "unknown"
-#endif
 
 enum { DONE = 0, USAGE = 2, FAILED = 3 }; /* statuses */
 
@@ -49,7 +46,7 @@ static const char help[] =
     "  -h, --help        prints this\n"
     "\n"
     "Lines: offer publish delete sweep retrieve nameof subscribe check since snapshot page show all, as of dsctl;\n"
-    "`listen SUB`, upon which `notice SUB` comes whenever the subscription is owed one; `state`.\n"
+    "`listen SUB`, upon which `notice SUB` comes whenever the subscription is owed one; `state`; `metrics`, for Prometheus.\n"
     "Statuses: 0 ended by a signal, 2 usage or a stream of another scope, 3 a failure, which standard error tells.\n";
 
 static const char bad_scope[] = "a scope is a pattern, a space, and kinds from 1 to 15";
@@ -69,10 +66,13 @@ struct host {
     bool ended, told_waiting;
 };
 
-static void tell(void *context, const char *line) { log_say(context, "%s", line); }
+static void tell(void *context, const char *line) {
+    bool is_fine = !strncmp(line, "met:", 4) || !strncmp(line, "compacted:", 10);
+    log_say(context, is_fine ? LOG_INFO : LOG_WARN, "%s", line);
+}
 
 static int failed(struct host *host, const char *what) {
-    log_say(&host->log, "%s: %s", what, strerror(errno));
+    log_say(&host->log, LOG_ERROR, "%s: %s", what, strerror(errno));
     return FAILED;
 }
 
@@ -203,17 +203,18 @@ static void tell_waiting(struct host *host, enum ds_fleet_word word) {
     bool is_soon = word == DS_FLEET_LATE && clock_now() < host->begun + SECOND;
     if (host->told_waiting || host->place.listener >= 0 || is_soon) return;
     host->told_waiting = true;
-    log_say(&host->log, "waits for the redis server %s; the socket %s is made once the store has caught up",
+    log_say(&host->log, LOG_INFO, "waits: for the redis server %s; the socket %s is made once the store has caught up",
             public_part(host->url), host->place.path);
 }
 
 /* What is done each second. */
-static void look_after(struct host *host) {
+static void look_after(struct host *host, enum ds_fleet_word word) {
     uint64_t now = clock_now();
     if (now < host->looked_at + SECOND) return;
     host->looked_at = now;
     place_keep(&host->place);
     log_count(&host->log);
+    notify("STATUS=%s, %zu clients\nWATCHDOG=1", ds_fleet_word(word), host->clients.count);
 }
 
 /* -1: continue; else the status to end with. */
@@ -225,12 +226,15 @@ static int turn(struct host *host, bool *ready) {
     ds_fleet_owed(host->fleet, owed);
     clients_owe(&host->clients, owed);
     *ready = clients_write(&host->clients);
-    if (word == DS_FLEET_INSTEP && host->place.listener < 0 && !place_serve(&host->place)) return FAILED;
+    if (word == DS_FLEET_INSTEP && host->place.listener < 0) {
+        if (!place_serve(&host->place)) return FAILED;
+        notify("READY=1");
+    }
     tell_waiting(host, word);
-    look_after(host);
+    look_after(host, word);
     bool is_misused = word == DS_FLEET_BADSCOPE && host->place.listener < 0; /* one that serves may find its scope again */
     if (word != DS_FLEET_CLOSED && !is_misused) return -1;
-    log_say(&host->log, "%s: %s", ds_fleet_word(word), explained(word));
+    log_say(&host->log, LOG_ERROR, "%s: %s", ds_fleet_word(word), explained(word));
     return is_misused ? USAGE : FAILED;
 }
 
@@ -239,6 +243,7 @@ static int run(struct host *host) {
     bool ready = false;
     int status = -1;
     while (!host->ended && status < 0) status = turn(host, &ready);
+    notify("STOPPING=1");
     uint64_t end = clock_now() + LAST;
     while (status < 0 && !clients_are_done(&host->clients) && clock_now() < end) status = turn(host, &ready);
     return status < 0 ? DONE : status;
@@ -263,7 +268,7 @@ static void allow_descriptors(struct host *host) {
     limit.rlim_cur = limit.rlim_max < wanted ? limit.rlim_max : wanted;
     if (!setrlimit(RLIMIT_NOFILE, &limit)) allowed = limit.rlim_cur;
     if (allowed == wanted) return;
-    log_say(&host->log, "descriptors: %llu are allowed, so fewer than %d clients are served at once",
+    log_say(&host->log, LOG_WARN, "descriptors: %llu are allowed, so fewer than %d clients are served at once",
             (unsigned long long)allowed, CLIENTS);
 }
 
@@ -286,13 +291,13 @@ static int open_all(struct host *host, const struct options *options) {
     allow_descriptors(host);
     clock_gettime(CLOCK_REALTIME, &it); /* each run has another incarnation */
     if (ds_open(&host->store, (uint64_t)it.tv_sec * 1000000000 + (uint64_t)it.tv_nsec, 0, RING)) {
-        log_say(&host->log, "noroom: out of memory");
+        log_say(&host->log, LOG_ERROR, "noroom: out of memory");
         return FAILED;
     }
     enum ds_fleet_word word = ds_fleet_open(&host->fleet, &host->store, &options->fleet);
     if (word == DS_FLEET_SYSTEM) return failed(host, ds_fleet_word(word));
     if (word != DS_FLEET_INSTEP) {
-        log_say(&host->log, "%s: %s", ds_fleet_word(word), explained(word));
+        log_say(&host->log, LOG_ERROR, "%s: %s", ds_fleet_word(word), explained(word));
         return word == DS_FLEET_NOROOM ? FAILED : USAGE;
     }
     host->clients.store = &host->store;

@@ -79,8 +79,6 @@ enum ds_fleet_word items_gather_all(struct items *items) {
     return answer.word == DS_SNAPPED ? keep_untold(items, &answer) : DS_FLEET_BADSCOPE;
 }
 
-enum ds_fleet_word items_open(struct items *items) { return items_gather_all(items); }
-
 enum ds_fleet_word items_gather(struct items *items) {
     for (;;) {
         struct ds_answer answer;
@@ -104,25 +102,9 @@ static bool is_news(struct items *items, const char *line, size_t length, uint32
     return true;
 }
 
-/* Somebody may send what can't be read as fast as he likes, and the log is to stay short. */
-static bool may_complain(struct items *items) {
-    if (items->complaints == ITEMS_COMPLAINTS) {
-        items->withheld++;
-        return false;
-    }
-    items->complaints++;
-    return true;
-}
-
-void items_say_withheld(struct items *items) {
-    unsigned long long withheld = items->withheld;
-    if (withheld) items_say(items, "and %llu more that were refused or unread", withheld);
-    items->withheld = items->complaints = 0;
-}
-
 /* entry is NULL for what was told before. */
 static void complain(struct items *items, const char *entry, const char *line, size_t length, uint32_t refusal) {
-    if (!entry || !is_news(items, line, length, refusal) || !may_complain(items)) return;
+    if (!entry || !is_news(items, line, length, refusal)) return;
     size_t shown = length && line[length - 1] == '\n' ? length - 1 : length;
     if (shown > SHOWN) shown = SHOWN;
     items_say(items, "%s: entry %s: %.*s", ds_fleet_refusal(refusal), entry, (int)shown, line);
@@ -130,7 +112,7 @@ static void complain(struct items *items, const char *entry, const char *line, s
 
 void items_unread_entry(struct items *items, const char *entry) {
     items->unread++;
-    if (may_complain(items)) items_say(items, "unread: entry %s has no items", entry);
+    items_say(items, "unread: entry %s has no items", entry);
 }
 
 static uint64_t refused_now(const struct items *items) {
@@ -143,7 +125,7 @@ static uint64_t refused_now(const struct items *items) {
 static void lose(struct items *items) {
     if (items->lost++) return;
     items->lost_beside = refused_now(items);
-    items_say(items, "full: what was refused is too much to be kept, so nothing is compacted from here");
+    items_say(items, "overfull: what was refused is too much to be kept, so nothing is compacted from here");
 }
 
 bool items_may_regain(const struct items *items) {

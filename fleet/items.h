@@ -7,9 +7,8 @@
 #include "text.h"
 
 enum {
-    ITEMS_MOST = 256,     /* lines of one merge, and of one entry */
-    ITEMS_TOLD = 256,     /* keys whose refusal was told */
-    ITEMS_COMPLAINTS = 32 /* lines of the log for what is refused or can't be read, up to the next items_say_withheld */
+    ITEMS_MOST = 256, /* lines of one merge, and of one entry */
+    ITEMS_TOLD = 256  /* keys whose refusal was told */
 };
 
 struct items {
@@ -30,20 +29,16 @@ struct items {
     uint64_t refused[DS_NOROOM + 1];
     uint64_t told[ITEMS_TOLD];      /* hashes of keys and why they were refused */
     size_t told_next;
-    unsigned complaints;            /* since items_say_withheld, */
-    uint64_t withheld;              /* and those past ITEMS_COMPLAINTS */
     uint8_t owed[16];
     ds_fleet_tell *tell;
     void *context;
 };
 
-/* These answer INSTEP where it is done, else CLOSED, NOROOM, or items_open BADSCOPE, and then may be called again. */
+/* These answer INSTEP where it is done, else CLOSED, NOROOM, or items_gather_all BADSCOPE, and then may be called again. */
 
-/* Begins at the store's end, with all that it holds untold. */
-enum ds_fleet_word items_open(struct items *items);
 /* Puts what took effect since to what is untold. */
 enum ds_fleet_word items_gather(struct items *items);
-/* Puts all that is held to what is untold. */
+/* Puts all that is held to what is untold, and continues from the store's end. */
 enum ds_fleet_word items_gather_all(struct items *items);
 /* Merges lines that came by an entry, whose id is for who is told of what is refused. Own news is gathered first: what comes behind it
  * in the journal is then what was merged, and isn't told again. A refused line ends nothing. */
@@ -64,7 +59,5 @@ void items_close(struct items *items);
 
 /* Logs a line. */
 void items_say(struct items *items, const char *format, ...);
-/* Logs how many complaints were withheld, and begins to log them again. To be called once a second. */
-void items_say_withheld(struct items *items);
 
 #endif

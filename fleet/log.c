@@ -12,8 +12,6 @@
 
 enum { SECOND = 1000, COUNTED_EACH = 10 * SECOND };
 
-static const char front[] = "dsfleet: ";
-
 /* A pipe or a terminal is opened anew, not to wait: that standard error itself doesn't wait would be seen by all who
  * share it. A file is not, since it would have a place of its own to write at. */
 void log_open(struct log *log) {
@@ -35,10 +33,10 @@ static bool written(const struct log *log, const char *line, size_t length) {
     return poll(&it, 1, 0) > 0 && (it.revents & POLLOUT) && write(log->descriptor, line, length) > 0;
 }
 
-/* Whether the word that the text begins with may have one more line. */
-static bool is_due(struct log *log, const char *text) {
+/* Whether an event may have one more line. */
+static bool is_due(struct log *log, const char *event, size_t length) {
     uint64_t now = clock_now(), hash = 0;
-    for (size_t i = 0; i < strcspn(text, ": "); i++) hash = hash * 31 + (unsigned char)text[i];
+    for (size_t i = 0; i < length; i++) hash = hash * 31 + (unsigned char)event[i];
     uint64_t *due = &log->due[hash % LOG_WORDS];
     if (*due < now) *due = now;
     if (*due >= now + LOG_AT_ONCE * SECOND) return false;
@@ -46,25 +44,26 @@ static bool is_due(struct log *log, const char *text) {
     return true;
 }
 
-void log_say(struct log *log, const char *format, ...) {
-    char line[LOG_LINE];
-    size_t begun = sizeof front - 1;
+void log_say(struct log *log, const char *level, const char *format, ...) {
+    char text[LOG_LINE], line[2 * LOG_LINE + 100];
     va_list given;
-    memcpy(line, front, begun);
     va_start(given, format);
-    int more = vsnprintf(line + begun, sizeof line - begun - 1, format, given);
+    vsnprintf(text, sizeof text, format, given);
     va_end(given);
-    if (more < 0) return;
-    size_t length = begun + strlen(line + begun);
-    bool due = is_due(log, line + begun);
-    line[length++] = '\n';
-    if (!due || !written(log, line, length)) log->left_out++;
+    size_t event = strcspn(text, ":");
+    size_t length = (size_t)snprintf(line, sizeof line, "%s event=%.*s text=\"", level, (int)event, text);
+    for (const char *byte = text + event + strspn(text + event, ": "); *byte; byte++) {
+        if (*byte == '"' || *byte == '\\') line[length++] = '\\';
+        line[length++] = *byte;
+    }
+    memcpy(line + length, "\"\n", 2);
+    if (!is_due(log, text, event) || !written(log, line, length + 2)) log->left_out++;
 }
 
 void log_count(struct log *log) {
     char line[LOG_LINE];
     if (!log->left_out || clock_now() < log->count_at) return;
-    int length = snprintf(line, sizeof line, "%sleft out: %llu lines\n", front, (unsigned long long)log->left_out);
+    int length = snprintf(line, sizeof line, LOG_WARN " event=left_out lines=%llu\n", (unsigned long long)log->left_out);
     if (!written(log, line, (size_t)length)) return;
     log->left_out = 0;
     log->count_at = clock_now() + COUNTED_EACH;

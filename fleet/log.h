@@ -1,18 +1,22 @@
-/* The lines that dsfleet writes to standard error. Writing never waits: a line that can't be written at once is left
- * out, and counted. Lines that begin with the same word are limited, so that a flood of one kind neither fills a disk
- * nor hides the other kinds. */
+/* The lines that dsfleet writes to standard error, as `LEVEL event=WORD text="TEXT"`. Writing never waits: a line that
+ * can't be written at once is left out, and counted. Lines of one event are limited, so that a flood of one kind neither
+ * fills a disk nor hides the other kinds. */
 #ifndef DS_FLEET_LOG_H
 #define DS_FLEET_LOG_H
 
 #include <stdbool.h>
 #include <stdint.h>
 
-enum { LOG_WORDS = 64, LOG_LINE = 600, LOG_AT_ONCE = 100 /* lines of one word, and then one a second */ };
+#define LOG_INFO "INFO"
+#define LOG_WARN "WARN"
+#define LOG_ERROR "ERROR" /* it ends by that */
+
+enum { LOG_WORDS = 64, LOG_LINE = 600, LOG_AT_ONCE = 100 /* lines of one event, and then one a second */ };
 
 struct log {
     int descriptor;
     bool is_socket;
-    uint64_t due[LOG_WORDS]; /* for each word, by its hash: when it would have used up all that it was allowed */
+    uint64_t due[LOG_WORDS]; /* for each event, by its hash: when it would have used up all that it was allowed */
     uint64_t left_out;       /* lines since that was last written */
     uint64_t count_at;       /* when it may be written again */
 };
@@ -20,8 +24,8 @@ struct log {
 /* Opens the log. Standard descriptors that are closed become /dev/null first, so that nothing else takes their
  * numbers. */
 void log_open(struct log *log);
-/* Writes one line, with the program's name before it and a newline after it. */
-void log_say(struct log *log, const char *format, ...) __attribute__((format(printf, 2, 3)));
+/* Writes one line, of a text `WORD: TEXT`. */
+void log_say(struct log *log, const char *level, const char *format, ...) __attribute__((format(printf, 3, 4)));
 /* Writes how many lines were left out, each ten seconds at most. */
 void log_count(struct log *log);
 void log_close(struct log *log);

@@ -14,7 +14,7 @@ enum { BACKLOG = 512, TRIES = 8 /* to lock a file that others remove meanwhile *
 static const char another[] = "another one serves it";
 
 static bool failed(const struct place *place, const char *path, const char *why) {
-    log_say(place->log, "%s: %s", path, why);
+    log_say(place->log, LOG_ERROR, "socket: %s: %s", path, why);
     return false;
 }
 
@@ -89,7 +89,7 @@ bool place_serve(struct place *place) {
     struct stat it;
     if (!place_lock(place)) return false;
     int listener = socket(AF_UNIX, SOCK_STREAM | SOCK_NONBLOCK | SOCK_CLOEXEC, 0);
-    if (listener < 0) return failed(place, "socket", strerror(errno));
+    if (listener < 0) return failed(place, place->path, strerror(errno));
     unlink(place->path); /* of one that ended without a word */
     bool is_bound = !bind(listener, (struct sockaddr *)&address, sizeof address);
     if (!is_bound || listen(listener, BACKLOG) || lstat(place->path, &it)) {
@@ -100,7 +100,7 @@ bool place_serve(struct place *place) {
     place->listener = listener;
     place->device = it.st_dev;
     place->inode = it.st_ino;
-    log_say(place->log, "serves %s", place->path);
+    log_say(place->log, LOG_INFO, "serves: %s", place->path);
     return true;
 }
 

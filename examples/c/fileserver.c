@@ -4,7 +4,7 @@
  * It takes all that is held once, and then what came after its cursor. A message from before the driver's death changes
  * nothing when it arrives late.
  *
- *     fileserver [DISKS]       there are so many disks, at most 1000; by default there is one */
+ *     fileserver [DISKS]       the number of disks, at most 1000; by default 1 */
 #include "ds.h"
 #include <stdio.h>
 #include <stdlib.h>

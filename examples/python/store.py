@@ -45,7 +45,7 @@ class Store:
         return answer
 
     def text(self):
-        """Returns the whole text of the last answer: a call with no room says how long it is, and the next one fetches it."""
+        """Returns the whole text of the last answer: a call without a buffer returns its length, and the next one fetches it."""
         room = ctypes.create_string_buffer(self.fetch(None, 0).count)
         if self.fetch(room, len(room)).stop != WHOLE:
             raise MemoryError

@@ -1,7 +1,7 @@
 #!/usr/bin/env python3
 """watch.py SOCKET: prints each change of the label eth0, as the dsfleet at SOCKET holds it. ^C ends it.
 
-It needs the package `pengtawis`: PYTHONPATH=python in the repository, or docs/python.md.
+It needs the package `pengtawis`: PYTHONPATH=python in the repository, or docs/guide/python.md.
 """
 import sys
 

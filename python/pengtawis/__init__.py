@@ -1,4 +1,4 @@
-"""Pengtawis: where drivers are that crash and restart. docs/python.md is its page.
+"""Pengtawis: where drivers are that crash and restart. docs/guide/python.md is its page.
 
 A `Store` and a `Map` are in this process, over libds. A `Client` and an `AsyncClient` ask a dsfleet. Every refusal is an exception.
 """
@@ -9,10 +9,10 @@ from .refusals import (
     IsOpen, NoCaller, NoRoom, NotAllowed, NotFound, NotOwner, OldCursor, Refused, Stale, TooLong, TooMany, Worn,
 )
 from .store import Store
-from .values import RS, Change, Cursor, Done, Endpoint, Floor, Items, Merged, Reading, Subscribed, Swept, Version, read_item
+from .values import RS, Change, Cursor, Done, Endpoint, Floor, Items, Merged, Page, Reading, Subscribed, Swept, Version, read_item
 
 __all__ = [
-    "AsyncClient", "BadLine", "Client", "Map", "Store", "RS", "Change", "Cursor", "Done", "Endpoint", "Floor", "Items", "Merged",
+    "AsyncClient", "BadLine", "Client", "Map", "Store", "RS", "Change", "Cursor", "Done", "Endpoint", "Floor", "Items", "Merged", "Page",
     "Reading", "Subscribed", "Swept", "Version", "read_item", "Ahead", "BadFirst", "BadKind", "BadLabel", "BadPattern", "BadRing",
     "BadSub", "BadVersion", "Behind", "Clash", "Exists", "Full", "IsClosed", "IsOpen", "NoCaller", "NoRoom", "NotAllowed",
     "NotFound", "NotOwner", "OldCursor", "Refused", "Stale", "TooLong", "TooMany", "Worn",

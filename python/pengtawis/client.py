@@ -1,11 +1,11 @@
-"""Clients of dsfleet, whose lines and answers are those of docs/fleet.md: one that waits, and one for asyncio."""
+"""Clients of dsfleet, whose lines and answers are those of docs/reference/fleet.md: one that waits, and one for asyncio."""
 from __future__ import annotations
 
 import asyncio
 import collections
 import contextlib
 import socket
-from typing import AsyncIterator, Deque, Dict, Iterator, List, Optional
+from typing import AsyncIterator, Deque, Dict, Iterator, List, Optional, cast
 
 from .refusals import NUMBERED, BadLine, Refused
 from .values import Version
@@ -140,7 +140,16 @@ class AsyncClient:
         self._calls: Deque[asyncio.Future[List[str]]] = collections.deque()  # which wait, in the order of their answers
 
     async def __aenter__(self) -> AsyncClient:
-        self._reader, self._writer = await asyncio.open_unix_connection(self._path)
+        self._socket = socket.socket(socket.AF_UNIX)
+        self._socket.setblocking(False)
+        try:
+            await asyncio.get_running_loop().sock_connect(self._socket, self._path)
+            # Writes through a descriptor of its own: a write that fails would lose what is received and not read yet.
+            _, self._writer = await asyncio.open_unix_connection(sock=self._socket.dup())
+        except BaseException:
+            self._socket.close()
+            raise
+        cast(asyncio.ReadTransport, self._writer.transport).pause_reading()
         self._came = asyncio.Event()
         self._task = asyncio.create_task(self._receive())
         return self
@@ -149,6 +158,7 @@ class AsyncClient:
         self._writer.close()
         self._task.cancel()
         await asyncio.wait([self._task])
+        self._socket.close()
 
     async def ask(self, line: str) -> List[str]:
         """Sends a line, and returns the lines of its answer. A refusal is raised as the exception of its word."""
@@ -158,7 +168,7 @@ class AsyncClient:
         call = asyncio.get_running_loop().create_future()
         self._calls.append(call)
         self._writer.write(sent)
-        with contextlib.suppress(OSError):  # of which the call is told
+        with contextlib.suppress(OSError):  # the call raises it
             await self._writer.drain()
         return _judged(await call)
 
@@ -174,7 +184,7 @@ class AsyncClient:
 
     async def _receive(self) -> None:
         try:
-            while some := await self._reader.read(AT_ONCE):
+            while some := await asyncio.get_running_loop().sock_recv(self._socket, AT_ONCE):
                 for answer in self._inbox.answers(some):
                     call = self._calls.popleft()
                     if not call.done():

@@ -1,4 +1,4 @@
-"""libds.so: where it is, its calls, and the structs of c/ds.h."""
+"""libds.so.1: where it is, its calls, and the structs of c/ds.h."""
 from __future__ import annotations
 
 import ctypes
@@ -7,19 +7,21 @@ import functools
 import os
 import struct
 from ctypes import POINTER, byref, c_char_p, c_size_t, c_uint8, c_uint16, c_uint32, c_uint64, c_void_p
-from typing import Any, FrozenSet, Optional, TypeVar
+from typing import Any, FrozenSet, Optional, Type, TypeVar
 
 from .refusals import NUMBERED, BadLine, Clash
 from .values import Version
 
-PLACES = [os.path.join(it, "lib/pengtawis/libds.so") for it in (os.path.expanduser("~/.local"), "/usr/local", "/usr")]
+PLACES = [os.path.join(it, "lib/pengtawis/libds.so.1") for it in (os.path.expanduser("~/.local"), "/usr/local")]
+NAME = "libds.so.1"  # by which the system's loader finds it, as Debian's package has it
 Command = enum.IntEnum("Command", "PUBLISH DELETE SWEEP RETRIEVE NAMEOF SUBSCRIBE CHECK SINCE SNAPSHOT PAGE MERGE", start=0)
 CHANGED, NO_REQUEST, BAD_LINE = 0, 13, 15  # of enum ds_word
 WHOLE, WANTING = 0, 20  # of enum ds_stop
 REQUEST = struct.Struct("@4Q7I2H6B64s0Q")  # struct ds_request: unlike ctypes, struct refuses a number that is out of range
 OPENING = struct.Struct("@2QI")
 Self = TypeVar("Self", bound="Handle")
-ROOM = 1 << 16  # bytes of text that are fetched at a time; a piece has less than 4096
+ROOM = 1 << 16  # bytes of text that are fetched at a time
+PIECE = 2204  # DS_MAX_PIECE
 
 
 class Answer(ctypes.Structure):
@@ -43,6 +45,7 @@ TEXT, ANSWER, ROOM_OF_TEXT = (c_char_p, c_size_t), POINTER(Answer), (c_size_t, c
 CALLS: Any = {
     "ds_open": (c_uint64, c_uint64, c_uint32),
     "ds_call": (c_char_p, *TEXT, ANSWER),
+    "ds_run": (c_char_p, c_size_t, *TEXT, POINTER(Answer), c_size_t, POINTER(c_size_t)),
     "ds_items": ROOM_OF_TEXT,
     "ds_call_line": (*TEXT, ANSWER),
     "ds_text": ROOM_OF_TEXT,
@@ -75,10 +78,14 @@ class Handle:
     """Keeps a handle of the library, which the end of its `with` closes."""
 
     def __init__(self, library: Optional[str], closes: str) -> None:
-        path = library or os.environ.get("PENGTAWIS_LIBRARY") or next((it for it in PLACES if os.path.exists(it)), None)
-        if path is None:
-            raise FileNotFoundError(f"there is no libds.so: name it, set PENGTAWIS_LIBRARY, or install {PLACES[0]}")
-        self._library, self._closes = loaded(os.fspath(path)), closes
+        named = library or os.environ.get("PENGTAWIS_LIBRARY")
+        path = named if named else next((it for it in PLACES if os.path.exists(it)), NAME)
+        try:
+            self._library, self._closes = loaded(os.fspath(path)), closes
+        except OSError as fault:
+            if path != NAME:
+                raise
+            raise FileNotFoundError(f"there is no {NAME}: name it, set PENGTAWIS_LIBRARY, or install {PLACES[0]}") from fault
         self._answer, self._handle = Answer(), c_void_p()
         self._at, self._answer_at = byref(self._handle), byref(self._answer)
 
@@ -105,14 +112,20 @@ class Handle:
     def _ask(self, call: str, *words: Any) -> Answer:
         """Returns the answer to a call, which the next call overwrites."""
         self._call(call, *words, self._answer_at)
-        answer = self._answer
-        if answer.word == BAD_LINE:
-            raise BadLine(f"the line can't be read from byte {answer.count} on")
-        if answer.word == NO_REQUEST:
-            fault = BadLine if call == "ds_call_line" else ValueError
-            raise fault("no store is asked this way: docs/formats.md says what names, values and lines may be")
-        if answer.refusal:
-            refused = NUMBERED[answer.refusal]
-            version = Version(answer.epoch, answer.seq) if refused is Clash else None
-            raise refused(version, answer.count, answer.subscriptions())
-        return answer
+        fault = fault_of(self._answer, BadLine if call == "ds_call_line" else ValueError)
+        if fault:
+            raise fault
+        return self._answer
+
+
+def fault_of(answer: Answer, malformed: Type[ValueError] = ValueError) -> Optional[Exception]:
+    """Returns the exception that an answer is, if it is one."""
+    if answer.word == BAD_LINE:
+        return BadLine(f"the line can't be read from byte {answer.count} on")
+    if answer.word == NO_REQUEST:
+        return malformed("no store is asked this way: docs/reference/lines.md says what names, values and lines may be")
+    if answer.refusal:
+        refused = NUMBERED[answer.refusal]
+        version = Version(answer.epoch, answer.seq) if refused is Clash else None
+        return refused(version, answer.count, answer.subscriptions())
+    return None

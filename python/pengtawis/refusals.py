@@ -1,4 +1,4 @@
-"""An exception for each refusal. docs/refusals.md shows a session for each word."""
+"""An exception for each refusal. docs/reference/refusals.md shows a session for each word."""
 from __future__ import annotations
 
 from typing import FrozenSet, Optional
@@ -31,8 +31,8 @@ class BadLine(ValueError):
 class BadSub(Refused, ValueError): """Subscriptions are numbered from 0 to 127."""
 class TooMany(Refused, ValueError): """A check, a page and a since show 1 to 256 items."""
 class TooLong(Refused, ValueError): """A pattern has at most 128 bytes."""
-class BadPattern(Refused, ValueError): """The pattern is no regular expression of printable ASCII."""
-class BadKind(Refused, ValueError): """The kinds are no sum of 1 for label, 2 for u32, 4 for str and 8 for mem."""
+class BadPattern(Refused, ValueError): """The pattern isn't a regular expression of printable ASCII."""
+class BadKind(Refused, ValueError): """The kinds aren't a sum of 1 for label, 2 for u32, 4 for str and 8 for mem."""
 class BadLabel(Refused, ValueError): """A label's epoch is its generation, its number 0 for a put and 1 for an end; none is named rs."""
 class BadVersion(Refused, ValueError): """The epoch is the caller's generation, and the number is below 4294967295."""
 class NoCaller(Refused): """The caller's endpoint is neither a live label's nor that of RS."""

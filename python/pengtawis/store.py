@@ -3,16 +3,17 @@ from __future__ import annotations
 
 import io
 import time
-from ctypes import byref, create_string_buffer
-from typing import Any, Dict, Iterable, Iterator, Optional, Tuple, Type, TypeVar, cast
+from ctypes import addressof, byref, c_char, c_size_t
+from typing import Any, Dict, Iterable, Iterator, List, Optional, Tuple, Type, TypeVar, Union, cast
 
-from .library import CHANGED, OPENING, REQUEST, ROOM, WANTING, WHOLE, Answer, Command, Given, Handle, packed
+from .library import CHANGED, OPENING, PIECE, REQUEST, ROOM, WANTING, WHOLE, Answer, Command, Given, Handle, fault_of, packed
 from .refusals import NoRoom, Refused
-from .values import KINDS, Cursor, Done, Endpoint, Items, Merged, Reading, Subscribed, Swept, Value, kind_of, mask_of
+from .values import KINDS, Cursor, Done, Endpoint, Items, Merged, Page, Reading, Subscribed, Swept, Value, kind_of, mask_of
 
 MOST = 256  # items of one answer, but for a snapshot's, and of one merge
 V = TypeVar("V", Endpoint, int, str, bytes)
 NONE = (0, 0)
+Pair = Tuple[int, int]  # an endpoint, a version or a cursor
 
 
 class Store(Handle):
@@ -21,8 +22,8 @@ class Store(Handle):
     Threads that share a store hold a lock of their own around each use.
 
     Without `incarnation` it is the time in nanoseconds, so that no cursor of an earlier run is taken for one of this run.
-    `library` is the path of libds.so. Without it the variable PENGTAWIS_LIBRARY names the library, or it is where ./install
-    puts it: lib/pengtawis/libds.so below ~/.local, /usr/local or /usr.
+    `library` is the path of libds.so.1. Without it the variable PENGTAWIS_LIBRARY names the library, or it is where ./install
+    puts it, lib/pengtawis/libds.so.1 below ~/.local or /usr/local, or where the system's loader finds it.
 
     >>> with Store() as store:
     ...     _ = store.publish(RS, "eth0", Endpoint(3, 16), version=(3, 0))
@@ -33,8 +34,8 @@ class Store(Handle):
 
     def __init__(self, incarnation: Optional[int] = None, first: int = 0, ring: int = 256, library: Optional[str] = None) -> None:
         super().__init__(library, "ds_close")
-        self._given, self._room = Given(), create_string_buffer(ROOM)
-        self._given_at, self._view = byref(self._given), memoryview(self._room)
+        self._given = Given()
+        self._given_at = byref(self._given)
         self._fetched = 0  # pieces of the last answer
         self._left: Optional[io.BytesIO] = None  # the text of a check to which the other pieces belong
         self._kept: Dict[int, io.BytesIO] = {}  # by subscription: what a check fetched before memory ran out
@@ -42,18 +43,38 @@ class Store(Handle):
         packed(OPENING, *opening)  # which refuses what is out of range
         self._call("ds_open", *opening)
 
-    def publish(self, caller: Tuple[int, int], name: str, value: Value, version: Tuple[int, int], overwrite: bool = False) -> Done:
+    def publish(self, caller: Pair, name: str, value: Value, version: Pair, overwrite: bool = False) -> Done:
         """Puts a value under a key, over a live entry only with `overwrite`. `changed` is False if it was held already."""
-        number, slot = value if isinstance(value, Endpoint) else (value if isinstance(value, int) else 0, 0)
-        text = value.encode() if isinstance(value, str) else value if isinstance(value, bytes) else b""
-        kinds = KINDS[kind_of(value)]
-        return done(self._request(Command.PUBLISH, text, caller, version, number, slot, kinds, name, overwrite=overwrite))
+        return done(self._request(Command.PUBLISH, *publication(caller, value, version), name, overwrite=overwrite))
 
-    def delete(self, caller: Tuple[int, int], name: str, kind: type, version: Tuple[int, int]) -> Done:
+    def publish_all(
+        self, caller: Pair, entries: Iterable[Tuple[str, Value, Pair]], overwrite: bool = False
+    ) -> List[Union[Done, Exception]]:
+        """Publishes entries, each a name, a value and a version, by one call of the library. Returns what `publish` returns or raises for each.
+
+        >>> with Store() as store:
+        ...     _ = store.publish(RS, "eth0", Endpoint(3, 16), version=(3, 0))
+        ...     told = store.publish_all(Endpoint(3, 16), [("mtu", 1500, (3, 1)), ("speed", 100, (2, 2)), ("mac", b"RT", (3, 3))])
+        ...     [it.changed if isinstance(it, Done) else it.word for it in told]
+        [True, 'badversion', True]
+        """
+        requests, texts, length = [], [], 0
+        for name, value, version in entries:
+            parts = publication(caller, value, version)
+            requests.append(request_of(Command.PUBLISH, *parts, name, overwrite=overwrite, text_at=length))
+            texts.append(parts[0])
+            length += len(parts[0])
+        answers, count = (Answer * len(requests))(), len(requests)
+        self._leave()
+        # One call answers all, since none of these answers has a text.
+        self._call("ds_run", b"".join(requests), count, b"".join(texts), length, answers, count, byref(c_size_t()))
+        return [fault_of(it) or done(it) for it in answers]
+
+    def delete(self, caller: Pair, name: str, kind: type, version: Pair) -> Done:
         """Ends a live entry, and leaves a tombstone."""
         return done(self._request(Command.DELETE, b"", caller, version, kinds=KINDS[kind], name=name))
 
-    def sweep(self, caller: Tuple[int, int], owner: str, generation: int) -> Swept:
+    def sweep(self, caller: Pair, owner: str, generation: int) -> Swept:
         """Raises the floor of a dead owner, which drops the entries that it published up to this generation."""
         answer = self._request(Command.SWEEP, b"", caller, number=generation, name=owner)
         return Swept(answer.count, answer.subscriptions())
@@ -64,13 +85,13 @@ class Store(Handle):
         if kind is int or kind is Endpoint:
             found: Any = answer.value if kind is int else Endpoint(answer.value, answer.value_slot)
         else:
-            found = str(self._piece(), "ascii") if kind is str else bytes(self._piece())
+            found = str(self._text(), "ascii") if kind is str else self._text()
         return cast(V, found)
 
-    def nameof(self, endpoint: Tuple[int, int]) -> str:
+    def nameof(self, endpoint: Pair) -> str:
         """Returns the least name whose live label holds the endpoint."""
         self._request(Command.NAMEOF, b"", endpoint)
-        return str(self._piece(), "ascii")
+        return str(self._text(), "ascii")
 
     def subscribe(
         self, sub: int, pattern: str, kinds: Iterable[type] = KINDS, initial: bool = True, overwrite: bool = False
@@ -106,8 +127,25 @@ class Store(Handle):
         """Returns all that is held under a pattern and kinds, tombstones too, all floors, and the cursor after them."""
         return self._reading(Command.SNAPSHOT, pattern, kinds)
 
+    def page(
+        self, after: Optional[Tuple[str, type]] = None, pattern: str = ".*", kinds: Iterable[type] = KINDS, most: int = MOST
+    ) -> Page:
+        """Returns the first `most` changes of a snapshot, in the order of their keys, that are past a key. The first page has all floors, too.
+
+        >>> with Store() as store:
+        ...     for at in range(3):
+        ...         _ = store.publish(RS, f"eth{at}", Endpoint(3, 16 + at), version=(3, 0))
+        ...     first = store.page(most=2)
+        ...     *_, last = first.items
+        ...     first.is_last, list(store.page((last.name, last.kind)).items)[0].name
+        (False, 'eth2')
+        """
+        name, mask = ("", 0) if after is None else (after[0], KINDS[after[1]])
+        (items, cursor), is_last = self._reading(Command.PAGE, pattern, kinds, name=name, behind=mask, most=most), self._answer.last
+        return Page(items, cursor, bool(is_last))
+
     def since(
-        self, cursor: Tuple[int, int], pattern: str = ".*", kinds: Iterable[type] = KINDS, most: int = MOST
+        self, cursor: Pair, pattern: str = ".*", kinds: Iterable[type] = KINDS, most: int = MOST
     ) -> Iterator[Reading]:
         """Yields what took effect after a cursor, at most `most` items at a time, with the next cursor. It yields at least once.
 
@@ -141,64 +179,85 @@ class Store(Handle):
         return total
 
     def line(self, line: str) -> str:
-        """Returns the answer to a line of a script, as dsctl prints it. Pages have no other call."""
+        """Returns the answer to a line of a script, as dsctl prints it."""
         spelled = line.encode()
         self._ask("ds_call_line", spelled, len(spelled))
         return self.text()
 
     def text(self) -> str:
         """Returns the last answer as dsctl prints it. If `line` raised NoRoom, call it for the answer."""
-        texts, length = [], 0
+        text, room = io.BytesIO(), PIECE
         while True:
-            self._call("ds_text", length, self._room, ROOM, self._given_at)
-            if self._given.stop == WANTING:
+            given = self._more(text, "ds_text", text.tell(), room)
+            if given.stop == WANTING:
                 raise NoRoom()
-            texts.append(str(self._view[: self._given.length], "ascii"))
-            length += self._given.length
-            if self._given.stop == WHOLE:
-                return "".join(texts)
+            if given.stop == WHOLE:
+                text.truncate()
+                return str(text.getbuffer(), "ascii")
+            room = given.count - text.tell()
 
     def _ask(self, call: str, *words: Any) -> Answer:
-        if self._left is not None:
-            self._fetch(self._left)  # the next answer would replace it
-        self._fetched = 0
+        self._leave()
         return super()._ask(call, *words)
 
-    def _request(
-        self, command: Command, text: bytes = b"", at: Tuple[int, int] = NONE, version: Tuple[int, int] = NONE,
-        number: int = 0, slot: int = 0, kinds: int = 0, name: str = "", *, cursor: Tuple[int, int] = NONE, sub: int = 0,
-        most: int = 0, overwrite: bool = False, initial: bool = False, under: bool = False, text_at: int = 0,
-        text_length: Optional[int] = None,
-    ) -> Answer:
-        spelled, length = name.encode(), len(text) if text_length is None else text_length
-        numbers = (*cursor, text_at, length, command, at[0], *version, number, sub, most, at[1], slot)
-        request = packed(REQUEST, *numbers, kinds, overwrite, initial, under, 0, len(spelled), spelled)
-        return self._ask("ds_call", request, text, len(text))
+    def _leave(self) -> None:
+        """Fetches what is left of the last answer, which the next one replaces."""
+        if self._left is not None:
+            self._fetch(self._left)
+        self._fetched = 0
+
+    def _request(self, command: Command, text: bytes = b"", *parts: Any, **others: Any) -> Answer:
+        return self._ask("ds_call", request_of(command, text, *parts, **others), text, len(text))
 
     def _reading(self, command: Command, pattern: str, kinds: Iterable[type], **parts: Any) -> Reading:
         mask = mask_of(kinds)
         under = (pattern, mask) != (".*", 15)  # else it is everything, for which no pattern is read
         answer = self._request(command, pattern.encode() if under else b"", kinds=mask, under=under, **parts)
-        cursor, text = Cursor(answer.before, answer.after), io.BytesIO()
-        self._fetch(text)
-        return Reading(Items(text.getvalue()), cursor)
+        cursor = Cursor(answer.before, answer.after)
+        return Reading(Items(self._text()), cursor)
 
-    def _piece(self) -> memoryview:
-        """Returns the one piece of the last answer's text, which is valid until something else is fetched."""
-        self._call("ds_items", 0, self._room, ROOM, self._given_at)
-        if not self._given.count:
-            raise NoRoom()
-        return self._view[: self._given.length]
+    def _text(self) -> bytes:
+        """Returns the whole text of the last answer."""
+        text = io.BytesIO()
+        self._fetch(text)
+        return text.getvalue()
 
     def _fetch(self, text: io.BytesIO) -> None:
-        """Fetches the rest of the last answer's text into `text`. After NoRoom it may be called again."""
+        """Fetches the rest of the last answer's text to the end of `text`. After NoRoom it may be called again."""
         while self._fetched < self._answer.pieces:
-            self._call("ds_items", self._fetched, self._room, ROOM, self._given_at)
-            if not self._given.count:
+            given = self._more(text, "ds_items", self._fetched, min(ROOM, PIECE * (self._answer.pieces - self._fetched)))
+            if not given.count:
                 raise NoRoom()
-            text.write(self._view[: self._given.length])
-            self._fetched += self._given.count
+            self._fetched += given.count
+        text.truncate()
         self._left = None
+
+    def _more(self, text: io.BytesIO, call: str, first: int, room: int) -> Given:
+        """Lets the library write more of the last answer's text to where `text` is. It isn't copied again."""
+        end = text.tell()
+        text.seek(end + room - 1)
+        text.write(b"\0")
+        with text.getbuffer() as view:
+            self._call(call, first, addressof(c_char.from_buffer(view, end)), room, self._given_at)
+        text.seek(end + self._given.length)
+        return self._given
+
+
+def publication(caller: Pair, value: Value, version: Pair) -> Tuple[bytes, Pair, Pair, int, int, int]:
+    """Returns the text of a publication, and its other parts up to the name."""
+    number, slot = value if isinstance(value, Endpoint) else (value if isinstance(value, int) else 0, 0)
+    text = value.encode() if isinstance(value, str) else value if isinstance(value, bytes) else b""
+    return text, caller, version, number, slot, KINDS[kind_of(value)]
+
+
+def request_of(
+    command: Command, text: bytes, at: Pair = NONE, version: Pair = NONE, number: int = 0, slot: int = 0,
+    kinds: int = 0, name: str = "", *, cursor: Pair = NONE, sub: int = 0, most: int = 0, overwrite: bool = False,
+    initial: bool = False, under: bool = False, behind: int = 0, text_at: int = 0, text_length: Optional[int] = None,
+) -> bytes:
+    spelled, length = name.encode(), len(text) if text_length is None else text_length
+    numbers = (*cursor, text_at, length, command, at[0], *version, number, sub, most, at[1], slot)
+    return packed(REQUEST, *numbers, kinds, overwrite, initial, under, behind, len(spelled), spelled)
 
 
 def done(answer: Answer) -> Done:

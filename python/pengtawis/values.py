@@ -49,7 +49,7 @@ class Floor(NamedTuple):
 
 
 class Items:
-    """Holds changes and floors as their lines in docs/formats.md, which are `text`. Iteration reads them.
+    """Holds changes and floors as their lines in docs/reference/lines.md, which are `text`. Iteration reads them.
 
     >>> list(Items(b"! eth0 3\\n"))
     [Floor(owner='eth0', generation=3)]
@@ -71,6 +71,7 @@ Swept = NamedTuple("Swept", [("dropped", int), ("owed", FrozenSet[int])])
 Subscribed = NamedTuple("Subscribed", [("stamp", int), ("owed", FrozenSet[int])])
 Merged = NamedTuple("Merged", [("done", int), ("taken", int), ("stale", int), ("owed", FrozenSet[int])])
 Reading = NamedTuple("Reading", [("items", Items), ("cursor", Cursor)])
+Page = NamedTuple("Page", [("items", Items), ("cursor", Cursor), ("is_last", bool)])
 
 
 def read_item(line: str) -> Union[Change, Floor]:

@@ -1,4 +1,4 @@
-"""What the tests share: the model of a store, and a Store that is asked by the lines of scripts, each as a call."""
+"""What the tests share: the model of a store, and a Store that takes the lines of scripts, each as a call."""
 import pathlib
 import re
 import sys
@@ -134,10 +134,9 @@ class Typed:
         return lines_of(items) + ["snapshot %d %d %d" % (len(items), *cursor)]
 
     def page(self, most, after, scope):
-        """Asks by the line, since the package has no other call for pages."""
-        under = "*" if scope is None else '"%s" %d' % (re.sub(r'(["\\])', r"\\\1", scope[0].decode("latin-1")), scope[1])
-        key = "-" if after is None else f"{after[0].decode()} {WORDS[KINDS[after[1]]]}"
-        return self.store.line(f"page {under} {key} {most}").splitlines()
+        key = None if after is None else (after[0].decode(), KINDS[after[1]])
+        items, cursor, is_last = self.store.page(key, *scope_of(scope), most=most)
+        return lines_of(items) + ["page %d %s %d %d" % (len(items), "last" if is_last else "more", *cursor)]
 
     def offer(self, item):
         merged = self.store.merge(items_of([item]))

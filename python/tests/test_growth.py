@@ -1,4 +1,4 @@
-"""Each growth of the library's memory is refused in turn, alone and with all after it.
+"""Each growth of the library's memory is refused once, alone and with all after it.
 
 A call that is refused by NoRoom is made again with memory, and then all answers are as ever: a refused call changed nothing, and no
 item of a check was lost. The library is one that tests/programs/python links with refusing.c.
@@ -17,10 +17,10 @@ LARGE = 40  # values of 1024 bytes: more than one buffer of text
 WANTED = [
     *["taken"] * 3,
     *["subscribed 1", 'found "a value"', "found " + "61" * 1024, "named eth0", "checked 3", "checked 0"],
-    *["snapshot 3", "since 3", "line 4", "eth0 label rs 3.0 = 3/16\nchecked 1 3 4\n", "held 3", "label 3/16", "large 43", "checked 43"],
+    *["snapshot 3", "since 3", "page 2", "all 3", "line 5", "eth0 label rs 3.0 = 3/16\nchecked 1 3 4\n", "held 3", "label 3/16", "large 44", "checked 44"],
 ]
 # What takes memory.
-REFUSED = {"open", "publish", "subscribe", "retrieve", "check", "snapshot", "since", "line", "text", "merge", "map", "take", "large"}
+REFUSED = {"open", "publish", "subscribe", "retrieve", "check", "snapshot", "since", "page", "all", "line", "text", "merge", "map", "take", "large"}
 
 
 class Memory:
@@ -52,6 +52,15 @@ class Memory:
             return call()
 
 
+def published(store):
+    """Publishes by one call what the store holds already, and a name that it doesn't. Raises what one of them was refused by."""
+    told = store.publish_all(ETH, [("eth0.s", "a value", (3, 0)), ("eth0.m", b"a" * 1024, (3, 0)), ("a.n", bytes(9), (3, 1))])
+    for it in told:
+        if isinstance(it, Exception):
+            raise it
+    return len(told)
+
+
 def answers(memory):
     """Asks a store and a map, and returns what they answer."""
     said = []
@@ -77,6 +86,8 @@ def answers(memory):
             ask("check", lambda: store.check(40), lambda it: f"checked {len(support.lines_of(it))}")
         items, cursor = ask("snapshot", lambda: store.snapshot("eth.*"), lambda it: f"snapshot {len(support.lines_of(it.items))}")
         ask("since", lambda: list(store.since((1, 0), "eth.*")), lambda it: f"since {len(it[0].items)}")
+        ask("page", lambda: store.page(("eth0", Endpoint), "eth.*"), lambda it: f"page {len(support.lines_of(it.items))}")
+        ask("all", lambda: published(store), lambda it: f"all {it}")
         ask("line", lambda: store.line("snapshot *"), lambda it: f"line {len(it.splitlines())}")
         memory.insist("subscribe", lambda: store.subscribe(42, "eth0"))
         said.append(memory.insist_on_text(store, "check 42 8"))

@@ -1,4 +1,4 @@
-"""What is written for users: docstrings, docs/python.md, the example, types, and what pip installs."""
+"""What is written for users: docstrings, docs/guide/python.md, the example, types, and what pip installs."""
 import ast
 import contextlib
 import doctest
@@ -20,7 +20,7 @@ import pengtawis
 import servers
 
 PACKAGE = support.ROOT / "python" / "pengtawis"
-PAGE = support.ROOT / "docs" / "python.md"
+PAGE = support.ROOT / "docs" / "guide" / "python.md"
 BLOCK = re.compile(r"(?<=\n\n)(?:    .*\n)+")
 WATCH = support.ROOT / "examples" / "python" / "watch.py"
 PATIENCE = 30  # seconds
@@ -164,7 +164,7 @@ class Package(unittest.TestCase):
         with tempfile.TemporaryDirectory() as home:
             self.assertEqual(self.opened({"HOME": home}), "FileNotFoundError")
             os.makedirs(f"{home}/.local/lib/pengtawis")
-            os.symlink(library, f"{home}/.local/lib/pengtawis/libds.so")
+            os.symlink(library, f"{home}/.local/lib/pengtawis/libds.so.1")
             self.assertEqual(self.opened({"HOME": home}), "opened")
             self.assertEqual(self.opened({"HOME": home, "PENGTAWIS_LIBRARY": "/nowhere/libds.so"}), "OSError")
             self.assertEqual(self.opened({"HOME": home, "PENGTAWIS_LIBRARY": "/nowhere/libds.so"}, library), "opened")

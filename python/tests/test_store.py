@@ -29,7 +29,7 @@ def opened(*lines, **words):
 LABEL = "publish 0/2 new eth0 label 3.0 = 3/17"
 OTHER = "publish 0/2 new tty label 4.0 = 4/18"
 MTU = "publish 3/17 new mtu u32 3.1 = 1500"
-# A call for each refusal, as docs/refusals.md shows them; the store took the lines before.
+# A call for each refusal, as docs/reference/refusals.md shows them; the store took the lines before.
 CALLS = {
     "badsub": ([], lambda it: it.subscribe(128, "eth.*")),
     "toomany": ([], lambda it: next(it.since((1, 0), most=257))),
@@ -199,6 +199,19 @@ class Large(unittest.TestCase):
         for line in (b"snapshot *", b"all", b"page * - 256", b"page * m7 mem 256"):
             self.both(line)
 
+    def test_pages_return_all(self):
+        for kinds, most in ((None, 256), ([bytes], 7)):
+            scope = {} if kinds is None else {"pattern": "m.*", "kinds": kinds}
+            after, lines, page = None, [], None
+            while page is None or not page.is_last:
+                page = self.store.page(after, most=most, **scope)
+                lines += support.lines_of(page.items)
+                self.assertEqual(page.cursor, (1, LARGE + 1))
+                if page.items:
+                    *_, last = page.items
+                    after = last.name, last.kind
+            self.assertEqual(lines, support.lines_of(self.store.snapshot(**scope).items))
+
     def test_a_merge_takes_all(self):
         with Store(2) as other:
             items = self.store.snapshot().items
@@ -218,6 +231,54 @@ class Large(unittest.TestCase):
                 other.merge(Items(b"".join(lines)))
             self.assertEqual((raised.exception.done, raised.exception.owed), (300, {40, 41}))
             self.assertEqual(len(other.snapshot().items), 300)
+
+
+class Many(unittest.TestCase):
+    """Publishes entries by one call, and each by its own: the answers and the stores are the same."""
+
+    ENTRIES = [
+        ("mtu", 1500, (3, 0)), ("name", 'a "name"', (3, 1)), ("mac", bytes(1024), (3, 2)), ("mtu", 1500, (3, 0)), ("mtu", 9000, (3, 0)),
+        ("mtu", 9000, (3, 3)), ("other", 1, (4, 0)), ("rs", ETH, (3, 0)), ("a name", 1, (3, 0)), ("", b"", (3, 0)), ("empty", b"", (3, 0)),
+    ]
+
+    @staticmethod
+    def one_by_one(store, caller, entries, overwrite):
+        for entry in entries:
+            try:
+                yield store.publish(caller, *entry, overwrite=overwrite)
+            except ValueError as malformed:  # of which some are refusals
+                yield malformed
+            except refusals.Refused as refused:
+                yield refused
+
+    def test_as_one_by_one(self):
+        for overwrite in (False, True):
+            with opened(LABEL) as one, opened(LABEL) as other:
+                for store in (one, other):
+                    store.subscribe(40, "m.*", initial=False)
+                told = one.publish_all(ETH, iter(self.ENTRIES * 40), overwrite)
+                wanted = list(self.one_by_one(other, ETH, self.ENTRIES * 40, overwrite))
+                self.assertEqual(list(map(repr, told)), list(map(repr, wanted)))
+                self.assertEqual(told[0], (True, {40}))
+                self.assertEqual({type(it).__name__ for it in told}, {"Done", "Clash", "BadVersion", "BadLabel", "ValueError", "Exists", "Stale"} - ({"Exists"} if overwrite else {"Stale"}))
+                self.assertEqual(one.snapshot().items.text, other.snapshot().items.text)
+
+    def test_none_and_what_is_no_entry(self):
+        with opened(LABEL) as store:
+            self.assertEqual(store.publish_all(ETH, []), [])
+            for entry in (("mtu", 2**32, (3, 0)), ("m" * 256, 1, (3, 0))):
+                self.assertRaises(ValueError, store.publish_all, ETH, [("first", 1, (3, 0)), entry])
+            self.assertRaises(TypeError, store.publish_all, ETH, [("mtu", None, (3, 0))])
+            self.assertEqual(store.line("all"), "eth0 label rs 3.0 = 3/17\nshown 1\n")
+        self.assertRaises(refusals.IsClosed, store.publish_all, ETH, [("mtu", 1, (3, 0))])
+
+    def test_a_check_before_it_is_whole(self):
+        """What a check left unfetched isn't lost by it; test_growth.py leaves some."""
+        with opened(LABEL) as store:
+            store.subscribe(40, ".*")
+            items = store.check(40)
+            store.publish_all(ETH, self.ENTRIES)
+            self.assertEqual(support.lines_of(items), ["eth0 label rs 3.0 = 3/17"])
 
 
 class Numbers(unittest.TestCase):

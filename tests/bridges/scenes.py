@@ -3,6 +3,7 @@ import os
 import re
 import shlex
 import subprocess
+import threading
 import time
 
 import behaviour
@@ -372,7 +373,7 @@ def a_failover_and_back(fleet, draw):
         for at in range(20):
             replica.ask("XADD", "ds:items", "*", "from", "x", "items", number(f"b{at}", 1, 1) + "\n")
         fleet.follow(replica)
-        until(lambda: "lost: " in first.said() + other.said(), "it is seen while the server is a replica")
+        until(lambda: "event=lost" in first.said() + other.said(), "it is seen while the server is a replica")
         assert not {it.encode() for it in late} & set(fleet.told()), "the replica has what its master lacks"
         until(lambda: first.state()["state"] == "denied" and "READONLY" in first.state()["said"], "a replica is told as one")
         fleet.ask("REPLICAOF", "NO", "ONE")
@@ -445,11 +446,11 @@ def counts_that_are_forged(fleet, draw):
         counted = int(fleet.ask("HGET", "ds:snapshot", "trimmed"))
         assert 0 < counted < 1000, f"{forged}: {counted}"
     time.sleep(REST)
-    before = bridge.said().count("lost: ")
+    before = bridge.said().count("event=lost")
     for it in range(25):
         offer(bridge, number(f"c{it}", 1, 1))
     time.sleep(REST)
-    assert bridge.said().count("lost: ") == before, "each compaction looks like a loss"
+    assert bridge.said().count("event=lost") == before, "each compaction looks like a loss"
     assert bridge.state()["state"] == "instep"
 
 
@@ -521,16 +522,16 @@ def junk(fleet, draw):
 
 
 def a_flood_of_junk(fleet, draw):
-    """Lines that can't be read are logged up to some a second, and then counted."""
+    """Lines that can't be read are logged up to some, then one a second, and the others are counted."""
     bridge = fleet.start()
     for at in range(20):
         fleet.ask("XADD", "ds:items", "*", "from", "x", "items", "".join(f"junk{at}.{it}\n" for it in range(500)))
     until(lambda: bridge.state()["unread"] == "10000", "all of it is counted")
     shows(bridge, [])
-    until(lambda: "more that were refused or unread" in bridge.said(), "what isn't logged is counted", 5)
-    told = bridge.said().count("unread: entry")
-    withheld = sum(int(it) for it in re.findall(r"and (\d+) more", bridge.said()))
-    assert told < 200 and told + withheld == 10000, f"{told} lines, and {withheld} withheld"
+    assert bridge.end() == 0
+    told = bridge.said().count("event=unread")
+    left_out = sum(int(it) for it in re.findall(r"event=left_out lines=(\d+)$", bridge.said(), re.MULTILINE))
+    assert told < 200 and told + left_out == 10000, f"{told} lines, and {left_out} left out"
 
 
 def steady_load(fleet, draw):
@@ -566,7 +567,7 @@ def a_clash(fleet, draw):
     for bridge in (first, other):
         shows(bridge, lines)
         assert bridge.state().get("refused clash") == "1", bridge.state()
-        assert bridge.said().count(f"clash: entry {entry}: {theirs}") == 1, bridge.said()
+        assert bridge.said().count(f'event=clash text="entry {entry}: {theirs}"') == 1, bridge.said()
     more = numbers("a", 60)
     for line in more:
         offer(first, line)
@@ -608,7 +609,7 @@ def a_full_store(fleet, draw):
     for bridge in (first, other):
         shows(bridge, lines)
         until(lambda: bridge.state().get("refused full") == "1", "it is counted")
-        assert "full: entry" in bridge.said()
+        assert 'event=full text="entry' in bridge.said()
     offer(other, "! b 1")
     for bridge in (first, other):
         shows(bridge, [*lines[:4090], lines[-1], "! b 1", number("c", 1, 1)])
@@ -647,7 +648,7 @@ def a_stream_of_another_scope(fleet, draw):
         refused = fleet.start(*options, wait=False)
         until(lambda: refused.process.poll() is not None or os.path.exists(refused.socket), "it ends, or serves", 10)
         assert refused.process.poll() == 2 and not os.path.exists(refused.socket), refused.said()
-        assert "badscope: the stream's scope is `everything`" in refused.said(), refused.said()
+        assert "ERROR event=badscope" in refused.said() and "the stream's scope is `everything`" in refused.said(), refused.said()
         fleet.bridges.remove(refused)
     lines = numbers("a", 60)
     for line in lines:
@@ -762,7 +763,7 @@ def a_driver_comes_back(fleet, draw):
     """The page's session: a driver that is restarted on one host is seen with its new endpoint by the subscriber of another."""
     for name in ("one", "two", "three"):
         fleet.start(at=name)
-    page = (ROOT / "docs" / "fleet.md").read_text()
+    page = (ROOT / "docs" / "guide" / "hosts.md").read_text()
     block = next(it for it in re.findall(r"(?:^    .*\n|^\n)+", page, re.MULTILINE) if "$ fleet/ask" in it)
     for asked in re.split(r"^    \$ ", block, flags=re.MULTILINE)[1:]:
         command, *wanted = [it.removeprefix("    ") for it in asked.rstrip().splitlines()]
@@ -775,6 +776,26 @@ def a_driver_comes_back(fleet, draw):
         given = answers()
         assert given == wanted, f"{command}: {given}, and not {wanted}"
         time.sleep(0.1)
+
+
+def a_shell_script_watches(fleet, draw):
+    """examples/shell/watch.sh prints where a driver is, each time that this changes, and nothing of others; with its end its client ends."""
+    here, there = fleet.start(), fleet.start()
+    here.ask("publish 0/2 new one.eth0 label 3.0 = 3/16")
+    words, named = [ROOT / "examples/shell/watch.sh", there.socket, "one.eth0"], {**os.environ, "DSFLEET_ASK": str(ROOT / "fleet/ask")}
+    with subprocess.Popen(words, env=named, stdin=subprocess.DEVNULL, stdout=subprocess.PIPE, text=True) as watch:
+        late = threading.Timer(60, watch.kill)
+        late.start()
+        assert watch.stdout.readline() == "one.eth0 is at 3/16\n"
+        here.ask("publish 0/2 new oneXeth0 label 1.0 = 1/17")
+        here.ask("delete 0/2 one.eth0 label 3.1")
+        assert watch.stdout.readline() == "one.eth0 is gone\n"
+        here.ask("sweep 0/2 one.eth0 3")
+        here.ask("publish 0/2 new one.eth0 label 4.0 = 4/16")
+        assert watch.stdout.readline() == "one.eth0 is at 4/16\n"
+        watch.terminate()
+        assert watch.wait(30) == 1 and watch.stdout.read() == ""
+        late.cancel()
 
 
 def notices(fleet, draw):

@@ -14,8 +14,8 @@ EXAMPLES = ("Example session", "Two replicas", "A driver that dies")  # how the 
 SEE_ALSO = [
     "\\fBrlwrap\\fR(1), which adds history and editing: \\fBrlwrap dsctl\\fR.",
     ".PP",
-    "In the documents of Pengtawis: docs/formats.md, all lines and answers; docs/refusals.md, a session that shows each refusal;",
-    "docs/minix.md, for somebody who knows MINIX 3; examples/README.md, scripts and pictures of what they do.",
+    "In the documents of Pengtawis: docs/guide/, a page for each task; docs/reference/lines.md, all lines and answers;",
+    "docs/reference/refusals.md, a session for each refusal; docs/reference/minix.md, MINIX 3's calls; examples/README.md, scripts and pictures.",
 ]
 ESCAPES = {"\\": "\\e", "-": "\\-", "`": "\\(ga", "'": "\\(aq", "^": "\\(ha", "~": "\\(ti"}
 

@@ -1,4 +1,4 @@
-"""What `dsctl` says was expected where a line can't be read: each part of a line, as docs/formats.md names it."""
+"""What `dsctl` says was expected where a line can't be read: each part of a line, as docs/reference/lines.md names it."""
 import behaviour
 import harness
 

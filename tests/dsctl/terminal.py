@@ -11,7 +11,7 @@ from typing import List
 import harness
 
 PROMPT = b"> "
-PICTURE = re.compile(r"^    \$ dsctl(.*)\n((?:    .*\n)*)", re.MULTILINE)  # within a document
+PICTURE = re.compile(r"(?<=\n\n)    \$ dsctl((?: [\w-]+)*)\n((?:    .*\n)*)", re.MULTILINE)  # within a document
 
 
 @dataclass
@@ -27,7 +27,7 @@ class Picture:
 def pictures():
     """Reads each picture of README.md and the documents: an indented block that begins with `$ dsctl`."""
     found = []
-    for document in [harness.TESTS.parent / "README.md", *sorted(harness.DOCUMENTS.glob("*.md"))]:
+    for document in [harness.TESTS.parent / "README.md", *sorted(harness.DOCUMENTS.rglob("*.md"))]:
         for number, block in enumerate(PICTURE.finditer(document.read_text()), 1):
             lines = [it[4:] for it in block[2].splitlines()]
             typed = [it[2:].encode() + b"\n" for it in lines if it.startswith("> ")]

@@ -1,21 +1,21 @@
-"""Who asked for the growth that tests/kit/refuse.c refused: the function of the program, read off the words of its stack.
+"""Which function of a program asked for the growth that tests/kit/refuse.c refused, by the words of its stack.
 
-A word of the stack is where a call returns to if a call instruction stands before it in the program's code. From the
-innermost one outwards, the next that counts is one whose call leads to the function that was found last; other words
-are left behind by calls that have ended. Functions of other files that the compiler took in are those that took them in.
+A word of the stack is a return address if a call instruction precedes the place in the program's code. From the innermost one
+outwards, the next address that counts is one whose call leads to the function found last; other words are left by calls that
+have ended. A function that the compiler inlined is part of its caller.
 """
 import bisect
 import re
 import struct
 import subprocess
 
-CALL = 0xE8  # and a distance of 4 bytes from where the call returns to
+CALL = 0xE8  # followed by a distance of 4 bytes, from the place that the call returns to
 LOADED, EXECUTABLE = 1, 1  # in the header of a program
-BELOW = re.compile(r"^(core|std|std_[a-z]+)::|^rattle_")  # what takes memory for whoever calls it
+BELOW = re.compile(r"^(core|std|std_[a-z]+)::|^rattle_")  # what takes memory for its caller
 
 
 class Askers:
-    """The functions of a program, in the order of their places."""
+    """The functions of a program, by their places."""
 
     def __init__(self, program):
         listed = subprocess.run(["nm", "-n", "--defined-only", program], stdout=subprocess.PIPE, text=True, check=True).stdout
@@ -26,7 +26,7 @@ class Askers:
             self.code = list(executable(file.read()))
 
     def called(self, place):
-        """Which place the call leads to that returns to this one; None if there is no such call."""
+        """Returns the target of the call that returns to this place; None if there is no such call."""
         for begin, code in self.code:
             at = place - begin
             if 5 <= at <= len(code) and code[at - 5] == CALL:
@@ -34,7 +34,7 @@ class Askers:
         return None
 
     def callers(self, stack):
-        """The functions whose calls haven't ended, from the innermost on. The first word is where the program stands."""
+        """Returns the functions whose calls haven't ended, the innermost first. The first word is the program counter."""
         base, *words = struct.unpack(f"<{len(stack) // 8}Q", stack)
         last = None
         for word in words:
@@ -45,13 +45,13 @@ class Askers:
                 yield self.names[at]
 
     def asker(self, stack):
-        """The innermost function that doesn't just take memory for others, without its types; a dash if none is found."""
+        """Returns the innermost function that doesn't just take memory for others, without its types; a dash if there is none."""
         found = next((name for name in self.callers(stack) if not BELOW.search(name)), "-") if stack else "-"
         return found.partition("::<")[0]
 
 
 def executable(file):
-    """The parts of a program's file that are executed, each with its place."""
+    """Returns the executable parts of a program's file, each with its place."""
     first, size, count = struct.unpack_from("<Q14xHH", file, 0x20)
     for at in range(first, first + size * count, size):
         kind, flags, offset, place, _, length = struct.unpack_from("<IIQQQQ", file, at)

@@ -1,4 +1,4 @@
-"""What services and store of tests/programs share: seeded scripts that a model answers too."""
+"""Seeded scripts that a model answers, too, for services and store of tests/programs."""
 import pathlib
 import random
 import tempfile
@@ -27,7 +27,7 @@ class Script:
         return answers
 
     def may_lack_room(self, command, ample):
-        """Whether the command, which has this answer with ample memory, may be refused memory."""
+        """Returns whether a command that has this answer with ample memory may be refused memory."""
         raise NotImplementedError
 
     def text(self):
@@ -38,14 +38,14 @@ class Script:
 
 
 def agreement(program, script):
-    """Says how the program's answers differ from the model's, or answers None."""
+    """Says how the program's answers differ from the model's, or returns None."""
     ran = harness.run([program], script.text())
     wrong = harness.difference(ran.output, script.wanted())
     return wrong or (None if (ran.status, ran.error) == (0, b"") else f"status {ran.status}, standard error {ran.error[:200]!r}")
 
 
 def growths(refuser, room, name, script):
-    """Refuses each growth of a script in turn. Says what was wrong with the first bad answer, or answers None."""
+    """Refuses each growth of a script, one a run. Says what is wrong with the first bad answer, or returns None."""
     given = pathlib.Path(room) / name.replace(" ", "_")
     given.write_bytes(script.text())
     case = harness.Case(name, [], given, script.wanted())
@@ -53,7 +53,7 @@ def growths(refuser, room, name, script):
 
 
 def refused(script, ran, refuser):
-    """A refused growth ends the program by name, or is answered so by one call, which then did nothing."""
+    """Checks that a refused growth ends the program by name, or is the answer of one call, which then did nothing."""
     lines = ran.output.decode().splitlines()
     if ran.status == 3:
         whole = [it for answers in script.answers for it in answers]
@@ -76,7 +76,7 @@ def refused(script, ran, refuser):
 
 
 def cause_fault(refuser, room, it):
-    """Says what is wrong with the answer to the command of a causes.Case where its growths are refused, or answers None."""
+    """Says what is wrong with the answer to a causes.Case's command when its growths are refused, or returns None."""
 
     def answers(name, lines, **refused):
         given = pathlib.Path(room) / name
@@ -100,7 +100,7 @@ def cause_fault(refuser, room, it):
 
 
 def ample_fault(refuser, room, it):
-    """Says what is wrong with the answer to the command of a causes.Case with ample memory, or answers None."""
+    """Says what is wrong with the answer to a causes.Case's command with ample memory, or returns None."""
     given = pathlib.Path(room) / it.name.replace(" ", "_")
     given.write_bytes(it.text())
     ran, _ = refuser.run(harness.Case(it.name, [], given, b""))

@@ -1,11 +1,11 @@
-"""Edits, as they stand in must-fail/ and wrong-bodies/ of a crate: what each changes, and which can be tried by one check."""
+"""Edits of must-fail/ and wrong-bodies/ of a crate: what each changes, and which can be tried by one check."""
 import re
 from dataclasses import dataclass
 
 PARTS = ("src", "specs", "proofs")
 FUNCTION = re.compile(r'( *)(?:pub(?:\([^)]*\))? )?(?:const )?(?:unsafe )?(?:extern "C" )?fn (\w+)')
-IMPL = re.compile(r"impl (?:(?:\w+::)*(\w+) for )?(?:\w+::)*(\w+)")  # once what stands in angle brackets is gone
-MOST = 12  # edits that are tried by one check
+IMPL = re.compile(r"impl (?:(?:\w+::)*(\w+) for )?(?:\w+::)*(\w+)")  # once angle brackets and their contents are gone
+MOST = 12  # edits tried by one check
 
 
 class BadEdit(Exception):
@@ -13,7 +13,7 @@ class BadEdit(Exception):
 
 
 def pairs(edit, crate):
-    """The edit's 'old:' and 'new:' texts, each with the path of its file in the crate."""
+    """Returns the edit's 'old:' and 'new:' texts, each with the path of its file in the crate."""
     path, old, found = None, None, []
     for line in edit.read_text().split("\n"):
         word, _, rest = line.partition(":")
@@ -35,7 +35,7 @@ def pairs(edit, crate):
 
 
 def replaced(edit, crate, texts=None):
-    """The texts that the edit makes of these and of the crate's, by their paths. Each 'old:' text stands once where it is applied."""
+    """Returns the texts after the edit, by their paths. Each 'old:' text occurs once where it is applied."""
     texts = dict(texts or {})
     for path, old, new in pairs(edit, crate):
         text = texts.get(path) or (crate / path).read_text()
@@ -47,7 +47,7 @@ def replaced(edit, crate, texts=None):
 
 @dataclass(frozen=True)
 class Function:
-    """A function of a source file: its first line, of its attributes on, that where its body opens, its last, and what its name ends in."""
+    """A function of a source file: its first line with attributes, the line that opens its body, its last line, and its name's end."""
 
     path: str
     first: int
@@ -57,7 +57,7 @@ class Function:
 
 
 def functions(path, text):
-    """The functions of a source file. A method is known by its type, and by its trait behind that."""
+    """Returns the functions of a source file. A method's name has its type, and then its trait."""
     lines, owner, found = text.split("\n"), "", []
     module = "".join(f"{part}::" for part in path.removesuffix(".rt").split("/")[1:] if part not in ("lib", "main", "mod"))
     for at, line in enumerate(lines, 1):
@@ -79,7 +79,7 @@ def functions(path, text):
 
 
 def function_of(edit, crate):
-    """The one function whose body the edit changes; None where it changes more than that, as what callers know of it."""
+    """Returns the one function whose body the edit changes; None if it changes more than that, as a clause that callers use."""
     found = set()
     for path, old, _ in pairs(edit, crate):
         text = (crate / path).read_text()
@@ -91,7 +91,7 @@ def function_of(edit, crate):
 
 
 def groups(edits, crate):
-    """The edits in groups, each of which changes a function at most once. What changes more than one function stands alone."""
+    """Groups edits so that a group changes each function once at most. An edit of several functions is alone."""
     alone, shared = [], []
     for edit in edits:
         try:

@@ -15,27 +15,27 @@ EXAMPLES = TESTS.parent / "examples"
 DOCUMENTS = TESTS.parent / "docs"
 SESSION = re.compile(r"(?<=\n\n)    > .*\n(?:    .*\n)*")  # within a document
 BAD_LINE = re.compile(rb"^badline (\d+) (\d+)$", re.MULTILINE)  # within answers
-BAD_SETTINGS = re.compile(rb"bad \w+( \d+)?\n")  # all that is printed of settings with a fault
-BAD_TRACE = re.compile(rb"(?:illegal|badline) (\d+)\n")  # all that is printed of a trace that isn't legal
-WRONG_LINE = rb"line %s(?:, byte \d+)?: "  # how the sentence about a trace begins, which names a byte where a part of the line is bad
-SECONDS = 120  # the longest that one run may take, on a busy machine too
+BAD_SETTINGS = re.compile(rb"bad \w+( \d+)?\n")  # the whole output for settings with a fault
+BAD_TRACE = re.compile(rb"(?:illegal|badline) (\d+)\n")  # the whole output for a trace that isn't legal
+WRONG_LINE = rb"line %s(?:, byte \d+)?: "  # how the sentence about a trace begins; it names a byte if a part of the line is bad
+SECONDS = 120  # the longest that one run may take, even on a busy machine
 
 
 @dataclass
 class Case:
-    """One run of the program: what it is given, and what it must answer."""
+    """One run of the program: its input, and what it must answer."""
 
     name: str
     args: List[str]
     input: pathlib.Path
     output: bytes
     status: int = 0
-    error: Optional[bytes] = None  # None: any text where the status is above 1, else a line for each bad line, or for the one told
+    error: Optional[bytes] = None  # None: any text above status 1, else a line for each bad line, or for the one reported
 
 
 @dataclass
 class Session:
-    """What somebody types and is answered, as a document shows it."""
+    """What somebody types and sees, as a document shows it."""
 
     name: str
     typed: bytes
@@ -44,7 +44,7 @@ class Session:
 
 @dataclass
 class Ran:
-    """What one run of the program answered; a status below 0 is the signal that ended it."""
+    """The result of one run of the program; a status below 0 is the signal that ended it."""
 
     output: bytes
     status: Optional[int]  # None: the program hadn't ended in time
@@ -80,44 +80,44 @@ def all_cases():
 
 
 def wanted_of(file):
-    """What must come out for an example's file: of commands it is the trace beside them."""
+    """Returns the output that an example's file must have: for commands, the trace beside them."""
     return file.with_suffix(".trace" if file.suffix == ".commands" else ".out").read_bytes()
 
 
 def status_beside(file):
-    """The exit status that stands beside an example's file, 0 where none does."""
+    """Returns the exit status in the file beside an example's, or 0 without one."""
     path = file.with_suffix(".status")
     return int(path.read_bytes()) if path.exists() else 0
 
 
 def all_sessions():
-    """Reads each session of the documents: a block of indented lines, of which those that are typed stand behind `>`."""
+    """Reads each session of the documents: a block of indented lines, in which typed lines follow `>`."""
     sessions = []
-    for document in sorted(DOCUMENTS.glob("*.md")):
+    for document in sorted(DOCUMENTS.rglob("*.md")):
         blocks = [it.group().splitlines() for it in SESSION.finditer(document.read_text())]
         for number, block in enumerate(blocks, 1):
             lines = [it[4:].encode() for it in block]
             typed = b"".join(it[2:] + b"\n" for it in lines if it.startswith(b"> "))
             answered = b"".join(it + b"\n" for it in lines if not it.startswith(b"> "))
-            sessions.append(Session(f"docs/{document.name}: session {number}", typed, answered))
+            sessions.append(Session(f"docs/{document.relative_to(DOCUMENTS)}: session {number}", typed, answered))
     return sessions
 
 
 class Section(str):
-    """The path of the program for tests, with the line that begins the section which is to answer what it is given."""
+    """The path of the program for tests, with the line that begins the section to run."""
 
     first = b""
 
 
 def section_of(program, name):
-    """The program for tests, at this path, with one of its sections."""
+    """Returns the program for tests at this path, with one of its sections."""
     section = Section(program)
     section.first = f"=== {name}\n".encode()
     return section
 
 
 def run(words, given, environment=None):
-    """Runs a command on the bytes, or the file, that it is given; a section's first line stands before them."""
+    """Runs a command on bytes or a file, after a section's first line if it has one."""
     first = getattr(words[0], "first", b"")
     if first:
         given = first + (given if isinstance(given, bytes) else given.read())
@@ -136,7 +136,7 @@ def run_case(program, case, environment=None):
 
 
 def difference(got, wanted):
-    """Names the first line in which two outputs differ, or answers None where they are equal."""
+    """Names the first line in which two outputs differ, or returns None if they are equal."""
     if got == wanted:
         return None
     lines, wanted_lines = got.split(b"\n"), wanted.split(b"\n")
@@ -147,7 +147,7 @@ def difference(got, wanted):
 
 
 def fault(case, ran):
-    """Says what is wrong with the answer to a case, or answers None."""
+    """Says what is wrong with the answer to a case, or returns None."""
     if ran.status is None:
         return f"the program hadn't ended after {SECONDS} seconds"
     wrong = difference(ran.output, case.output)
@@ -164,8 +164,8 @@ def fault(case, ran):
 
 
 def unexplained(output, error):
-    """Says that standard error hasn't just a line for each bad line of the output, or one for bad settings or a trace that isn't legal,
-    or answers None."""
+    """Says if standard error hasn't exactly a line for each bad line of the output, or one for bad settings or an illegal trace; or returns
+    None."""
     if BAD_SETTINGS.fullmatch(output):
         is_one = error.count(b"\n") == 1 and error.endswith(b"\n")
         return None if is_one else f"standard error is {error[:200]!r}, wanted one line"
@@ -178,15 +178,15 @@ def unexplained(output, error):
 
 
 def named(ran, word):
-    """Whether a run ended with status 3 and the word, which stands behind what is said of bad lines."""
+    """Returns whether a run ended with status 3 and the word, after what is said of bad lines."""
     if ran.status != 3 or not ran.error.endswith(word):
         return False
-    is_before_any = BAD_SETTINGS.fullmatch(ran.output) and ran.error == word  # there was no memory to say more of the settings
+    is_before_any = BAD_SETTINGS.fullmatch(ran.output) and ran.error == word  # memory ran out before the settings were explained
     return bool(is_before_any) or not unexplained(ran.output, ran.error[: -len(word)])
 
 
 def session_fault(program, session):
-    """Says what is wrong with the answers to a session, or answers None."""
+    """Says what is wrong with the answers to a session, or returns None."""
     ran = run([program], session.typed)
     wrong = difference(ran.output, session.answered)
     if wrong or ran.status or ran.error:
@@ -194,7 +194,7 @@ def session_fault(program, session):
     return None
 
 
-_work = None  # the function and the items of `at_once`, which its processes get by being forked
+_work = None  # the function and the items of `at_once`, which its processes inherit when forked
 
 
 def _done(at):
@@ -203,7 +203,7 @@ def _done(at):
 
 
 def at_once(function, items):
-    """Calls the function on each item, in as many processes as there are processors, and gives the results in order."""
+    """Calls the function on each item, in as many processes as there are processors, and returns the results in order."""
     global _work
     items = list(items)
     _work = function, items
@@ -216,7 +216,7 @@ def at_once(function, items):
 
 
 def report(faults):
-    """Prints each fault by its name, then the count, and gives the exit status. `faults` has pairs (name, fault or None)."""
+    """Prints each fault by its name, then the count, and returns the exit status. `faults` has pairs (name, fault or None)."""
     bad = [(name, it) for name, it in faults if it]
     for name, it in bad:
         print(f"FAILED {name}: {it}")
@@ -225,7 +225,7 @@ def report(faults):
 
 
 def program_given(section=None):
-    """Gives the absolute path of the program that the command line names, with a section where one is asked for."""
+    """Returns the absolute path of the program that the command line names, with a section if one is named."""
     if len(sys.argv) != 2:
         sys.exit(f"usage: {sys.argv[0]} PROGRAM")
     program = program_at(sys.argv[1])
@@ -233,7 +233,7 @@ def program_given(section=None):
 
 
 def program_at(path):
-    """Gives the absolute path of a program, which has to be one that can be run."""
+    """Returns the absolute path of a program, which must be executable."""
     if not os.access(path, os.X_OK):
         sys.exit(f"{sys.argv[0]}: {path} isn't a program")
     return os.path.abspath(path)

@@ -1,4 +1,4 @@
-"""What the gate needs beside the repository, what of it is missing, and how it is installed on Debian."""
+"""What the gate needs besides the repository, what of it is missing, and how it is installed on Debian."""
 import os
 import shutil
 import subprocess
@@ -16,10 +16,10 @@ class Need:
     """A program or a library that some part of the gate uses."""
 
     name: str
-    package: str  # Debian's; empty for what no package brings
-    serves: str  # what is tried with it
+    package: str  # Debian's; empty if no package has it
+    serves: str  # what is tested with it
     is_there: Callable[[], bool]
-    is_vital: bool = False  # without it nothing is tried at all
+    is_vital: bool = False  # without it nothing is tested
 
 
 def program(name, package, serves, is_vital=False):
@@ -27,7 +27,7 @@ def program(name, package, serves, is_vital=False):
 
 
 def compiles(source, *flags):
-    """Whether the C compiler builds a program of this text."""
+    """Returns whether the C compiler builds a program of this text."""
     if not shutil.which(CC):
         return False
     with tempfile.TemporaryDirectory() as room:
@@ -44,7 +44,9 @@ NEEDS = (
     program("zsh", "zsh", "its completions"),
     program("fish", "fish", "its completions"),
     program("pkg-config", "pkg-config", "the installed library for C"),
-    program("rustc", "rustc", "the example in Rust"),
+    program("cargo", "cargo", "the crate for Rust"),
+    program("dpkg-architecture", "dpkg-dev", "Debian's packages"),
+    program("lintian", "lintian", "what is wrong with Debian's packages"),
     program("valgrind", "valgrind", "memory errors of the programs in C"),
     Need("sanitizers of the C compiler", "gcc", "the programs in C, a second time", lambda: compiles("int main(void) { return 0; }\n", SANITIZERS)),
     program("redis-server", "redis-server", "dsfleet"),
@@ -57,13 +59,13 @@ def missing():
 
 
 def table(lacking):
-    """A line for each need: what it is, whether it is there, and what it serves."""
+    """Returns a line for each need: what it is, whether it is there, and what it is for."""
     width = max(len(it.name) for it in NEEDS)
     return [f"{it.name:<{width}}  {'missing' if it in lacking else 'there  '}  {it.serves}" for it in NEEDS]
 
 
 def how_to_install(lacking):
-    """The command that installs what is missing on Debian, or None."""
+    """Returns the command that installs what is missing on Debian, or None."""
     packages = sorted({it.package for it in lacking if it.package})
     return f"apt-get install {' '.join(packages)}" if packages else None
 

@@ -11,25 +11,25 @@ PARTS = ("proof", "tests", "edits")
 BUDGET = {"proof": 6, "tests": 1, "edits": 4}  # minutes that a crate may take
 INTERVAL = 0.25
 MOST = 4  # proofs at once
-UNKNOWN = 2  # proofs at once, for what can't be found out
-ROOM = 5 << 30  # bytes that are to be free for each proof
+UNKNOWN = 2  # proofs at once, if a figure can't be found out
+ROOM = 5 << 30  # bytes that must be free for each proof
 TICK = os.sysconf("SC_CLK_TCK")
 
 
 def side_by_side(processors, free):
-    """How many proofs run at once, with so many processors and bytes of free memory; None is what can't be found out."""
+    """Returns how many proofs run at once, for a number of processors and bytes of free memory; None is an unknown figure."""
     by_processors = UNKNOWN if processors is None else processors
     by_memory = UNKNOWN if free is None else free // ROOM
     return max(1, min(MOST, by_processors, by_memory))
 
 
 def usable_processors():
-    """How many processors this process may run on, or None."""
+    """Returns how many processors this process may run on, or None."""
     return len(os.sched_getaffinity(0)) if hasattr(os, "sched_getaffinity") else None
 
 
 def free_memory(path="/proc/meminfo"):
-    """How many bytes of memory programs may take now, or None."""
+    """Returns how many bytes of memory programs may take now, or None."""
     found = re.search(rb"^MemAvailable: +(\d+) kB$", read(path), re.MULTILINE)
     return int(found[1]) << 10 if found else None
 
@@ -43,7 +43,7 @@ def read(path):
 
 
 def processes():
-    """Each process's parent and the seconds that it and its ended children took, by its number."""
+    """Returns by number each process's parent, and the seconds that it and its ended children took."""
     found = {}
     for name in os.listdir("/proc"):
         fields = read(f"/proc/{name}/stat").rpartition(b")")[2].split() if name.isdigit() else []
@@ -53,7 +53,7 @@ def processes():
 
 
 def part_of(number):
-    """The crate and the part that a `rattle` works at, or None where the process is no `rattle`."""
+    """Returns the crate and the part that a `rattle` works at, or None if the process isn't one."""
     words = read(f"/proc/{number}/cmdline").split(b"\0")
     if not words[0].endswith(b"/rattle") or b"--crate-name" not in words:
         return None
@@ -66,12 +66,12 @@ def part_of(number):
 
 
 class Clock:
-    """Looks on while the process `number` and all below it run: `with Clock(number) as clock: ..`."""
+    """Watches the process `number` and all below it: `with Clock(number) as clock: ..`."""
 
     def __init__(self, number):
         self.number = number
         self.ended = threading.Event()
-        self.seconds = {}  # by the number of a `rattle`: its crate, its part, and what it took so far
+        self.seconds = {}  # by the number of a `rattle`: its crate, its part, and its time so far
         self.looking = threading.Thread(target=self.look_on)
 
     def __enter__(self):
@@ -91,7 +91,7 @@ class Clock:
             self.look(self.number, found, children)
 
     def look(self, number, found, children):
-        """Finds each first `rattle` below a process."""
+        """Finds the first `rattle` on each path below a process."""
         for child in children.get(number, ()):
             part = part_of(child)
             if part:
@@ -104,7 +104,7 @@ class Clock:
         return found[number][1] + sum(self.taken(child, found, children) for child in children.get(number, ()))
 
     def minutes(self):
-        """The minutes of each crate and part."""
+        """Returns the minutes of each crate and part."""
         sums = {}
         for (_, part), seconds in self.seconds.items():
             sums[part] = sums.get(part, 0) + seconds / 60
@@ -112,9 +112,9 @@ class Clock:
 
 
 def table(minutes, rest):
-    """The lines that tell the minutes of each crate and part, and of the rest by its name; and what is above its budget.
+    """Returns lines with the minutes of each crate and part, and of the rest by its name; and what is above its budget.
 
-    The crate that took most stands first, and behind the crates stand their sums.
+    The crate that took most is first, and the sums follow the crates.
     """
     crates = [(crate, *(minutes.get((crate, part), 0) for part in PARTS)) for crate in {crate for crate, _ in minutes}]
     crates.sort(key=lambda row: (-sum(row[1:]), row[0]))

@@ -1,25 +1,24 @@
-// Preloaded into a program (LD_PRELOAD), this refuses it one growth of memory, one read or one write.
+// A library that is preloaded into a program (LD_PRELOAD), and refuses it one growth of memory, one read or one write.
 //
 //   REFUSE_GROWTH=n  the n-th growth of memory fails with ENOMEM
-//   REFUSE_THREAD=n  the n-th thread can't be made, by EAGAIN
-//   REFUSE_LATER=1   and so does each later one
-//   REFUSE_BEHIND=k  growths behind the k-th write alone are counted
+//   REFUSE_THREAD=n  the n-th thread can't start, by EAGAIN
+//   REFUSE_LATER=1   each later one fails, too
+//   REFUSE_BEHIND=k  only growths after the k-th write are counted
 //   REFUSE_READ=n    the n-th read of standard input fails with EIO
 //   REFUSE_WRITE=n   the n-th write to standard output fails with EIO
-//   REFUSE_SHORT=k   each read of standard input gives, and each write to standard output takes, at most k bytes
+//   REFUSE_SHORT=k   each read of standard input returns, and each write to standard output takes, at most k bytes
 //   REFUSE_AGAIN=k   each of these reads and writes is interrupted k times, by EINTR, before it goes through
-//   REFUSE_STACK=F   the file F gets, at the growth that is refused, the place where the program stands in memory and
-//                    the words of its stack from there up to main: they tell who asked (tests/kit/askers.py)
-//   REFUSE_TALLY=F   the file F, four 64-bit words, gets the number of growths, reads and writes that were asked for,
-//                    and of the bytes that were read
+//   REFUSE_STACK=F   the file F gets, at the refused growth, the program counter and the words of the stack from there up to
+//                    main, which show which function asked (tests/kit/askers.py)
+//   REFUSE_TALLY=F   the file F, four 64-bit words, gets the number of growths, reads and writes, and of bytes read
 //
-// Calls are counted from the start of the program's `main`, over all its threads. What the loader and the C library ask
-// for before `main` is theirs, and differs from machine to machine; so `__libc_start_main` is taken over, and counting
-// begins where it enters `main`. The tally is a shared mapping, so it is whole however the program ends. Writes to
-// standard error aren't counted: there the program names its fault.
+// Calls are counted from the start of the program's `main`, over all its threads. What the loader and the C library take
+// before `main` differs from machine to machine, so `__libc_start_main` is overridden, and counting begins where it enters
+// `main`. The tally is a shared mapping, so it is complete however the program ends. Writes to standard error aren't counted:
+// there the program names its fault.
 //
-// Memory is passed on to the C library's own names, since `dlsym` may itself take memory. Each function below stands for
-// one name by which a program may ask for memory, read or write; tests/dsctl/refusals stops at a program that imports others.
+// Calls for memory are passed on to the C library's own names, since `dlsym` may itself take memory. Each function below overrides
+// one name by which a program takes memory, reads or writes; tests/dsctl/refusals stops at a program that imports others.
 #define _GNU_SOURCE
 #include <dlfcn.h>
 #include <errno.h>
@@ -40,12 +39,12 @@ enum { MOST_STACK = 8 << 20 };
 static _Atomic uint64_t *tally; // NULL until main begins
 static uint64_t refused[WORDS]; // which call of each kind fails; 0 for none
 static uint64_t most = SIZE_MAX; // bytes of one read or write
-static uint64_t writes_before;   // so many writes come before the first growth that is counted
-static uint64_t later;           // whether growths and threads behind the one that fails fail too
+static uint64_t writes_before;   // the writes before the first growth that is counted
+static uint64_t later;           // whether growths and threads after the one that fails fail, too
 static uint64_t interruptions;   // of each read and write before it goes through
-static _Atomic uint64_t interrupted; // how many the next one has behind it
-static uint64_t refused_thread;  // which thread can't be made; 0 for none
-static _Atomic uint64_t threads; // how many were asked for
+static _Atomic uint64_t interrupted; // how many the next one has had
+static uint64_t refused_thread;  // which thread can't start; 0 for none
+static _Atomic uint64_t threads; // how many were started
 static int stack_file = -1; // none
 static char *main_frame;
 
@@ -111,7 +110,7 @@ static int refuses(enum call call) {
     return tally && atomic_fetch_add(&tally[call], 1) + 1 == refused[call];
 }
 
-// Only the thread that runs main has its stack told.
+// The stack is written only for the thread that runs main.
 static void tell_stack(char *frame) {
     Dl_info program;
     if (stack_file < 0 || frame > main_frame || main_frame - frame > MOST_STACK || !dladdr((void *)main_of_program, &program))
@@ -185,7 +184,7 @@ static size_t shorter(size_t count) {
     return tally && count > most ? most : count;
 }
 
-// A call on several parts is a shorter one on the first that isn't empty.
+// A call on several parts becomes a shorter one, on the first part that isn't empty.
 static const struct iovec *first_filled(const struct iovec *parts, int count) {
     while (count-- > 1 && !parts->iov_len)
         parts++;

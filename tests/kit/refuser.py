@@ -8,26 +8,25 @@ import askers
 import harness
 
 CALLS = ("growth", "read", "write")
-# Names that take memory, read or write, by which a program would pass the library of tests/kit/refuse.c by.
+# Names that take memory, read or write, with which a program would bypass the library of tests/kit/refuse.c.
 MOVES = re.compile(
     "alloc|memalign|mmap|mremap|brk$|strn?dup|getline|getdelim|read|recv|scanf|getc|gets|write|send|printf|put[sc]|splice|syscall"
 )
-# By `syscall` a thread that waits sleeps, and is woken.
+# A waiting thread sleeps and is woken by `syscall`.
 HARMLESS = re.compile(r"^pthread_|^v?sn?printf$|^readlink$|^syscall$")
-# Who may be refused a growth with no answer changed: `clap`, where it looks for a similar word; `regex`, where it reads a
-# pattern, also where its reader is compiled into `tree_of`, which asks for nothing itself; `toml`, where it reads a number; a
-# world, where it packs a message, which stays as it is; and a holder's table of guesses, which stays as large as it is.
+# Functions that may be refused a growth without a change of any answer: `clap`, which looks for a similar word; `regex`, which
+# reads a pattern, also where its reader is compiled into `tree_of`, which takes no memory itself; `toml`, which reads a number; a
+# world that packs a message, which is then unchanged; and a holder's table of guesses, which keeps its size.
 DOES_WITHOUT = re.compile(
     r"^((strsim|regex_(class|syntax)|toml(_[a-z]+)?|ds_packed)::|ds_pattern::pattern::tree_of$|ds_world::replies::keep$|ds_held::guesses::)"
 )
-# What asks a Since's pattern about keys may want room, and then the cursor is judged all the same: its refusals come before
-# want of memory.
+# Memory may run out where a Since's pattern is matched; the cursor is judged all the same, since its refusals come before NoRoom.
 SEARCH = "regex_vm::pikevm::PikeVm::new"
 CURSOR_REFUSED = re.compile(rb"^refused (oldcursor|ahead|behind)$|: refused: the journal doesn't reach back to the cursor$", re.MULTILINE)
 
 
 class Refuser:
-    """Runs a program with one call refused, and says how many calls of each kind it made."""
+    """Runs a program with one call refused, and returns how many calls of each kind it made."""
 
     def __init__(self, program, room):
         self.program = program
@@ -51,7 +50,7 @@ class Refuser:
         return ran, dict(zip((*CALLS, "bytes"), counts))
 
     def counted(self, case):
-        """Runs a case with ample memory: what was wrong with that, if anything, and how many growths it had."""
+        """Runs a case with ample memory, and returns what is wrong, if anything, and its number of growths."""
         ran, counts = self.run(case)
         wrong = harness.fault(case, ran)
         if not wrong and not counts["growth"]:
@@ -59,7 +58,7 @@ class Refuser:
         return wrong, counts["growth"]
 
     def each_growth(self, case, fault):
-        """Refuses each growth of a case in turn, and has each run judged. Says what was wrong with the first bad one, or answers None."""
+        """Refuses each growth of a case, one a run, and judges each run. Says what is wrong with the first bad one, or returns None."""
         wrong, count = self.counted(case)
         if wrong:
             return wrong
@@ -70,18 +69,18 @@ class Refuser:
         return None
 
     def file(self, word):
-        """A file of this process."""
+        """Returns the path of a file of this process."""
         return os.path.join(self.room, f"{word}-{os.getpid()}")
 
     def unseen_fault(self, output=b""):
-        """Says what is wrong where the growth that was refused last changed nothing of the output, or answers None."""
+        """Says what is wrong if the last refused growth changed nothing of the output, or returns None."""
         with open(self.file("stack"), "rb") as words:
             asker = self.askers.asker(words.read())
         does_without = DOES_WITHOUT.search(asker) or asker == SEARCH and CURSOR_REFUSED.search(output)
         return None if does_without else f"no answer tells of it, and {asker} asked for it"
 
     def names_passed_by(self):
-        """The names that the program imports to take memory, read or write, and that the library doesn't have."""
+        """Returns the names that the program imports to take memory, read or write, and that the library lacks."""
 
         def names(file, which):
             listed = subprocess.run(["nm", "-D", which, file], stdout=subprocess.PIPE, text=True, check=True).stdout

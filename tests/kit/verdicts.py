@@ -1,18 +1,18 @@
-"""What a check of a crate says of wrong bodies that were put into it."""
+"""What a check of a crate says of the wrong bodies in it."""
 import re
 
-# What rattle says at a place: '[note: ]FILE:LINE:COLUMN: ..'.
+# A message of rattle's at a place: '[note: ]FILE:LINE:COLUMN: ..'.
 PLACED = re.compile(r"(?:note: )?(?:\./)?([\w./+-]+\.(?:rt|antt)):(\d+):\d+: (.*)")
-# A proof that fails since it names what the edit took away says nothing of the contract.
+# A proof that fails because it names what the edit removed says nothing of the contract.
 NAMES_ALONE = re.compile(r"has no field|` \(nearest: |is not in scope|has no `|was not admitted")
-# An answer to a goal that the edit gave another name: then the goal of the new name has none, and that it isn't proved says nothing either.
+# An answer to a goal that the edit renamed: the goal of the new name has no answer, so that it isn't proved says nothing either.
 RENAMED = re.compile(r"module `[^`]*\.Goals` has no `")
-# What can't be read, where an edit that only makes a statement false reads well.
+# A text that can't be read: an edit that only makes a statement false can.
 UNREAD = re.compile(r"is not in scope|has no field|is no name|operand is missing|expected the end|cannot continue")
 
 
 def whole(output):
-    """The lines of an output, each that begins at a place with the first one that is indented behind it."""
+    """Returns the lines of an output; one that begins at a place has the first indented line after it."""
     lines, goes_on = [], False
     for line in output.splitlines():
         if goes_on and line.startswith(" "):
@@ -25,7 +25,7 @@ def whole(output):
 
 
 def judge(status, output, texts):
-    """Whether the prover refused the edited crate for what it does, and what it said of that."""
+    """Returns whether the prover refused the edited crate for what it does, and what it said."""
     lines = whole(output)
     if status == 0:
         return False, "NOT REFUSED: the crate is still proved with this edit"
@@ -47,7 +47,7 @@ def judge(status, output, texts):
 
 
 def told(function, name, output):
-    """What a check says of one function: why it is refused, for what it does; or None, where that isn't told."""
+    """Returns why a check refused one function for what it does, or None if it didn't."""
     lines = whole(output)
     heads = [re.match(rf"fn ({name}::\S+): (.*)", line) for line in lines]
     heads = [it for it in heads if it and re.sub(r"\+\w+", "", f"::{it[1]}").endswith(function.name)]
@@ -66,7 +66,7 @@ def told(function, name, output):
 
 
 def is_read(status, output):
-    """Whether a check came to the proofs, and could read all texts."""
+    """Returns whether a check reached the proofs, and could read all texts."""
     lines = output.splitlines()
     unread = [it for it in map(PLACED.match, lines) if it and it[1].startswith(("src/", "specs/")) and it[3].startswith("error: ")]
     return status == 1 and any(line.startswith("logic=not-proved") for line in lines) and not unread

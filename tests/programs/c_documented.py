@@ -1,4 +1,4 @@
-"""The lines by which docs/c.md builds over the library, for tests/programs/c: they are run as they are written."""
+"""The lines by which docs/guide/c.md builds over the library, for tests/programs/c: they are run as they are written."""
 import pathlib
 import re
 import shutil
@@ -6,19 +6,12 @@ import subprocess
 
 ROOT = pathlib.Path(__file__).resolve().parent.parent.parent
 MAKES_THE_LIBRARY = "tools/build ds_c"
-OF_RUST = re.compile(r"rustc |\./driver_rust$")
 
 
 def shown():
-    """The indented lines of the document's section on building."""
-    section = re.search(r"^## Build\n(.*?)^## ", (ROOT / "docs/c.md").read_text(), re.DOTALL | re.MULTILINE)[1]
-    return re.findall(r"^    (.*)$", section, re.MULTILINE)
-
-
-def of_the_example():
-    """The indented lines of the comment that the example in Rust begins with."""
-    comment = (ROOT / "examples/rust/driver.rs").read_text().partition("\n\n")[0]
-    return re.findall(r"^//!     (.*)$", comment, re.MULTILINE)
+    """What is typed in the document's section on building."""
+    section = re.search(r"^## Build\n(.*?)^## ", (ROOT / "docs/guide/c.md").read_text(), re.DOTALL | re.MULTILINE)[1]
+    return re.findall(r"^    \$ (.*)$", section, re.MULTILINE)
 
 
 def copy(library, shared, root):
@@ -35,11 +28,7 @@ def run(library, shared, root):
     """Runs the lines, and compares what the programs print with what stands beside them."""
     first, *lines = shown()
     assert first == MAKES_THE_LIBRARY, f"the library is made by `{first}`"
-    missing = [it for it in of_the_example() if it not in lines]
-    assert of_the_example() and not missing, f"lines of driver.rs alone: {missing}"
     copy(library, shared, root)
-    if not shutil.which("rustc"):
-        lines = [it for it in lines if not OF_RUST.match(it)]
     words = ["sh", "-eu", "-c", "\n".join(lines)]
     ran = subprocess.run(words, cwd=root, stdin=subprocess.DEVNULL, capture_output=True, text=True)
     driver = (ROOT / "examples/c/driver.out").read_text()

@@ -1,7 +1,7 @@
 """Each refusal of each command to a store, with lines that lead there, for tests/programs/store.
 
 A case ends with one command, and several causes stand against it, as far as one command can have several: the answer is
-the first in the order of docs/refusals.md, so it was written down by that page, and not by what a store answers. With no
+the first in the order of docs/reference/refusals.md, so it was written down by that page, and not by what a store answers. With no
 memory at all the answer is the same, but for what a pattern needs. Beside them stand commands that aren't refused: those
 that take no memory are answered as ever, the others `noroom`.
 """

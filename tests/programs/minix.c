@@ -1,4 +1,4 @@
-/* MINIX 3's calls over the library: each of them, with the errors that docs/minix.md names. */
+/* MINIX 3's calls over the library: each of them, with the errors that docs/reference/minix.md names. */
 #include "minix_ds.h"
 #include <errno.h>
 #include <stdio.h>

@@ -1,4 +1,5 @@
-/* The words of ds_refusal_text: of each number, and beside what ds_text prints for each refusal that a line of a script meets. */
+/* The words of ds_refusal_text: of each number, and beside what ds_text prints for each refusal that a line of a script meets. The words of
+ * ds_word_text, and the library's version. */
 #include "ds.h"
 #include <inttypes.h>
 #include <stdio.h>
@@ -40,6 +41,13 @@ static void numbers(void) {
         printf("%" PRIu32 " %s\n", number, ds_refusal_text(number));
     }
     printf("%" PRIu32 " %s\n", UINT32_MAX, ds_refusal_text(UINT32_MAX));
+}
+
+static void words(void) {
+    for (uint32_t number = 0; number <= DS_BADLINE + 1; number++) {
+        printf("word %" PRIu32 " %s\n", number, ds_word_text(number));
+    }
+    printf("the library's version is %s\n", strcmp(ds_version(), DS_VERSION) ? "another one" : "the header's");
 }
 
 static void patterns(void) {
@@ -99,6 +107,7 @@ static void calls(void) {
 
 int main(void) {
     numbers();
+    words();
     reopen(0, 1);
     patterns();
     changes();

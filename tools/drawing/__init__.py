@@ -3,22 +3,22 @@ from . import asking
 from .layout import Layout
 from .picture import Picture
 
-MOST = 120  # rows of a picture, where no other number is asked for
+MOST = 120  # rows of a picture by default
 
 
 def drawn(program, script, first=None, last=None):
-    """The picture of a script, as SVG."""
+    """Returns the picture of a script, as SVG."""
     rows = asking.run(program, script.read_text())
     return picture_of(rows, chosen(rows, first, last), script.name)
 
 
 def picture_of(rows, shown, name):
-    """The picture of some rows."""
+    """Returns the picture of some rows."""
     return Picture(Layout(rows, shown), name).svg()
 
 
 def chosen(rows, first, last, most=MOST):
-    """Which rows are shown: those that were asked for; else all, or of many those that change something, up to `most` rows."""
+    """Returns the rows to show: `first` to `last`; else all of them, or of more than `most` the first `most` that change something."""
     if first is not None:
         return set(range(first - 1, min(last or len(rows), len(rows))))
     every = range(len(rows))
@@ -28,7 +28,7 @@ def chosen(rows, first, last, most=MOST):
 
 
 def left_out(rows, shown):
-    """What isn't shown of a script, in words, or None where all of it is."""
+    """Says in words what isn't shown of a script, or returns None if all of it is."""
     missing = [it + 1 for it in range(len(rows)) if it not in shown]
     if not missing:
         return None

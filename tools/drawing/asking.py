@@ -1,7 +1,7 @@
-"""What a script's run did: each line with its answer, and what every holder holds behind it.
+"""What a script's run did: each line with its answer, and what every holder holds after it.
 
-The program is asked once, for more than the script: behind each line what both stores and all maps hold. That makes no message and
-changes nothing, so nothing is needed of the program but its answers.
+The program runs once, on more than the script: each line is followed by lines that show what both stores and all maps hold. These make
+no message and change nothing, so only the program's answers are needed.
 """
 import re
 import subprocess
@@ -17,13 +17,13 @@ STORES = ("a", "b")
 
 @dataclass
 class Row:
-    """A line of a script, what it was answered, and what is held behind it."""
+    """A line of a script, its answer, and what is held after it."""
 
     number: int
     line: str
     answer: List[str]
-    held: Dict[str, List[str]]  # by the holder: `a`, `b`, `m0`, ..; the lines of its items
-    side: str  # which store is asked
+    held: Dict[str, List[str]]  # by holder, `a`, `b`, `m0`, ..: the lines of its items
+    side: str  # the store that lines are for
 
     @property
     def words(self):
@@ -31,7 +31,7 @@ class Row:
 
     @property
     def last(self):
-        """The line of the answer that says what came of it."""
+        """Returns the line of the answer that says what the result was."""
         return [it for it in self.answer if not OWED.fullmatch(it)][-1]
 
     @property
@@ -44,7 +44,7 @@ class Unanswered(Exception):
 
 
 def run(program, script):
-    """The rows of a script; a line that can't be read is the last one."""
+    """Returns the rows of a script; an unreadable line is the last one."""
     lines, asked, maps, side = script.splitlines(), [], [], "a"
     for number, line in enumerate(lines):
         words = line.split(" ")
@@ -58,7 +58,7 @@ def run(program, script):
 
 
 def rows_of(lines, maps, said):
-    """The rows, taken from what the program said."""
+    """Returns the rows, from the program's output."""
     side, held = "a", {"a": [], "b": []}
     for number, line in enumerate(lines):
         answer = [next(said)]
@@ -78,7 +78,7 @@ def rows_of(lines, maps, said):
 
 
 def items(said):
-    """The items that one holder shows, or None where it is refused."""
+    """Returns the items that a holder shows, or None if that is refused."""
     found = []
     for line in said:
         if SHOWN.fullmatch(line):

@@ -1,4 +1,4 @@
-"""Where everything of a picture stands: the lanes from left to right, the rows from top to bottom, what is held in blocks."""
+"""The places of a picture's parts: lanes from left to right, rows from top to bottom, and blocks of what is held."""
 import re
 import textwrap
 from dataclasses import dataclass, field
@@ -8,15 +8,15 @@ from . import asking, story
 from .sizes import CHIP, LINE, MONO, SMALL, STEP, TINY, WIDTH, chip_width, mono_width, sans_width
 
 LEAST_ROW, TOP, SIDE = 24, 48, 14  # units of the picture
-TEXT = 392  # how wide the lines and their answers are
-LEGEND = 790  # how wide the words below are
-BAND, GAP = 118, 46  # the least width of a holder's band, and what is between two
-FEW = 3  # so many items are shown whole wherever one of them changes
+TEXT = 392  # the width of lines and their answers
+LEGEND = 790  # the width of the words below
+BAND, GAP = 118, 46  # the least width of a holder's band, and the gap between two
+FEW = 3  # up to this many items are all shown when one of them changes
 
 
 @dataclass
 class Chip:
-    """A thing that is held, or a word about it."""
+    """Something that is held, or a word about it."""
 
     text: str
     tone: Optional[int] = None
@@ -29,16 +29,16 @@ class Chip:
 
 @dataclass
 class Block:
-    """What a holder holds behind a row that changed it, or what is said of it there."""
+    """What a holder holds after a row that changed it, or a word about it there."""
 
     row: int
     chips: List[Chip] = field(default_factory=list)
     height: int = 0
-    changes: bool = False  # whether what is held did
+    changes: bool = False  # whether what is held changed
 
 
 def chip_of(item, is_new):
-    """An item's chip: a floor is filled."""
+    """Returns an item's chip: a floor is filled."""
     if item.startswith("! "):
         return Chip(item, int(item.split(" ")[2]), is_floor=True, is_new=is_new)
     name, _kind, _owner, version, rest = item.split(" ", 4)
@@ -48,7 +48,7 @@ def chip_of(item, is_new):
 
 
 def chips_of(held, before):
-    """The chips of what is held, floors and labels first; of much only what changed."""
+    """Returns the chips of what is held, floors and labels first; if there is much, only those that changed."""
     held = sorted(held, key=lambda it: (not it.startswith("! "), " label " not in it))
     fresh = [it for it in held if it not in before]
     if not held:
@@ -75,19 +75,19 @@ class Layout:
     # ---- lanes ----
 
     def holders(self):
-        """The stores that ever hold or are asked something, and the maps."""
+        """Returns the stores that are ever used, and the maps."""
         told = {it.end for it in self.story.strokes} | {it.lane for it in self.story.notes} | {row.side for row in self.rows}
         used = [it for it in asking.STORES if it in told or any(row.held[it] for row in self.rows)]
         return used + sorted({it for row in self.rows for it in row.held if it[0] == "m"}, key=lambda it: int(it[1:]))
 
     def subscribers(self, side):
-        """The lanes of the subscriptions at a store."""
+        """Returns the lanes of the subscriptions at a store."""
         told = [it for one in self.story.strokes for it in (one.begin, one.end)] + [it.lane for it in self.story.notes]
         found = {it for it in told if it and it.startswith(f"sub {side} ")}
         return sorted(found, key=lambda it: int(it.split(" ")[2]))
 
     def set_lanes(self):
-        """Gives each lane its middle and its width."""
+        """Sets each lane's middle and width."""
         self.middle, self.wide, self.title, self.tag = {}, {}, {}, {}
         self.labels = list(dict.fromkeys(it.label for it in self.story.lives))
         x = SIDE + TEXT
@@ -110,19 +110,19 @@ class Layout:
         return left + wide
 
     def server_width(self, server):
-        """The width of a server's lane, whose words stand at its right half."""
+        """Returns the width of a server's lane, whose words are in its right half."""
         words = [sans_width(it.word, TINY) for it in self.story.notes if it.lane == server]
         return 2 * max([46, *(it + 10 for it in words)])
 
     def strip_titles(self):
-        """The name of each strip and where it stands, where there are several and all have room."""
+        """Returns each strip's name and place, if there are several and all have room."""
         if len(self.labels) < 2 or any(sans_width(it, TINY) > self.wide[self.holders()[0]] / len(self.labels) - 2 for it in self.labels):
             return []
         strips = [(holder, self.wide[holder] / len(self.labels)) for holder in self.holders()]
         return [(self.left(holder) + wide * (place + 0.5), it) for holder, wide in strips for place, it in enumerate(self.labels)]
 
     def band_width(self):
-        """As wide as the widest chip and a strip for each label want, and as there is room for."""
+        """Returns the width that the widest chip and the strips need, as far as there is room."""
         chips = [chip_width(chip.text) for blocks in self.blocks.values() for block in blocks for chip in block.chips]
         count = max(1, len(self.holders()))
         lanes = 44 + sum(max(sans_width(it, LINE, True), 40) + 12 for it in self.labels) + sum(28 + self.server_width(it) for it in self.servers)
@@ -133,7 +133,7 @@ class Layout:
     # ---- what is held ----
 
     def blocks_of(self, holder):
-        """A block behind each row that changes what a holder holds, or says something of it."""
+        """Makes a block after each row that changes what a holder holds, or has a word about it."""
         before = None
         for number, row in enumerate(self.rows):
             if number not in self.shown:
@@ -146,7 +146,7 @@ class Layout:
             before = held if held is not None else before
 
     def fill(self, block, wide):
-        """Gives the chips of a block their places, one behind the other."""
+        """Places the chips of a block side by side."""
         x, y = 6, 4
         for chip in block.chips:
             if x > 6 and x + chip_width(chip.text) > wide - 6:
@@ -158,7 +158,7 @@ class Layout:
     # ---- rows ----
 
     def set_rows(self):
-        """Gives each row its top: below the one before, and below each block that a new one of its holder would cover."""
+        """Sets each row's top: below the previous row, and below each block that a new one of the same holder would cover."""
         self.tops, self.texts, self.folds, free, y = [], {}, [], {}, TOP
         for number, row in enumerate(self.rows):
             if number not in self.shown:
@@ -179,7 +179,7 @@ class Layout:
         self.height = self.bottom + 74
 
     def fold(self, number, y):
-        """Room above a row, or below the last one, for how many lines before it aren't shown."""
+        """Returns the room above a row, or below the last one, for the count of lines that aren't shown before it."""
         before = max((it for it in self.texts), default=-1)
         if number - before == 1:
             return y
@@ -187,20 +187,20 @@ class Layout:
         return y + 20
 
     def wrapped(self, row):
-        """A row's line, as often broken as it has to be beside its answer."""
+        """Returns a row's line, broken to fit beside its answer."""
         room = TEXT - 30 - sans_width(row.last, SMALL) - 14
         count = max(20, int(room / mono_width("x", MONO)))
         return textwrap.wrap(row.line, count, subsequent_indent="  ", break_on_hyphens=False, drop_whitespace=True) or [""]
 
     def first_shown(self, life):
-        """Where a life begins of which its birth may not be shown, or None where nothing of it is."""
+        """Returns where a life begins, even if its birth isn't shown; None if nothing of it is."""
         if life.born[0] in self.shown:
             return life.born
         row = min((it for it in self.shown if it > life.born[0]), default=None)
         return None if row is None or life.died and life.died[0] <= row else (row, 0)
 
     def y(self, row, step=0):
-        """Where something within a row stands."""
+        """Returns the place of something within a row."""
         return self.tops[row] + 13 + STEP * step
 
     def left(self, lane):

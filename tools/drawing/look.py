@@ -1,4 +1,4 @@
-"""The tones of a picture, in light and in dark: one for each generation, and what the rest is drawn in."""
+"""The tones of a picture, in light and in dark: one for each generation, and those of the rest."""
 
 LIGHT = ["#59616b", "#a85c00", "#006d77", "#7b1fa2", "#2e7d32", "#ad1457", "#5d4037", "#3949ab"]
 LIGHT_BANDS = ["#e4e7eb", "#ffe3b8", "#c4ecf0", "#ecd6f4", "#cfead1", "#f9d3e1", "#e6dad5", "#d9def6"]
@@ -8,13 +8,13 @@ TONES = len(LIGHT)
 
 
 def tones(strong, pale):
-    """The looks of each generation: filled, drawn, and the band that takes it for living."""
+    """Returns the looks of each generation: filled, drawn, and the band of a holder that takes it to be alive."""
     rows = [f".f{it}{{fill:{one}}}.s{it}{{stroke:{one}}}" for it, one in enumerate(strong)]
     return "".join(rows + [f".p{it}{{fill:{one}}}" for it, one in enumerate(pale)])
 
 
 def grounds(paper, ink, faint, rule, none, bad, plain, vain):
-    """The looks of what has no generation."""
+    """Returns the looks of what has no generation."""
     return (
         f".paper{{fill:{paper}}}.on{{fill:{paper}}}.cut{{stroke:{paper}}}.ink{{fill:{ink}}}.faint{{fill:{faint}}}"
         f".rule{{stroke:{rule}}}.lane{{stroke:{faint}}}.none{{fill:{none}}}.bad,.fbad{{fill:{bad}}}.bar,.hatch,.break{{stroke:{bad}}}"

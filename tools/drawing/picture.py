@@ -15,7 +15,7 @@ LEGEND = [
 
 
 class Picture:
-    """Draws what a layout has placed, from the ground up: arrows lie behind the bands that they pass."""
+    """Draws what a layout has placed, from the ground up: arrows pass under bands."""
 
     def __init__(self, layout, name):
         self.layout, self.out, self.name = layout, [], name
@@ -49,7 +49,7 @@ class Picture:
     # ---- the ground ----
 
     def rules(self):
-        """A line above each row, as far as the picture goes."""
+        """Draws a line above each row, across the picture."""
         it = self.layout
         for number in it.texts:
             self.path(f"M{SIDE} {it.tops[number]:.1f} H{it.width - SIDE:.1f}", "rule")
@@ -59,7 +59,7 @@ class Picture:
                 self.path(f"M{it.middle[lane]:.1f} {TOP - 6} V{it.bottom:.1f}", "lane")
 
     def ends(self, stroke):
-        """Where a stroke begins and ends, and to which side it goes."""
+        """Returns a stroke's begin and end, and its side."""
         it = self.layout
         there = it.middle[stroke.end]
         if stroke.begin is None:
@@ -71,7 +71,7 @@ class Picture:
         return self.near(stroke.begin, sign), end, sign
 
     def near(self, lane, sign):
-        """The edge of a lane at one side."""
+        """Returns the edge of a lane at one side."""
         it = self.layout
         if lane in it.blocks:
             return it.middle[lane] + sign * it.wide[lane] / 2
@@ -101,7 +101,7 @@ class Picture:
             self.path(f"M{self.layout.left(holder):.1f} {y:.1f} H{self.layout.right(holder):.1f}", "break")
 
     def strips(self, holder):
-        """Within a band a strip for each label, in the tone of the generation that the holder takes for living."""
+        """Draws in a band a strip for each label, in the tone of the generation that the holder takes to be alive."""
         it = self.layout
         wide = it.wide[holder] / max(1, len(it.labels))
         for place, label in enumerate(it.labels or [""]):
@@ -114,7 +114,7 @@ class Picture:
                     begin, before = number, state
 
     def state(self, holder, label, number):
-        """The tone of a label's strip at a row, and whether RS knows better; None where there is no band."""
+        """Returns the tone of a label's strip at a row, and whether RS knows better; None if there is no band."""
         it = self.layout
         if number == len(it.rows) or holder not in it.rows[number].held:
             return None
@@ -192,7 +192,7 @@ class Picture:
         self.text(x, y + 3.5, str(number), "ink", TINY, "middle")
 
     def word(self, stroke, begin, end, sign, y):
-        """A word on a stroke, on a ground of its own."""
+        """Draws a word on a stroke, on a ground of its own."""
         wide = sans_width(stroke.word, TINY) + 4
         x = min(begin, end) + abs(end - begin) / 2
         if stroke.begin in self.layout.servers or stroke.end in self.layout.servers:
@@ -202,7 +202,7 @@ class Picture:
         self.text(x, y + 3, stroke.word, "ink", TINY, "middle")
 
     def aside(self, note):
-        """A word at the right of a lane's line."""
+        """Draws a word to the right of a lane's line."""
         x = self.layout.middle[note.lane]
         y = self.layout.y(note.row, note.step)
         if note.lane.startswith("sub "):
@@ -211,7 +211,7 @@ class Picture:
         self.text(x + 6, y + 3.5, note.word, "bad" if note.is_bad else "ink", TINY)
 
     def lines(self):
-        """The head of each lane, and each line with its answer."""
+        """Draws the head of each lane, and each line with its answer."""
         it = self.layout
         self.text(SIDE + 24, 26, "line", "ink strong", LINE)
         self.text(SIDE + TEXT - 10, 26, "answer", "ink strong", LINE, "end")

@@ -1,4 +1,4 @@
-"""What happened in a script's run, told by its lines and their answers: who lived when, and who told whom."""
+"""What happened in a script's run, by its lines and their answers: which drivers lived when, and which lane sent what to which."""
 import re
 from dataclasses import dataclass, field
 from typing import List, Optional
@@ -10,13 +10,13 @@ CHANGE = re.compile(r"\S+ \w+ (\S+) (\d+)\.\d+ [=-]")  # any change as an item
 ASKED = re.compile(r"(?:publish|delete) \S+ (?:new |over )?\S+ \w+ (\d+)\.\d+")
 SERVERS = {"file": "file server", "net": "network server"}
 MAKERS = ("check", "since", "snapshot", "page")
-ACTING = ("service", "tick", "death", "beat")  # lines to RS, whose actions are a step each
+ACTING = ("service", "tick", "death", "beat")  # lines to RS; each action is a step
 RS = "RS"
 
 
 @dataclass
 class Life:
-    """A generation of a driver, from its start to its death, as RS knows of them: a row's place, and a step within it."""
+    """A generation of a driver, from its start to its death, as RS knows them: each a row, and a step within it."""
 
     label: str
     generation: int
@@ -31,17 +31,17 @@ class Life:
 
 @dataclass
 class Stroke:
-    """Something told by one lane to another."""
+    """Something that one lane sends to another."""
 
     row: int
     step: int
-    begin: Optional[str]  # a lane; None: somebody who has none
+    begin: Optional[str]  # a lane; None: a caller without one
     end: str
-    tone: Optional[int] = None  # the generation that it is about
+    tone: Optional[int] = None  # the generation it is about
     is_late: bool = False  # of a generation that is dead
     is_stopped: bool = False  # refused, or stale
     is_vain: bool = False  # nothing was new
-    is_start: bool = False  # of a driver, whose endpoint stands where it ends
+    is_start: bool = False  # of a driver, whose endpoint is written at its end
     word: str = ""
     message: Optional[int] = None
 
@@ -59,22 +59,22 @@ class Note:
 
 @dataclass
 class Story:
-    """All that is drawn beside what is held."""
+    """All that is drawn besides what is held."""
 
     lives: List[Life] = field(default_factory=list)
     strokes: List[Stroke] = field(default_factory=list)
     notes: List[Note] = field(default_factory=list)
-    makers: List[tuple] = field(default_factory=list)  # of each message the lane and the row
-    breaks: List[tuple] = field(default_factory=list)  # the holder and the row where it begins again
+    makers: List[tuple] = field(default_factory=list)  # the lane and the row of each message
+    breaks: List[tuple] = field(default_factory=list)  # a holder, and the row where it begins again
 
 
 def driver(label):
-    """The lane of a driver."""
+    """Returns the lane of a driver."""
     return f"driver {label}"
 
 
 def subscriber(side, number):
-    """The lane of a subscription at a store."""
+    """Returns the lane of a subscription at a store."""
     return f"sub {side} {number}"
 
 
@@ -109,7 +109,7 @@ class Teller:
                 it.died = (self.at, self.step)
 
     def change_lives(self, item):
-        """A label's change that a store took tells of a life."""
+        """Notes the life that a label's change shows, once a store has taken it."""
         found = LABEL.match(item)
         if found and found[4]:
             self.begin(found[1], int(found[2]), found[4])
@@ -125,7 +125,7 @@ class Teller:
         self.story.notes.append(Note(self.at, self.step, lane, word, is_bad))
 
     def nothing(self, row):
-        """Lines that nobody is told of."""
+        """Handles lines that send nothing."""
 
     def from_caller(self, row, life, tone):
         is_late = life is not None and life.died is not None and life.died < (self.at, 0)
@@ -205,13 +205,13 @@ class Teller:
             self.note(f"m{row.words[1]}", "cleared")
 
     def owe(self, line, side):
-        """The notices of an `owed` line, at the step under way, each to a subscription."""
+        """Adds the notices of an `owed` line, one to each subscription, at the current step."""
         mask = int(line.split(" ")[1], 16)
         for number in (it for it in range(128) if mask >> it & 1):
             self.note(subscriber(side, number), "notice", True)
 
     def owe_all(self, row, side):
-        """What a row owes that is one step."""
+        """Adds the notices of a row of one step."""
         for line in row.answer:
             if asking.OWED.fullmatch(line):
                 self.owe(line, side)
@@ -240,7 +240,7 @@ class Teller:
         self.act(row)
 
     def act(self, row):
-        """RS's actions, each with the store's answer below it."""
+        """Adds RS's actions, each with the store's answer below it."""
         for number, line in enumerate(row.answer):
             words = line.split(" ")
             if asking.OWED.fullmatch(line):
@@ -284,7 +284,7 @@ class Teller:
         self.moves(row, SERVERS[row.words[1]])
 
     def moves(self, row, asked):
-        """What the servers do, the file server first; requests are above all before, so a number tells whose it is."""
+        """Adds the servers' moves, the file server's first. Ids rise, so a number shows whose request it is."""
         for line in row.answer[:-1]:
             words = line.split(" ")
             server = self.server_of(row, line)
@@ -300,7 +300,7 @@ class Teller:
             self.note(asked, f"{row.words[2]} refused", True)
 
     def server_of(self, row, line):
-        """Whose move it is: a network server's where it starts a unit; else whoever accepted the request."""
+        """Returns whose move it is: the network server's if it starts a unit, or else the server's that accepted the request."""
         words = line.split(" ")
         if words[0] == "start":
             return SERVERS["net"]
@@ -316,5 +316,5 @@ class Teller:
 
 
 def stops(answer):
-    """Whether an answer says that nothing came of it."""
+    """Returns whether an answer says that nothing changed."""
     return answer == "stale" or answer.startswith("refused ")

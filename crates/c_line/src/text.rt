@@ -7,9 +7,8 @@ use c_session::{Last, Session};
 use c_words::Given;
 use ds_entry::Items;
 use ds_held::Limits;
-use ds_line::{append_all, append_item};
+use ds_line::{append_item, append_numbers};
 use ds_names::NoRoom;
-use itoa::Buffer;
 use std::alloc::Global;
 use store_words::write_reply;
 
@@ -88,8 +87,6 @@ fn write_shown(alloc: Global, items: &Items) -> Result<Vec<u8>, NoRoom>
     for item in items.as_slice() {
         append_item(&mut text, item)?;
     }
-    let mut digits = Buffer::new();
-    let count = digits.format(items.len()).as_bytes();
-    append_all(&mut text, &[b"shown ", count, b"\n"])?;
+    append_numbers(&mut text, &[(b"shown ", items.len() as u64)])?;
     Ok(text)
 }

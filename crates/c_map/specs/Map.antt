@@ -4,9 +4,8 @@ use Rattle.ds_names.specs.Endpoint.{EndpointRecord}
 use Rattle.ds_entry.specs.declared.body.Value.TheVariants.{Label}
 use Rattle.ds_entry.specs.declared.item.Item.{Item}
 use Rattle.ds_held.specs.Held.{Holding, held_items}
-use Rattle.ds_join.specs.declared.merge.JoinFault.{JoinFault}
-use Rattle.ds_join.specs.declared.merge.JoinFault.TheVariants as joins
 use Rattle.ds_join.specs.declared.merge.Stop.{Stop}
+use Rattle.ds_machine.specs.Stopped.{refusal_of_join}
 use Rattle.ds_machine.specs.declared.refusal.Refusal.{Refusal}
 use Rattle.ds_machine.specs.declared.refusal.Refusal.TheVariants as refusals
 use Rattle.ds_machine.specs.declared.reply.Reply.{Reply}
@@ -40,17 +39,10 @@ IsMapRefusal refusals.BadPattern kinds text = IsKindSum kinds × (length text �
 IsMapRefusal refusals.NoRoom kinds text = IsKindSum kinds × (length text ≤ 128)
 IsMapRefusal _ kinds text = ⊥
 
--- what stops a take, as a store would say it
-abbrev pub refusal_of_stop : JoinFault → Refusal
-refusal_of_stop joins.NotOwner = refusals.NotOwner
-refusal_of_stop (joins.Clash version) = refusals.Clash version
-refusal_of_stop joins.Full = refusals.Full
-refusal_of_stop joins.NoRoom = refusals.NoRoom
-
 -- what a map took, as a store would say it of a Merge that owes nothing to anybody
 abbrev pub reply_of_take : Result Count Stop → Reply
 reply_of_take (Ok count) = Merged count.done count.taken count.stale 0
-reply_of_take (Err stop) = MergeStopped stop.done (refusal_of_stop stop.fault) 0
+reply_of_take (Err stop) = MergeStopped stop.done (refusal_of_join stop.fault) 0
 
 -- the items were taken in their order, all of them or those before the one that is refused, and the answer counts them
 pub record TakesItems (old : SubMapRecord) (items : List Item) (answer : Answer) (new : SubMapRecord) : Type 0 where

@@ -1,19 +1,15 @@
 //! Maps by bytes and numbers.
 
 ghost use Rattle.std.specs.Prelude.{◌≡◌, ◌≤◌, IfOk, IfErr, length};
-ghost use Rattle.c_map.specs.Map.{IsMapOf, IsMapRefusal, refusal_of_stop, TakesItems, GivesItems, told_label};
+ghost use Rattle.c_map.specs.Map.{IsMapOf, IsMapRefusal, TakesItems, GivesItems, told_label};
 
 use c_words::{Answer, answer_of, no_room, read_items};
 use ds_entry::{Items, Value};
-use ds_join::JoinFault;
 use ds_machine::{Refusal, Reply};
 use ds_names::{Kinds, Name, NoRoom};
-use ds_pattern::{PatternFault, PatternText, Query};
+use ds_pattern::{LONGEST_PATTERN, PatternFault, PatternText, Query};
 use ds_submap::SubMap;
 use std::alloc::Global;
-
-// The most bytes of a pattern.
-const LONGEST_PATTERN: usize = 128;
 
 /// The map of a pattern and a sum of bits of kinds, to which nothing came yet. `BadKind` where the number is no such sum, then
 /// `TooLong` and `BadPattern` as a subscription is refused; `NoRoom` behind `TooLong`, where memory is wanting.
@@ -38,18 +34,6 @@ pub fn new_map(alloc: Global, kinds: u8, pattern: &[u8]) -> Result<SubMap, Refus
     }
 }
 
-// What stops a take, as a store would say it.
-fn refusal_of_stop(fault: JoinFault) -> Refusal
-    ensures { result ≡ refusal_of_stop fault }
-{
-    match fault {
-        JoinFault::NotOwner => Refusal::NotOwner,
-        JoinFault::Clash { version } => Refusal::Clash { version },
-        JoinFault::Full => Refusal::Full,
-        JoinFault::NoRoom => Refusal::NoRoom,
-    }
-}
-
 // Lets a map take items.
 fn take_items(alloc: Global, map: &mut SubMap, items: &Items) -> Answer
     ensures { TakesItems map.old items.now result map.new }
@@ -63,7 +47,7 @@ fn take_items(alloc: Global, map: &mut SubMap, items: &Items) -> Answer
         },
         Err(stop) => Reply::MergeStopped {
             done: stop.done,
-            fault: refusal_of_stop(stop.fault),
+            fault: Refusal::of_join(stop.fault),
             owed: 0,
         },
     };

@@ -1,3 +1,2 @@
 pub mod CalledLemmas
-pub mod RetrievedLemmas
 pub mod RunningLemmas

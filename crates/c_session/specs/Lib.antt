@@ -1,3 +1,2 @@
 pub mod Called
 pub mod Running
-pub mod Retrieved

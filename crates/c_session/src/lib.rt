@@ -2,8 +2,8 @@
 #![tactic(auto)]
 
 mod calling;
+mod fast;
 mod last;
-mod retrieving;
 mod running;
 mod session;
 

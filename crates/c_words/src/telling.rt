@@ -1,7 +1,6 @@
 //! From the store's reply to what C is told.
 
-ghost use Rattle.std.specs.Prelude.{◌≡◌, ℕ, List};
-ghost use Rattle.ds_machine.specs.declared.reply.Reply.TheVariants.{Named};
+ghost use Rattle.std.specs.Prelude.{◌≡◌};
 ghost use Rattle.std.specs.Int.{to_le_bytes, w128};
 ghost use Rattle.c_words.specs.Answer.{refusal_number, told_of_items, told_refusal, told_no_room, told_value, told_reply, answer_of};
 
@@ -177,18 +176,5 @@ pub fn answer_of(reply: &Reply) -> Answer
         pieces: pieces(reply) as u64,
         owed: owed_bytes(reply.owed()),
         ..told(reply)
-    }
-}
-
-/// What the reply says that is a name, whichever it is: a name is one piece of text. It is for whoever lends the name, where a reply
-/// would have it copied.
-#[tactic(auto, unfolding(crate::specs::Answer::answer_of))]
-#[inline(always)]
-pub fn named() -> Answer
-    ensures { (name : List ℕ) → result ≡ answer_of (Named name) }
-{
-    Answer {
-        pieces: 1,
-        ..Answer::of(Word::Named)
     }
 }

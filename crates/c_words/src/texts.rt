@@ -75,6 +75,29 @@ pub struct Publication {
     pub overwrite: bool,
 }
 
+impl Publication {
+    /// The command of these parts.
+    #[inline(always)]
+    pub fn command(self) -> Command
+        ensures { result ≡ publish_command self }
+    {
+        let Publication {
+            caller,
+            key,
+            version,
+            value,
+            overwrite,
+        } = self;
+        Command::Publish {
+            caller,
+            key,
+            version,
+            value,
+            overwrite,
+        }
+    }
+}
+
 /// What a request with this text asks to publish.
 #[inline(always)]
 #[tactic(auto, unfolding(crate::specs::Request::publish_of))]
@@ -114,13 +137,7 @@ pub(crate) fn publish(
     ensures { IfOk result (λ command. command ≡ publish_of request.now text.now) }
 {
     match read_publication(alloc, request, text)? {
-        Some(asked) => Ok(Some(Command::Publish {
-            caller: asked.caller,
-            key: asked.key,
-            version: asked.version,
-            value: asked.value,
-            overwrite: asked.overwrite,
-        })),
+        Some(asked) => Ok(Some(asked.command())),
         None => Ok(None),
     }
 }

@@ -17,7 +17,7 @@ impl GivenUp {
     }
 
     /// Tells all jobs to end.
-    pub fn tell(&self) {
+    pub(crate) fn tell(&self) {
         self.told.store(true, Ordering::SeqCst);
     }
 

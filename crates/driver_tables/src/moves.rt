@@ -46,7 +46,7 @@ impl Model for Moves {
 
 impl Moves {
     /// No moves. It takes no memory.
-    pub fn new(alloc: Global) -> Moves
+    pub(crate) fn new(alloc: Global) -> Moves
         ensures { result ≡ [] }
     {
         Moves {

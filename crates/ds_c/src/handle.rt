@@ -1,4 +1,4 @@
-//! The handle: what C keeps from call to call.
+//! The handle: what C keeps from call to call. A struct that crosses to C has no parameter, so a map has its own handle.
 
 ghost use Rattle.std.specs.Prelude.{◌≡◌};
 ghost use Rattle.std.specs.declared.option.Option.{Option};

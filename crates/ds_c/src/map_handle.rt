@@ -1,4 +1,4 @@
-//! The handle of a map, which is as that of a store.
+//! The handle of a map. It repeats `handle.rt` for another type: a struct that crosses to C has no parameter.
 
 ghost use Rattle.std.specs.Prelude.{◌≡◌};
 ghost use Rattle.std.specs.declared.option.Option.{Option};

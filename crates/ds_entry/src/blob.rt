@@ -1,7 +1,6 @@
 //! Blobs: the values of entries of the kind mem.
 
-ghost use Rattle.std.specs.Prelude.{◌≡◌, ◌≤◌, ℕ, length, IfOk, IfErr, IfSome};
-ghost use Rattle.std.specs.Option.{SomeIff};
+ghost use Rattle.std.specs.Prelude.{◌≡◌, ℕ, IfOk, IfErr};
 ghost use Rattle.std.specs.Bool.{◌==◌};
 ghost use Rattle.std.proofs.lemmas.Cmp.{nat_list_eq_equiv};
 ghost use Rattle.std.specs.Cmp.{partial_equiv_from_equiv};
@@ -55,18 +54,6 @@ impl Blob {
         match bytes.to_vec(alloc) {
             Ok(bytes) => Ok(Blob { bytes }),
             Err(_) => Err(BlobFault::NoRoom),
-        }
-    }
-
-    /// The blob of bytes that are kept already, which takes no memory. `None` above 1024 of them.
-    pub fn of(bytes: Vec<u8>) -> Option<Blob>
-        ensures found { SomeIff result (length bytes.items ≤ 1024) bytes.items }
-        ensures valid { IfSome result IsBlob }
-    {
-        if bytes.len() <= 1024 {
-            Some(Blob { bytes })
-        } else {
-            None
         }
     }
 

@@ -9,6 +9,7 @@ ghost use Rattle.ds_entry.specs.declared.item.Item.TheVariants.{Change as Change
 
 use crate::body::Body;
 use crate::item::Item;
+use ds_names::limits::LAST_SEQ;
 use ds_names::{Key, Kind, Name, NoRoom, Version};
 use std::alloc::Global;
 use std::marker::Model;
@@ -183,7 +184,7 @@ fn is_below_sweeps(version: &Version, body: &Body) -> bool
     ensures { IsTrue result ↔ IsBelowSweeps version.now body.now }
 {
     match body {
-        Body::Put(_) => version.seq < u32::MAX,
+        Body::Put(_) => version.seq < LAST_SEQ,
         Body::Gone => true,
     }
 }

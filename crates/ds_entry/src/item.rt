@@ -5,6 +5,7 @@ ghost use Rattle.std.specs.Ordering.{eq_by_cmp};
 ghost use Rattle.ds_names.specs.Key.{key_cmp};
 ghost use Rattle.ds_entry.specs.Covers.{covers as change_covers};
 ghost use Rattle.ds_entry.specs.Item.{IsItem, IsItemInPlace, item_cmp};
+ghost use Rattle.ds_entry.specs.Left.{is_put};
 ghost use Rattle.ds_entry.specs.Lent.{item_lent};
 ghost use Rattle.ds_entry.specs.ItemCovers.{covers};
 
@@ -55,6 +56,16 @@ impl Item {
                 let most = floor.generation.number();
                 is_same_name(&other.owner, &floor.owner) && other.generation.number() <= most
             }
+        }
+    }
+
+    /// Whether it is a put. A tombstone isn't one, nor is a floor.
+    pub fn is_put(&self) -> bool
+        ensures { result ≡ is_put self.now }
+    {
+        match self {
+            Item::Change(change) => change.body().value().is_some(),
+            Item::Floor(_) => false,
         }
     }
 

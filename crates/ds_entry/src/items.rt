@@ -1,6 +1,7 @@
 //! Lists of items.
 
-ghost use Rattle.std.specs.Prelude.{◌≡◌, ◌≤◌, ◌++◌, ◌∷◌, [], length, take, drop, slice_get, OnOk, IfErr, OnErr, IfOk};
+ghost use Rattle.std.specs.Prelude.{◌≡◌, ◌≢◌, ◌≤◌, ◌++◌, ◌∷◌, [], length, take, drop, slice_get, OnOk, IfErr, OnErr, IfOk};
+ghost use Rattle.ds_entry.specs.Under.{entries_of};
 ghost use Rattle.std.specs.Option.{option_copied};
 
 use crate::item::Item;
@@ -32,6 +33,15 @@ impl Items {
         Items {
             items: Vec::new(alloc),
         }
+    }
+
+    /// Copies of the items, in their order.
+    pub fn copies(alloc: Global, items: &[Item]) -> Result<Items, NoRoom>
+        ensures { IfOk result (λ copies. copies ≡ items.now) }
+    {
+        let mut copies = Vec::new(alloc);
+        push_copies(alloc, &mut copies, items)?;
+        Ok(Items { items: copies })
     }
 
     /// Adds an item at the end. Where there is no room, the list is unchanged and the error gives the item back.
@@ -76,16 +86,46 @@ impl Items {
         self.items.as_slice()
     }
 
+    /// Adds copies of other items at the end, in their order. For no items it takes no memory. Where there is no room for all
+    /// of them, the list is unchanged.
+    pub fn append_copies(&mut self, alloc: Global, more: &Items) -> Result<(), NoRoom>
+        ensures added { OnOk result (self.new ≡ self.old ++ more.now) }
+        ensures unchanged { OnErr result (self.new ≡ self.old) }
+        ensures room { OnErr result (more.now ≢ []) }
+    {
+        let start = self.items.len();
+        let copied = push_copies(alloc, &mut self.items, &more.items);
+        if copied.is_err() {
+            self.items.truncate(start);
+        }
+        copied
+    }
+
+    /// Keeps the puts alone, in their order.
+    pub fn retain_puts(&mut self)
+        ensures { self.new ≡ entries_of self.old }
+    {
+        self.items.retain(|item| item.is_put());
+    }
+
     /// The same items again, in the same order.
     pub fn copy(&self, alloc: Global) -> Result<Items, NoRoom>
         ensures { IfOk result (λ copy. copy ≡ self.now) }
     {
-        let mut items = Vec::new(alloc);
-        for item in &self.items {
-            items.push(item.copy(alloc)?)?;
-        }
-        Ok(Items { items })
+        Items::copies(alloc, self.as_slice())
     }
+}
+
+// Adds copies of the items at the end. Where there is no room for all of them, the first ones may be there.
+fn push_copies(alloc: Global, items: &mut Vec<Item>, more: &[Item]) -> Result<(), NoRoom>
+    ensures added { OnOk result (items.new.items ≡ items.old.items ++ more.now) }
+    ensures kept { OnErr result (take (length items.old.items) items.new.items ≡ items.old.items) }
+    ensures room { OnErr result (more.now ≢ []) }
+{
+    for item in more {
+        items.push(item.copy(alloc)?)?;
+    }
+    Ok(())
 }
 
 impl PartialEq for Items {

@@ -11,6 +11,7 @@ use crate::giving::give;
 use crate::telling::{ask_page, ask_since};
 use desk::{Desk, Pass};
 use ds_feed::{Cursor, Page, Since};
+use ds_names::limits::MOST_ITEMS;
 use ds_pass::LiveFault;
 use ds_reader::go_behind;
 use ds_store::Store;
@@ -85,7 +86,7 @@ fn exchange_since<W: Wait>(
         cursor,
         done: done as u128,
         taken: taken as u128,
-        more: done >= 256,
+        more: done >= MOST_ITEMS,
     })
 }
 

@@ -12,13 +12,11 @@ use desk::{Desk, Pass};
 use ds_entry::Items;
 use ds_machine::{Command, Reply};
 use ds_names::NoRoom;
+use ds_names::limits::MOST_ITEMS;
 use ds_pass::{LiveFault, ask_desk};
 use ds_store::Store;
 use std::mem;
 use std::sync::Wait;
-
-// How many items are given at once.
-const MOST: usize = 256;
 
 /// Gives the items in their order, in Merges of at most 256. How many of them took effect.
 pub(crate) fn give<W: Wait>(
@@ -37,7 +35,7 @@ pub(crate) fn give<W: Wait>(
     let _most = items.len();
     let mut rest = items;
     let mut taken = 0usize;
-    while rest.len() > MOST {
+    while rest.len() > MOST_ITEMS {
         let part = first_part(&mut rest)?;
         let count = give_part(rt, desk, pass, part)?;
         taken += count;
@@ -55,7 +53,7 @@ fn first_part(items: &mut Items) -> Result<Items, NoRoom>
     ensures part { IfOk result (λ part. part ≡ take 256 items.old) }
     ensures rest { OnOk result (items.new ≡ drop 256 items.old) }
 {
-    let behind = items.split_off(MOST)?;
+    let behind = items.split_off(MOST_ITEMS)?;
     Ok(mem::replace(items, behind))
 }
 

@@ -16,12 +16,10 @@ use desk::{Desk, Pass};
 use ds_feed::{Cursor, Page, Since};
 use ds_machine::{Command, Reply, Scope};
 use ds_names::Key;
+use ds_names::limits::MOST_ITEMS;
 use ds_pass::{LiveFault, ask_desk};
 use ds_store::Store;
 use std::sync::Wait;
-
-// How many items are asked for at once.
-const MOST: u32 = 256;
 
 /// One question to the journal, about what took effect from the cursor on.
 pub(crate) fn ask_since<W: Wait>(
@@ -40,7 +38,7 @@ pub(crate) fn ask_since<W: Wait>(
     let command = Command::Since {
         scope: Scope::All,
         cursor,
-        max: MOST,
+        max: MOST_ITEMS as u32,
     };
     let answer = ask_desk(rt, desk, pass, command)?;
     since_of(answer.reply)
@@ -64,7 +62,7 @@ pub(crate) fn ask_page<W: Wait>(
     let command = Command::Page {
         scope: Scope::All,
         after,
-        max: MOST,
+        max: MOST_ITEMS as u32,
     };
     let answer = ask_desk(rt, desk, pass, command)?;
     page_of(answer.reply)

@@ -4,6 +4,7 @@ use crate::bad_line::COMMANDS;
 use crate::bad_part::{BadPart, end_wanted, say_at};
 use ds_line::word_at;
 use ds_lines::{LONGEST_LINE, split_line};
+use ds_names::limits::MOST_ITEMS;
 use ds_names::{read_byte, read_decimal};
 use ds_words::{CommandFault, ScriptCommand, read_line};
 use std::rt::Runtime;
@@ -28,10 +29,8 @@ const ASKED: [&str; 12] = [
 
 const MERGE: &str = "merge";
 
-/// The last pass, and the most items of one merge.
+/// The last pass.
 const LAST_PASS: u64 = 63;
-
-const MOST_ITEMS: u64 = 256;
 
 /// What a script has before an item.
 const OFFER: &[u8] = b"offer ";
@@ -108,7 +107,7 @@ fn explain_merge(rt: &impl Runtime, number: u64, rest: &[u8], before: usize) {
         return say_at(rt, number, before, SPACE_WANTED);
     };
     let before = before.saturating_add(1);
-    match read_decimal(count, MOST_ITEMS) {
+    match read_decimal(count, MOST_ITEMS as u64) {
         None => say_at(rt, number, before, COUNT_WANTED),
         Some((_, end)) => {
             let place = before.saturating_add(count.len().saturating_sub(end.len()));

@@ -44,13 +44,12 @@ pub fn stamp_before(case: CheckCase) -> Result<u64, Refusal>
     case.last.ok_or(Refusal::NotFound)
 }
 
-/// What stands against showing, where `some` says that something is to be shown: Worn where the last stamp is 2^62. A Check
-/// that shows nothing takes no stamp.
-pub fn refusal_of_showing(some: bool, stamp: u64) -> Option<Refusal>
-    ensures value { result ≡ refusal_of_showing some stamp }
-    ensures room { IfNone result (some ≡ true → stamp < last_place) }
+/// Refuses to show something, as Worn, where the last stamp is 2^62. A Check that shows nothing takes no stamp.
+pub fn refusal_of_showing(stamp: u64) -> Option<Refusal>
+    ensures value { result ≡ refusal_of_showing true stamp }
+    ensures room { IfNone result (stamp < last_place) }
 {
-    if some && stamp >= LAST_PLACE {
+    if stamp >= LAST_PLACE {
         Some(Refusal::Worn)
     } else {
         None

@@ -13,6 +13,7 @@ use crate::part_fault::{PartFault, stop_at};
 use crate::parts::{behind_name, name_at};
 use crate::reading::change_into;
 use ds_entry::{Floor, Item};
+use ds_names::limits::LAST_GENERATION;
 use ds_names::{Generation, read_byte, read_decimal};
 use std::alloc::Global;
 
@@ -99,7 +100,7 @@ fn floor_at(bytes: &[u8], expected: &mut Expected) -> Result<(Floor, usize), Par
         return Err(stop_at(rest));
     };
     *expected = Expected::Generation;
-    let Some((number, rest)) = read_decimal(at, 2097151) else {
+    let Some((number, rest)) = read_decimal(at, LAST_GENERATION as u64) else {
         return Err(stop_at(at));
     };
     let Some(generation) = Generation::of(number as u32) else {

@@ -56,7 +56,7 @@ fn number_at<'a>(bytes: &'a [u8], expected: &mut Expected) -> Result<(Value, &'a
     ensures found { IfOk result (λ r. Found (last_value U32) r.0 bytes.now r.1.now) }
     ensures stop { IfErr result (λ stop. StopsValue U32 stop bytes.now) }
 {
-    let Some((number, rest)) = read_decimal(bytes, 4294967295) else {
+    let Some((number, rest)) = read_decimal(bytes, u32::MAX as u64) else {
         return Err(stop_at(bytes));
     };
     *expected = Expected::End;

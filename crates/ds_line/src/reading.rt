@@ -18,6 +18,7 @@ use crate::part_fault::{PartFault, stop_at};
 use crate::parts::kind_at;
 use crate::rules::{has_body, has_owner, has_seq, has_tombstone, has_value, has_version};
 use ds_entry::{Body, Change, Item, Value};
+use ds_names::limits::{LAST_GENERATION, LAST_SEQ};
 use ds_names::{
     Endpoint, Generation, Key, Kind, Name, Version, read_byte, read_decimal, read_endpoint,
 };
@@ -39,9 +40,9 @@ pub fn read_change(alloc: Global, bytes: &[u8]) -> Result<(Change, usize), LineF
     read_change_noting(alloc, bytes, &mut expected)
 }
 
-/// Reads a change as `read_change` does, and notes the part that it reads next: at BadLine it is the part that begins
-/// at the place.
-pub fn read_change_noting(
+// Reads a change as `read_change` does, and notes the part that it reads next: at BadLine it is the part that begins
+// at the place.
+fn read_change_noting(
     alloc: Global,
     bytes: &[u8],
     expected: &mut Expected,
@@ -160,7 +161,7 @@ fn version_at(
     ensures { ReadsInto (up_to_epoch key.now owner.now) bytes.now result slot.new }
 {
     *expected = Expected::Epoch;
-    let Some((number, rest)) = read_decimal(bytes, 2097151) else {
+    let Some((number, rest)) = read_decimal(bytes, LAST_GENERATION as u64) else {
         return Err(stop_at(bytes));
     };
     let Some(epoch) = Generation::of(number as u32) else {
@@ -174,7 +175,7 @@ fn version_at(
         return Err(stop_at(rest));
     };
     *expected = Expected::Seq;
-    let Some((seq, rest)) = read_decimal(at, 4294967295) else {
+    let Some((seq, rest)) = read_decimal(at, LAST_SEQ as u64) else {
         return Err(stop_at(at));
     };
     let version = Version {

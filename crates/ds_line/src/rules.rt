@@ -9,6 +9,7 @@ ghost use Rattle.ds_entry.specs.declared.body.Body.TheVariants.{Gone};
 ghost use Rattle.ds_entry.specs.Change.{change_of, IsChange};
 ghost use Rattle.ds_line.specs.Reading.{HasOwner, HasVersion, HasSeq, HasBody, HasValue};
 
+use ds_names::limits::LAST_SEQ;
 use ds_names::{Generation, Key, Name, Version};
 
 /// Whether some change has the key.
@@ -68,7 +69,7 @@ pub fn has_value(key: &Key, owner: &Name, version: &Version) -> bool
     if key.kind.is_label() {
         version.seq == 0
     } else {
-        version.seq < u32::MAX
+        version.seq < LAST_SEQ
     }
 }
 

@@ -13,6 +13,7 @@ use Rattle.ds_entry.specs.Floor.{floor_of}
 use Rattle.ds_entry.proofs.Members.{Contains-nil, Contains-head, Contains-from_filter, Contains-from_take}
 use Rattle.ds_join.specs.ItemTop.{IsPartOf, CoversAll}
 use Rattle.ds_pattern.specs.declared.query.Query.{Query}
+use Rattle.ds_held.specs.Kept.{puts_void_by}
 use Rattle.ds_machine.specs.Parts.{changes_in, floor_at, floors_in}
 use Rattle.ds_machine.specs.Subscription.{Subscription, is_unseen}
 use Rattle.ds_machine.specs.State.{State, held, takes_effect, owed, unseen, subscribes, subscription_at}
@@ -22,7 +23,7 @@ use Rattle.ds_machine.specs.Asking.{AskedChange, published, deleted, name_of, as
 use Rattle.ds_machine.specs.Calling.{SubscribeCase, against_subscribe, against_check, against_merge}
 use Rattle.ds_machine.specs.Merging.{Course, begun, course, merging}
 use Rattle.ds_machine.specs.Watching.{subscribing, subscribe_case, owed_at_first, shown_at_first, shows, check_case, checking, checking_at}
-use Rattle.ds_machine.specs.Machine.{Step, MergeWantsRoom, IsOutcome, outcome, asking, answer_for, sweeping, sweep_answer, dropped}
+use Rattle.ds_machine.specs.Machine.{Step, MergeWantsRoom, IsOutcome, outcome, asking, answer_for, sweeping, sweep_answer}
 use Rattle.ds_machine.specs.Reached.{IsReached}
 use Rattle.ds_machine.specs.Effect.{IsNews, Grows, Serves, Effect, known_after, learnt_by, brought_by, StepHasEffect}
 use Rattle.ds_machine.specs.declared.refusal.Cause.{Cause}
@@ -87,7 +88,7 @@ module _ (s t : State) (r : IsReached s) (reply : Reply) where
       i = Floored f
 
       out : Option Cause → Reply × State
-      out o = option_map_or {U = Reply × State} (λ cause. (sweep_answer cause, s)) o (Swept (length (dropped (held s) f)) (owed s (i ∷ [])), takes_effect s (i ∷ []))
+      out o = option_map_or {U = Reply × State} (λ cause. (sweep_answer cause, s)) o (Swept (length (puts_void_by f (changes_in (held s)))) (owed s (i ∷ [])), takes_effect s (i ∷ []))
 
       told : (other : Reply) → reply ≡ other → Learns s (known_after other (i ∷ [])) t → Learns s (known_after reply (i ∷ [])) t
       told other q l = subst (λ (x : Reply). Learns s (known_after x (i ∷ [])) t) (sym q) l
@@ -96,7 +97,7 @@ module _ (s t : State) (r : IsReached s) (reply : Reply) where
       by_cause (Some causes.Known) q g h = told (Swept 0 0) g (learns_known s t i h (sweep_covered s f caller causes.Known q (inl refl)))
       by_cause (Some (causes.Refused refusals.Stale)) q g h = told (Swept 0 0) g (learns_known s t i h (sweep_covered s f caller (causes.Refused refusals.Stale) q (inr refl)))
       by_cause (Some (causes.Refused refusal)) q g h = told (Refused refusal) g (learns_none s t h)
-      by_cause None q g h = told (Swept (length (dropped (held s) f)) (owed s (i ∷ []))) g (learns_news s t i r (news_floor s.feed.accepted r.owners f (room_above (floor_at (held s) f.owner) (length (floors_in (held s))) f (sweep_is_free (floor_standing_of s f) caller f q).room)) h)
+      by_cause None q g h = told (Swept (length (puts_void_by f (changes_in (held s)))) (owed s (i ∷ []))) g (learns_news s t i r (news_floor s.feed.accepted r.owners f (room_above (floor_at (held s) f.owner) (length (floors_in (held s))) f (sweep_is_free (floor_standing_of s f) caller f q).room)) h)
 
 -- ---- a Merge
 pub begun_went : (s : State) (items : List Item) → IsReached s → Went (begun s) items (course s items)

@@ -20,7 +20,9 @@ use Rattle.ds_machine.specs.Asking.{AskedChange, published, deleted, asked_in, n
 use Rattle.ds_machine.specs.Calling.{against_subscribe, against_check, against_since, against_scope, against_page, against_merge}
 use Rattle.ds_machine.specs.Merging.{Course, course, begun, merging}
 use Rattle.ds_machine.specs.Watching.{shows, subscribe_case, owed_at_first, shown_at_first, check_case, checking_at}
-use Rattle.ds_machine.specs.Machine.{Step, IsOutcome, MergeWantsRoom, outcome, asking, answer_for, sweep_answer, dropped, found_or, live_at}
+use Rattle.ds_held.specs.Kept.{puts_void_by}
+use Rattle.ds_machine.specs.Parts.{changes_in}
+use Rattle.ds_machine.specs.Machine.{Step, IsOutcome, MergeWantsRoom, outcome, asking, answer_for, sweep_answer, found_or, live_at}
 use Rattle.ds_machine.specs.Reached.{IsReached}
 use Rattle.ds_machine.specs.Effect.{brought_by}
 use Rattle.ds_machine.specs.Says.{RefusedSays, IsTaken, ChangedSays, FoundSays, NamedSays, IsMerged, MergedSays, MergeStoppedSays, OwedFits, OwedTells, IsReplyTo}
@@ -88,7 +90,7 @@ module _ (s t : State) (refusal : Refusal) where
       stays_unless (cause_against s a Gone) answer_for (Accepted (owed s (i ∷ []))) (takes_effect s (i ∷ [])) is.reply_is is.state_is refl
   by_outcome (Sweep caller owner generation) is =
       let f : Floor = floor_of owner generation in
-      stays_unless (sweep_cause s caller f) sweep_answer (Swept (length (dropped (held s) f)) (owed s (Floored f ∷ []))) (takes_effect s (Floored f ∷ [])) is.reply_is is.state_is refl
+      stays_unless (sweep_cause s caller f) sweep_answer (Swept (length (puts_void_by f (changes_in (held s)))) (owed s (Floored f ∷ []))) (takes_effect s (Floored f ∷ [])) is.reply_is is.state_is refl
   by_outcome (Retrieve key) is = is.state_is
   by_outcome (NameOf endpoint) is = is.state_is
   by_outcome (Subscribe sub query initial overwrite) is =

@@ -17,6 +17,7 @@ use Rattle.ds_entry.proofs.CoversLemmas.{covers-make}
 use Rattle.ds_entry.proofs.ItemLemmas.{below-make}
 use Rattle.ds_join.specs.ItemTop.{held_after}
 use Rattle.ds_pattern.specs.declared.query.Query.{Query}
+use Rattle.ds_held.specs.Kept.{puts_void_by}
 use Rattle.ds_machine.specs.Parts.{changes_in, floors_in, held_at, floor_at}
 use Rattle.ds_machine.specs.Subscription.{Subscription, is_unseen}
 use Rattle.ds_machine.specs.State.{State, held, next_position, takes_effect, owed, unseen, subscribes, subscription_at}
@@ -26,7 +27,7 @@ use Rattle.ds_machine.specs.Asking.{AskedChange, published, deleted, name_of, as
 use Rattle.ds_machine.specs.Calling.{SubscribeCase, against_subscribe, against_check, against_merge}
 use Rattle.ds_machine.specs.Merging.{Course, begun, item_merged, item_judged, merging}
 use Rattle.ds_machine.specs.Watching.{subscribing, subscribe_case, owed_at_first, shown_at_first, shows, has_unseen, check_case, checking, checking_at}
-use Rattle.ds_machine.specs.Machine.{MergeWantsRoom, outcome, asking, answer_for, sweeping, sweep_answer, dropped}
+use Rattle.ds_machine.specs.Machine.{MergeWantsRoom, outcome, asking, answer_for, sweeping, sweep_answer}
 use Rattle.ds_machine.specs.Within.{IsWithin, OpeningIsWithin, StepsStayWithin, RunsStayWithin}
 use Rattle.ds_machine.specs.declared.refusal.Cause.{Cause}
 use Rattle.ds_machine.specs.declared.refusal.Cause.TheVariants as causes
@@ -165,7 +166,7 @@ module _ (s t : State) (w : IsWithin s) where
   swept_within : (caller : EndpointRecord) (f : Floor) → t ≡ (sweeping s caller f).1 → IsWithin t
   swept_within caller f e = by_cause (sweep_cause s caller f) refl e
     where
-      by_cause : (o : Option Cause) → sweep_cause s caller f ≡ o → t ≡ (option_map_or {U = Reply × State} (λ cause. (sweep_answer cause, s)) o (Swept (length (dropped (held s) f)) (owed s (Floored f ∷ [])), takes_effect s (Floored f ∷ []))).1 → IsWithin t
+      by_cause : (o : Option Cause) → sweep_cause s caller f ≡ o → t ≡ (option_map_or {U = Reply × State} (λ cause. (sweep_answer cause, s)) o (Swept (length (puts_void_by f (changes_in (held s)))) (owed s (Floored f ∷ [])), takes_effect s (Floored f ∷ []))).1 → IsWithin t
       by_cause (Some cause) q g = same g
       by_cause None q g = subst IsWithin (sym g) (within_more s w (Floored f) (swept_place s caller f q))
 

@@ -7,6 +7,7 @@ pub mod Standing
 pub mod Asking
 pub mod Calling
 pub mod Merging
+pub mod Stopped
 pub mod Watching
 pub mod Machine
 pub mod Reached

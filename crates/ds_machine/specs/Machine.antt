@@ -55,15 +55,11 @@ sweep_answer causes.Known = Swept 0 0
 sweep_answer (causes.Refused refusals.Stale) = Swept 0 0
 sweep_answer (causes.Refused refusal) = Refused refusal
 
--- the held puts that the floor drops
-abbrev pub dropped : List Item → Floor → List ChangeRecord
-dropped held f = puts_void_by f (changes_in held)
-
 -- the floor is raised unless a cause stands against it; it is owed to every subscription that was made
 abbrev pub sweeping : State → EndpointRecord → Floor → Reply × State
 sweeping s caller f =
     option_map_or (λ cause. (sweep_answer cause, s)) (sweep_cause s caller f)
-    (Swept (length (dropped (held s) f)) (owed s (Floored f ∷ [])), takes_effect s (Floored f ∷ []))
+    (Swept (length (puts_void_by f (changes_in (held s)))) (owed s (Floored f ∷ [])), takes_effect s (Floored f ∷ []))
 
 -- ---- a Retrieve and a NameOf
 

@@ -20,7 +20,9 @@ use Rattle.ds_machine.specs.Subscription.{Subscription, is_owed}
 use Rattle.ds_machine.specs.State.{State, held, cursor, unseen, takes_effect, owed, subscribes, subscription_at}
 use Rattle.ds_entry.specs.declared.body.Value.{Value}
 use Rattle.ds_machine.specs.Asking.{name_of}
-use Rattle.ds_machine.specs.Machine.{Step, dropped, live_at}
+use Rattle.ds_held.specs.Kept.{puts_void_by}
+use Rattle.ds_machine.specs.Parts.{changes_in}
+use Rattle.ds_machine.specs.Machine.{Step, live_at}
 use Rattle.ds_machine.specs.Watching.{shown_at_first}
 use Rattle.ds_machine.specs.Reached.{IsReached}
 use Rattle.ds_machine.specs.Effect.{brought_by}
@@ -53,7 +55,7 @@ NamedSays = (s t : State) (endpoint : EndpointRecord) (name : List ℕ) → Step
 
 -- a floor that was swept took effect, or nothing changed; either way it is held then, or what covers it (LearntIsHeld)
 pub record IsSwept (s : State) (f : Floor) (count owed_mask : ℕ) (t : State) : Type 0 where
-  pub raised : ((count ≡ length (dropped (held s) f)) × (owed_mask ≡ owed s (Floored f ∷ [])) × (t ≡ takes_effect s (Floored f ∷ []))) ⊎ ((count ≡ 0) × (owed_mask ≡ 0) × (t ≡ s))
+  pub raised : ((count ≡ length (puts_void_by f (changes_in (held s)))) × (owed_mask ≡ owed s (Floored f ∷ [])) × (t ≡ takes_effect s (Floored f ∷ []))) ⊎ ((count ≡ 0) × (owed_mask ≡ 0) × (t ≡ s))
 
 abbrev pub SweptSays : Type 0
 SweptSays = (s t : State) (caller : EndpointRecord) (owner : List ℕ) (generation count owed_mask : ℕ) → Step s (Sweep caller owner generation) (Swept count owed_mask) t → IsSwept s (floor_of owner generation) count owed_mask t

@@ -1,14 +1,103 @@
-//! The same reply again.
+//! The same command, and the same reply, again.
 
 ghost use Rattle.std.specs.Prelude.{◌≡◌, IfOk};
 ghost use Rattle.ds_machine.specs.declared.reply.Reply.TheVariants.{Checked, Merged, MergeStopped};
 
+use crate::command::{Command, Scope};
 use crate::refusal::Refusal;
 use crate::reply::Reply;
 use ds_entry::Items;
 use ds_feed::{Page, Since, Snapshot};
 use ds_names::NoRoom;
 use std::alloc::Global;
+
+impl Scope {
+    /// The same scope again.
+    pub fn copy(&self, alloc: Global) -> Result<Scope, NoRoom>
+        ensures { IfOk result (λ copy. copy ≡ self.now) }
+    {
+        match self {
+            Scope::All => Ok(Scope::All),
+            Scope::Under(query) => Ok(Scope::Under(query.copy(alloc)?)),
+        }
+    }
+}
+
+impl Command {
+    /// The same command again.
+    pub fn copy(&self, alloc: Global) -> Result<Command, NoRoom>
+        ensures { IfOk result (λ copy. copy ≡ self.now) }
+    {
+        match self {
+            Command::Publish {
+                caller,
+                key,
+                version,
+                value,
+                overwrite,
+            } => Ok(Command::Publish {
+                caller: *caller,
+                key: *key,
+                version: *version,
+                value: value.copy(alloc)?,
+                overwrite: *overwrite,
+            }),
+            Command::Delete {
+                caller,
+                key,
+                version,
+            } => Ok(Command::Delete {
+                caller: *caller,
+                key: *key,
+                version: *version,
+            }),
+            Command::Sweep {
+                caller,
+                owner,
+                generation,
+            } => Ok(Command::Sweep {
+                caller: *caller,
+                owner: *owner,
+                generation: *generation,
+            }),
+            Command::Retrieve { key } => Ok(Command::Retrieve { key: *key }),
+            Command::NameOf { endpoint } => Ok(Command::NameOf {
+                endpoint: *endpoint,
+            }),
+            Command::Subscribe {
+                sub,
+                query,
+                initial,
+                overwrite,
+            } => Ok(Command::Subscribe {
+                sub: *sub,
+                query: query.copy(alloc)?,
+                initial: *initial,
+                overwrite: *overwrite,
+            }),
+            Command::Check { sub, max } => Ok(Command::Check {
+                sub: *sub,
+                max: *max,
+            }),
+            Command::Since { scope, cursor, max } => Ok(Command::Since {
+                scope: scope.copy(alloc)?,
+                cursor: *cursor,
+                max: *max,
+            }),
+            Command::Snapshot { scope } => Ok(Command::Snapshot {
+                scope: scope.copy(alloc)?,
+            }),
+            Command::Page { scope, after, max } => Ok(Command::Page {
+                scope: scope.copy(alloc)?,
+                after: *after,
+                max: *max,
+            }),
+            Command::Merge { items } => Ok(Command::Merge {
+                items: items.copy(alloc)?,
+            }),
+        }
+    }
+}
 
 // What a check shows.
 fn checked(items: Items, before: u64, after: u64) -> Reply

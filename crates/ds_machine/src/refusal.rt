@@ -1,5 +1,9 @@
 //! Why a store refuses, and what else can stand against a change.
 
+ghost use Rattle.std.specs.Prelude.{◌≡◌};
+ghost use Rattle.ds_machine.specs.Stopped.{refusal_of_join};
+
+use ds_join::JoinFault;
 use ds_names::Version;
 use thiserror::Error;
 
@@ -73,6 +77,20 @@ pub enum Refusal {
     /// The first position is above 2^62 (of opening alone).
     #[error("the first position is above 2^62")]
     BadFirst,
+}
+
+impl Refusal {
+    /// The refusal by which a store stops a Merge at an item that a holder refuses for this.
+    pub fn of_join(fault: JoinFault) -> Refusal
+        ensures { result ≡ refusal_of_join fault }
+    {
+        match fault {
+            JoinFault::NotOwner => Refusal::NotOwner,
+            JoinFault::Clash { version } => Refusal::Clash { version },
+            JoinFault::Full => Refusal::Full,
+            JoinFault::NoRoom => Refusal::NoRoom,
+        }
+    }
 }
 
 /// What stands against a command with a change or a floor, or against an item: it is held already, or it is refused.

@@ -7,6 +7,7 @@ ghost use Rattle.ds_names.specs.Endpoint.{EndpointRecord, IsEndpoint, NoEndpoint
 ghost use Rattle.ds_names.specs.Run.{Begins};
 
 use crate::decimal::{read_byte, read_decimal};
+use crate::limits::LAST_GENERATION;
 use crate::room::NoRoom;
 use std::alloc::Global;
 use std::marker::Model;
@@ -38,7 +39,7 @@ impl Generation {
     pub fn of(number: u32) -> Option<Generation>
         ensures { SomeIff result (number ≤ 2097151) number }
     {
-        if number <= 2097151 {
+        if number <= LAST_GENERATION {
             Some(Generation { number })
         } else {
             None
@@ -158,7 +159,7 @@ pub fn read_endpoint(bytes: &[u8]) -> Option<(u32, u16, &[u8])>
     ensures valid { IfSome result (λ r. IsEndpoint (endpoint_of r.0 r.1)) }
     ensures none { IfNone result (NoEndpointBegins bytes.now) }
 {
-    let (generation, rest) = read_decimal(bytes, 2097151)?;
+    let (generation, rest) = read_decimal(bytes, LAST_GENERATION as u64)?;
     let rest = read_byte(rest, b'/')?;
     let (slot, rest) = read_decimal(rest, 1023)?;
     Some((generation as u32, slot as u16, rest))

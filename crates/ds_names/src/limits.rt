@@ -1,5 +1,8 @@
 //! The numbers that bound what a store does, whatever its limits are (of this project).
 
+/// The greatest generation.
+pub const LAST_GENERATION: u32 = 2097151;
+
 /// The most items of one Merge, and of one Check, Since or Page.
 pub const MOST_ITEMS: usize = 256;
 

@@ -17,6 +17,6 @@ mod threads;
 pub use asker::Asker;
 pub use filter::Filter;
 pub use laws::dot_star_is_a_pattern;
-pub use pattern::{Pattern, PatternFault, SIZE_LIMIT};
+pub use pattern::{LONGEST_PATTERN, Pattern, PatternFault, SIZE_LIMIT};
 pub use query::{PatternText, Query};
 pub use threads::filters_cross_threads;

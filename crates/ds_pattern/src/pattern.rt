@@ -71,6 +71,9 @@ impl From<regex_syntax::Error> for PatternFault {
     }
 }
 
+/// The most bytes of a pattern.
+pub const LONGEST_PATTERN: usize = 128;
+
 /// How many bytes the table of a compiled pattern may take: 12 for each state of its automaton and 8 for each
 /// range of bytes that leads from one to another. It takes at most 24 bytes more. `bench/README.md` has what is
 /// measured beside it.
@@ -106,7 +109,7 @@ impl Pattern {
         ensures refused { IfErr result (λ fault. IsPatternFault fault text.now) }
     {
         let bytes = text.bytes();
-        if bytes.len() > 128 {
+        if bytes.len() > LONGEST_PATTERN {
             return Err(PatternFault::TooLong);
         }
         if !is_printable(bytes) {

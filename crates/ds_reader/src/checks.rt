@@ -9,7 +9,6 @@ ghost use Rattle.ds_reader.specs.ReadWhole.{AreChecked, IsReadWhole};
 use crate::asking::{check, subscribe};
 use crate::asks::Asks;
 use crate::fault::ReadFault;
-use crate::gathering::append;
 use crate::known::laws;
 use crate::reading::Reading;
 use ds_entry::Items;
@@ -47,7 +46,7 @@ pub fn read_by_checks<A: Asks>(
             return Err(ReadFault::Overtaken);
         }
         stamp = shown.after;
-        append(alloc, &mut items, &shown.items)?;
+        items.append_copies(alloc, &shown.items)?;
         if shown.items.len() < reading.max as usize {
             return Ok(items);
         }

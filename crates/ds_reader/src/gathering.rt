@@ -1,6 +1,6 @@
 //! Items that are put together, reply by reply.
 
-ghost use Rattle.std.specs.Prelude.{◌≡◌, ◌≢◌, ◌++◌, ◌∷◌, [], OnOk, OnErr, IfOk};
+ghost use Rattle.std.specs.Prelude.{◌≡◌, ◌∷◌, [], IfOk};
 ghost use Rattle.ds_machine.specs.declared.command.Scope.TheVariants.{Under};
 ghost use Rattle.ds_convergence.specs.Paged.{last_key};
 
@@ -9,19 +9,6 @@ use ds_machine::Scope;
 use ds_names::{Key, NoRoom};
 use ds_pattern::Query;
 use std::alloc::Global;
-
-/// Puts copies of the items behind those that are there. Of none that takes no memory.
-pub(crate) fn append(alloc: Global, items: &mut Items, more: &Items) -> Result<(), NoRoom>
-    ensures added { OnOk result (items.new ≡ items.old ++ more.now) }
-    ensures room { OnErr result (more.now ≢ []) }
-{
-    for index in 0..more.len() {
-        if let Some(item) = more.get(index) {
-            items.push(item.copy(alloc)?)?;
-        }
-    }
-    Ok(())
-}
 
 // Goes on to the key of a change.
 fn go_behind_item(key: &mut Option<Key>, item: &Item)

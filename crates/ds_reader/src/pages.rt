@@ -10,7 +10,7 @@ ghost use Rattle.ds_reader.specs.ReadWhole.{AreRead, IsReadWhole};
 use crate::asking::{page, since};
 use crate::asks::Asks;
 use crate::fault::ReadFault;
-use crate::gathering::{append, go_behind, scope_of};
+use crate::gathering::{go_behind, scope_of};
 use crate::known::laws;
 use crate::reading::Reading;
 use ds_entry::Items;
@@ -37,7 +37,7 @@ fn catch_up<A: Asks>(
     for _question in 0..reading.questions {
         let scope = scope_of(alloc, &reading.query)?;
         let given = since(asked, scope, at, reading.max)?;
-        append(alloc, items, &given.items)?;
+        items.append_copies(alloc, &given.items)?;
         at = given.cursor;
         if given.items.len() < reading.max as usize {
             return Ok(());
@@ -73,7 +73,7 @@ pub fn read_by_pages<A: Asks>(
     for _question in 0..reading.questions {
         let scope = scope_of(alloc, &reading.query)?;
         let given = page(asked, scope, after, reading.max)?;
-        append(alloc, &mut items, &given.items)?;
+        items.append_copies(alloc, &given.items)?;
         let first = from.unwrap_or(given.cursor);
         if given.last {
             catch_up(alloc, asked, reading, first, &mut items)?;

@@ -16,13 +16,11 @@ use crate::follower::Follower;
 use desk::{Answer, Desk, Pass};
 use ds_join::JoinFault;
 use ds_machine::{Command, Reply};
+use ds_names::limits::MOST_ITEMS;
 use ds_pass::{LiveFault, ask_desk};
 use ds_store::Store;
 use std::alloc::Global;
 use std::sync::Wait;
-
-// How many items a Check asks for.
-const MOST: u32 = 256;
 
 /// One call, by what the follower is: a lost one subscribes, and one that stands checks. The place behind it, where it ended the
 /// refresh.
@@ -121,7 +119,7 @@ fn check<W: Wait>(
 {
     let command = Command::Check {
         sub: follower.sub,
-        max: MOST,
+        max: MOST_ITEMS as u32,
     };
     let Answer {
         reply,
@@ -147,7 +145,7 @@ fn check<W: Wait>(
                 });
             }
             follower.stamp = Some(after);
-            if items.len() < 256 {
+            if items.len() < MOST_ITEMS {
                 Ok(Some(place + 1))
             } else {
                 Ok(None)

@@ -7,7 +7,7 @@ use Rattle.ds_words.specs.Command.{IsCommand, CommandTakesMemory, IsFaultAmong, 
 use Rattle.ds_lines.specs.Lines.{with_newline}
 use Rattle.store_words.specs.Reply.{refused_noroom}
 use Rattle.ds_words.specs.Later.{IsLater}
-use Rattle.ds_words.specs.Offer.{IsOffer, OfPlaced}
+use Rattle.ds_words.specs.Fast.{IsOffer, OfPlaced}
 use Rattle.ds_words.specs.declared.command.ScriptCommand.{ScriptCommand}
 use Rattle.ds_words.specs.declared.command.ScriptCommand.TheVariants.{Offer, Show, All, Entries, Ring, Settings}
 use Rattle.ds_words.specs.declared.fault.CommandFault.{CommandFault}

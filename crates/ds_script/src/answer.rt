@@ -1,9 +1,11 @@
 //! Carrying commands out, and their answers.
 
-ghost use Rattle.std.specs.Prelude.{◌≡◌, ◌≤◌, ◌++◌, false, OnOk, OnErr};
+ghost use Rattle.std.specs.Prelude.{◌≡◌, ◌≤◌, ◌++◌, false, IfErr, OnOk, OnErr};
 ghost use Rattle.store_words.specs.Outcome.{ring_line};
+ghost use Rattle.store_words.specs.Reply.{refused_noroom};
 ghost use Rattle.ds_words.specs.Command.{IsCommand, is_offer};
 ghost use Rattle.ds_words.specs.ServiceEvent.{request_event};
+ghost use Rattle.ds_words.specs.declared.fault.CommandFault.TheVariants as faults;
 ghost use Rattle.ds_script.specs.Answer.{AppendsCommand, AppendsRing, AppendsSide};
 
 use crate::entries::append_entries;
@@ -12,7 +14,7 @@ use crate::session::Session;
 use crate::shown::append_shown;
 use ds_names::{Name, NoRoom};
 use ds_replica::Side;
-use ds_words::{Request, ScriptCommand};
+use ds_words::{CommandFault, Request, ScriptCommand};
 use rs_core::Event;
 use std::alloc::Global;
 use std::mem::swap;
@@ -126,4 +128,19 @@ fn answer_side(session: &mut Session, output: &mut Vec<u8>, side: Side) -> Resul
     append_side(output, side)?;
     session.turn_to(side);
     Ok(())
+}
+
+/// Answers a line that wasn't read as a command: `refused noroom` if memory ran out, nothing if the line is bad.
+pub(crate) fn answer_unread(output: &mut Vec<u8>, fault: CommandFault) -> Result<(), CommandFault>
+    ensures answered { OnOk result ((fault ≡ faults.NoRoom) × (output.new.items ≡ output.old.items ++ refused_noroom)) }
+    ensures unanswered { OnErr result (output.new.items ≡ output.old.items) }
+    ensures told { IfErr result (λ told. told ≡ fault) }
+{
+    match fault {
+        CommandFault::NoRoom => match append_noroom(output) {
+            Ok(()) => Ok(()),
+            Err(NoRoom) => Err(CommandFault::NoRoom),
+        },
+        bad => Err(bad),
+    }
 }

@@ -6,10 +6,9 @@ ghost use Rattle.ds_script.specs.Passing.{EndsFor, PassesOver, TellsExpected};
 
 use crate::fault::ReplayFault;
 use crate::report::{BadLine, Report};
-use ds_line::append_all;
+use ds_line::append_numbers;
 use ds_lines::{Sink, send};
 use ds_names::NoRoom;
-use itoa::Buffer;
 
 /// Writes the answers that wait, reports the line, and gives the fault that it is; or WriteFault, and nobody is told.
 pub(crate) fn end_at<W: Sink, B: Report>(
@@ -52,9 +51,5 @@ fn append_badline(output: &mut Vec<u8>, number: u64, place: usize) -> Result<(),
     ensures written { OnOk result (output.new.items ≡ output.old.items ++ badline number place) }
     ensures unchanged { OnErr result (output.new.items ≡ output.old.items) }
 {
-    let mut number_digits = Buffer::new();
-    let number = number_digits.format(number).as_bytes();
-    let mut place_digits = Buffer::new();
-    let place = place_digits.format(place).as_bytes();
-    append_all(output, &[b"badline ", number, b" ", place, b"\n"])
+    append_numbers(output, &[(b"badline ", number), (b" ", place as u64)])
 }

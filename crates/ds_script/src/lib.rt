@@ -5,10 +5,10 @@
 #![tactic(auto)]
 
 mod answer;
-mod asking;
 mod bad_line;
 mod entries;
 mod event;
+mod fast;
 mod fault;
 mod laws;
 mod line;

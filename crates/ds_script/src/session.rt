@@ -3,18 +3,18 @@
 ghost use Rattle.std.specs.Prelude.{◌≡◌, ◌≤◌, ◌∷◌, [], false, slice_get, IfOk};
 ghost use Rattle.std.specs.Option.{option_copied};
 ghost use Rattle.ds_held.specs.Held.{held_items};
-ghost use Rattle.ds_machine.specs.declared.command.Command.TheVariants.{Merge, Publish};
+ghost use Rattle.ds_machine.specs.declared.command.Command.TheVariants.{Merge};
 ghost use Rattle.ds_replica.specs.Happens.{gives_items};
 ghost use Rattle.ds_replica.specs.declared.event.Event.TheVariants.{Ask};
 ghost use Rattle.ds_replica.specs.declared.outcome.Outcome.TheVariants.{Replied};
 ghost use Rattle.ds_script.specs.Session.{IsOpened, seed as described_seed, held_of, turned, IsHappening};
 
 use ds_answers::Servers;
-use ds_entry::{Item, Value};
+use ds_entry::Item;
 use ds_held::Held;
 use ds_machine::{Command, Reply};
 use ds_message::Message;
-use ds_names::{Endpoint, Key, NoRoom, Version};
+use ds_names::NoRoom;
 use ds_replica::{Event, Outcome, Seed, Side};
 use ds_submap::SubMap;
 use ds_world::World;
@@ -90,8 +90,8 @@ impl Session {
         self.world.happen(event)
     }
 
-    /// Asks the store a command to which no store gives items, and gives its reply: what `happen` lets an Ask lead to, with no event
-    /// and no outcome made for it.
+    /// Asks the store a command whose reply has no items, and returns the reply: what `happen` does of an Ask, with no event and no
+    /// outcome.
     pub(crate) fn ask(&mut self, command: Command) -> Reply
         requires { gives_items command ≡ false }
         ensures { IsHappening (Ask self.old.side command) (Replied result) self.old self.new }
@@ -99,26 +99,11 @@ impl Session {
         self.world.reply(self.side, command)
     }
 
-    /// Asks the store to merge one item, which is only lent, and gives its reply, likewise.
-    pub(crate) fn offer(&mut self, item: &Item) -> Reply
+    /// Asks the store to merge one item, which is only lent, and returns its reply, as `ask` does of that Merge.
+    pub(crate) fn fast_offer(&mut self, item: &Item) -> Reply
         ensures { IsHappening (Ask self.old.side (Merge (item.now ∷ []))) (Replied result) self.old self.new }
     {
-        self.world.offer(self.side, item)
-    }
-
-    /// Asks the store to publish a value, of which the key is only lent, and gives its reply, likewise.
-    pub(crate) fn publish(
-        &mut self,
-        caller: Endpoint,
-        key: &Key,
-        version: Version,
-        value: Value,
-        overwrite: bool,
-    ) -> Reply
-        ensures { IsHappening (Ask self.old.side (Publish caller key.now version value overwrite)) (Replied result) self.old self.new }
-    {
-        self.world
-            .publish(self.side, caller, key, version, value, overwrite)
+        self.world.fast_offer(self.side, item)
     }
 
     /// What the store that is asked holds.

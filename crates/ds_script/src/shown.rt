@@ -5,13 +5,11 @@ ghost use Rattle.std.specs.List.{flat_map};
 ghost use Rattle.ds_line.specs.ItemSpelling.{item_spelling};
 ghost use Rattle.ds_held.specs.Held.{held_items};
 ghost use Rattle.ds_script.specs.Answer.{picked, shown, AppendsOrRefuses};
-ghost use Rattle.ds_entry.specs.Left.{is_put as leaves_value};
 
 use ds_entry::{Item, Items};
 use ds_held::Held;
-use ds_line::{append_all, append_item};
+use ds_line::{append_item, append_numbers};
 use ds_names::NoRoom;
-use itoa::Buffer;
 use std::alloc::Global;
 use store_words::append_noroom;
 
@@ -45,13 +43,11 @@ pub(crate) fn append_items(items: &Items, output: &mut Vec<u8>, all: bool) -> Re
     ensures unwritten { OnErr result (output.new.items ≡ output.old.items) }
 {
     let start = output.len();
-    match append_lines(items, output, all) {
-        Ok(()) => Ok(()),
-        Err(NoRoom) => {
-            output.truncate(start);
-            Err(NoRoom)
-        }
+    let written = append_lines(items, output, all);
+    if written.is_err() {
+        output.truncate(start);
     }
+    written
 }
 
 // The same, but some of it may stand where there is no room for all.
@@ -61,13 +57,9 @@ fn append_lines(items: &Items, output: &mut Vec<u8>, all: bool) -> Result<(), No
 {
     let mut count = 0usize;
     for item in items.as_slice() {
-        match append_picked(item, output, all) {
-            Ok(lines) => count += lines,
-            Err(NoRoom) => return Err(NoRoom),
-        }
+        count += append_picked(item, output, all)?;
     }
-    let mut digits = Buffer::new();
-    append_all(output, &[b"shown ", digits.format(count).as_bytes(), b"\n"])
+    append_numbers(output, &[(b"shown ", count as u64)])
 }
 
 // The line of an item, if it is picked, and how many lines that is.
@@ -76,22 +68,10 @@ fn append_picked(item: &Item, output: &mut Vec<u8>, all: bool) -> Result<usize, 
     ensures written { OnOk result (output.new.items ≡ output.old.items ++ flat_map item_spelling (picked all (item.now ∷ []))) }
     ensures unwritten { OnErr result (output.new.items ≡ output.old.items) }
 {
-    if all || is_put(item) {
-        match append_item(output, item) {
-            Ok(()) => Ok(1),
-            Err(NoRoom) => Err(NoRoom),
-        }
+    if all || item.is_put() {
+        append_item(output, item)?;
+        Ok(1)
     } else {
         Ok(0)
-    }
-}
-
-// Whether an item leaves a value: a tombstone doesn't, nor does a floor.
-fn is_put(item: &Item) -> bool
-    ensures { result ≡ leaves_value item.now }
-{
-    match item {
-        Item::Change(change) => change.body().value().is_some(),
-        Item::Floor(_) => false,
     }
 }

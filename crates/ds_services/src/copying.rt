@@ -3,92 +3,9 @@
 ghost use Rattle.std.specs.Prelude.{◌≡◌, IfOk};
 
 use crate::event::SystemEvent;
-use ds_machine::{Command, Scope};
 use ds_names::NoRoom;
 use ds_replica::Event;
 use std::alloc::Global;
-
-fn scope_again(alloc: Global, scope: &Scope) -> Result<Scope, NoRoom>
-    ensures { IfOk result (λ copy. copy ≡ scope.now) }
-{
-    match scope {
-        Scope::All => Ok(Scope::All),
-        Scope::Under(query) => Ok(Scope::Under(query.copy(alloc)?)),
-    }
-}
-
-fn command_again(alloc: Global, command: &Command) -> Result<Command, NoRoom>
-    ensures { IfOk result (λ copy. copy ≡ command.now) }
-{
-    match command {
-        Command::Publish {
-            caller,
-            key,
-            version,
-            value,
-            overwrite,
-        } => Ok(Command::Publish {
-            caller: *caller,
-            key: *key,
-            version: *version,
-            value: value.copy(alloc)?,
-            overwrite: *overwrite,
-        }),
-        Command::Delete {
-            caller,
-            key,
-            version,
-        } => Ok(Command::Delete {
-            caller: *caller,
-            key: *key,
-            version: *version,
-        }),
-        Command::Sweep {
-            caller,
-            owner,
-            generation,
-        } => Ok(Command::Sweep {
-            caller: *caller,
-            owner: *owner,
-            generation: *generation,
-        }),
-        Command::Retrieve { key } => Ok(Command::Retrieve { key: *key }),
-        Command::NameOf { endpoint } => Ok(Command::NameOf {
-            endpoint: *endpoint,
-        }),
-        Command::Subscribe {
-            sub,
-            query,
-            initial,
-            overwrite,
-        } => Ok(Command::Subscribe {
-            sub: *sub,
-            query: query.copy(alloc)?,
-            initial: *initial,
-            overwrite: *overwrite,
-        }),
-        Command::Check { sub, max } => Ok(Command::Check {
-            sub: *sub,
-            max: *max,
-        }),
-        Command::Since { scope, cursor, max } => Ok(Command::Since {
-            scope: scope_again(alloc, scope)?,
-            cursor: *cursor,
-            max: *max,
-        }),
-        Command::Snapshot { scope } => Ok(Command::Snapshot {
-            scope: scope_again(alloc, scope)?,
-        }),
-        Command::Page { scope, after, max } => Ok(Command::Page {
-            scope: scope_again(alloc, scope)?,
-            after: *after,
-            max: *max,
-        }),
-        Command::Merge { items } => Ok(Command::Merge {
-            items: items.copy(alloc)?,
-        }),
-    }
-}
 
 fn world_event_again(alloc: Global, event: &Event) -> Result<Event, NoRoom>
     ensures { IfOk result (λ copy. copy ≡ event.now) }
@@ -96,7 +13,7 @@ fn world_event_again(alloc: Global, event: &Event) -> Result<Event, NoRoom>
     match event {
         Event::Ask { side, command } => Ok(Event::Ask {
             side: *side,
-            command: command_again(alloc, command)?,
+            command: command.copy(alloc)?,
         }),
         Event::NewMap { query } => Ok(Event::NewMap {
             query: query.copy(alloc)?,

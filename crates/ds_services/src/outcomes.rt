@@ -24,15 +24,6 @@ impl Model for SystemOutcomes {
 }
 
 impl SystemOutcomes {
-    /// A list of no outcomes. It takes no memory.
-    pub fn new(alloc: Global) -> SystemOutcomes
-        ensures { result ≡ [] }
-    {
-        SystemOutcomes {
-            outcomes: Vec::new(alloc),
-        }
-    }
-
     /// The outcomes of a `Vec`. It takes no memory.
     pub fn of(outcomes: Vec<SystemOutcome>) -> SystemOutcomes
         ensures { result ≡ outcomes.items }

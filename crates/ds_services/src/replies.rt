@@ -24,15 +24,6 @@ impl Model for Replies {
 }
 
 impl Replies {
-    /// No replies. It takes no memory.
-    pub fn new(alloc: Global) -> Replies
-        ensures { result ≡ [] }
-    {
-        Replies {
-            replies: Vec::new(alloc),
-        }
-    }
-
     /// The replies of a `Vec`. It takes no memory.
     pub fn of(replies: Vec<Reply>) -> Replies
         ensures { result ≡ replies.items }

@@ -14,11 +14,12 @@ use Rattle.ds_entry.specs.declared.item.Item.{Item}
 use Rattle.ds_entry.specs.declared.item.Item.TheVariants.{Change as Changed, Floor as Floored}
 use Rattle.ds_watch.specs.Mask.{mask, padded}
 use Rattle.ds_watch.proofs.PaddedLemmas.{padded_number}
-use Rattle.ds_machine.specs.Parts.{held_at}
+use Rattle.ds_held.specs.Kept.{puts_void_by}
+use Rattle.ds_machine.specs.Parts.{changes_in, held_at}
 use Rattle.ds_machine.specs.State.{State, held, takes_effect, owed}
 use Rattle.ds_machine.specs.Subscription.{is_owed}
 use Rattle.ds_machine.specs.Asking.{AskedChange, change_asked, asked_in, name_of, cause_against, sweep_cause}
-use Rattle.ds_machine.specs.Machine.{Answers, IsOutcome, outcome, asking, answer_for, sweeping, sweep_answer, dropped}
+use Rattle.ds_machine.specs.Machine.{Answers, IsOutcome, outcome, asking, answer_for, sweeping, sweep_answer}
 use Rattle.ds_machine.specs.declared.refusal.Cause.{Cause}
 use Rattle.ds_machine.specs.declared.refusal.Cause.TheVariants as causes
 use Rattle.ds_machine.specs.declared.refusal.Refusal.{Refusal}
@@ -79,15 +80,15 @@ asked_lacks v s a body stands e takes = (e, elim takes [ inl none ↦ inl (sym (
 -- ---- a sweep
 pub sweep_refused : (s : State) (caller : EndpointRecord) (f : Floor) (cause : Cause) → sweep_cause s caller f ≡ Some cause → IsOutcome (sweeping s caller f) (sweep_answer cause) s
 sweep_refused s caller f cause e =
-    let result : Option Cause → Reply × State = λ o. option_map_or (λ x. (sweep_answer x, s)) o (replies.Swept (length (dropped (held s) f)) (owed s (Floored f ∷ [])), takes_effect s (Floored f ∷ [])) in
+    let result : Option Cause → Reply × State = λ o. option_map_or (λ x. (sweep_answer x, s)) o (replies.Swept (length (puts_void_by f (changes_in (held s)))) (owed s (Floored f ∷ [])), takes_effect s (Floored f ∷ [])) in
     record { reply_is = sym (ap (λ o. (result o).0) e); state_is = sym (ap (λ o. (result o).1) e) }
 
-pub sweep_taken : (v : ContentRecord) (s : State) (caller : EndpointRecord) (f : Floor) (count bits : ℕ) → ContentStands v s → sweep_cause s caller f ≡ None → count ≡ length (dropped v.held f) → bits ≡ owed s (Floored f ∷ [])
+pub sweep_taken : (v : ContentRecord) (s : State) (caller : EndpointRecord) (f : Floor) (count bits : ℕ) → ContentStands v s → sweep_cause s caller f ≡ None → count ≡ length (puts_void_by f (changes_in v.held)) → bits ≡ owed s (Floored f ∷ [])
     → IsOutcome (sweeping s caller f) (replies.Swept count bits) (takes_effect s (Floored f ∷ []))
 sweep_taken v s caller f count bits stands e counted owes =
-    let result : Option Cause → Reply × State = λ o. option_map_or (λ x. (sweep_answer x, s)) o (replies.Swept (length (dropped (held s) f)) (owed s (Floored f ∷ [])), takes_effect s (Floored f ∷ [])) in
+    let result : Option Cause → Reply × State = λ o. option_map_or (λ x. (sweep_answer x, s)) o (replies.Swept (length (puts_void_by f (changes_in (held s)))) (owed s (Floored f ∷ [])), takes_effect s (Floored f ∷ [])) in
     record {
-      reply_is = ap₂ (λ m n. replies.Swept m n) (counted ∙ ap (λ (hs : List Item). length (dropped hs f)) stands.held) owes ∙ sym (ap (λ o. (result o).0) e);
+      reply_is = ap₂ (λ m n. replies.Swept m n) (counted ∙ ap (λ (hs : List Item). length (puts_void_by f (changes_in hs))) stands.held) owes ∙ sym (ap (λ o. (result o).0) e);
       state_is = sym (ap (λ o. (result o).1) e);
     }
 

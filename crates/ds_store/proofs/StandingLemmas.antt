@@ -2,6 +2,7 @@
 use Rattle.std.proofs.Common.{◌≡◌, ℕ, Bool, List, Option, Some, None, IfNone, length, refl, ap, sym, ◌∙◌, subst}
 use Rattle.std.specs.Option.{option_map}
 use Rattle.ds_names.specs.Endpoint.{EndpointRecord}
+use Rattle.ds_names.specs.declared.key.Key.{Key}
 use Rattle.ds_entry.specs.Change.{ChangeRecord}
 use Rattle.ds_entry.specs.Floor.{floor_of}
 use Rattle.ds_entry.specs.Void.{is_void}
@@ -21,7 +22,7 @@ use Rattle.ds_judge.specs.Asked.{is_void_under}
 use Rattle.ds_content.specs.Content.{ContentRecord}
 use Rattle.ds_content.specs.Stands.{ContentStands}
 use Rattle.ds_content.proofs.HoldingLemmas.{floor_at-is, void-is}
-use Rattle.ds_content.specs.Standing.{standing_in, floor_standing_in}
+use Rattle.ds_content.specs.Standing.{standing_in, standing_with, floor_standing_in}
 use Rattle.ds_content.proofs.RoomLemmas.{standing_at, floor_standing_at}
 
 -- ---- floors
@@ -54,12 +55,8 @@ floor_told held count position = record { held = held; count = count; position =
 pub floor_told_same : (v : ContentRecord) (f : Floor) (o : Option Floor) (count position : ℕ) → o ≡ floor_at v.held f.owner → count ≡ length (floors_in v.held) → position ≡ v.journal.position → floor_told o count position ≡ floor_standing_in v f
 floor_told_same v f o count position p q r = λ i. record { held = p i; count = q i; position = r i }
 
-abbrev pub told : Option ChangeRecord → Bool → ℕ → ℕ → ℕ → Standing
-told held void count most position = record { held = held; void = void; count = count; most = most; position = position }
-
-pub told_same : (v : ContentRecord) (c : ChangeRecord) (o : Option ChangeRecord) (void : Bool) (count most position : ℕ) → o ≡ held_at v.held c.key → void ≡ is_void v.held c → count ≡ length (changes_in v.held) → most ≡ v.limits.keys → position ≡ v.journal.position
-    → told o void count most position ≡ standing_in v c
-told_same v c o void count most position p q r x y = λ i. record { held = p i; void = q i; count = r i; most = x i; position = y i }
+pub standing_is : (v : ContentRecord) (c : ChangeRecord) (t : Standing) (key : Key) (void : Bool) → t ≡ standing_with v key void → key ≡ c.key → void ≡ is_void v.held c → t ≡ standing_in v c
+standing_is v c t key void same k b = same ∙ ap (λ q. standing_with v q void) k ∙ ap (standing_with v c.key) b
 
 -- ---- the first cause
 pub asked_cause : (v : ContentRecord) (s : State) (a : AskedChange) (body : Body) (caller : Option (List ℕ)) (t : Standing) (o : Option Cause) → ContentStands v s → caller ≡ name_of v.held a.caller → t ≡ standing_in v (change_asked caller a body)

@@ -5,7 +5,6 @@ ghost use Rattle.ds_feed.specs.Kept.{cursor_of, IsRing};
 ghost use Rattle.ds_held.specs.Held.{held_items, IsSound};
 ghost use Rattle.ds_held.specs.Limits.{larger};
 ghost use Rattle.ds_machine.specs.State.{State, opening};
-ghost use Rattle.ds_machine.specs.Parts.{changes_in};
 ghost use Rattle.ds_machine.specs.Machine.{Step};
 ghost use Rattle.ds_machine.specs.declared.refusal.Refusal.TheVariants.{NoRoom};
 ghost use Rattle.ds_machine.specs.Says.{IsReplyTo};
@@ -15,16 +14,13 @@ ghost use Rattle.ds_store.specs.Opening.{IsOpenRefusal, refusal_of_opening};
 ghost use Rattle.ds_store.specs.InPlace.{TakesNoMemory};
 ghost use Rattle.ds_store.specs.Steps.{ContentSteps};
 ghost use Rattle.ds_names.specs.Limits.{last_place};
-ghost use Rattle.ds_join.specs.Label.{first_name_of};
-ghost use Rattle.std.specs.Option.{option_copied};
 
 use ds_content::Content;
-use ds_entry::{Body, Floor, Value};
+use ds_entry::{Body, Floor};
 use ds_feed::{Cursor, OpenFault};
 use ds_held::{Held, Limits};
-use ds_judge::{deleted, published};
+use ds_judge::deleted;
 use ds_machine::{Command, Refusal, Reply};
-use ds_names::{Endpoint, Key, Name, Version};
 use std::alloc::Global;
 use std::marker::Model;
 
@@ -118,7 +114,7 @@ impl Store {
     /// which is read in its place. Every refusal but a stopped Merge leaves the store as it was. NameOf, and Retrieve of a
     /// label or a number, take no memory.
     pub fn apply(&mut self, command: Command) -> Reply
-        ensures step { (s : State) → ContentStands self.old s → (t : State) × Step s command result t × ContentStands self.new t }
+        ensures step { ContentSteps self.old (λ s t. Step s command result t) self.new }
         ensures in_place { TakesNoMemory command → result ≢ Reply.Refused Refusal.NoRoom }
         ensures last { (s : State) → ContentStands self.old s → IsLast s command result }
         ensures fits { IsReplyTo command result }
@@ -131,7 +127,7 @@ impl Store {
                 version,
                 value,
                 overwrite,
-            } => self.publish(caller, &key, version, value, overwrite),
+            } => self.publish(caller, key, version, value, overwrite),
             Command::Delete {
                 caller,
                 key,
@@ -142,8 +138,8 @@ impl Store {
                 owner,
                 generation,
             } => self.sweep(caller, Floor { owner, generation }),
-            Command::Retrieve { key } => self.retrieve(key),
-            Command::NameOf { endpoint } => self.name(endpoint),
+            Command::Retrieve { key } => self.fast_retrieve(&key),
+            Command::NameOf { endpoint } => self.fast_name_of(endpoint),
             Command::Subscribe {
                 sub,
                 query,
@@ -154,29 +150,8 @@ impl Store {
             Command::Since { scope, cursor, max } => self.since(&scope, cursor, max),
             Command::Snapshot { scope } => self.snapshot(&scope),
             Command::Page { scope, after, max } => self.page(&scope, after, max),
-            Command::Merge { items } => self.merge(items.as_slice()),
+            Command::Merge { items } => self.fast_merge(items.as_slice()),
         }
-    }
-
-    /// Answers as to `Command::Publish` of these parts, of which the key is only lent.
-    #[inline(always)]
-    pub fn publish(
-        &mut self,
-        caller: Endpoint,
-        key: &Key,
-        version: Version,
-        value: Value,
-        overwrite: bool,
-    ) -> Reply
-        ensures step { ContentSteps self.old (λ s t. Step s (Command.Publish caller key.now version value overwrite) result t) self.new }
-        ensures last { (s : State) → ContentStands self.old s → IsLast s (Command.Publish caller key.now version value overwrite) result }
-        ensures fits { IsReplyTo (Command.Publish caller key.now version value overwrite) result }
-    {
-        let _stood = self.cursor();
-        self.ask(
-            &published(caller, *key, version, overwrite),
-            Body::Put(value),
-        )
     }
 
     /// What it holds: the greatest floor of each owner, and for each key the greatest version that no floor makes void.
@@ -187,16 +162,6 @@ impl Store {
         ensures stood { (s : State) × ContentStands self.now s }
     {
         self.content.held()
-    }
-
-    /// The least name whose live label holds an endpoint. RS's own name is no label's.
-    #[inline(always)]
-    pub fn label_of(&self, endpoint: Endpoint) -> Option<&Name>
-        ensures value { option_copied result ≡ first_name_of endpoint (changes_in self.now.held) }
-        ensures stood { (s : State) × ContentStands self.now s }
-    {
-        let _stood = self.cursor();
-        self.content.label_of(endpoint)
     }
 
     /// The cursor behind all that took effect: its incarnation, and the position of the next item.

@@ -77,10 +77,8 @@ fn make_maps(alloc: Global, world: &mut World) -> Result<(), NoRoom>
 pub(crate) fn with_maps(alloc: Global, mut world: World) -> Result<World, NoRoom>
     ensures { IfOk result (λ w. MakesTwoMaps world w) }
 {
-    match make_maps(alloc, &mut world) {
-        Ok(()) => Ok(world),
-        Err(NoRoom) => Err(NoRoom),
-    }
+    make_maps(alloc, &mut world)?;
+    Ok(world)
 }
 
 // Only memory can be wanting for a unit: in checked settings none stands twice, and a table keeps the first of two.

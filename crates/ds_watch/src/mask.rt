@@ -36,7 +36,7 @@ impl Mask {
     }
 
     /// Whether the subscription with this number is one of them.
-    pub fn has(self, sub: usize) -> bool
+    pub(crate) fn has(self, sub: usize) -> bool
         requires { sub < 128 }
         ensures { result ≡ slice_index_or self sub false }
     {

@@ -13,7 +13,7 @@ use Rattle.ds_line.specs.declared.part_fault.PartFault.TheVariants.{BadPart, NoR
 use Rattle.ds_line.proofs.LineLemmas.{AllStand, change_stands}
 use Rattle.ds_line.proofs.ItemLemmas.{floor_stands}
 use Rattle.ds_line.proofs.PieceLemmas.{byte_found, byte_stops, stand_texts}
-use Rattle.ds_words.specs.Offer.{OfPlaced}
+use Rattle.ds_words.specs.Fast.{OfPlaced}
 use Rattle.ds_words.specs.declared.command.ScriptCommand.TheVariants.{Offer}
 use Rattle.ds_words.specs.declared.word.Word.TheVariants as words
 use Rattle.ds_words.specs.Row.{ItemWantsRoom, TakesRow}

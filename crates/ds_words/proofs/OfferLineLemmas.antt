@@ -7,7 +7,7 @@ use Rattle.ds_line.specs.declared.part_fault.PartFault.{PartFault}
 use Rattle.ds_lines.specs.Lines.{EndsLine}
 use Rattle.ds_words.specs.Command.{ReadsCommand}
 use Rattle.ds_words.specs.Later.{ReadsLater}
-use Rattle.ds_words.specs.Offer.{OfPlaced}
+use Rattle.ds_words.specs.Fast.{OfPlaced}
 use Rattle.ds_words.specs.Row.{TakesRow}
 use Rattle.ds_words.specs.Words.{text_of}
 use Rattle.ds_words.specs.declared.command.ScriptCommand.TheVariants.{Offer}

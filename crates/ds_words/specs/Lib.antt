@@ -12,9 +12,7 @@ pub mod ServicePieces
 pub mod ServiceEvent
 pub mod Wording
 pub mod Later
-pub mod Offer
-pub mod Publication
-pub mod Retrieval
+pub mod Fast
 pub mod Event
 pub mod Proper
 pub mod Table

@@ -14,16 +14,14 @@ mod after;
 mod asking;
 mod command;
 mod events;
+mod fast;
 mod fault;
 mod later;
 mod laws;
 mod lines;
-mod offer;
 mod pieces;
-mod publication;
 mod query;
 mod reading;
-mod retrieval;
 mod scope;
 mod scope_lines;
 mod service;
@@ -40,13 +38,13 @@ mod world_lines;
 mod world_pieces;
 
 pub use command::ScriptCommand;
+pub use fast::{
+    Publication, fast_offer, fast_publish, fast_retrieve, is_offer, is_publish, is_retrieve,
+};
 pub use fault::CommandFault;
 pub use later::read_line_behind;
 pub use laws::{lines_are_proper, lines_have_one_command};
-pub use offer::{is_offer, read_offer};
-pub use publication::{Publication, is_publish, read_publish};
 pub use reading::{read_command, read_line};
-pub use retrieval::{is_retrieve, read_retrieve};
 pub use service::{Device, Request, Server};
 pub use settings_text::SettingsText;
 pub use slot::Slot;

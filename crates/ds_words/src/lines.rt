@@ -3,15 +3,13 @@
 #![tactic(auto, unfolding(crate::specs::Row::TakesRow))]
 
 ghost use Rattle.ds_line.specs.declared.part_fault.PartFault.{PartFault as Fault};
-ghost use Rattle.ds_words.specs.Offer.{OfPlaced};
-ghost use Rattle.ds_words.specs.Publication.{publish_read};
-ghost use Rattle.ds_words.specs.Retrieval.{retrieve_read};
+ghost use Rattle.ds_words.specs.Fast.{OfPlaced, publish_read, retrieve_read};
 ghost use Rattle.ds_words.specs.Row.{TakesRow};
 ghost use Rattle.ds_words.specs.declared.word.Word.TheVariants as words;
 
 use crate::command::ScriptCommand;
+use crate::fast::Publication;
 use crate::pieces::Rest;
-use crate::publication::Publication;
 use crate::query::query_of;
 use ds_entry::Item;
 use ds_line::{Expected, LineFault, PartFault, read_item_into, stop_at};

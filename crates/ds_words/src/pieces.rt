@@ -13,6 +13,7 @@ use ds_line::{
     Expected, PartFault, behind_name, endpoint_at, kind_at, last_value_at, name_at, stop_at,
     word_at,
 };
+use ds_names::limits::LAST_GENERATION;
 use ds_names::{Endpoint, Generation, Key, Kind, Kinds, Name, Version, read_byte, read_decimal};
 use std::alloc::Global;
 
@@ -130,7 +131,7 @@ impl Rest<'_> {
     {
         self.byte(b' ', Expected::Space)?;
         self.expected = expected;
-        let Some((number, rest)) = read_decimal(self.bytes, 2097151) else {
+        let Some((number, rest)) = read_decimal(self.bytes, LAST_GENERATION as u64) else {
             return Err(stop_at(self.bytes));
         };
         let Some(generation) = Generation::of(number as u32) else {

@@ -37,7 +37,7 @@ pub type StoreWorker = Worker<Pass<Box<Store>>>;
 impl Worker<Pass<Box<Store>>> {
     /// Takes its turns, with the gate before each and behind the last. It ends early at a fault, which it keeps, or where the run was
     /// given up.
-    pub fn work<W: Wait, G: Gate>(
+    pub(crate) fn work<W: Wait, G: Gate>(
         &mut self,
         rt: &W,
         alloc: Global,

@@ -17,13 +17,13 @@ use Rattle.ds_held.specs.Raise.{AnswersFloor}
 use Rattle.ds_held.specs.Join.{after_item, IsItemRefused}
 use Rattle.ds_held.proofs.HeldLemmas.{change_in}
 use Rattle.ds_pattern.specs.declared.query.Query.{Query}
+use Rattle.ds_machine.specs.Stopped.{refusal_of_join}
 use Rattle.ds_machine.specs.declared.refusal.Refusal.TheVariants as refusals
 use Rattle.ds_join.specs.declared.count.Count.{Count}
 use Rattle.ds_submap.specs.Map.{SubMapRecord}
 use Rattle.ds_submap.specs.Take.{AreAnswered, is_taken, is_stale, AreCounted, IsTakeStopped, IsUnasked, IsRefusedUnder}
 use Rattle.ds_replica.specs.Delivery.{ended, StandsAgainst, MapTakes}
 use Rattle.ds_world.specs.World.{map_state}
-use Rattle.ds_world.specs.Tally.{refusal_of}
 use Rattle.ds_pattern.specs.Under.{is_under}
 use Rattle.ds_entry.specs.Item.{passes}
 use Rattle.ds_entry.specs.Under.{under}
@@ -55,7 +55,7 @@ floor_not_clash v None count generation a = a
 floor_not_clash v (Some held) count generation a = a
 
 -- what a map's holder says against an item stands against it
-pub stands : (held : Holding) → IsSound held → (i : Item) (fault : JoinFault) → IsItemRefused held i fault → StandsAgainst (held_items held) i (refusal_of fault)
+pub stands : (held : Holding) → IsSound held → (i : Item) (fault : JoinFault) → IsItemRefused held i fault → StandsAgainst (held_items held) i (refusal_of_join fault)
 stands held sound (Changed c) NotOwner r = of_owner held sound c (held_for held c.key) refl (is_void_at held c) r
 stands held sound (Changed c) (Clash v) r = of_clash held sound c v (held_for held c.key) refl (is_void_at held c) r
 stands held sound (Changed c) Full r = tt
@@ -111,7 +111,7 @@ module _ (old new : SubMapRecord) (items : List Item) (query : new.query ≡ old
 
   -- the take was stopped
   pub stopped : IsSound new.held → (stop : Stop) → IsTop (held_items new.held) (held_items old.held ++ under (is_under old.query) (take stop.done items)) → IsTakeStopped old.query old.held items new.held stop
-      → MapTakes (map_state old) items (ended stop.done 0 (Some (refusal_of stop.fault))) (map_state new)
+      → MapTakes (map_state old) items (ended stop.done 0 (Some (refusal_of_join stop.fault))) (map_state new)
   stopped sound stop top n =
       record {
         query = query;
@@ -122,10 +122,10 @@ module _ (old new : SubMapRecord) (items : List Item) (query : new.query ≡ old
       }
     where
       under_or_noroom : (IsRefusedUnder old.query new.held n.refused.0 stop.fault ⊎ IsUnasked old.query (take stop.done items) n.refused.0 stop.fault)
-          → (passes (is_under new.query) n.refused.0 ≡ true) ⊎ (refusal_of stop.fault ≡ refusals.NoRoom)
+          → (passes (is_under new.query) n.refused.0 ≡ true) ⊎ (refusal_of_join stop.fault ≡ refusals.NoRoom)
       under_or_noroom (inl r) = inl (subst (λ (q : Query). passes (is_under q) n.refused.0 ≡ true) (sym query) r.0)
-      under_or_noroom (inr u) = inr (ap refusal_of u.noroom)
+      under_or_noroom (inr u) = inr (ap refusal_of_join u.noroom)
 
-      against : (IsRefusedUnder old.query new.held n.refused.0 stop.fault ⊎ IsUnasked old.query (take stop.done items) n.refused.0 stop.fault) → StandsAgainst (held_items new.held) n.refused.0 (refusal_of stop.fault)
+      against : (IsRefusedUnder old.query new.held n.refused.0 stop.fault ⊎ IsUnasked old.query (take stop.done items) n.refused.0 stop.fault) → StandsAgainst (held_items new.held) n.refused.0 (refusal_of_join stop.fault)
       against (inl r) = stands new.held sound n.refused.0 stop.fault r.1
-      against (inr u) = subst (λ (f : JoinFault). StandsAgainst (held_items new.held) n.refused.0 (refusal_of f)) (sym u.noroom) (wants_room (held_items new.held) n.refused.0)
+      against (inr u) = subst (λ (f : JoinFault). StandsAgainst (held_items new.held) n.refused.0 (refusal_of_join f)) (sym u.noroom) (wants_room (held_items new.held) n.refused.0)

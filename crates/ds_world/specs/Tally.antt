@@ -1,10 +1,6 @@
 -- How a delivery is counted, and what a fault of a map is to a world.
 use Rattle.std.specs.Prelude.{◌≡◌, ℕ, ◌+◌, ◌<◌, ◌≤◌, ◌^◌, None}
 use Rattle.std.specs.Int.Bits.{bit_or}
-use Rattle.ds_join.specs.declared.merge.JoinFault.{JoinFault}
-use Rattle.ds_join.specs.declared.merge.JoinFault.TheVariants as joins
-use Rattle.ds_machine.specs.declared.refusal.Refusal.{Refusal}
-use Rattle.ds_machine.specs.declared.refusal.Refusal.TheVariants as refusals
 use Rattle.ds_machine.specs.declared.reply.Reply.{Reply}
 use Rattle.ds_machine.specs.declared.reply.Reply.TheVariants.{Merged, MergeStopped, Refused}
 use Rattle.ds_pattern.specs.declared.pattern.PatternFault.{PatternFault}
@@ -43,13 +39,6 @@ pub record CountsOf (n : ℕ) (t : deliveries.Tally) : Type 0 where
   pub all : t.stop ≡ None → t.count.done ≡ n
   pub few : t.count.done ≤ n
   pub within : t.count.taken + t.count.stale ≤ t.count.done
-
--- an item is refused by a map as a store would refuse it
-abbrev pub refusal_of : JoinFault → Refusal
-refusal_of joins.NotOwner = refusals.NotOwner
-refusal_of (joins.Clash version) = refusals.Clash version
-refusal_of joins.Full = refusals.Full
-refusal_of joins.NoRoom = refusals.NoRoom
 
 -- a map is refused as its pattern is
 abbrev pub fault_of : PatternFault → EventFault

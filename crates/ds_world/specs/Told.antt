@@ -8,6 +8,7 @@ use Rattle.ds_held.specs.Held.{Holding}
 use Rattle.ds_pattern.specs.declared.query.Query.{Query}
 use Rattle.ds_submap.specs.Map.{SubMapRecord}
 use Rattle.ds_submap.specs.Take.{AreCounted, IsTakeStopped}
+use Rattle.ds_machine.specs.Stopped.{refusal_of_join}
 use Rattle.ds_machine.specs.declared.command.Command.{Command}
 use Rattle.ds_machine.specs.declared.reply.Reply.{Reply}
 use Rattle.ds_machine.specs.declared.refusal.Refusal.{Refusal}
@@ -23,7 +24,6 @@ use Rattle.ds_replica.specs.declared.outcome.Outcome.TheVariants.{Replied, Made,
 use Rattle.ds_replica.specs.World.{World, store_at}
 use Rattle.ds_replica.specs.Happens.{count_of, event_fault, Asks, Happens, HappenAll}
 use Rattle.ds_replica.specs.Bringing.{IsProper}
-use Rattle.ds_world.specs.Tally.{refusal_of}
 use Rattle.ds_world.specs.World.{WorldRecord, kept_items, WorldStands, Leads}
 use Rattle.ds_world.specs.Run.{EventLeads}
 
@@ -48,7 +48,7 @@ IsStoreTold event side items outcome old new = Unit {0}
 abbrev pub IsMapTold : Query → Holding → List Item → Outcome → Holding → Type 0
 IsMapTold query old items (Merged counted owed) new = AreCounted query old items new counted
 IsMapTold query old items (Stopped done fault owed) new =
-    (stop : JoinFault) × (fault ≡ refusal_of stop) × IsTakeStopped query old items new (record { done = done; fault = stop })
+    (stop : JoinFault) × (fault ≡ refusal_of_join stop) × IsTakeStopped query old items new (record { done = done; fault = stop })
 IsMapTold query old items _ new = Unit {0}
 
 -- an Ask was answered by this reply, from each world that the old value stands for to one that the new value stands for, and

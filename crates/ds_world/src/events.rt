@@ -32,13 +32,6 @@ impl Events {
         }
     }
 
-    /// The events of a `Vec`. It takes no memory.
-    pub fn of(events: Vec<Event>) -> Events
-        ensures { result ≡ events.items }
-    {
-        Events { events }
-    }
-
     /// Gives the `Vec` back. It takes no memory.
     pub fn into_list(self) -> Vec<Event>
         ensures { result.items ≡ self }

@@ -1,10 +1,9 @@
 //! Lists of outcomes.
 
-ghost use Rattle.std.specs.Prelude.{◌≡◌, ◌++◌, ◌∷◌, [], length, slice_get, OnOk, IfErr, OnErr};
+ghost use Rattle.std.specs.Prelude.{◌≡◌, length, slice_get};
 ghost use Rattle.std.specs.Option.{option_copied};
 
 use ds_replica::Outcome;
-use std::alloc::{AllocFailed, Global};
 use std::marker::Model;
 
 /// What came of events, in their order.
@@ -23,17 +22,8 @@ impl Model for Outcomes {
 }
 
 impl Outcomes {
-    /// A list of no outcomes. It takes no memory.
-    pub fn new(alloc: Global) -> Outcomes
-        ensures { result ≡ [] }
-    {
-        Outcomes {
-            outcomes: Vec::new(alloc),
-        }
-    }
-
     /// The outcomes of a `Vec`. It takes no memory.
-    pub fn of(outcomes: Vec<Outcome>) -> Outcomes
+    pub(crate) fn of(outcomes: Vec<Outcome>) -> Outcomes
         ensures { result ≡ outcomes.items }
     {
         Outcomes { outcomes }
@@ -44,15 +34,6 @@ impl Outcomes {
         ensures { result.items ≡ self }
     {
         self.outcomes
-    }
-
-    /// Adds an outcome at the end. Where there is no room, the list is unchanged and the error gives the outcome back.
-    pub fn push(&mut self, outcome: Outcome) -> Result<(), AllocFailed<Outcome>>
-        ensures ok { OnOk result (self.new ≡ self.old ++ outcome ∷ []) }
-        ensures err { OnErr result (self.new ≡ self.old) }
-        ensures back { IfErr result (λ back. back.value ≡ outcome) }
-    {
-        self.outcomes.push(outcome)
     }
 
     /// How many outcomes it has.

@@ -42,7 +42,7 @@ pub(crate) fn read_parts(command: &Command)
 }
 
 // Reads what is published.
-pub(crate) fn read_published(key: &Key, version: &Version, value: &Value)
+fn read_published(key: &Key, version: &Version, value: &Value)
     ensures { AreParts key.now version.now (Put value.now) }
 {
     let _kind = value.kind();

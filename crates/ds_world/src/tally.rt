@@ -2,9 +2,9 @@
 
 ghost use Rattle.std.specs.Prelude.{◌≡◌, None};
 ghost use Rattle.ds_replica.specs.Delivery.{ended};
-ghost use Rattle.ds_world.specs.Tally.{outcome_of, tally_of, both_tallied, refusal_of, fault_of, CanJoin};
+ghost use Rattle.ds_world.specs.Tally.{outcome_of, tally_of, both_tallied, fault_of, CanJoin};
 
-use ds_join::{Count, JoinFault};
+use ds_join::Count;
 use ds_machine::Refusal;
 use ds_pattern::PatternFault;
 use ds_replica::{EventFault, Outcome};
@@ -60,18 +60,6 @@ impl Tally {
                 owed: self.owed,
             },
         }
-    }
-}
-
-// What stops a map's take, as a store would say it.
-pub(crate) fn refusal_of(fault: JoinFault) -> Refusal
-    ensures { result ≡ refusal_of fault }
-{
-    match fault {
-        JoinFault::NotOwner => Refusal::NotOwner,
-        JoinFault::Clash { version } => Refusal::Clash { version },
-        JoinFault::Full => Refusal::Full,
-        JoinFault::NoRoom => Refusal::NoRoom,
     }
 }
 

@@ -24,7 +24,7 @@ impl Model for Names {
 
 impl Names {
     /// A list of no names. It takes no memory.
-    pub fn new(alloc: Global) -> Names
+    pub(crate) fn new(alloc: Global) -> Names
         ensures { result ≡ [] }
     {
         Names {
@@ -56,7 +56,7 @@ impl Names {
     }
 
     /// Returns whether the name is among them.
-    pub fn has(&self, name: &Name) -> bool
+    pub(crate) fn has(&self, name: &Name) -> bool
         ensures { result ≡ has_name self.now name.now }
     {
         for own in &self.names {

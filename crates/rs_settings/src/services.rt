@@ -25,7 +25,7 @@ impl Model for Services {
 
 impl Services {
     /// A list of no services. It takes no memory.
-    pub fn new(alloc: Global) -> Services
+    pub(crate) fn new(alloc: Global) -> Services
         ensures { result ≡ [] }
     {
         Services {

@@ -5,7 +5,7 @@ ghost use Rattle.service_words.specs.Actions.{action_line, action_count_line, of
 
 use crate::process::append_process;
 use ds_entry::{Change, Floor};
-use ds_line::{append_all, append_change};
+use ds_line::{append_all, append_change, append_numbers};
 use ds_names::NoRoom;
 use itoa::Buffer;
 use rs_core::{Action, RsFault};
@@ -32,11 +32,7 @@ pub fn append_action_count(buffer: &mut Vec<u8>, count: usize) -> Result<(), NoR
     ensures written { OnOk result (buffer.new.items ≡ buffer.old.items ++ action_count_line count) }
     ensures unchanged { OnErr result (buffer.new.items ≡ buffer.old.items) }
 {
-    let mut digits = Buffer::new();
-    append_all(
-        buffer,
-        &[b"actions ", digits.format(count).as_bytes(), b"\n"],
-    )
+    append_numbers(buffer, &[(b"actions ", count as u64)])
 }
 
 /// Appends why RS refuses an event, or nothing.

@@ -5,7 +5,7 @@ ghost use Rattle.service_words.specs.Moves.{assigned_line, ending_word, move_lin
 
 use crate::process::append_process;
 use driver_tables::{Ending, Move, TableFault};
-use ds_line::append_all;
+use ds_line::{append_all, append_numbers};
 use ds_names::NoRoom;
 use itoa::Buffer;
 
@@ -40,10 +40,7 @@ pub fn append_move(buffer: &mut Vec<u8>, step: Move) -> Result<(), NoRoom>
                 &[b"answer ", id, b" ", word_of_ending(ending), b"\n"],
             )
         }
-        Move::Held { id } => {
-            let id = digits.format(id).as_bytes();
-            append_all(buffer, &[b"held ", id, b"\n"])
-        }
+        Move::Held { id } => append_numbers(buffer, &[(b"held ", id)]),
     }
 }
 
@@ -52,8 +49,7 @@ pub fn append_move_count(buffer: &mut Vec<u8>, count: usize) -> Result<(), NoRoo
     ensures written { OnOk result (buffer.new.items ≡ buffer.old.items ++ move_count_line count) }
     ensures unchanged { OnErr result (buffer.new.items ≡ buffer.old.items) }
 {
-    let mut digits = Buffer::new();
-    append_all(buffer, &[b"moves ", digits.format(count).as_bytes(), b"\n"])
+    append_numbers(buffer, &[(b"moves ", count as u64)])
 }
 
 /// Appends why a driver table refuses, or nothing.

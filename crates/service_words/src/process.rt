@@ -4,9 +4,8 @@ ghost use Rattle.std.specs.Prelude.{◌≡◌, ◌++◌, OnOk, OnErr};
 ghost use Rattle.std.specs.List.{flat_map};
 ghost use Rattle.service_words.specs.Process.{process_end};
 
-use ds_line::append_all;
+use ds_line::{append_all, append_numbers};
 use ds_names::{Endpoint, NoRoom};
-use itoa::Buffer;
 
 /// Appends some texts, the endpoint of a process and a newline, or nothing.
 pub(crate) fn append_process(
@@ -31,11 +30,6 @@ fn append_endpoint(buffer: &mut Vec<u8>, endpoint: Endpoint) -> Result<(), NoRoo
     ensures written { OnOk result (buffer.new.items ≡ buffer.old.items ++ process_end endpoint) }
     ensures unchanged { OnErr result (buffer.new.items ≡ buffer.old.items) }
 {
-    let mut generation_digits = Buffer::new();
-    let generation = generation_digits
-        .format(endpoint.generation().number())
-        .as_bytes();
-    let mut slot_digits = Buffer::new();
-    let slot = slot_digits.format(endpoint.slot()).as_bytes();
-    append_all(buffer, &[generation, b"/", slot, b"\n"])
+    let generation = endpoint.generation().number() as u64;
+    append_numbers(buffer, &[(b"", generation), (b"/", endpoint.slot() as u64)])
 }

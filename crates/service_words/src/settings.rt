@@ -3,9 +3,8 @@
 ghost use Rattle.std.specs.Prelude.{◌≡◌, ◌++◌, OnOk, OnErr};
 ghost use Rattle.service_words.specs.SettingsLines.{exists_line, settings_line, settings_fault_line, settings_cause_word};
 
-use ds_line::append_all;
+use ds_line::{append_all, append_numbers};
 use ds_names::NoRoom;
-use itoa::Buffer;
 use rs_settings::SettingsCause;
 
 /// Appends how many services and slots the settings have that were taken, or nothing.
@@ -13,11 +12,10 @@ pub fn append_settings(buffer: &mut Vec<u8>, services: usize, slots: u32) -> Res
     ensures written { OnOk result (buffer.new.items ≡ buffer.old.items ++ settings_line services slots) }
     ensures unchanged { OnErr result (buffer.new.items ≡ buffer.old.items) }
 {
-    let mut service_digits = Buffer::new();
-    let services = service_digits.format(services).as_bytes();
-    let mut slot_digits = Buffer::new();
-    let slots = slot_digits.format(slots).as_bytes();
-    append_all(buffer, &[b"services ", services, b" slots ", slots, b"\n"])
+    append_numbers(
+        buffer,
+        &[(b"services ", services as u64), (b" slots ", slots as u64)],
+    )
 }
 
 /// Appends why a settings text is refused, or nothing.

@@ -7,11 +7,10 @@ ghost use Rattle.store_words.specs.Outcome.{side_word};
 use crate::reply::append_reply;
 use crate::wording::Wording;
 use ds_held::Limits;
-use ds_line::append_all;
+use ds_line::{append_all, append_numbers};
 use ds_machine::Reply;
 use ds_names::NoRoom;
 use ds_replica::{EventFault, Outcome, Side};
-use itoa::Buffer;
 
 /// Appends the lines of what came of an event in a world whose stores have these limits. Where there is no room for all of
 /// them, the buffer is as it was.
@@ -31,10 +30,7 @@ pub fn append_outcome(
     match outcome {
         Outcome::Replied(reply) => append_reply(buffer, wording, reply, limits),
         Outcome::Made { .. } => Ok(()),
-        Outcome::MapMade { map } => {
-            let mut digits = Buffer::new();
-            append_all(buffer, &[b"map ", digits.format(*map).as_bytes(), b"\n"])
-        }
+        Outcome::MapMade { map } => append_numbers(buffer, &[(b"map ", *map as u64)]),
         Outcome::Merged { count, owed } => {
             let merged = Reply::Merged {
                 done: count.done,
@@ -80,8 +76,7 @@ pub fn append_ring(buffer: &mut Vec<u8>, ring: u32) -> Result<(), NoRoom>
     ensures written { OnOk result (buffer.new.items ≡ buffer.old.items ++ ring_line ring) }
     ensures unchanged { OnErr result (buffer.new.items ≡ buffer.old.items) }
 {
-    let mut digits = Buffer::new();
-    append_all(buffer, &[b"ring ", digits.format(ring).as_bytes(), b"\n"])
+    append_numbers(buffer, &[(b"ring ", ring as u64)])
 }
 
 /// Appends the answer to `side`, or nothing.

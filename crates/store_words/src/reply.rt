@@ -12,7 +12,7 @@ ghost use Rattle.store_words.specs.Reply.{refusal_word, refusal_words, refused, 
 use crate::shown::{append_checked, append_journaled, append_paged, append_snapped};
 use crate::wording::Wording;
 use ds_held::Limits;
-use ds_line::{append, append_all, append_value};
+use ds_line::{append, append_all, append_numbers, append_value};
 use ds_machine::{Refusal, Reply};
 use ds_names::{NoRoom, Version};
 use itoa::Buffer;
@@ -91,18 +91,10 @@ fn append_words(buffer: &mut Vec<u8>, wording: Wording, reply: &Reply) -> Result
     match reply {
         Reply::Changed { .. } => append(buffer, b"taken\n"),
         Reply::Known => append(buffer, b"known\n"),
-        Reply::Swept { count, .. } => {
-            let mut digits = Buffer::new();
-            let count = digits.format(*count).as_bytes();
-            append_all(buffer, &[b"swept ", count, b"\n"])
-        }
+        Reply::Swept { count, .. } => append_numbers(buffer, &[(b"swept ", *count as u64)]),
         Reply::Found(value) => append_value(buffer, b"found ", value, b"\n"),
         Reply::Named(name) => append_all(buffer, &[b"named ", name.bytes(), b"\n"]),
-        Reply::Subscribed { stamp, .. } => {
-            let mut digits = Buffer::new();
-            let stamp = digits.format(*stamp).as_bytes();
-            append_all(buffer, &[b"subscribed ", stamp, b"\n"])
-        }
+        Reply::Subscribed { stamp, .. } => append_numbers(buffer, &[(b"subscribed ", *stamp)]),
         Reply::Checked {
             items,
             before,
@@ -151,13 +143,14 @@ fn append_merged(
     ensures written { OnOk result (buffer.new.items ≡ buffer.old.items ++ with_newline (merged AsMerge done taken stale)) }
     ensures unchanged { OnErr result (buffer.new.items ≡ buffer.old.items) }
 {
-    let mut done_digits = Buffer::new();
-    let done = done_digits.format(done).as_bytes();
-    let mut taken_digits = Buffer::new();
-    let taken = taken_digits.format(taken).as_bytes();
-    let mut stale_digits = Buffer::new();
-    let stale = stale_digits.format(stale).as_bytes();
-    append_all(buffer, &[b"merged ", done, b" ", taken, b" ", stale, b"\n"])
+    append_numbers(
+        buffer,
+        &[
+            (b"merged ", done as u64),
+            (b" ", taken as u64),
+            (b" ", stale as u64),
+        ],
+    )
 }
 
 // Appends the line of a Merge that stopped behind so many items, or nothing.
@@ -209,11 +202,8 @@ fn append_clash(buffer: &mut Vec<u8>, version: Version) -> Result<(), NoRoom>
     ensures written { OnOk result (buffer.new.items ≡ buffer.old.items ++ with_newline (refusal_words (Refusal.Clash version))) }
     ensures unchanged { OnErr result (buffer.new.items ≡ buffer.old.items) }
 {
-    let mut epoch_digits = Buffer::new();
-    let epoch = epoch_digits.format(version.epoch.number()).as_bytes();
-    let mut seq_digits = Buffer::new();
-    let seq = seq_digits.format(version.seq).as_bytes();
-    append_all(buffer, &[b"clash ", epoch, b".", seq, b"\n"])
+    let epoch = version.epoch.number() as u64;
+    append_numbers(buffer, &[(b"clash ", epoch), (b".", version.seq as u64)])
 }
 
 // The word of a refusal.

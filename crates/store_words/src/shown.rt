@@ -1,16 +1,16 @@
 //! The answers that give items.
 
-ghost use Rattle.std.specs.Prelude.{◌≡◌, ◌++◌, List, ℕ, OnOk, OnErr, length};
+ghost use Rattle.std.specs.Prelude.{◌≡◌, ◌++◌, ◌∷◌, [], OnOk, OnErr, length};
 ghost use Rattle.std.specs.List.{flat_map};
+ghost use Rattle.std.specs.Fmt.{decimal};
 ghost use Rattle.ds_line.specs.ItemSpelling.{item_spelling};
 ghost use Rattle.ds_lines.specs.Lines.{with_newline};
 ghost use Rattle.store_words.specs.Reply.{checked_text, since_text, snapped, page_mark, page_text};
 
 use ds_entry::Items;
 use ds_feed::{Page, Since, Snapshot};
-use ds_line::{append_all, append_item};
+use ds_line::{append_item, append_numbers};
 use ds_names::NoRoom;
-use itoa::Buffer;
 
 /// Appends the lines of the items that a check shows, and the line that counts them and gives the stamps before and
 /// after, or nothing.
@@ -24,16 +24,11 @@ pub(crate) fn append_checked(
         ≡ buffer.old.items ++ (flat_map item_spelling items.now ++ with_newline (checked_text (length items.now) before after))) }
     ensures unchanged { OnErr result (buffer.new.items ≡ buffer.old.items) }
 {
-    let mut count_digits = Buffer::new();
-    let count = count_digits.format(items.len()).as_bytes();
-    let mut before_digits = Buffer::new();
-    let before = before_digits.format(before).as_bytes();
-    let mut after_digits = Buffer::new();
-    let after = after_digits.format(after).as_bytes();
+    let count = items.len() as u64;
     append_listed(
         buffer,
         items,
-        &[b"checked ", count, b" ", before, b" ", after, b"\n"],
+        &[(b"checked ", count), (b" ", before), (b" ", after)],
     )
 }
 
@@ -44,18 +39,14 @@ pub(crate) fn append_journaled(buffer: &mut Vec<u8>, since: &Since) -> Result<()
         ≡ buffer.old.items ++ (flat_map item_spelling since.now.items ++ with_newline (since_text since.now))) }
     ensures unchanged { OnErr result (buffer.new.items ≡ buffer.old.items) }
 {
-    let mut count_digits = Buffer::new();
-    let count = count_digits.format(since.items.len()).as_bytes();
-    let mut incarnation_digits = Buffer::new();
-    let incarnation = incarnation_digits
-        .format(since.cursor.incarnation)
-        .as_bytes();
-    let mut position_digits = Buffer::new();
-    let position = position_digits.format(since.cursor.position).as_bytes();
     append_listed(
         buffer,
         &since.items,
-        &[b"since ", count, b" ", incarnation, b" ", position, b"\n"],
+        &[
+            (b"since ", since.items.len() as u64),
+            (b" ", since.cursor.incarnation),
+            (b" ", since.cursor.position),
+        ],
     )
 }
 
@@ -66,25 +57,13 @@ pub(crate) fn append_snapped(buffer: &mut Vec<u8>, snapshot: &Snapshot) -> Resul
         ≡ buffer.old.items ++ (flat_map item_spelling snapshot.now.items ++ with_newline (snapped snapshot.now))) }
     ensures unchanged { OnErr result (buffer.new.items ≡ buffer.old.items) }
 {
-    let mut count_digits = Buffer::new();
-    let count = count_digits.format(snapshot.items.len()).as_bytes();
-    let mut incarnation_digits = Buffer::new();
-    let incarnation = incarnation_digits
-        .format(snapshot.cursor.incarnation)
-        .as_bytes();
-    let mut position_digits = Buffer::new();
-    let position = position_digits.format(snapshot.cursor.position).as_bytes();
     append_listed(
         buffer,
         &snapshot.items,
         &[
-            b"snapshot ",
-            count,
-            b" ",
-            incarnation,
-            b" ",
-            position,
-            b"\n",
+            (b"snapshot ", snapshot.items.len() as u64),
+            (b" ", snapshot.cursor.incarnation),
+            (b" ", snapshot.cursor.position),
         ],
     )
 }
@@ -96,25 +75,13 @@ pub(crate) fn append_paged(buffer: &mut Vec<u8>, page: &Page) -> Result<(), NoRo
         ≡ buffer.old.items ++ (flat_map item_spelling page.now.items ++ with_newline (page_text page.now))) }
     ensures unchanged { OnErr result (buffer.new.items ≡ buffer.old.items) }
 {
-    let mut count_digits = Buffer::new();
-    let count = count_digits.format(page.items.len()).as_bytes();
-    let mut incarnation_digits = Buffer::new();
-    let incarnation = incarnation_digits
-        .format(page.cursor.incarnation)
-        .as_bytes();
-    let mut position_digits = Buffer::new();
-    let position = position_digits.format(page.cursor.position).as_bytes();
     append_listed(
         buffer,
         &page.items,
         &[
-            b"page ",
-            count,
-            page_mark(page.last),
-            incarnation,
-            b" ",
-            position,
-            b"\n",
+            (b"page ", page.items.len() as u64),
+            (page_mark(page.last), page.cursor.incarnation),
+            (b" ", page.cursor.position),
         ],
     )
 }
@@ -126,15 +93,19 @@ fn page_mark(last: bool) -> &'static [u8]
     if last { b" last " } else { b" more " }
 }
 
-// Appends the line of each item, and some texts behind them, or nothing.
-fn append_listed(buffer: &mut Vec<u8>, items: &Items, texts: &[&[u8]]) -> Result<(), NoRoom>
+// Appends the line of each item, and a line of numbers, or nothing.
+fn append_listed(
+    buffer: &mut Vec<u8>,
+    items: &Items,
+    numbers: &[(&[u8], u64)],
+) -> Result<(), NoRoom>
     ensures written { OnOk result (buffer.new.items
-        ≡ buffer.old.items ++ (flat_map item_spelling items.now ++ flat_map (λ text. text.now) texts.now)) }
+        ≡ buffer.old.items ++ (flat_map item_spelling items.now ++ (flat_map (λ n. n.0.now ++ decimal n.1) numbers.now ++ 10 ∷ []))) }
     ensures unchanged { OnErr result (buffer.new.items ≡ buffer.old.items) }
 {
     let start = buffer.len();
     append_items(buffer, items)?;
-    let written = append_all(buffer, texts);
+    let written = append_numbers(buffer, numbers);
     if written.is_err() {
         buffer.truncate(start);
     }

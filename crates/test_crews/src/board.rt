@@ -40,7 +40,7 @@ pub type Board<M, D> = Mutex<Option<Left<M, D>>>;
 
 impl<M: Machine, D: DeskName> Left<M, D> {
     /// A note to leave, of a thread that had looked so far.
-    pub fn new(note: Note<M>, front: u64) -> Left<M, D>
+    pub(crate) fn new(note: Note<M>, front: u64) -> Left<M, D>
         requires { desk_of_note note ≡ D.table }
     {
         LeftOf {
@@ -51,7 +51,7 @@ impl<M: Machine, D: DeskName> Left<M, D> {
     }
 
     /// The note, and how far its thread had looked.
-    pub fn into_note(self) -> (Note<M>, u64)
+    pub(crate) fn into_note(self) -> (Note<M>, u64)
         ensures { desk_of_note result.0 ≡ D.table }
     {
         let LeftOf { note, front, of: _ } = self;

@@ -44,7 +44,7 @@ pub struct Worker<P> {
 
 impl<M: Machine> Worker<Pass<M>> {
     /// A thread that has called nothing.
-    pub fn new(alloc: Global, pass: Pass<M>) -> Worker<Pass<M>>
+    pub(crate) fn new(alloc: Global, pass: Pass<M>) -> Worker<Pass<M>>
         ensures { desk_of result.pass ≡ desk_of pass }
     {
         Worker {

@@ -6,7 +6,6 @@ ghost use Rattle.trace_words.specs.Noroom.{stopped_line};
 ghost use Rattle.trace_walk.specs.Steps.{EndsMidway, IsUnmerged, StopsMidway, FailsToStop, StopsNowhere};
 
 use crate::fault::WalkFault;
-use crate::sweep::copied;
 use ds_entry::Items;
 use ds_machine::{Command, Refusal, Reply};
 use ds_store::Store;
@@ -34,7 +33,7 @@ pub(crate) fn stopped(
     ensures stops { IfOk result (λ reply. StopsMidway store.old items.now done reply store.new) }
     ensures fails { IfErr result (λ fault. FailsToStop store.old items.now done number fault) }
 {
-    let first = copied(alloc, &items.as_slice()[..done])?;
+    let first = Items::copies(alloc, &items.as_slice()[..done])?;
     let reply = store.apply(Command::Merge { items: first });
     if wants_room(&reply) {
         return Err(WalkFault::NoRoom);

@@ -11,17 +11,12 @@ use crate::merges::Merges;
 use ds_entry::{Body, Change, Item, Items};
 use ds_held::{Held, Limits};
 use ds_machine::{Command, Refusal, Reply};
-use ds_names::{Endpoint, Generation, Kind, Name, NoRoom, Version};
+use ds_names::limits::{LAST_PLACE, LAST_SEQ, MOST_ITEMS};
+use ds_names::{Endpoint, Generation, Name, NoRoom, Version};
 use ds_store::Store;
 use ds_words::ScriptCommand;
 use std::alloc::Global;
 use trace_words::Format;
-
-/// The most items of one Merge.
-const MOST_ITEMS: usize = 256;
-
-/// The last position.
-const LAST_PLACE: u64 = 1 << 62;
 
 /// What RS asks to sweep.
 #[derive(Clone, Copy, Debug)]
@@ -115,16 +110,8 @@ fn tombstone_at(held: &Held, index: usize, sweep: &Sweep) -> Option<Item>
 fn is_swept(change: &Change, sweep: &Sweep) -> bool
     ensures { result ≡ is_swept sweep.now.owner sweep.now.generation change.now }
 {
-    let is_label = match change.key().kind {
-        Kind::Label => true,
-        _ => false,
-    };
-    let is_put = match change.body() {
-        Body::Put(_) => true,
-        Body::Gone => false,
-    };
-    !is_label
-        && is_put
+    !change.key().kind.is_label()
+        && change.body().value().is_some()
         && change.owner() == &sweep.owner
         && change.version().epoch.number() <= sweep.generation.number()
 }
@@ -136,7 +123,7 @@ fn tombstone(change: &Change, sweep: &Sweep) -> Option<Item>
 {
     let version = Version {
         epoch: sweep.generation,
-        seq: u32::MAX,
+        seq: LAST_SEQ,
     };
     match Change::make(*change.key(), sweep.owner, version, Body::Gone) {
         Ok(tombstone) => Some(Item::Change(tombstone)),
@@ -149,21 +136,10 @@ fn merge_part(alloc: Global, store: &mut Store, part: &[Item]) -> Result<u128, N
     requires few { length part.now ≤ 256 }
     ensures { IfOk result (λ mask. MergesPart store.old part.now mask store.new) }
 {
-    let items = copied(alloc, part)?;
+    let items = Items::copies(alloc, part)?;
     let reply = store.apply(Command::Merge { items });
     let Reply::Merged { owed, .. } = reply else {
         return Err(NoRoom);
     };
     Ok(owed)
-}
-
-/// The same items again.
-pub(crate) fn copied(alloc: Global, part: &[Item]) -> Result<Items, NoRoom>
-    ensures { IfOk result (λ items. items ≡ part.now) }
-{
-    let mut items = Items::new(alloc);
-    for index in 0..part.len() {
-        items.push(part[index].copy(alloc)?)?;
-    }
-    Ok(items)
 }

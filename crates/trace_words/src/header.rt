@@ -5,12 +5,7 @@ ghost use Rattle.trace_words.specs.Text.{IsHeader, header_text, numbers_text, Ha
 
 use crate::number::number_at;
 use ds_held::Limits;
-
-/// The most that a first position is.
-const LAST_PLACE: u64 = 4611686018427387904;
-
-/// The most items that a journal keeps.
-const MOST_RING: u64 = 4096;
+use ds_names::limits::{LARGEST_RING, LAST_PLACE};
 
 /// No limit is above it.
 const MOST_LIMIT: u64 = 4096;
@@ -53,7 +48,7 @@ fn first_header(bytes: &[u8]) -> Option<Header>
 {
     let (incarnation, rest) = number_at(bytes, u64::MAX, b' ')?;
     let (first, rest) = number_at(rest, LAST_PLACE, b' ')?;
-    let (ring, rest) = number_at(rest, MOST_RING, b'\n')?;
+    let (ring, rest) = number_at(rest, LARGEST_RING as u64, b'\n')?;
     if ring == 0 {
         return None;
     }
@@ -76,7 +71,7 @@ fn second_header(bytes: &[u8]) -> Option<Header>
 {
     let (incarnation, rest) = number_at(bytes, u64::MAX, b' ')?;
     let (first, rest) = number_at(rest, LAST_PLACE, b' ')?;
-    let (ring, rest) = number_at(rest, MOST_RING, b' ')?;
+    let (ring, rest) = number_at(rest, LARGEST_RING as u64, b' ')?;
     let (subs, rest) = number_at(rest, MOST_LIMIT, b' ')?;
     let (keys, rest) = number_at(rest, MOST_LIMIT, b'\n')?;
     if ring == 0 {

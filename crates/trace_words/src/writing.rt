@@ -7,48 +7,37 @@ ghost use Rattle.trace_words.specs.Text.{asked_text, header_text, marked, plus_t
 
 use crate::header::{Format, Header};
 use ds_entry::Item;
-use ds_line::{append_all, append_item};
+use ds_line::{append_all, append_item, append_numbers};
 use ds_lines::split_line;
 use ds_names::NoRoom;
-use itoa::Buffer;
 
 /// Appends the first line of a trace.
 pub fn append_header(text: &mut Vec<u8>, header: &Header) -> Result<(), NoRoom>
     ensures { OnOk result (text.new.items ≡ text.old.items ++ header_text header.now) }
 {
-    let mut incarnation_digits = Buffer::new();
-    let incarnation = incarnation_digits.format(header.incarnation).as_bytes();
-    let mut first_digits = Buffer::new();
-    let first = first_digits.format(header.first).as_bytes();
-    let mut ring_digits = Buffer::new();
-    let ring = ring_digits.format(header.ring).as_bytes();
-    match header.format {
-        Format::One => append_all(
+    let Header {
+        format,
+        incarnation,
+        first,
+        ring,
+        limits,
+    } = *header;
+    let ring = ring as u64;
+    match format {
+        Format::One => append_numbers(
             text,
-            &[b"trace 1 ", incarnation, b" ", first, b" ", ring, b"\n"],
+            &[(b"trace 1 ", incarnation), (b" ", first), (b" ", ring)],
         ),
-        Format::Two => {
-            let mut subs_digits = Buffer::new();
-            let subs = subs_digits.format(header.limits.subs()).as_bytes();
-            let mut keys_digits = Buffer::new();
-            let keys = keys_digits.format(header.limits.keys()).as_bytes();
-            append_all(
-                text,
-                &[
-                    b"trace 2 ",
-                    incarnation,
-                    b" ",
-                    first,
-                    b" ",
-                    ring,
-                    b" ",
-                    subs,
-                    b" ",
-                    keys,
-                    b"\n",
-                ],
-            )
-        }
+        Format::Two => append_numbers(
+            text,
+            &[
+                (b"trace 2 ", incarnation),
+                (b" ", first),
+                (b" ", ring),
+                (b" ", limits.subs() as u64),
+                (b" ", limits.keys() as u64),
+            ],
+        ),
     }
 }
 
@@ -56,11 +45,8 @@ pub fn append_header(text: &mut Vec<u8>, header: &Header) -> Result<(), NoRoom>
 pub fn append_merge(text: &mut Vec<u8>, pass: u64, items: &[Item]) -> Result<(), NoRoom>
     ensures { OnOk result (text.new.items ≡ text.old.items ++ asked_text pass (askeds.Merge items.now)) }
 {
-    let mut pass_digits = Buffer::new();
-    let pass = pass_digits.format(pass).as_bytes();
-    let mut count_digits = Buffer::new();
-    let count = count_digits.format(items.len()).as_bytes();
-    append_all(text, &[b"> ", pass, b" merge ", count, b"\n"])?;
+    let count = items.len() as u64;
+    append_numbers(text, &[(b"> ", pass), (b" merge ", count)])?;
     append_pluses(text, items)
 }
 

@@ -95,8 +95,8 @@ def explains_a_word_at_the_prompt(program):
 
 
 def explains_each_word_at_the_prompt(program):
-    """At the prompt help explains each refusal that docs/refusals.md has, and each line that its short help has."""
-    document = (harness.DOCUMENTS / "refusals.md").read_text()
+    """At the prompt help explains each refusal that docs/reference/refusals.md has, and each line that its short help has."""
+    document = (harness.DOCUMENTS / "reference" / "refusals.md").read_text()
     refusals = re.findall(r"`(\w+)`", "".join(re.findall("^## .*$", document, re.MULTILINE)))
     typed = [f"help {it}\n".encode() for it in refusals] + [b"help %s\n" % it.split()[0] for it in GOOD]
     ran = terminal.session(program, [], typed)

@@ -123,7 +123,7 @@ def reminds_in_rows_of_eighty_columns(program):
 
 def explains_each_refusal(program):
     """`--help` has a row for each word that stands behind `refused`."""
-    document = (harness.DOCUMENTS / "refusals.md").read_text()
+    document = (harness.DOCUMENTS / "reference" / "refusals.md").read_text()
     told = re.findall(r"`(\w+)`", "".join(re.findall("^## .*$", document, re.MULTILINE)))
     help_ = harness.run([program, "--help"], b"").output.decode()
     missing = [word for word in told if not re.search(rf"^  {word} ", help_, re.MULTILINE)]

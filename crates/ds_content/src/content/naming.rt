@@ -11,9 +11,9 @@ use crate::content::Content;
 use ds_names::{Endpoint, Name};
 
 impl Content {
-    /// The least name whose live label holds an endpoint. RS's own name is no label's. It takes no memory.
+    // The least name whose live label holds an endpoint. RS's own name is no label's. It takes no memory.
     #[inline(always)]
-    pub fn label_of(&self, endpoint: Endpoint) -> Option<&Name>
+    fn label_of(&self, endpoint: Endpoint) -> Option<&Name>
         ensures { option_copied result ≡ first_name_of endpoint (changes_in self.now.held) }
     {
         self.held.name_of(endpoint)

@@ -3,9 +3,8 @@
 ghost use Rattle.std.specs.Prelude.{◌≡◌, ◌∷◌, [], None, is_some, length, map, IfOk, OnOk, OnErr};
 ghost use Rattle.ds_entry.specs.declared.floor.Floor as floors;
 ghost use Rattle.ds_entry.specs.declared.item.Item.TheVariants.{Floor as Floored};
-ghost use Rattle.ds_held.specs.Kept.{IsFloorPlace};
-ghost use Rattle.ds_machine.specs.Machine.{dropped};
-ghost use Rattle.ds_machine.specs.Parts.{floors_in, floor_at};
+ghost use Rattle.ds_held.specs.Kept.{puts_void_by, IsFloorPlace};
+ghost use Rattle.ds_machine.specs.Parts.{changes_in, floors_in, floor_at};
 ghost use Rattle.ds_machine.specs.State.{State, takes_effect};
 ghost use Rattle.ds_watch.specs.Mask.{padded};
 ghost use Rattle.ds_content.specs.Stands.{ContentStands, StandsAfter};
@@ -39,7 +38,7 @@ impl Content {
         requires place { IsFloorPlace (floors_in self.old.held) floor.owner place }
         requires owed { owed ≡ padded (map is_some self.old.subscriptions) }
         requires free { IsFloorFree (floor_standing_in self.old floor) floor }
-        ensures count { IfOk result (λ count. count ≡ length (dropped self.old.held floor)) }
+        ensures count { IfOk result (λ count. count ≡ length (puts_void_by floor (changes_in self.old.held))) }
         ensures ok { OnOk result (StandsAfter self.old (λ s. takes_effect s (Floored floor ∷ [])) self.new) }
         ensures err { OnErr result (self.new ≡ self.old) }
         ensures new_owner { OnErr result (floor_at self.old.held floor.owner ≡ None) }

@@ -5,10 +5,11 @@ ghost use Rattle.ds_entry.specs.Change.{IsChange};
 ghost use Rattle.ds_held.specs.Kept.{IsPlace};
 ghost use Rattle.ds_machine.specs.Parts.{changes_in};
 ghost use Rattle.ds_machine.specs.Asking.{cause_against, change_asked, name_of};
-ghost use Rattle.ds_machine.specs.Machine.{Answers, asking};
+ghost use Rattle.ds_machine.specs.Machine.{Answers, Step, asking};
+ghost use Rattle.ds_machine.specs.Says.{IsReplyTo};
 ghost use Rattle.ds_machine.specs.State.{State};
 ghost use Rattle.ds_judge.specs.Asked.{request_of};
-ghost use Rattle.ds_judge.specs.Last.{MayLackAsked};
+ghost use Rattle.ds_judge.specs.Last.{IsLast, MayLackAsked};
 ghost use Rattle.ds_judge.specs.Standing.{machine_standing};
 ghost use Rattle.ds_content.specs.Stands.{ContentStands, InEachState};
 ghost use Rattle.ds_content.specs.Standing.{standing_in};
@@ -18,10 +19,12 @@ ghost use Rattle.ds_store.specs.Steps.{ContentSteps};
 
 use crate::store::Store;
 use ds_content::Content;
-use ds_entry::Body;
-use ds_judge::{Asked, Standing, answer_to, cause_of_asked, change_asked, is_void_under};
-use ds_machine::{Cause, Refusal, Reply};
-use ds_names::{Name, NoRoom};
+use ds_entry::{Body, Value};
+use ds_judge::{
+    Asked, Standing, answer_to, cause_of_asked, change_asked, is_void_under, published,
+};
+use ds_machine::{Cause, Command, Refusal, Reply};
+use ds_names::{Endpoint, Key, Name, NoRoom, Version};
 
 impl Store {
     // What is there before what a caller of this name asks for, where the place of its key is told.
@@ -40,13 +43,8 @@ impl Store {
             Some(name) => *name,
             None => Name::rs(),
         };
-        Standing {
-            held: content.get_at(place),
-            void: is_void_under(content.floor(&owner), asked),
-            count: content.count(),
-            most: content.limits().keys(),
-            position: content.cursor().position,
-        }
+        let void = is_void_under(content.floor(&owner), asked);
+        self.standing(place, &asked.key, void)
     }
 
     // The first cause against what a caller of this name asks for, where the place of its key is told.
@@ -88,5 +86,26 @@ impl Store {
             },
             Err(NoRoom) => Reply::Refused(Refusal::NoRoom),
         }
+    }
+
+    // A caller publishes a value.
+    #[inline(always)]
+    pub(super) fn publish(
+        &mut self,
+        caller: Endpoint,
+        key: Key,
+        version: Version,
+        value: Value,
+        overwrite: bool,
+    ) -> Reply
+        ensures step { ContentSteps self.old (λ s t. Step s (Command.Publish caller key version value overwrite) result t) self.new }
+        ensures last { (s : State) → ContentStands self.old s → IsLast s (Command.Publish caller key version value overwrite) result }
+        ensures fits { IsReplyTo (Command.Publish caller key version value overwrite) result }
+    {
+        let _stood = self.cursor();
+        self.ask(
+            &published(caller, key, version, overwrite),
+            Body::Put(value),
+        )
     }
 }

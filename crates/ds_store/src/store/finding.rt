@@ -1,10 +1,13 @@
-//! What is found: values, and names of endpoints.
+//! What is found: values, and names of endpoints. Both are fast ways, for a caller that has no command.
 
-ghost use Rattle.std.specs.Prelude.{◌≡◌, ◌≢◌};
+ghost use Rattle.std.specs.Prelude.{◌≢◌};
+ghost use Rattle.ds_machine.specs.Machine.{Step};
+ghost use Rattle.ds_machine.specs.Says.{IsReplyTo};
 ghost use Rattle.ds_machine.specs.State.{State};
-ghost use Rattle.ds_machine.specs.Machine.{Answers, retrieving, naming};
-ghost use Rattle.ds_judge.specs.Last.{IsKindInPlace, IsLast};
+ghost use Rattle.ds_judge.specs.Last.{IsLast};
 ghost use Rattle.ds_content.specs.Stands.{ContentStands};
+ghost use Rattle.ds_store.specs.InPlace.{TakesNoMemory};
+ghost use Rattle.ds_store.specs.Steps.{ContentSteps};
 
 use crate::store::Store;
 use ds_entry::Body;
@@ -12,13 +15,16 @@ use ds_machine::{Command, Refusal, Reply};
 use ds_names::{Endpoint, Key, NoRoom};
 
 impl Store {
-    // The value of a live entry. It takes memory only to copy a string or memory.
-    pub(super) fn retrieve(&self, key: Key) -> Reply
-        ensures answer { (s : State) → ContentStands self.now s → Answers s (retrieving s key) result s }
-        ensures in_place { IsKindInPlace key.kind → result ≢ Reply.Refused Refusal.NoRoom }
-        ensures last { (s : State) → ContentStands self.now s → IsLast s (Command.Retrieve key) result }
+    /// Answers as `apply` does a Retrieve of the key, which is only lent. It takes memory only to copy a string or memory.
+    #[inline(always)]
+    pub fn fast_retrieve(&self, key: &Key) -> Reply
+        ensures step { ContentSteps self.now (λ s t. Step s (Command.Retrieve key.now) result t) self.now }
+        ensures in_place { TakesNoMemory (Command.Retrieve key.now) → result ≢ Reply.Refused Refusal.NoRoom }
+        ensures last { (s : State) → ContentStands self.now s → IsLast s (Command.Retrieve key.now) result }
+        ensures fits { IsReplyTo (Command.Retrieve key.now) result }
     {
-        let Some(change) = self.content.get(&key) else {
+        let _stood = self.cursor();
+        let Some(change) = self.content.get(key) else {
             return Reply::Refused(Refusal::NotFound);
         };
         let Body::Put(value) = change.body() else {
@@ -30,11 +36,15 @@ impl Store {
         }
     }
 
-    // The name of an endpoint. It takes no memory.
-    pub(super) fn name(&self, endpoint: Endpoint) -> Reply
-        ensures answer { (s : State) → ContentStands self.now s → Answers s (naming s endpoint) result s }
+    /// Answers as `apply` does a NameOf. It takes no memory.
+    #[inline(always)]
+    pub fn fast_name_of(&self, endpoint: Endpoint) -> Reply
+        ensures step { ContentSteps self.now (λ s t. Step s (Command.NameOf endpoint) result t) self.now }
         ensures in_place { result ≢ Reply.Refused Refusal.NoRoom }
+        ensures last { (s : State) → ContentStands self.now s → IsLast s (Command.NameOf endpoint) result }
+        ensures fits { IsReplyTo (Command.NameOf endpoint) result }
     {
+        let _stood = self.cursor();
         match self.content.name_of(endpoint) {
             Some(name) => Reply::Named(name),
             None => Reply::Refused(Refusal::NotFound),

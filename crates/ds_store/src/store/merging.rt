@@ -11,7 +11,7 @@ ghost use Rattle.ds_machine.specs.Says.{IsReplyTo};
 ghost use Rattle.ds_judge.specs.Last.{IsLast, MayLackItem};
 ghost use Rattle.ds_judge.specs.Standing.{machine_standing};
 ghost use Rattle.ds_content.specs.Stands.{ContentStands, InEachState};
-ghost use Rattle.ds_content.specs.Standing.{standing_in, floor_standing_in};
+ghost use Rattle.ds_content.specs.Standing.{standing_in, standing_with, floor_standing_in};
 ghost use Rattle.ds_store.specs.Merging.{MergesItem, owed_after};
 ghost use Rattle.ds_content.specs.Owed.{owed_flags};
 ghost use Rattle.ds_store.specs.Steps.{ContentSteps};
@@ -21,18 +21,23 @@ use ds_entry::{Change, Floor, Item};
 use ds_join::{Count, Merge};
 use ds_judge::{Standing, cause_of_change, cause_of_floor, passed_as, refusal_of_merge};
 use ds_machine::{Cause, Command, Refusal, Reply};
-use ds_names::NoRoom;
+use ds_names::{Key, NoRoom};
 use ds_watch::Mask;
 
 impl Store {
-    // What is there before a change whose place is told.
-    fn standing(&self, place: Result<usize, usize>, change: &Change) -> Standing<'_>
-        requires { IsPlace (changes_in self.now.held) change.now.key place }
-        ensures { machine_standing result ≡ standing_in self.now change.now }
+    // What is there before a change of the key, whose place is told, by whether a floor makes the change void.
+    pub(super) fn standing(
+        &self,
+        place: Result<usize, usize>,
+        key: &Key,
+        void: bool,
+    ) -> Standing<'_>
+        requires { IsPlace (changes_in self.now.held) key.now place }
+        ensures { machine_standing result ≡ standing_with self.now key.now void }
     {
         Standing {
             held: self.content.get_at(place),
-            void: self.content.is_void(change),
+            void,
             count: self.content.count(),
             most: self.content.limits().keys(),
             position: self.content.cursor().position,
@@ -45,7 +50,7 @@ impl Store {
         ensures first { (s : State) → ContentStands self.now s → result ≡ cause_of s (Changed change.now) }
         ensures free { IfNone result (IsFree (standing_in self.now change.now) change.now) }
     {
-        let standing = self.standing(place, change);
+        let standing = self.standing(place, change.key(), self.content.is_void(change));
         cause_of_change(&standing, change)
     }
 
@@ -113,9 +118,9 @@ impl Store {
         }
     }
 
-    /// Answers as to `Command::Merge` of the items, which are only lent: they take effect in their order, up to the first that
-    /// is refused. TooMany: more than 256. An item is judged before it is copied, so that want of memory comes last.
-    pub fn merge(&mut self, items: &[Item]) -> Reply
+    /// Answers as `apply` does a Merge of the items, which are only lent. They take effect in their order, up to the first that is
+    /// refused. TooMany: more than 256. An item is judged before it is copied, so out-of-memory comes last.
+    pub fn fast_merge(&mut self, items: &[Item]) -> Reply
         ensures step { ContentSteps self.old (λ s t. Step s (Command.Merge items.now) result t) self.new }
         ensures last { (s : State) → ContentStands self.old s → IsLast s (Command.Merge items.now) result }
         ensures fits { IsReplyTo (Command.Merge items.now) result }

@@ -62,10 +62,8 @@ impl Store {
     fn give_snapshot(&self, filter: &ScopeFilter) -> Result<Snapshot, NoRoom>
         ensures { (s : State) → ContentStands self.now s → IfOk result (λ snapshot. snapshot ≡ snapshot_in s (scope_of filter.now)) }
     {
-        match filter.asker(self.alloc) {
-            Ok(mut asker) => self.content.snapshot(&mut asker),
-            Err(NoRoom) => Err(NoRoom),
-        }
+        let mut asker = filter.asker(self.alloc)?;
+        self.content.snapshot(&mut asker)
     }
 
     // All that is held under the scope.
@@ -87,10 +85,8 @@ impl Store {
     fn give_page(&self, filter: &ScopeFilter, after: Option<Key>, max: u32) -> Result<Page, NoRoom>
         ensures { (s : State) → ContentStands self.now s → IfOk result (λ page. page ≡ page_in s (scope_of filter.now) after max) }
     {
-        match filter.asker(self.alloc) {
-            Ok(mut asker) => self.content.page(&mut asker, after, max),
-            Err(NoRoom) => Err(NoRoom),
-        }
+        let mut asker = filter.asker(self.alloc)?;
+        self.content.page(&mut asker, after, max)
     }
 
     // The first `max` changes behind the key of what is held under the scope, with all floors on the first page.

@@ -72,7 +72,7 @@ impl Store {
         };
         let stamp = self.content.stamp();
         let Ok(shown) = self.content.first_unseen(sub, max) else {
-            let worn = refusal_of_showing(true, stamp);
+            let worn = refusal_of_showing(stamp);
             return Reply::Refused(worn.unwrap_or(Refusal::NoRoom));
         };
         let count = shown.items.len();
@@ -83,7 +83,7 @@ impl Store {
                 after: before,
             };
         }
-        if let Some(refusal) = refusal_of_showing(true, stamp) {
+        if let Some(refusal) = refusal_of_showing(stamp) {
             return Reply::Refused(refusal);
         }
         self.content.show(sub, &shown);

@@ -76,20 +76,16 @@ fn over_parts(
     requires net { TableStands parts.net (assigned_all (filter_map net_unit settings.services)) }
     ensures { IfOk result (λ system. BeginsOver settings next world system) }
 {
-    match resting(alloc, settings, next) {
-        Ok(rs) => Ok(joined(alloc, rs, world, parts)),
-        Err(NoRoom) => Err(NoRoom),
-    }
+    let rs = resting(alloc, settings, next)?;
+    Ok(joined(alloc, rs, world, parts))
 }
 
 // The system of the settings over a world.
 fn over(alloc: Global, settings: Settings, next: u32, world: World) -> Result<System, NoRoom>
     ensures { IfOk result (λ system. BeginsOver settings next world system) }
 {
-    match parts_of(alloc, &settings) {
-        Ok(parts) => over_parts(alloc, settings, next, world, parts),
-        Err(NoRoom) => Err(NoRoom),
-    }
+    let parts = parts_of(alloc, &settings)?;
+    over_parts(alloc, settings, next, world, parts)
 }
 
 // The fault of a world's seeds, as one of a system that begins.

@@ -4,7 +4,7 @@ ghost use Rattle.std.specs.Prelude.{◌≡◌, ◌∷◌, [], true, false};
 ghost use Rattle.ds_machine.specs.Says.{IsReplyTo};
 ghost use Rattle.ds_machine.specs.State.{State};
 ghost use Rattle.ds_machine.specs.Machine.{Step};
-ghost use Rattle.ds_machine.specs.declared.command.Command.TheVariants.{Merge, Publish};
+ghost use Rattle.ds_machine.specs.declared.command.Command.TheVariants.{Merge};
 ghost use Rattle.ds_judge.specs.Last.{IsLast};
 ghost use Rattle.ds_content.specs.Stands.{ContentStands};
 ghost use Rattle.ds_store.specs.Steps.{ContentSteps};
@@ -15,12 +15,11 @@ ghost use Rattle.ds_world.specs.Run.{EventLeads};
 ghost use Rattle.ds_world.specs.Steps.{StoreSteps, LastOf};
 ghost use Rattle.ds_world.specs.Told.{IsAskTold, IsTold};
 
-use crate::parts::{read_item, read_parts, read_published};
+use crate::parts::{read_item, read_parts};
 use crate::replies::{gives_items, has_items, keep};
 use crate::world::World;
-use ds_entry::{Item, Value};
+use ds_entry::Item;
 use ds_machine::{Command, Reply};
-use ds_names::{Endpoint, Key, Version};
 use ds_replica::{EventFault, Outcome, Side};
 use ds_store::Store;
 use std::slice;
@@ -47,7 +46,7 @@ fn merge_item(store: &mut Store, item: &Item) -> Reply
     ensures fits { IsReplyTo (Merge (item.now ∷ [])) result }
 {
     let items = slice::from_ref(item);
-    store.merge(items)
+    store.fast_merge(items)
 }
 
 // Asks the store of the side to merge an item.
@@ -59,27 +58,6 @@ fn merge_one(a: &mut Store, b: &mut Store, side: Side, item: &Item) -> Reply
     match side {
         Side::A => merge_item(a, item),
         Side::B => merge_item(b, item),
-    }
-}
-
-// Asks the store of the side to publish a value.
-fn publish_at(
-    a: &mut Store,
-    b: &mut Store,
-    side: Side,
-    caller: Endpoint,
-    key: &Key,
-    version: Version,
-    value: Value,
-    overwrite: bool,
-) -> Reply
-    ensures step { StoreSteps a.old b.old a.new b.new side (Publish caller key.now version value overwrite) result }
-    ensures last { LastOf a.old b.old side (Publish caller key.now version value overwrite) result }
-    ensures fits { IsReplyTo (Publish caller key.now version value overwrite) result }
-{
-    match side {
-        Side::A => a.publish(caller, key, version, value, overwrite),
-        Side::B => b.publish(caller, key, version, value, overwrite),
     }
 }
 
@@ -96,8 +74,8 @@ impl World {
         Outcome::Replied(self.reply(side, command))
     }
 
-    /// Asks the store of a side a command to which no store gives items, and gives its reply: the event of an Ask with that
-    /// outcome, which no world refuses. It takes memory only where the store does.
+    /// Asks the store of a side a command whose reply has no items, and returns the reply: the event of an Ask with that outcome,
+    /// which no world refuses. It takes memory only where the store does.
     pub fn reply(&mut self, side: Side, command: Command) -> Reply
         requires { gives_items command ≡ false }
         ensures leads { EventLeads (Ask side command) (Replied result) self.old self.new }
@@ -107,9 +85,9 @@ impl World {
         apply(&mut self.a, &mut self.b, side, command)
     }
 
-    /// Asks the store of a side to merge one item, which is only lent, and gives its reply: the event of an Ask of that Merge, with
-    /// no list made for it. No world refuses it, and it takes memory only where the store does.
-    pub fn offer(&mut self, side: Side, item: &Item) -> Reply
+    /// Asks the store of a side to merge one item, which is only lent, and returns the reply, as `reply` does of that Merge. It makes
+    /// no list for the item.
+    pub fn fast_offer(&mut self, side: Side, item: &Item) -> Reply
         ensures leads { EventLeads (Ask side (Merge (item.now ∷ []))) (Replied result) self.old self.new }
         ensures told { IsTold (Ask side (Merge (item.now ∷ []))) (Replied result) self.old self.new }
     {
@@ -117,34 +95,7 @@ impl World {
         merge_one(&mut self.a, &mut self.b, side, item)
     }
 
-    /// Asks the store of a side to publish a value, of which the key is only lent, and gives its reply: the event of an Ask of that
-    /// Publish, with no command made for it. No world refuses it, and it takes memory only where the store does.
-    pub fn publish(
-        &mut self,
-        side: Side,
-        caller: Endpoint,
-        key: &Key,
-        version: Version,
-        value: Value,
-        overwrite: bool,
-    ) -> Reply
-        ensures leads { EventLeads (Ask side (Publish caller key.now version value overwrite)) (Replied result) self.old self.new }
-        ensures told { IsTold (Ask side (Publish caller key.now version value overwrite)) (Replied result) self.old self.new }
-    {
-        read_published(key, &version, &value);
-        publish_at(
-            &mut self.a,
-            &mut self.b,
-            side,
-            caller,
-            key,
-            version,
-            value,
-            overwrite,
-        )
-    }
-
-    // The same of a command to which a store gives items.
+    // Asks a store a command whose reply has items.
     fn ask_for_items(&mut self, side: Side, command: Command) -> Outcome
         requires { gives_items command ≡ true }
         ensures leads { EventLeads (Ask side command) result self.old self.new }

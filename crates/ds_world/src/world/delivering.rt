@@ -15,11 +15,11 @@ ghost use Rattle.ds_world.specs.Steps.{ItemsAreTaken};
 ghost use Rattle.ds_world.specs.Run.{EventLeads};
 
 use crate::replies::items_at;
-use crate::tally::{Tally, refusal_of};
+use crate::tally::Tally;
 use crate::world::World;
 use ds_entry::Item;
 use ds_join::{Count, Stop};
-use ds_machine::Reply;
+use ds_machine::{Refusal, Reply};
 use ds_message::Lent;
 use ds_names::limits::MOST_ITEMS;
 use ds_packed::Unpacking;
@@ -36,7 +36,7 @@ fn merge_group(store: &mut Store, group: &[Item]) -> Tally
     ensures counted { CountsOf (length group.now) (tally_of result) }
 {
     let _stood = store.cursor();
-    match store.merge(group) {
+    match store.fast_merge(group) {
         Reply::Merged {
             done,
             taken,
@@ -119,7 +119,7 @@ fn take_all(alloc: Global, map: &mut SubMap, items: Lent<'_>) -> Tally
             owed: 0,
             stop: None,
         },
-        Err(stop) => Tally::ended(stop.done, 0, Some(refusal_of(stop.fault))),
+        Err(stop) => Tally::ended(stop.done, 0, Some(Refusal::of_join(stop.fault))),
     }
 }
 

@@ -57,9 +57,9 @@ returns-then-shown-stamp-clause-stopped g c = λ s stands.
       over,
     )
 
-pub returns-in_err-append-clause-stopped : goal.returns-in_err-append-clause-stopped
-returns-in_err-append-clause-stopped g c =
-    let exit = err_from_is_err_and c.from_residual-in_err-append.result c.from_residual-in_err-append.ensures.1 in
+pub returns-in_err-append_copies-clause-stopped : goal.returns-in_err-append_copies-clause-stopped
+returns-in_err-append_copies-clause-stopped g c =
+    let exit = err_from_is_err_and c.from_residual-in_err-append_copies.result c.from_residual-in_err-append_copies.ensures.1 in
     rw (exit.1, exit.2) (λ s stands.
     (let q = c.loop-question in
     let reading = c.args.reading.now in
@@ -72,7 +72,7 @@ returns-in_err-append-clause-stopped g c =
       a.2,
       inr
           (checked_more c.laws.ensures (g.A.Asks.stands q.asked) s c.args.sub q.stamp q._question reading q.items shown.items k a.0
-          shown.before shown.after a.1 c.if-shown-stamp.false c.in_err-append.ensures.room (omega (arith, c.loop-question-test.true))),
+          shown.before shown.after a.1 c.if-shown-stamp.false c.in_err-append_copies.ensures.room (omega (arith, c.loop-question-test.true))),
     )))
 
 pub returns-then-len-reading-clause-whole : goal.returns-then-len-reading-clause-whole
@@ -88,7 +88,7 @@ returns-then-len-reading-clause-whole g c = λ s stands.
       gone c.laws.ensures stood s c.args.sub reading.query q.items shown.items reading.max q.stamp q._question k a.0 shown.before
           shown.after a.1,
       a.2,
-      subst (λ (l : List Item). IsReadWhole a.0 reading.query l) (sym c.in_ok-append.ensures.added)
+      subst (λ (l : List Item). IsReadWhole a.0 reading.query l) (sym c.in_ok-append_copies.ensures.added)
           (read_whole c.laws.ensures stood s c.args.sub reading.query q.items shown.items reading.max q.stamp q._question k a.0 shown.before
           shown.after a.1 c.if-shown-stamp.false few),
     )
@@ -108,7 +108,7 @@ loop-question-preserved g c = (
       let a = c.in_ok-shown.ensures.shown k.now k.stands in
       let full : reading.max ≤ length shown.items = omega (arith, c.len.ensures, c.if-len-reading.false) in
       subst (λ (l : List Item). Checking next s c.args.sub reading.max reading.query l shown.after (q._question + 1))
-      (sym c.in_ok-append.ensures.added)
+      (sym c.in_ok-append_copies.ensures.added)
       (checked_on c.laws.ensures stood s c.args.sub reading.query q.items shown.items reading.max q.stamp q._question k a.0 shown.before
       shown.after a.1 c.if-shown-stamp.false next a.2 full)),
 )
@@ -151,8 +151,8 @@ returns-then-shown-stamp-clause-only g c =
     (checks_more g.A.Asks.asks_once c.args.sub reading q._question c.args.asked.now q.asked c.check.new.asked q.invariant.1
     c.check.ensures.only)
 
-pub returns-in_err-append-clause-only : goal.returns-in_err-append-clause-only
-returns-in_err-append-clause-only g c =
+pub returns-in_err-append_copies-clause-only : goal.returns-in_err-append_copies-clause-only
+returns-in_err-append_copies-clause-only g c =
     let q = c.loop-question in
     let reading = c.args.reading.now in
     by_checks g.A.Asks.asks_once c.args.sub reading (q._question + 1) c.args.asked.now c.check.new.asked (omega (arith, c.loop-question-test.true))
@@ -197,11 +197,11 @@ returns-in_err-shown-clause-worn g c =
 pub returns-in_err-shown-clause-same : goal.returns-in_err-shown-clause-same
 returns-in_err-shown-clause-same g c = c.check.ensures.same ∙ c.loop-question.invariant.0
 
-pub returns-in_err-append-clause-worn : goal.returns-in_err-append-clause-worn
-returns-in_err-append-clause-worn g c = has_room c.from_residual-in_err-append.result c.from_residual-in_err-append.ensures.1
+pub returns-in_err-append_copies-clause-worn : goal.returns-in_err-append_copies-clause-worn
+returns-in_err-append_copies-clause-worn g c = has_room c.from_residual-in_err-append_copies.result c.from_residual-in_err-append_copies.ensures.1
 
-pub returns-in_err-append-clause-same : goal.returns-in_err-append-clause-same
-returns-in_err-append-clause-same g c = c.check.ensures.same ∙ c.loop-question.invariant.0
+pub returns-in_err-append_copies-clause-same : goal.returns-in_err-append_copies-clause-same
+returns-in_err-append_copies-clause-same g c = c.check.ensures.same ∙ c.loop-question.invariant.0
 
 pub returns-then-shown-stamp-clause-whole : goal.returns-then-shown-stamp-clause-whole
 returns-then-shown-stamp-clause-whole g c = tt
@@ -239,8 +239,8 @@ returns-in_err-stamp-clause-whole g c = nothing_read c.from_residual-in_err-stam
 pub returns-in_err-shown-clause-whole : goal.returns-in_err-shown-clause-whole
 returns-in_err-shown-clause-whole g c = nothing_read c.from_residual-in_err-shown.result _ _ c.from_residual-in_err-shown.ensures.1
 
-pub returns-in_err-append-clause-whole : goal.returns-in_err-append-clause-whole
-returns-in_err-append-clause-whole g c = nothing_read c.from_residual-in_err-append.result _ _ c.from_residual-in_err-append.ensures.1
+pub returns-in_err-append_copies-clause-whole : goal.returns-in_err-append_copies-clause-whole
+returns-in_err-append_copies-clause-whole g c = nothing_read c.from_residual-in_err-append_copies.result _ _ c.from_residual-in_err-append_copies.ensures.1
 
 pub returns-in_err-query-clause-stopped : goal.returns-in_err-query-clause-stopped
 returns-in_err-query-clause-stopped g c =
@@ -261,7 +261,7 @@ returns-then-len-reading-clause-items g c = λ s stands.
       gone c.laws.ensures stood s c.args.sub reading.query q.items shown.items reading.max q.stamp q._question k a.0 shown.before
           shown.after a.1,
       a.2,
-      subst (λ (l : List Item). AreChecked s a.0 reading.query l) (sym c.in_ok-append.ensures.added)
+      subst (λ (l : List Item). AreChecked s a.0 reading.query l) (sym c.in_ok-append_copies.ensures.added)
           (read_each c.laws.ensures stood s c.args.sub reading.query q.items shown.items reading.max q.stamp q._question k a.0 shown.before
           shown.after a.1 c.if-shown-stamp.false),
     )
@@ -281,5 +281,5 @@ returns-in_err-stamp-clause-items g c = nothing_read c.from_residual-in_err-stam
 pub returns-in_err-shown-clause-items : goal.returns-in_err-shown-clause-items
 returns-in_err-shown-clause-items g c = nothing_read c.from_residual-in_err-shown.result _ _ c.from_residual-in_err-shown.ensures.1
 
-pub returns-in_err-append-clause-items : goal.returns-in_err-append-clause-items
-returns-in_err-append-clause-items g c = nothing_read c.from_residual-in_err-append.result _ _ c.from_residual-in_err-append.ensures.1
+pub returns-in_err-append_copies-clause-items : goal.returns-in_err-append_copies-clause-items
+returns-in_err-append_copies-clause-items g c = nothing_read c.from_residual-in_err-append_copies.result _ _ c.from_residual-in_err-append_copies.ensures.1

@@ -37,7 +37,7 @@ loop-question-preserved g c = (
       let is = subst (λ (x : Scope). IsGiven a.0.feed (is_kept x) q.at reading.max given) c.in_ok-scope.ensures there.0 in
       let full : reading.max ≤ length given.items = omega (arith, c.len.ensures, c.if-len-reading.false) in
       subst (λ (l : List Item). Catching next s reading c.args.from given.cursor c.args.items.now l (q._question + 1))
-      (sym c.in_ok-append.ensures.added)
+      (sym c.in_ok-append_copies.ensures.added)
       (caught_on c.laws.ensures stood s reading c.args.from q.at c.args.items.now q.items q._question k a.0 there.1 given is next a.2
       full)),
 )
@@ -57,9 +57,9 @@ returns-in_err-given-clause-stopped g c =
     c.args.items.now q.items q._question c.in_err-given.field-0.0 c.in_ok-scope.ensures c.in_err-given.ensures.refused
     (q.invariant.2 s stands))
 
-pub returns-in_err-append-clause-stopped : goal.returns-in_err-append-clause-stopped
-returns-in_err-append-clause-stopped g c =
-    let exit = err_from_is_err_and c.from_residual-in_err-append.result c.from_residual-in_err-append.ensures.1 in
+pub returns-in_err-append_copies-clause-stopped : goal.returns-in_err-append_copies-clause-stopped
+returns-in_err-append_copies-clause-stopped g c =
+    let exit = err_from_is_err_and c.from_residual-in_err-append_copies.result c.from_residual-in_err-append_copies.ensures.1 in
     rw (exit.1, exit.2) (λ s stands.
     (let reading = c.args.reading.now in
     let q = c.loop-question in
@@ -77,7 +77,7 @@ returns-in_err-append-clause-stopped g c =
         omega (arith, test, k.count_is),
         inr
             (journaled_more c.laws.ensures (g.A.Asks.stands q.asked) s reading c.args.from q.at c.args.items.now q.items q._question k
-            a.0 there.1 given is c.in_err-append.ensures.room),
+            a.0 there.1 given is c.in_err-append_copies.ensures.room),
       ),
     )))
 
@@ -96,7 +96,7 @@ returns-then-len-reading-clause-caught g c = λ s stands.
       a.0,
       gone c.laws.ensures stood s reading c.args.from q.at c.args.items.now q.items q._question k a.0 there.1,
       a.2,
-      subst (λ (l : List Item). IsCaughtUp a.0 reading.query c.args.from c.args.items.now l) (sym c.in_ok-append.ensures.added) all,
+      subst (λ (l : List Item). IsCaughtUp a.0 reading.query c.args.from c.args.items.now l) (sym c.in_ok-append_copies.ensures.added) all,
     )
 
 pub returns-clause-stopped : goal.returns-clause-stopped
@@ -121,8 +121,8 @@ returns-in_err-given-clause-only g c =
     (sinces_more g.A.Asks.asks_once reading q._question c.args.asked.now q.asked c.since.new.asked _ q.at c.in_ok-scope.ensures
     q.invariant.1 c.since.ensures.only)
 
-pub returns-in_err-append-clause-only : goal.returns-in_err-append-clause-only
-returns-in_err-append-clause-only g c =
+pub returns-in_err-append_copies-clause-only : goal.returns-in_err-append_copies-clause-only
+returns-in_err-append_copies-clause-only g c =
     let q = c.loop-question in
     let reading = c.args.reading.now in
     fewer g.A.Asks.asks_once (IsSinceOf reading) (q._question + 1) reading.questions c.args.asked.now c.since.new.asked (omega (arith, c.loop-question-test.true))
@@ -160,11 +160,11 @@ returns-in_err-given-clause-worn g c =
 pub returns-in_err-given-clause-same : goal.returns-in_err-given-clause-same
 returns-in_err-given-clause-same g c = c.since.ensures.same ∙ c.loop-question.invariant.0
 
-pub returns-in_err-append-clause-worn : goal.returns-in_err-append-clause-worn
-returns-in_err-append-clause-worn g c = has_room c.from_residual-in_err-append.result c.from_residual-in_err-append.ensures.1
+pub returns-in_err-append_copies-clause-worn : goal.returns-in_err-append_copies-clause-worn
+returns-in_err-append_copies-clause-worn g c = has_room c.from_residual-in_err-append_copies.result c.from_residual-in_err-append_copies.ensures.1
 
-pub returns-in_err-append-clause-same : goal.returns-in_err-append-clause-same
-returns-in_err-append-clause-same g c = c.since.ensures.same ∙ c.loop-question.invariant.0
+pub returns-in_err-append_copies-clause-same : goal.returns-in_err-append_copies-clause-same
+returns-in_err-append_copies-clause-same g c = c.since.ensures.same ∙ c.loop-question.invariant.0
 
 pub returns-then-len-reading-clause-stopped : goal.returns-then-len-reading-clause-stopped
 returns-then-len-reading-clause-stopped g c = tt
@@ -190,5 +190,5 @@ returns-in_err-scope-clause-caught g c = nothing_read c.from_residual.result _ _
 pub returns-in_err-given-clause-caught : goal.returns-in_err-given-clause-caught
 returns-in_err-given-clause-caught g c = nothing_read c.from_residual-in_err-given.result _ _ c.from_residual-in_err-given.ensures.1
 
-pub returns-in_err-append-clause-caught : goal.returns-in_err-append-clause-caught
-returns-in_err-append-clause-caught g c = nothing_read c.from_residual-in_err-append.result _ _ c.from_residual-in_err-append.ensures.1
+pub returns-in_err-append_copies-clause-caught : goal.returns-in_err-append_copies-clause-caught
+returns-in_err-append_copies-clause-caught g c = nothing_read c.from_residual-in_err-append_copies.result _ _ c.from_residual-in_err-append_copies.ensures.1

@@ -46,7 +46,7 @@ loop-question-preserved g c = (
       let on = paged_on c.laws.ensures (g.A.Asks.stands q.asked) s reading q.items q.after q.from q._question k a.0 there.1 given is next
       a.2 c.if-given.false in
       subst (λ (l : List Item). Paging next s reading l c.go_behind.new.key (Some c.unwrap_or-first.result) (q._question + 1))
-      (sym c.in_ok-append.ensures.added)
+      (sym c.in_ok-append_copies.ensures.added)
       (subst (λ (x : Option Key). Paging next s reading (q.items ++ given.items) x (Some c.unwrap_or-first.result) (q._question + 1))
       (sym c.go_behind.ensures)
       (subst (λ (x : Cursor). Paging next s reading (q.items ++ given.items) (last_key q.after given.items) (Some x) (q._question + 1))
@@ -74,9 +74,9 @@ returns-in_err-given-clause-stopped g c =
     stops_page c.laws.ensures g.A.Asks.stands g.A.Asks.is_worn q.asked c.page.new.asked s c.args.reading.now _ q.items q.after q.from
     q._question c.in_err-given.field-0.0 c.in_ok-scope.ensures c.in_err-given.ensures.refused (q.invariant.2 s stands))
 
-pub returns-in_err-append-clause-stopped : goal.returns-in_err-append-clause-stopped
-returns-in_err-append-clause-stopped g c =
-    let exit = err_from_is_err_and c.from_residual-in_err-append.result c.from_residual-in_err-append.ensures.1 in
+pub returns-in_err-append_copies-clause-stopped : goal.returns-in_err-append_copies-clause-stopped
+returns-in_err-append_copies-clause-stopped g c =
+    let exit = err_from_is_err_and c.from_residual-in_err-append_copies.result c.from_residual-in_err-append_copies.ensures.1 in
     rw (exit.1, exit.2) (λ s stands.
     (let q = c.loop-question in
     let k = q.invariant.2 s stands in
@@ -94,7 +94,7 @@ returns-in_err-append-clause-stopped g c =
         omega (arith, test, k.count_is),
         inr
             (paged_more c.laws.ensures (g.A.Asks.stands q.asked) s reading q.items q.after q.from q._question k a.0 there.1 given is
-            c.in_err-append.ensures.room),
+            c.in_err-append_copies.ensures.room),
       ),
     )))
 
@@ -134,10 +134,10 @@ returns-then-given-clause-whole g c = λ s stands.
     let there = paged_there c.laws.ensures k.now a.0 _ q.after reading.max given a.1 in
     let is = subst (λ (x : Scope). given ≡ page_of (is_kept x) q.after reading.max (held a.0) (cursor a.0)) c.in_ok-scope.ensures there.0 in
     let b = c.in_ok-catch_up.ensures.caught a.0 a.2 in
-    let first = subst (λ (x : Cursor). IsCaughtUp b.0 reading.query x c.append.new.items c.catch_up.new.items) c.unwrap_or-first.ensures b.3
+    let first = subst (λ (x : Cursor). IsCaughtUp b.0 reading.query x c.append_copies.new.self c.catch_up.new.items) c.unwrap_or-first.ensures b.3
     in
     let caught = subst (λ (l : List Item). IsCaughtUp b.0 reading.query (unwrap_or q.from given.cursor) l c.catch_up.new.items)
-    c.in_ok-append.ensures.added first in (
+    c.in_ok-append_copies.ensures.added first in (
       b.0,
       c.laws.ensures.later s a.0 b.0 (gone c.laws.ensures stood s reading q.items q.after q.from q._question k a.0 there.1) b.1,
       b.2,
@@ -158,10 +158,10 @@ returns-then-given-clause-items g c = λ s stands.
     let there = paged_there c.laws.ensures k.now a.0 _ q.after reading.max given a.1 in
     let is = subst (λ (x : Scope). given ≡ page_of (is_kept x) q.after reading.max (held a.0) (cursor a.0)) c.in_ok-scope.ensures there.0 in
     let b = c.in_ok-catch_up.ensures.caught a.0 a.2 in
-    let first = subst (λ (x : Cursor). IsCaughtUp b.0 reading.query x c.append.new.items c.catch_up.new.items) c.unwrap_or-first.ensures b.3
+    let first = subst (λ (x : Cursor). IsCaughtUp b.0 reading.query x c.append_copies.new.self c.catch_up.new.items) c.unwrap_or-first.ensures b.3
     in
     let caught = subst (λ (l : List Item). IsCaughtUp b.0 reading.query (unwrap_or q.from given.cursor) l c.catch_up.new.items)
-    c.in_ok-append.ensures.added first in (
+    c.in_ok-append_copies.ensures.added first in (
       b.0,
       c.laws.ensures.later s a.0 b.0 (gone c.laws.ensures stood s reading q.items q.after q.from q._question k a.0 there.1) b.1,
       b.2,
@@ -178,8 +178,8 @@ returns-in_err-scope-clause-items g c = nothing_read c.from_residual.result _ _ 
 pub returns-in_err-given-clause-items : goal.returns-in_err-given-clause-items
 returns-in_err-given-clause-items g c = nothing_read c.from_residual-in_err-given.result _ _ c.from_residual-in_err-given.ensures.1
 
-pub returns-in_err-append-clause-items : goal.returns-in_err-append-clause-items
-returns-in_err-append-clause-items g c = nothing_read c.from_residual-in_err-append.result _ _ c.from_residual-in_err-append.ensures.1
+pub returns-in_err-append_copies-clause-items : goal.returns-in_err-append_copies-clause-items
+returns-in_err-append_copies-clause-items g c = nothing_read c.from_residual-in_err-append_copies.result _ _ c.from_residual-in_err-append_copies.ensures.1
 
 pub returns-in_err-catch_up-clause-items : goal.returns-in_err-catch_up-clause-items
 returns-in_err-catch_up-clause-items g c = nothing_read c.from_residual-in_err-catch_up.result _ _ c.from_residual-in_err-catch_up.ensures.1
@@ -198,8 +198,8 @@ returns-in_err-given-clause-only g c =
     (pages_more g.A.Asks.asks_once reading q._question c.args.asked.now q.asked c.page.new.asked _ q.after c.in_ok-scope.ensures
     q.invariant.1 c.page.ensures.only)
 
-pub returns-in_err-append-clause-only : goal.returns-in_err-append-clause-only
-returns-in_err-append-clause-only g c =
+pub returns-in_err-append_copies-clause-only : goal.returns-in_err-append_copies-clause-only
+returns-in_err-append_copies-clause-only g c =
     let q = c.loop-question in
     let reading = c.args.reading.now in
     by_pages g.A.Asks.asks_once reading (q._question + 1) c.args.asked.now c.page.new.asked (omega (arith, c.loop-question-test.true))
@@ -246,11 +246,11 @@ returns-in_err-given-clause-worn g c =
 pub returns-in_err-given-clause-same : goal.returns-in_err-given-clause-same
 returns-in_err-given-clause-same g c = c.page.ensures.same ∙ c.loop-question.invariant.0
 
-pub returns-in_err-append-clause-worn : goal.returns-in_err-append-clause-worn
-returns-in_err-append-clause-worn g c = has_room c.from_residual-in_err-append.result c.from_residual-in_err-append.ensures.1
+pub returns-in_err-append_copies-clause-worn : goal.returns-in_err-append_copies-clause-worn
+returns-in_err-append_copies-clause-worn g c = has_room c.from_residual-in_err-append_copies.result c.from_residual-in_err-append_copies.ensures.1
 
-pub returns-in_err-append-clause-same : goal.returns-in_err-append-clause-same
-returns-in_err-append-clause-same g c = c.page.ensures.same ∙ c.loop-question.invariant.0
+pub returns-in_err-append_copies-clause-same : goal.returns-in_err-append_copies-clause-same
+returns-in_err-append_copies-clause-same g c = c.page.ensures.same ∙ c.loop-question.invariant.0
 
 pub returns-in_err-catch_up-clause-worn : goal.returns-in_err-catch_up-clause-worn
 returns-in_err-catch_up-clause-worn g c = by_fault c.from_residual-in_err-catch_up.result c.in_err-catch_up.field-0.0 c.from_residual-in_err-catch_up.ensures.1 (λ e. c.in_err-catch_up.ensures.worn (ap Err e))
@@ -282,8 +282,8 @@ returns-in_err-scope-clause-whole g c = nothing_read c.from_residual.result _ _ 
 pub returns-in_err-given-clause-whole : goal.returns-in_err-given-clause-whole
 returns-in_err-given-clause-whole g c = nothing_read c.from_residual-in_err-given.result _ _ c.from_residual-in_err-given.ensures.1
 
-pub returns-in_err-append-clause-whole : goal.returns-in_err-append-clause-whole
-returns-in_err-append-clause-whole g c = nothing_read c.from_residual-in_err-append.result _ _ c.from_residual-in_err-append.ensures.1
+pub returns-in_err-append_copies-clause-whole : goal.returns-in_err-append_copies-clause-whole
+returns-in_err-append_copies-clause-whole g c = nothing_read c.from_residual-in_err-append_copies.result _ _ c.from_residual-in_err-append_copies.ensures.1
 
 pub returns-in_err-catch_up-clause-whole : goal.returns-in_err-catch_up-clause-whole
 returns-in_err-catch_up-clause-whole g c = nothing_read c.from_residual-in_err-catch_up.result _ _ c.from_residual-in_err-catch_up.ensures.1

@@ -8,17 +8,17 @@ use Rattle.ds_refresh.proofs.OnlyLemmas.{only_its_check, only_worn}
 use Rattle.ds_refresh.proofs.RoomLemmas.{lacks_given, lacks_refused, some_there}
 use Rattle.ds_refresh.proofs.calling.check.Goals as goal
 
-pub returns-then-len-lt256-clause-called : goal.returns-then-len-lt256-clause-called
-returns-then-len-lt256-clause-called g c =
+pub returns-then-len-lt-MOST_ITEMS-clause-called : goal.returns-then-len-lt-MOST_ITEMS-clause-called
+returns-then-len-lt-MOST_ITEMS-clause-called g c =
     let f = c.follower.inside in
     let at = c.in-Checked in
-    let few : length at.items < 256 = omega (arith, c.len.ensures, c.if-len-lt256.true) in
+    let few : length at.items < 256 = omega (arith, c.len.ensures, c.if-len-lt-MOST_ITEMS.true) in
     let parts : c.args.follower.now ≡ follower_of f.sub f.stamp f.map = sym c.follower.view_is in
     map_ends (pass_record c.args.pass.now) (pass_record c.ask_desk.new.pass) c.args.follower.now f.sub f.stamp f.map c.take.new.self c.args.stamp at.before at.after c.in_ok-reply.field-0.place at.items c.in_ok-reply.field-0.reply
     parts c.requires.stamped c.requires.keeps c.in_ok-reply.ensures.called (cc) c.if-before-stamp.false c.in_default-take.ensures.query c.in_default-take.ensures.joined few
 
-pub returns-then-len-lt256-clause-keeps : goal.returns-then-len-lt256-clause-keeps
-returns-then-len-lt256-clause-keeps g c =
+pub returns-then-len-lt-MOST_ITEMS-clause-keeps : goal.returns-then-len-lt-MOST_ITEMS-clause-keeps
+returns-then-len-lt-MOST_ITEMS-clause-keeps g c =
     let f = c.follower.inside in
     let at = c.in-Checked in
     let parts : c.args.follower.now ≡ follower_of f.sub f.stamp f.map = sym c.follower.view_is in
@@ -45,8 +45,8 @@ unreachable-requires g c =
 pub unreachable-requires-in_default : goal.unreachable-requires-in_default
 unreachable-requires-in_default g c = check_told c.in_ok-reply.field-0.reply c.in_ok-reply.ensures.fits c.in_default.not-Checked c.in_default.not-Refused
 
-pub returns-then-len-lt256-clause-only : goal.returns-then-len-lt256-clause-only
-returns-then-len-lt256-clause-only g c =
+pub returns-then-len-lt-MOST_ITEMS-clause-only : goal.returns-then-len-lt-MOST_ITEMS-clause-only
+returns-then-len-lt-MOST_ITEMS-clause-only g c =
     let same : c.follower.inside.sub ≡ c.args.follower.now.sub = ap (λ (x : FollowerRecord). x.sub) c.follower.view_is in
     only_its_check (pass_record c.args.pass.now) (pass_record c.ask_desk.new.pass) c.args.follower.now c.follower.inside.sub c.in_ok-reply.field-0.reply c.in_ok-reply.field-0.place same c.in_ok-reply.ensures.called
 
@@ -78,7 +78,7 @@ returns-in-Checked-clause-called g c =
     let f = c.follower.inside in
     let at = c.in-Checked in
     let same : f.sub ≡ c.args.follower.now.sub = ap (λ (x : FollowerRecord). x.sub) c.follower.view_is in
-    let full : 256 ≤ length at.items = omega (arith, c.len.ensures, c.if-len-lt256.false) in
+    let full : 256 ≤ length at.items = omega (arith, c.len.ensures, c.if-len-lt-MOST_ITEMS.false) in
     goes_full (pass_record c.args.pass.now) (pass_record c.ask_desk.new.pass) c.args.follower.now (follower_of f.sub (Some at.after) c.take.new.self) f.sub c.args.stamp at.before at.after c.in_ok-reply.field-0.place at.items c.in_ok-reply.field-0.reply
     same c.requires.stamped c.in_ok-reply.ensures.called at.is refl c.if-before-stamp.false full
 

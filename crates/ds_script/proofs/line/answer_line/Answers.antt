@@ -31,22 +31,22 @@ pub returns-in-Err-clause-kept : goal.returns-in-Err-clause-kept
 returns-in-Err-clause-kept c = IfErr-weaker c.answer_unread.result (λ told. told ≡ c.in-Err.fault) _ (λ told same. keeps told c.args.session.now) c.answer_unread.ensures.told
 
 pub returns-then-is_offer-clause-ok : goal.returns-then-is_offer-clause-ok
-returns-then-is_offer-clause-ok c = on_ok c.answer_offered.result (λ answered. answered c.args.before) c.answer_offered.ensures.ok
+returns-then-is_offer-clause-ok c = on_ok c.fast_offer.result (λ answered. answered c.args.before) c.fast_offer.ensures.ok
 
 pub returns-then-is_offer-clause-fault : goal.returns-then-is_offer-clause-fault
-returns-then-is_offer-clause-fault c = IfErr-weaker c.answer_offered.result _ _ (λ told is. is c.args.before) c.answer_offered.ensures.fault
+returns-then-is_offer-clause-fault c = IfErr-weaker c.fast_offer.result _ _ (λ told is. is c.args.before) c.fast_offer.ensures.fault
 
 pub returns-then-is_publish-clause-ok : goal.returns-then-is_publish-clause-ok
-returns-then-is_publish-clause-ok c = on_ok c.answer_published.result (λ answered. answered c.args.before) c.answer_published.ensures.ok
+returns-then-is_publish-clause-ok c = on_ok c.fast_publish.result (λ answered. answered c.args.before) c.fast_publish.ensures.ok
 
 pub returns-then-is_publish-clause-fault : goal.returns-then-is_publish-clause-fault
-returns-then-is_publish-clause-fault c = IfErr-weaker c.answer_published.result _ _ (λ told is. is c.args.before) c.answer_published.ensures.fault
+returns-then-is_publish-clause-fault c = IfErr-weaker c.fast_publish.result _ _ (λ told is. is c.args.before) c.fast_publish.ensures.fault
 
 pub returns-then-is_retrieve-clause-ok : goal.returns-then-is_retrieve-clause-ok
-returns-then-is_retrieve-clause-ok c = on_ok c.answer_retrieved.result (λ answered. answered c.args.before) c.answer_retrieved.ensures.ok
+returns-then-is_retrieve-clause-ok c = on_ok c.fast_retrieve.result (λ answered. answered c.args.before) c.fast_retrieve.ensures.ok
 
 pub returns-then-is_retrieve-clause-fault : goal.returns-then-is_retrieve-clause-fault
-returns-then-is_retrieve-clause-fault c = IfErr-weaker c.answer_retrieved.result _ _ (λ told is. is c.args.before) c.answer_retrieved.ensures.fault
+returns-then-is_retrieve-clause-fault c = IfErr-weaker c.fast_retrieve.result _ _ (λ told is. is c.args.before) c.fast_retrieve.ensures.fault
 
 pub answer_command-requires-clause-other : goal.answer_command-requires-clause-other
 answer_command-requires-clause-other c =

@@ -7,4 +7,4 @@ some_behind (Ok x) old part now new behind same = tt
 some_behind (Err e) old part now new behind same = (part, same ∙ behind)
 
 pub returns-clause-some : goal.returns-clause-some
-returns-clause-some c = some_behind c.append_all.result c.args.output.now.items _ c.loop-item.output.items c.append_all.new.buffer.items c.loop-item.invariant.lines c.append_all.ensures.unchanged
+returns-clause-some c = some_behind c.append_numbers.result c.args.output.now.items _ c.loop-item.output.items c.append_numbers.new.buffer.items c.loop-item.invariant.lines c.append_numbers.ensures.unchanged

@@ -15,8 +15,7 @@ use Rattle.ds_held.specs.Raise.{after_raise, at_kept_keys}
 use Rattle.ds_held.proofs.KeptLemmas.{raised_joins}
 use Rattle.ds_join.specs.ItemTop.{IsTop}
 use Rattle.ds_join.specs.declared.merge.Merge.TheVariants.{Taken}
-use Rattle.ds_machine.specs.Machine.{dropped}
-use Rattle.ds_machine.specs.Parts.{floors_in, floor_at}
+use Rattle.ds_machine.specs.Parts.{changes_in, floors_in, floor_at}
 use Rattle.ds_machine.specs.State.{State, takes_effect}
 use Rattle.ds_watch.specs.Mask.{padded}
 use Rattle.ds_watch.specs.Masks.{fresh}
@@ -60,7 +59,7 @@ returns-in_err-count-clause-new_owner c =
 pub returns-clause-count : goal.returns-clause-count
 returns-clause-count c =
     let b = (goal.at.returns-clause-count c).In_ok-count in
-    b.in_ok-count.ensures.count ∙ ap (λ (l : List ChangeRecord). length (puts_void_by c.args.floor l)) (sym (changes_are c.self.inside.held.held)) ∙ ap (λ (v : ContentRecord). length (dropped v.held c.args.floor)) c.self.view_is
+    b.in_ok-count.ensures.count ∙ ap (λ (l : List ChangeRecord). length (puts_void_by c.args.floor l)) (sym (changes_are c.self.inside.held.held)) ∙ ap (λ (v : ContentRecord). length (puts_void_by c.args.floor (changes_in v.held))) c.self.view_is
 
 held : (c : In_ok-count) → c.raise_at.new.self.held ≡ after_raise c.self.inside.held.held c.args.floor (Ok Taken)
 held c = c.in_ok-count.ensures.raised.held

@@ -1,13 +1,13 @@
 use Rattle.std.proofs.Common.{sym, ap, inl, subst, ◌∙◌}
 use Rattle.ds_entry.specs.declared.body.Body.TheVariants.{Gone}
 use Rattle.ds_machine.specs.declared.command.Command.{Command}
-use Rattle.ds_machine.specs.declared.command.Command.TheVariants.{Delete, Sweep, Retrieve, NameOf, Subscribe, Check, Since, Snapshot, Page, Merge}
+use Rattle.ds_machine.specs.declared.command.Command.TheVariants.{Delete, Sweep, Subscribe, Check, Since, Snapshot, Page, Merge}
 use Rattle.ds_machine.specs.Asking.{AskedChange}
 use Rattle.ds_machine.specs.Machine.{Answers, Step, asking, outcome}
 use Rattle.ds_machine.specs.Says.{IsReplyTo}
 use Rattle.ds_machine.proofs.FitLemmas.{replies_fit}
 use Rattle.ds_judge.specs.Last.{IsLast, MayLackAsked}
-use Rattle.ds_store.proofs.AnswerLemmas.{asked_last, never_last}
+use Rattle.ds_store.proofs.AnswerLemmas.{asked_last}
 use Rattle.ds_store.proofs.store.Store.apply.Goals as goal
 
 pub returns-in-Publish-clause-step : goal.returns-in-Publish-clause-step
@@ -39,10 +39,14 @@ returns-in-Check-clause-step c = λ s stands.
     (r.0, inl (subst (λ (x : Command). Answers s (outcome s x) c.check.result r.0) (sym c.in-Check.is) r.1), r.2)
 
 pub returns-in-Retrieve-clause-step : goal.returns-in-Retrieve-clause-step
-returns-in-Retrieve-clause-step c = λ s stands. (s, inl (subst (λ (x : Command). Answers s (outcome s x) c.retrieve.result s) (sym c.in-Retrieve.is) (c.retrieve.ensures.answer s stands)), stands)
+returns-in-Retrieve-clause-step c = λ s stands.
+    let r = c.fast_retrieve.ensures.step s stands in
+    (r.0, subst (λ (x : Command). Step s x c.fast_retrieve.result r.0) (sym c.in-Retrieve.is) r.1, r.2)
 
 pub returns-in-NameOf-clause-step : goal.returns-in-NameOf-clause-step
-returns-in-NameOf-clause-step c = λ s stands. (s, inl (subst (λ (x : Command). Answers s (outcome s x) c.name.result s) (sym c.in-NameOf.is) (c.name.ensures.answer s stands)), stands)
+returns-in-NameOf-clause-step c = λ s stands.
+    let r = c.fast_name_of.ensures.step s stands in
+    (r.0, subst (λ (x : Command). Step s x c.fast_name_of.result r.0) (sym c.in-NameOf.is) r.1, r.2)
 
 pub returns-in-Since-clause-step : goal.returns-in-Since-clause-step
 returns-in-Since-clause-step c = λ s stands. (s, inl (subst (λ (x : Command). Answers s (outcome s x) c.since.result s) (sym c.in-Since.is) (c.since.ensures.answer s stands)), stands)
@@ -55,8 +59,8 @@ returns-in-Page-clause-step c = λ s stands. (s, inl (subst (λ (x : Command). A
 
 pub returns-in-Merge-clause-step : goal.returns-in-Merge-clause-step
 returns-in-Merge-clause-step c = λ s stands.
-    let r = c.merge.ensures.step s stands in
-    (r.0, subst (λ (x : Command). Step s x c.merge.result r.0) (ap (λ l. Merge l) c.as_slice.ensures ∙ sym c.in-Merge.is) r.1, r.2)
+    let r = c.fast_merge.ensures.step s stands in
+    (r.0, subst (λ (x : Command). Step s x c.fast_merge.result r.0) (ap (λ l. Merge l) c.as_slice.ensures ∙ sym c.in-Merge.is) r.1, r.2)
 
 -- where want of memory is told
 pub returns-in-Publish-clause-last : goal.returns-in-Publish-clause-last
@@ -74,7 +78,7 @@ pub returns-in-Sweep-clause-last : goal.returns-in-Sweep-clause-last
 returns-in-Sweep-clause-last c = λ s stands. subst (λ (x : Command). IsLast s x c.sweep.result) (sym c.in-Sweep.is) (c.sweep.ensures.last s stands)
 
 pub returns-in-Retrieve-clause-last : goal.returns-in-Retrieve-clause-last
-returns-in-Retrieve-clause-last c = λ s stands. subst (λ (x : Command). IsLast s x c.retrieve.result) (sym c.in-Retrieve.is) (c.retrieve.ensures.last s stands)
+returns-in-Retrieve-clause-last c = λ s stands. subst (λ (x : Command). IsLast s x c.fast_retrieve.result) (sym c.in-Retrieve.is) (c.fast_retrieve.ensures.last s stands)
 
 pub returns-in-Subscribe-clause-last : goal.returns-in-Subscribe-clause-last
 returns-in-Subscribe-clause-last c = λ s stands. subst (λ (x : Command). IsLast s x c.subscribe.result) (sym c.in-Subscribe.is) (c.subscribe.ensures.last s stands)
@@ -92,10 +96,10 @@ pub returns-in-Page-clause-last : goal.returns-in-Page-clause-last
 returns-in-Page-clause-last c = λ s stands. subst (λ (x : Command). IsLast s x c.page.result) (sym c.in-Page.is) (c.page.ensures.last s stands)
 
 pub returns-in-Merge-clause-last : goal.returns-in-Merge-clause-last
-returns-in-Merge-clause-last c = λ s stands. subst (λ (x : Command). IsLast s x c.merge.result) (ap (λ l. Merge l) c.as_slice.ensures ∙ sym c.in-Merge.is) (c.merge.ensures.last s stands)
+returns-in-Merge-clause-last c = λ s stands. subst (λ (x : Command). IsLast s x c.fast_merge.result) (ap (λ l. Merge l) c.as_slice.ensures ∙ sym c.in-Merge.is) (c.fast_merge.ensures.last s stands)
 
 pub returns-in-NameOf-clause-last : goal.returns-in-NameOf-clause-last
-returns-in-NameOf-clause-last c = λ s stands. subst (λ (x : Command). IsLast s x c.name.result) (sym c.in-NameOf.is) (never_last s (NameOf c.in-NameOf.endpoint) c.name.result s (c.name.ensures.answer s stands) c.name.ensures.in_place)
+returns-in-NameOf-clause-last c = λ s stands. subst (λ (x : Command). IsLast s x c.fast_name_of.result) (sym c.in-NameOf.is) (c.fast_name_of.ensures.last s stands)
 
 -- the reply is one of a step from the state that the store stands for
 pub returns-in-Publish-clause-fits : goal.returns-in-Publish-clause-fits
@@ -128,14 +132,10 @@ returns-in-Check-clause-fits c =
     subst (λ (x : Command). IsReplyTo x c.check.result) (sym c.in-Check.is) (replies_fit at.0 r.0 (Check c.in-Check.sub c.in-Check.max) c.check.result (inl r.1))
 
 pub returns-in-Retrieve-clause-fits : goal.returns-in-Retrieve-clause-fits
-returns-in-Retrieve-clause-fits c =
-    let at = c.cursor-stood.ensures.stood in
-    subst (λ (x : Command). IsReplyTo x c.retrieve.result) (sym c.in-Retrieve.is) (replies_fit at.0 at.0 (Retrieve c.in-Retrieve.key) c.retrieve.result (inl (c.retrieve.ensures.answer at.0 at.1)))
+returns-in-Retrieve-clause-fits c = subst (λ (x : Command). IsReplyTo x c.fast_retrieve.result) (sym c.in-Retrieve.is) c.fast_retrieve.ensures.fits
 
 pub returns-in-NameOf-clause-fits : goal.returns-in-NameOf-clause-fits
-returns-in-NameOf-clause-fits c =
-    let at = c.cursor-stood.ensures.stood in
-    subst (λ (x : Command). IsReplyTo x c.name.result) (sym c.in-NameOf.is) (replies_fit at.0 at.0 (NameOf c.in-NameOf.endpoint) c.name.result (inl (c.name.ensures.answer at.0 at.1)))
+returns-in-NameOf-clause-fits c = subst (λ (x : Command). IsReplyTo x c.fast_name_of.result) (sym c.in-NameOf.is) c.fast_name_of.ensures.fits
 
 pub returns-in-Since-clause-fits : goal.returns-in-Since-clause-fits
 returns-in-Since-clause-fits c =
@@ -153,4 +153,4 @@ returns-in-Page-clause-fits c =
     subst (λ (x : Command). IsReplyTo x c.page.result) (sym c.in-Page.is) (replies_fit at.0 at.0 (Page c.in-Page.scope c.in-Page.after c.in-Page.max) c.page.result (inl (c.page.ensures.answer at.0 at.1)))
 
 pub returns-in-Merge-clause-fits : goal.returns-in-Merge-clause-fits
-returns-in-Merge-clause-fits c = subst (λ (x : Command). IsReplyTo x c.merge.result) (ap (λ l. Merge l) c.as_slice.ensures ∙ sym c.in-Merge.is) c.merge.ensures.fits
+returns-in-Merge-clause-fits c = subst (λ (x : Command). IsReplyTo x c.fast_merge.result) (ap (λ l. Merge l) c.as_slice.ensures ∙ sym c.in-Merge.is) c.fast_merge.ensures.fits

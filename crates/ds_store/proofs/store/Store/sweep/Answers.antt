@@ -1,7 +1,9 @@
 use Rattle.std.proofs.Common.{◌≡◌, [], ◌∷◌, length, refl, ap, sym, ◌∙◌, subst, inl, inr}
 use Rattle.ds_entry.specs.declared.item.Item.TheVariants.{Floor as Floored}
 use Rattle.ds_machine.specs.State.{takes_effect, owed}
-use Rattle.ds_machine.specs.Machine.{Answers, IsOutcome, sweeping, dropped}
+use Rattle.ds_held.specs.Kept.{puts_void_by}
+use Rattle.ds_machine.specs.Parts.{changes_in}
+use Rattle.ds_machine.specs.Machine.{Answers, IsOutcome, sweeping}
 use Rattle.ds_machine.specs.declared.command.Command.TheVariants.{Sweep}
 use Rattle.ds_machine.specs.declared.reply.Reply.{Reply}
 use Rattle.ds_content.specs.Content.{ContentRecord}
@@ -34,7 +36,7 @@ returns-clause-step c = λ s stands.
             takes_effect s (Floored f ∷ []),
             subst (λ (r : Reply). Answers s (sweeping s c.args.caller f) r (takes_effect s (Floored f ∷ []))) (sym w.result-is)
                 (inl (sweep_taken v s c.args.caller f w.in-Ok.count w.number.result here none
-                (w.in-Ok.ensures.count ∙ ap (λ (x : ContentRecord). length (dropped x.held f)) c.deref_mut.ensures.value) bits)),
+                (w.in-Ok.ensures.count ∙ ap (λ (x : ContentRecord). length (puts_void_by f (changes_in x.held))) c.deref_mut.ensures.value) bits)),
             w.in-Ok.ensures.ok s (subst (λ (x : ContentRecord). ContentStands x s) (sym c.deref_mut.ensures.value) here),
           ))
       | in-Err w ↦ (s, inr (record { reply_is = w.result-is; state_is = refl }), subst (λ (x : ContentRecord). ContentStands x s) (sym w.in-Err.ensures.err) (subst (λ (x : ContentRecord). ContentStands x s) (sym c.deref_mut.ensures.value) here))

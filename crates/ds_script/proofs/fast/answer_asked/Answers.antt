@@ -1,0 +1,18 @@
+use Rattle.std.proofs.Common.{◌++◌, inl, refl, ap, ◌∙◌}
+use Rattle.ds_held.specs.Limits.{LimitsRecord, larger}
+use Rattle.ds_replica.specs.declared.outcome.Outcome.TheVariants.{Replied}
+use Rattle.store_words.specs.Reply.{reply_lines}
+use Rattle.store_words.specs.declared.wording.Wording.TheVariants.{AsMerge}
+use Rattle.store_words.proofs.ResultLemmas.{on_ok}
+use Rattle.ds_script.proofs.fast.answer_asked.Goals as goal
+
+pub returns-clause-answered : goal.returns-clause-answered
+returns-clause-answered c =
+    let reply = c.ask-reply.result in
+    on_ok c.append_reply.result
+    (λ written. (
+      reply_lines AsMerge reply larger,
+      written ∙ ap (λ (l : LimitsRecord). c.args.output.now.items ++ reply_lines AsMerge reply l) c.larger.ensures,
+      inl (record { outcome = Replied reply; happens = c.ask-reply.ensures; told = refl }),
+    ))
+    c.append_reply.ensures.written

@@ -1,0 +1,18 @@
+use Rattle.std.proofs.Common.{◌++◌, inl, refl, ap, ◌∙◌}
+use Rattle.ds_held.specs.Limits.{LimitsRecord, larger}
+use Rattle.ds_replica.specs.declared.outcome.Outcome.TheVariants.{Replied}
+use Rattle.store_words.specs.Reply.{reply_lines}
+use Rattle.store_words.specs.declared.wording.Wording.TheVariants.{AsOffer}
+use Rattle.store_words.proofs.ResultLemmas.{on_ok}
+use Rattle.ds_script.proofs.fast.answer_offer.Goals as goal
+
+pub returns-clause-answered : goal.returns-clause-answered
+returns-clause-answered c =
+    let reply = c.fast_offer-reply.result in
+    on_ok c.append_offered.result
+    (λ written. (
+      reply_lines AsOffer reply larger,
+      written ∙ ap (λ (l : LimitsRecord). c.args.output.now.items ++ reply_lines AsOffer reply l) c.larger.ensures,
+      inl (record { outcome = Replied reply; happens = c.fast_offer-reply.ensures; told = refl }),
+    ))
+    c.append_offered.ensures.written

@@ -1,0 +1,146 @@
+//! Why a call did nothing, or not all of it.
+
+use crate::ffi::{word, Answer};
+use crate::values::{Owed, Version};
+use std::fmt;
+
+macro_rules! refusals {
+    ($($name:ident $word:literal $number:literal $said:literal;)*) => {
+        /// Why a store or a map refused a call, in the order in which a store judges.
+        #[derive(Clone, Copy, Debug, PartialEq, Eq)]
+        #[non_exhaustive]
+        pub enum Refusal {
+            $(#[doc = $said] $name,)*
+            /// This version is held already, with another value: that of the key, or of the change.
+            Clash(Version),
+        }
+
+        impl Refusal {
+            /// The word by which a script and a dsfleet name it.
+            ///
+            /// ```
+            /// assert_eq!(pengtawis::Refusal::NotFound.word(), "notfound");
+            /// ```
+            pub fn word(&self) -> &'static str {
+                match self {
+                    $(Refusal::$name => $word,)*
+                    Refusal::Clash(_) => "clash",
+                }
+            }
+
+            pub(crate) fn numbered(number: u32, version: Version) -> Refusal {
+                match number {
+                    $($number => Refusal::$name,)*
+                    11 => Refusal::Clash(version),
+                    _ => Refusal::NoRoom,
+                }
+            }
+
+            fn said(&self) -> &'static str {
+                match self {
+                    $(Refusal::$name => $said,)*
+                    Refusal::Clash(_) => "this version is held already, with another value",
+                }
+            }
+        }
+    };
+}
+
+refusals! {
+    BadSub "badsub" 1 "subscriptions are numbered from 0 to 127";
+    TooMany "toomany" 2 "a check, a page and a since show 1 to 256 items";
+    TooLong "toolong" 3 "a pattern has at most 128 bytes";
+    BadPattern "badpattern" 4 "the pattern is no regular expression of printable ASCII";
+    BadKind "badkind" 5 "no kind is in the set";
+    BadLabel "badlabel" 6 "a label's epoch is its generation, its number 0 for a put and 1 for an end; none is named rs";
+    BadVersion "badversion" 7 "the epoch is the caller's generation, and the number is below 4294967295";
+    NoCaller "nocaller" 8 "the caller's endpoint is neither a live label's nor that of RS";
+    NotAllowed "notallowed" 9 "only RS publishes labels and sweeps";
+    NotOwner "notowner" 10 "the key belongs to another owner";
+    Stale "stale" 12 "a greater version is held, or a floor of the owner made the change void";
+    Exists "exists" 13 "the entry or the subscription exists, and the call doesn't overwrite";
+    NotFound "notfound" 14 "there is no such live entry, endpoint or subscription";
+    OldCursor "oldcursor" 15 "the cursor is of another incarnation: continue from a snapshot";
+    Ahead "ahead" 16 "the cursor is past everything that the store accepted";
+    Behind "behind" 17 "the journal doesn't reach back to the cursor: continue from a snapshot";
+    Full "full" 18 "4096 keys are held, or floors of 64 owners";
+    Worn "worn" 19 "the store's positions are used up";
+    NoRoom "noroom" 20 "out of memory, or the pattern compiles to too much";
+    BadRing "badring" 21 "a journal keeps 1 to 4096 items";
+    BadFirst "badfirst" 22 "the first position is at most 2^62";
+}
+
+impl fmt::Display for Refusal {
+    fn fmt(&self, to: &mut fmt::Formatter<'_>) -> fmt::Result {
+        write!(to, "{}: {}", self.word(), self.said())
+    }
+}
+
+impl std::error::Error for Refusal {}
+
+/// Why a call did nothing, or not all of it.
+#[derive(Clone, Copy, Debug, PartialEq, Eq)]
+#[non_exhaustive]
+pub enum Error {
+    /// The call was refused. Nothing changed.
+    Refused(Refusal),
+    /// A merge, or a take of a map, stopped at an item that was refused. The items before it are done.
+    Stopped(Stopped),
+    /// A name, a number or a line of items is none, or out of range. Nothing changed.
+    NoRequest,
+    /// The line can't be read from this byte on. Nothing changed.
+    BadLine(u64),
+}
+
+/// What was done before an item was refused. The items after it may be given again.
+#[derive(Clone, Copy, Debug, PartialEq, Eq)]
+pub struct Stopped {
+    /// Why the next item was refused.
+    pub refusal: Refusal,
+    /// How many items are done.
+    pub done: u64,
+    /// The subscriptions that are owed a notice of them.
+    pub owed: Owed,
+}
+
+impl Error {
+    /// The refusal, unless the call itself was malformed.
+    pub fn refusal(&self) -> Option<Refusal> {
+        match self {
+            Error::Refused(refusal) => Some(*refusal),
+            Error::Stopped(stopped) => Some(stopped.refusal),
+            Error::NoRequest | Error::BadLine(_) => None,
+        }
+    }
+
+    /// The fault that an answer says, if it says one.
+    pub(crate) fn of(answer: &Answer) -> Option<Error> {
+        let refusal = || Refusal::numbered(answer.refusal, Version { epoch: answer.epoch, seq: answer.seq });
+        match answer.word {
+            word::NOREQUEST => Some(Error::NoRequest),
+            word::BADLINE => Some(Error::BadLine(answer.count)),
+            word::STOPPED => Some(Error::Stopped(Stopped { refusal: refusal(), done: answer.count, owed: Owed(answer.owed) })),
+            _ if answer.refusal > 0 => Some(Error::Refused(refusal())),
+            _ => None,
+        }
+    }
+}
+
+impl From<Refusal> for Error {
+    fn from(refusal: Refusal) -> Error {
+        Error::Refused(refusal)
+    }
+}
+
+impl fmt::Display for Error {
+    fn fmt(&self, to: &mut fmt::Formatter<'_>) -> fmt::Result {
+        match self {
+            Error::Refused(refusal) => refusal.fmt(to),
+            Error::Stopped(it) => write!(to, "{}; {} items before it are done", it.refusal, it.done),
+            Error::NoRequest => to.write_str("no store is asked this way: a name, a number or a line of items is none, or out of range"),
+            Error::BadLine(byte) => write!(to, "the line can't be read from byte {} on", byte),
+        }
+    }
+}
+
+impl std::error::Error for Error {}

@@ -1,0 +1,138 @@
+//! What `c/ds.h` declares. Each layout is compared with the header's by layout.rs.
+
+use std::ffi::c_void;
+
+/// `struct ds_handle` and `struct ds_map`: null is closed.
+pub type Handle = *mut c_void;
+
+/// `struct ds_request`.
+#[repr(C)]
+#[derive(Clone, Copy)]
+pub struct Request {
+    pub incarnation: u64,
+    pub position: u64,
+    pub text_at: u64,
+    pub text_length: u64,
+    pub command: u32,
+    pub generation: u32,
+    pub epoch: u32,
+    pub seq: u32,
+    pub value: u32,
+    pub sub: u32,
+    pub max: u32,
+    pub slot: u16,
+    pub value_slot: u16,
+    pub kinds: u8,
+    pub overwrite: u8,
+    pub initial: u8,
+    pub under: u8,
+    pub behind: u8,
+    pub name_length: u8,
+    pub name: [u8; 64],
+}
+
+/// `struct ds_answer`.
+#[repr(C)]
+#[derive(Clone, Copy, Default)]
+pub struct Answer {
+    pub count: u64,
+    pub taken: u64,
+    pub stale: u64,
+    pub before: u64,
+    pub after: u64,
+    pub pieces: u64,
+    pub word: u32,
+    pub refusal: u32,
+    pub epoch: u32,
+    pub seq: u32,
+    pub value: u32,
+    pub value_slot: u16,
+    pub kind: u8,
+    pub last: u8,
+    pub owed: [u8; 16],
+}
+
+/// `struct ds_given`.
+#[repr(C)]
+#[derive(Clone, Copy, Default)]
+pub struct Given {
+    pub count: u64,
+    pub length: u64,
+    pub stop: u32,
+}
+
+/// `enum ds_command`.
+pub mod command {
+    pub const PUBLISH: u32 = 0;
+    pub const DELETE: u32 = 1;
+    pub const SWEEP: u32 = 2;
+    pub const RETRIEVE: u32 = 3;
+    pub const NAMEOF: u32 = 4;
+    pub const SUBSCRIBE: u32 = 5;
+    pub const CHECK: u32 = 6;
+    pub const SINCE: u32 = 7;
+    pub const SNAPSHOT: u32 = 8;
+    pub const PAGE: u32 = 9;
+    pub const MERGE: u32 = 10;
+}
+
+/// `enum ds_word`, as far as answers are told apart by it.
+pub mod word {
+    pub const CHANGED: u32 = 0;
+    pub const STOPPED: u32 = 11;
+    pub const NOREQUEST: u32 = 13;
+    pub const BADLINE: u32 = 15;
+}
+
+/// `enum ds_stop`.
+pub mod stop {
+    pub const WHOLE: u32 = 0;
+    pub const TOOSMALL: u32 = 1;
+}
+
+/// `DS_MAX_PIECE`.
+pub const MAX_PIECE: usize = 2204;
+
+extern "C" {
+    pub fn ds_open(handle: *mut Handle, incarnation: u64, first: u64, ring: u32) -> u32;
+    pub fn ds_call(handle: *mut Handle, request: *const Request, texts: *const u8, length: usize, answer: *mut Answer) -> u32;
+    pub fn ds_items(handle: *mut Handle, first: usize, room: *mut u8, length: usize, given: *mut Given) -> u32;
+    pub fn ds_call_line(handle: *mut Handle, line: *const u8, length: usize, answer: *mut Answer) -> u32;
+    pub fn ds_text(handle: *mut Handle, first: usize, room: *mut u8, length: usize, given: *mut Given) -> u32;
+    pub fn ds_close(handle: *mut Handle) -> u32;
+    pub fn ds_map_new(map: *mut Handle, kinds: u8, pattern: *const u8, length: usize) -> u32;
+    pub fn ds_map_take(map: *mut Handle, lines: *const u8, length: usize, answer: *mut Answer) -> u32;
+    pub fn ds_map_label(map: *mut Handle, name: *const u8, length: usize, answer: *mut Answer) -> u32;
+    pub fn ds_map_close(map: *mut Handle) -> u32;
+    pub fn ds_version() -> *const std::os::raw::c_char;
+}
+
+impl Request {
+    /// A request of a command, whose other parts are zero.
+    pub const fn new(command: u32) -> Request {
+        Request {
+            incarnation: 0, position: 0, text_at: 0, text_length: 0, command, generation: 0, epoch: 0, seq: 0, value: 0, sub: 0,
+            max: 0, slot: 0, value_slot: 0, kinds: 0, overwrite: 0, initial: 0, under: 0, behind: 0, name_length: 0, name: [0; 64],
+        }
+    }
+}
+
+#[cfg(test)]
+mod tests {
+    use super::*;
+
+    /// Handles that are closed, or open already, are refused. No `Store` and no `Map` can be either.
+    #[test]
+    fn closed_and_open() {
+        let (mut store, mut map, mut answer) = (std::ptr::null_mut(), std::ptr::null_mut(), Answer::default());
+        // SAFETY: the handles begin as null, lengths are those of the texts, and pointers those of values that outlive the calls.
+        unsafe {
+            assert_eq!(ds_call(&mut store, &Request::new(command::CHECK), std::ptr::null(), 0, &mut answer), 23);
+            assert_eq!(ds_map_take(&mut map, std::ptr::null(), 0, &mut answer), 23);
+            assert_eq!((ds_open(&mut store, 1, 0, 1), ds_open(&mut store, 1, 0, 1)), (0, 24));
+            assert_eq!((ds_map_new(&mut map, 1, b".".as_ptr(), 1), ds_map_new(&mut map, 1, b".".as_ptr(), 1)), (0, 24));
+            assert_eq!((ds_close(&mut store), ds_close(&mut store)), (0, 23));
+            assert_eq!((ds_map_close(&mut map), ds_map_close(&mut map)), (0, 23));
+        }
+    }
+}

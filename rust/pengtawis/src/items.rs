@@ -1,0 +1,141 @@
+//! The items of an answer: their lines, and what they say.
+
+use crate::values::{Endpoint, Kind, Version};
+use std::borrow::Cow;
+
+/// The lines of items, as a store gives them. A merge, and the take of a map, take them as they are.
+///
+/// ```
+/// use pengtawis::{Body, Endpoint, Item, Items};
+///
+/// let items = Items::from(b"! tty 1\neth0 label rs 3.0 = 3/16\n".to_vec());
+/// assert_eq!(items.len(), 2);
+/// match items.iter().last() {
+///     Some(Item::Change(it)) => assert_eq!(it.body, Body::Label(Endpoint::new(3, 16))),
+///     other => panic!("{other:?}"),
+/// }
+/// ```
+#[derive(Clone, Debug, Default, PartialEq, Eq)]
+pub struct Items {
+    text: Vec<u8>,
+}
+
+impl Items {
+    /// The lines, each with its newline.
+    pub fn text(&self) -> &[u8] {
+        &self.text
+    }
+
+    pub fn into_text(self) -> Vec<u8> {
+        self.text
+    }
+
+    pub fn len(&self) -> usize {
+        self.text.iter().filter(|it| **it == b'\n').count()
+    }
+
+    pub fn is_empty(&self) -> bool {
+        self.text.is_empty()
+    }
+
+    /// The items. A line that is no item's, which no store gives, is passed over.
+    pub fn iter(&self) -> impl Iterator<Item = Item<'_>> {
+        self.text.split(|it| *it == b'\n').filter_map(|it| Item::read(std::str::from_utf8(it).ok()?))
+    }
+}
+
+/// Takes lines as they are: a store reads them, and refuses them, by itself.
+impl From<Vec<u8>> for Items {
+    fn from(text: Vec<u8>) -> Items {
+        Items { text }
+    }
+}
+
+/// What an item says.
+#[derive(Clone, Debug, PartialEq, Eq)]
+pub enum Item<'a> {
+    Change(Change<'a>),
+    /// What the owner published up to this generation is void.
+    Floor { owner: &'a str, generation: u32 },
+}
+
+/// What became of a key.
+#[derive(Clone, Debug, PartialEq, Eq)]
+pub struct Change<'a> {
+    pub name: &'a str,
+    pub kind: Kind,
+    pub owner: &'a str,
+    pub version: Version,
+    pub body: Body<'a>,
+}
+
+/// The value of a change. A string is borrowed from the line, unless it has a quote or a backslash.
+#[derive(Clone, Debug, PartialEq, Eq)]
+pub enum Body<'a> {
+    /// The entry was deleted.
+    Gone,
+    Label(Endpoint),
+    U32(u32),
+    Str(Cow<'a, str>),
+    Mem(Vec<u8>),
+}
+
+impl<'a> Item<'a> {
+    /// Reads a line without its newline. `None`: it is no item's.
+    pub fn read(line: &'a str) -> Option<Item<'a>> {
+        if let Some(rest) = line.strip_prefix("! ") {
+            let (owner, generation) = rest.split_once(' ')?;
+            return Some(Item::Floor { owner, generation: generation.parse().ok()? });
+        }
+        let mut words = line.splitn(5, ' ');
+        let (name, kind, owner) = (words.next()?, kind_of(words.next()?)?, words.next()?);
+        let (epoch, seq) = words.next()?.split_once('.')?;
+        let version = Version { epoch: epoch.parse().ok()?, seq: seq.parse().ok()? };
+        let rest = words.next()?;
+        let body = if rest == "-" { Body::Gone } else { body_of(kind, rest.strip_prefix("= ")?)? };
+        Some(Item::Change(Change { name, kind, owner, version, body }))
+    }
+}
+
+fn kind_of(word: &str) -> Option<Kind> {
+    match word {
+        "label" => Some(Kind::Label),
+        "u32" => Some(Kind::U32),
+        "str" => Some(Kind::Str),
+        "mem" => Some(Kind::Mem),
+        _ => None,
+    }
+}
+
+fn body_of(kind: Kind, text: &str) -> Option<Body<'_>> {
+    match kind {
+        Kind::Label => {
+            let (generation, slot) = text.split_once('/')?;
+            Some(Body::Label(Endpoint { generation: generation.parse().ok()?, slot: slot.parse().ok()? }))
+        }
+        Kind::U32 => Some(Body::U32(text.parse().ok()?)),
+        Kind::Str => Some(Body::Str(unquoted(text.strip_prefix('"')?.strip_suffix('"')?))),
+        Kind::Mem => bytes_of(text.as_bytes()).map(Body::Mem),
+    }
+}
+
+/// A backslash stands before each quote and each backslash.
+fn unquoted(text: &str) -> Cow<'_, str> {
+    if !text.contains('\\') {
+        return Cow::Borrowed(text);
+    }
+    let (mut plain, mut is_escaped) = (String::with_capacity(text.len()), false);
+    for it in text.chars() {
+        is_escaped = it == '\\' && !is_escaped;
+        if !is_escaped {
+            plain.push(it);
+        }
+    }
+    Cow::Owned(plain)
+}
+
+fn bytes_of(digits: &[u8]) -> Option<Vec<u8>> {
+    let number = |it: u8| (it as char).to_digit(16);
+    let pair = |it: &[u8]| Some((number(it[0])? << 4 | number(*it.get(1)?)?) as u8);
+    digits.chunks(2).map(pair).collect()
+}

@@ -1,0 +1,36 @@
+//! Pengtawis: where drivers are that crash and restart. `docs/guide/rust.md` is its page.
+//!
+//! A [`Store`] and a [`Map`] are in this process, over the library for C, which is proved; this crate around it is tested. Every refusal is a
+//! variant of [`Refusal`]. No call panics, and memory that runs out is [`Refusal::NoRoom`]: nothing is lost by it.
+
+mod error;
+mod ffi;
+mod items;
+#[cfg(test)]
+mod layout;
+mod map;
+mod shown;
+mod store;
+mod values;
+
+pub use error::{Error, Refusal, Stopped};
+pub use items::{Body, Change, Item, Items};
+pub use map::Map;
+pub use shown::Shown;
+pub use store::{Found, Store};
+pub use values::{Cursor, Done, Endpoint, Kind, Kinds, Merged, Owed, Scope, Subscribed, Swept, Value, Version, RS};
+
+/// The examples of the guide.
+#[cfg(doctest)]
+#[doc = include_str!("../../../docs/guide/rust.md")]
+struct Guide;
+
+/// The version of the library for C that this program runs with.
+///
+/// ```
+/// assert_eq!(pengtawis::library_version(), env!("CARGO_PKG_VERSION"));
+/// ```
+pub fn library_version() -> &'static str {
+    // SAFETY: it is a static text with a zero at its end.
+    unsafe { std::ffi::CStr::from_ptr(ffi::ds_version()) }.to_str().unwrap_or("")
+}

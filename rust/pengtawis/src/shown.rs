@@ -1,0 +1,104 @@
+//! The text of a store's last answer.
+
+use crate::error::Refusal;
+use crate::ffi::{self, stop, Answer, Given, MAX_PIECE};
+use crate::items::Items;
+use crate::store::Store;
+use crate::values::Cursor;
+use std::fmt;
+
+const ROOM: usize = 1 << 16; // bytes that are asked for at a time
+
+/// The answer to a check, a since, a snapshot, a page or a line, whose text isn't fetched yet.
+///
+/// It borrows the store: no other request can replace the answer. Each byte is copied once, by the library, to where it is wanted.
+/// A call that is refused by [`Refusal::NoRoom`] may be made again, and loses nothing.
+///
+/// ```compile_fail
+/// # let mut store = pengtawis::Store::open(1).unwrap();
+/// let mut shown = store.check(40, 256)?;
+/// store.check(41, 256)?; // the items of the first check would be lost
+/// shown.items()?;
+/// # Ok::<(), pengtawis::Error>(())
+/// ```
+#[must_use = "no later answer has its items"]
+pub struct Shown<'store> {
+    store: &'store mut Store,
+    answer: Answer,
+    fetched: u64,
+    text: Vec<u8>,
+}
+
+impl fmt::Debug for Shown<'_> {
+    fn fmt(&self, to: &mut fmt::Formatter<'_>) -> fmt::Result {
+        to.debug_struct("Shown").field("count", &self.count()).field("cursor", &self.cursor()).finish_non_exhaustive()
+    }
+}
+
+impl<'store> Shown<'store> {
+    pub(crate) fn new(store: &'store mut Store, answer: Answer) -> Shown<'store> {
+        Shown { store, answer, fetched: 0, text: Vec::new() }
+    }
+
+    /// How many items it has.
+    pub fn count(&self) -> u64 {
+        self.answer.pieces
+    }
+
+    /// Where a since continues. A check has no cursor; of a page it is the one that all pages together reach back to.
+    pub fn cursor(&self) -> Cursor {
+        Cursor { incarnation: self.answer.before, position: self.answer.after }
+    }
+
+    /// Whether a page is the last one.
+    pub fn is_last(&self) -> bool {
+        self.answer.last == 1
+    }
+
+    /// Fetches its items. They are returned once.
+    pub fn items(&mut self) -> Result<Items, Refusal> {
+        let mut text = std::mem::take(&mut self.text);
+        let fetched = self.append_to(&mut text);
+        if let Err(refusal) = fetched {
+            self.text = text;
+            return Err(refusal);
+        }
+        Ok(Items::from(text))
+    }
+
+    /// Appends the lines of its items to a text. After a refusal those that were fetched are there, and the same call fetches the others.
+    pub fn append_to(&mut self, text: &mut Vec<u8>) -> Result<(), Refusal> {
+        while self.fetched < self.answer.pieces {
+            let (room, first) = (ROOM.min((self.answer.pieces - self.fetched) as usize * MAX_PIECE), self.fetched as usize);
+            self.fetched += self.store.pieces(first, room, text)?;
+        }
+        Ok(())
+    }
+
+    /// The whole answer as `dsctl` prints it.
+    ///
+    /// ```
+    /// # let mut store = pengtawis::Store::open(1)?;
+    /// assert_eq!(store.line("nameof 3/16").unwrap_err().refusal(), Some(pengtawis::Refusal::NotFound));
+    /// store.line("publish 0/2 new eth0 label 3.0 = 3/16")?;
+    /// assert_eq!(store.line("nameof 3/16")?.text()?, "named eth0\n");
+    /// # Ok::<(), pengtawis::Error>(())
+    /// ```
+    pub fn text(&mut self) -> Result<String, Refusal> {
+        let (mut text, mut given) = (Vec::new(), Given::default());
+        loop {
+            let room = (given.count as usize).saturating_sub(text.len()).max(64);
+            text.try_reserve(room).map_err(|_| Refusal::NoRoom)?;
+            let (end, left) = (text.spare_capacity_mut().as_mut_ptr().cast(), text.capacity() - text.len());
+            // SAFETY: the handle is open, and `left` bytes are there from `end` on.
+            unsafe { ffi::ds_text(self.store.handle(), text.len(), end, left, &mut given) };
+            // SAFETY: so many of these bytes are written.
+            unsafe { text.set_len(text.len() + given.length as usize) };
+            match given.stop {
+                stop::WHOLE => return String::from_utf8(text).map_err(|_| Refusal::NoRoom),
+                stop::TOOSMALL => {}
+                _ => return Err(Refusal::NoRoom),
+            }
+        }
+    }
+}

@@ -1,0 +1,164 @@
+//! What a store and a map answer, by each call.
+
+use pengtawis::{
+    Body, Cursor, Done, Endpoint, Error, Item, Items, Kind, Kinds, Map, Merged, Owed, Refusal, Scope, Stopped, Store, Value, Version, RS,
+};
+
+const ETH: Endpoint = Endpoint::new(3, 16);
+
+fn version(epoch: u32, seq: u32) -> Version {
+    Version::new(epoch, seq)
+}
+
+/// A store that knows the driver eth0 at 3/16.
+fn with_eth() -> Store {
+    let mut store = Store::open(1).unwrap();
+    assert!(store.publish(RS, "eth0", ETH, version(3, 0), false).unwrap().changed);
+    store
+}
+
+fn lines(text: &str) -> Items {
+    Items::from(text.as_bytes().to_vec())
+}
+
+fn shown(items: &Items) -> &str {
+    std::str::from_utf8(items.text()).unwrap()
+}
+
+#[test]
+fn values_of_each_kind() {
+    let mut store = with_eth();
+    let quoted = r#"say "\""#;
+    for (name, value) in [("n", Value::U32(u32::MAX)), ("s", quoted.into()), ("e", "".into()), ("m", Value::Mem(&[0, 255])), ("z", Value::Mem(&[]))] {
+        assert!(store.publish(ETH, name, value, version(3, 1), false).unwrap().changed, "{name}");
+        assert!(!store.publish(ETH, name, value, version(3, 1), false).unwrap().changed, "{name}");
+    }
+    assert_eq!(store.retrieve::<Endpoint>("eth0"), Ok(ETH));
+    assert_eq!(store.retrieve::<u32>("n"), Ok(u32::MAX));
+    assert_eq!(store.retrieve::<String>("s").as_deref(), Ok(quoted));
+    assert_eq!(store.retrieve::<String>("e").as_deref(), Ok(""));
+    assert_eq!(store.retrieve::<Vec<u8>>("m"), Ok(vec![0, 255]));
+    assert_eq!(store.retrieve::<Vec<u8>>("z"), Ok(vec![]));
+    assert_eq!(store.name_of(ETH).as_deref(), Ok("eth0"));
+    let items = store.snapshot(None).unwrap().items().unwrap();
+    let bodies: Vec<_> = items.iter().map(|it| match it { Item::Change(it) => (it.name, it.body), other => panic!("{other:?}") }).collect();
+    let wanted = [
+        ("e", Body::Str("".into())), ("eth0", Body::Label(ETH)), ("m", Body::Mem(vec![0, 255])), ("n", Body::U32(u32::MAX)),
+        ("s", Body::Str(quoted.into())), ("z", Body::Mem(vec![])),
+    ];
+    assert_eq!(bodies, wanted);
+}
+
+#[test]
+fn the_longest_values_and_names() {
+    let (mut store, name, text, bytes) = (with_eth(), "n".repeat(64), "\\".repeat(256), [0x5a; 1024]);
+    let at = Endpoint::new(4, 17);
+    store.publish(RS, &name, at, version(4, 0), false).unwrap();
+    store.publish(at, &name, text.as_str(), version(4, 0), false).unwrap();
+    store.publish(at, &name, &bytes[..], version(4, 0), false).unwrap();
+    assert_eq!(store.name_of(at), Ok(name.clone()));
+    assert_eq!(store.retrieve::<String>(&name), Ok(text));
+    assert_eq!(store.retrieve::<Vec<u8>>(&name), Ok(bytes.to_vec()));
+}
+
+#[test]
+fn an_entry_ends() {
+    let mut store = with_eth();
+    store.publish(ETH, "mtu", 1500, version(3, 0), false).unwrap();
+    store.publish(ETH, "mtu", 9000, version(3, 1), true).unwrap();
+    assert_eq!(store.delete(ETH, "mtu", Kind::U32, version(3, 2)), Ok(Done { changed: true, owed: Owed::default() }));
+    assert_eq!(store.retrieve::<u32>("mtu"), Err(Error::Refused(Refusal::NotFound)));
+    store.publish(ETH, "mtu", 1492, version(3, 3), false).unwrap();
+    assert_eq!(store.sweep(RS, "eth0", 3).unwrap().dropped, 1);
+    assert_eq!(store.retrieve::<u32>("mtu"), Err(Error::Refused(Refusal::NotFound)));
+}
+
+#[test]
+fn a_subscription() {
+    let mut store = with_eth();
+    let told = store.subscribe(40, Scope::new("eth.*", Kind::Label | Kind::U32), true, false).unwrap();
+    assert_eq!((told.stamp, told.owed.iter().collect::<Vec<_>>()), (1, vec![40]));
+    let owed = store.publish(ETH, "eth0.mtu", 1500, version(3, 1), false).unwrap().owed;
+    assert!(owed.contains(40) && !owed.contains(41) && !owed.contains(u32::MAX) && !owed.is_empty());
+    let mut check = store.check(40, 1).unwrap();
+    assert_eq!((check.count(), shown(&check.items().unwrap())), (1, "eth0 label rs 3.0 = 3/16\n"));
+    assert_eq!(shown(&store.check(40, 256).unwrap().items().unwrap()), "eth0.mtu u32 eth0 3.1 = 1500\n");
+    assert!(store.check(40, 256).unwrap().items().unwrap().is_empty());
+}
+
+#[test]
+fn a_journal_and_pages() {
+    let mut store = with_eth();
+    for at in 0..600 {
+        store.publish(ETH, &format!("mtu{at:03}"), at, version(3, at), false).unwrap();
+    }
+    let mut all = store.snapshot(None).unwrap();
+    let (cursor, items) = (all.cursor(), all.items().unwrap());
+    assert_eq!((cursor, items.len()), (Cursor { incarnation: 1, position: 601 }, 601));
+    let (mut paged, mut after) = (Vec::new(), None::<String>);
+    loop {
+        let mut page = store.page(after.as_deref().map(|it| (it, Kind::U32)), Some(Scope::new(".*", Kind::U32)), 256).unwrap();
+        page.append_to(&mut paged).unwrap();
+        if page.is_last() {
+            break;
+        }
+        let last = paged[..paged.len() - 1].rsplit(|it| *it == b'\n').next().unwrap();
+        after = std::str::from_utf8(last).unwrap().split(' ').next().map(str::to_string);
+    }
+    assert_eq!(paged, shown(&items).lines().filter(|it| it.contains(" u32 ")).map(|it| format!("{it}\n")).collect::<String>().into_bytes());
+    let (mut cursor, mut counts) = (Cursor { incarnation: 1, position: 601 - 256 }, vec![]);
+    while counts.last() != Some(&56) {
+        let mut since = store.since(cursor, None, 100).unwrap();
+        counts.push(since.items().unwrap().len());
+        cursor = since.cursor();
+    }
+    assert_eq!((counts, cursor.position), (vec![100, 100, 56], 601));
+}
+
+#[test]
+fn replicas_and_maps() {
+    let (mut one, mut two) = (with_eth(), Store::open(2).unwrap());
+    for at in 0..300 {
+        one.publish(ETH, &format!("mtu{at}"), at, version(3, at), false).unwrap();
+    }
+    let items = one.snapshot(None).unwrap().items().unwrap();
+    assert_eq!(two.merge(&items), Ok(Merged { done: 301, taken: 301, stale: 0, owed: Owed::default() }));
+    assert_eq!(two.merge(&items), Ok(Merged { done: 301, taken: 0, stale: 0, owed: Owed::default() }));
+    assert_eq!(two.snapshot(None).unwrap().items(), Ok(items.clone()));
+    let mut map = Map::new("eth.*", Kind::Label).unwrap();
+    assert_eq!(map.label("eth0"), Err(Error::Refused(Refusal::NotFound)));
+    assert_eq!(map.take(&items).map(|it| (it.done, it.taken)), Ok((301, 1)));
+    assert_eq!(map.label("eth0"), Ok(ETH));
+    map.take(&lines("eth0 label rs 2.0 = 2/9\n")).unwrap();
+    assert_eq!(map.label("eth0"), Ok(ETH));
+}
+
+#[test]
+fn a_merge_stops_where_an_item_is_refused() {
+    let mut store = with_eth();
+    store.subscribe(7, Scope::new("a.*", Kinds::ALL), false, false).unwrap();
+    let many: String = (0..300).map(|at| format!("a{at} u32 eth0 3.{at} = 1\n")).collect();
+    let told = store.merge(&lines(&format!("{many}eth0 label rs 3.0 = 3/17\nb u32 eth0 3.0 = 1\n")));
+    match told {
+        Err(Error::Stopped(Stopped { refusal, done: 300, owed })) => {
+            assert_eq!((refusal, owed.contains(7)), (Refusal::Clash(version(3, 0)), true));
+        }
+        other => panic!("{other:?}"),
+    }
+    assert_eq!(store.retrieve::<u32>("b"), Err(Error::Refused(Refusal::NotFound)));
+    assert_eq!(store.merge(&lines("no item\n")), Err(Error::NoRequest));
+}
+
+#[test]
+fn lines_of_scripts() {
+    let mut store = Store::open(1).unwrap();
+    assert_eq!(store.line("publish 0/2 new eth0 label 3.0 = 3/16").unwrap().text().as_deref(), Ok("taken\n"));
+    assert_eq!(store.line("retrieve eth0 label\n").unwrap().text().as_deref(), Ok("found 3/16\n"));
+    assert_eq!(store.line("retrieve eth1 label").err(), Some(Error::Refused(Refusal::NotFound)));
+    assert_eq!(store.line("retreive eth0 label").err(), Some(Error::BadLine(0)));
+    assert_eq!(store.line("side a").err(), Some(Error::NoRequest));
+    let many: String = (0..400).map(|at| format!("s{at:03} str eth0 3.0 = \"{}\"\n", "x".repeat(250))).collect();
+    store.merge(&lines(&many)).unwrap();
+    let text = store.line("snapshot \"s.*\" 15").unwrap().text().unwrap();
+    assert_eq!(text, format!("{many}snapshot 400 1 401\n"));
+}
