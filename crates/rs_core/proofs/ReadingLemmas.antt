@@ -193,7 +193,8 @@ due_acts s tick p e = by (service_place s (sought.Missed tick)) refl (service_pl
     by None f None g (Some i) h q = one Resume i q (start_acts s tick i h)
     by None f None g None h q = absurd (let n : None ≡ Some p = q in cc)
 
-same_asked : (a b : Option Plan) (x : Result (Option Plan) RsFault) → x ≡ Ok a → x ≡ Ok b → a ≡ b
+-- a result is of one plan
+pub same_asked : (a b : Option Plan) (x : Result (Option Plan) RsFault) → x ≡ Ok a → x ≡ Ok b → a ≡ b
 same_asked a b x e f = cc
 
 pub ticks_act : TicksActWhenDue
@@ -292,15 +293,3 @@ steps_give_up s t event tick actions (Some p, free, is, h) i = (onward, back)
         by : i ≡ p.place → (state_at s p.place ≡ GaveUp) ⊎ (gives_up p.deed service (state_at s p.place) ≡ true) → given_up s event tick ≡ Some i
         by e (inl was) = absurd (gone.1 (ap (state_at s) e ∙ was))
         by e (inr does) = given ∙ ap (λ (b : Bool). cond b (Some p.place) None) does ∙ ap (λ (k : ℕ). Some k) (sym e)
-
--- ---- what actions settle
-
-carried_alike : (s : RsRecord) (tick : ℕ) (p : Option Plan) (actions : List Action) (t u : RsRecord) → IsCarriedOut s tick p actions t → IsCarriedOut s tick p actions u → t ≡ u
-carried_alike s tick None actions t u h k = h.after ∙ sym k.after
-carried_alike s tick (Some p) actions t u h k = h.after ∙ sym k.after
-
--- an event has one step
-pub step_settles : (s : RsRecord) (event : Event) (tick : ℕ) (actions : List Action) (t u : RsRecord) → RsStep s event tick actions t → RsStep s event tick actions u → t ≡ u
-step_settles s event tick actions t u h k =
-    let same : h.0 ≡ k.0 = same_asked h.0 k.0 (asked s event tick) h.2 k.2 in
-    carried_alike s tick k.0 actions t u (subst (λ (p : Option Plan). IsCarriedOut s tick p actions t) same h.3) k.3

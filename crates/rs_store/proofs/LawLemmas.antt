@@ -1,5 +1,5 @@
 -- What a history of RS and its store is to each of the two.
-use Rattle.std.proofs.Common.{◌≡◌, ℕ, Bool, cond, List, [], ◌∷◌, ◌++◌, Option, Some, None, refl, sym, ap, subst, ◌∙◌, append_assoc, append-nil}
+use Rattle.std.proofs.Common.{◌≡◌, ℕ, Bool, cond, List, [], ◌∷◌, ◌++◌, Option, Some, None, Result, Ok, refl, sym, ap, subst, ◌∙◌, append_assoc, append-nil}
 use Rattle.std.specs.Prelude.{filter}
 use Rattle.std.specs.List.{flat_map}
 use Rattle.std.proofs.lemmas.List.{map-append}
@@ -16,7 +16,6 @@ use Rattle.ds_entry.specs.declared.body.Body.{Body}
 use Rattle.ds_entry.specs.declared.body.Body.TheVariants.{Put, Gone}
 use Rattle.ds_entry.specs.SingleNumbered.{IsSingleNumbered}
 use Rattle.ds_entry.proofs.Members.{Contains-nil}
-use Rattle.rs_core.proofs.ReadingLemmas.{step_settles}
 use Rattle.rs_core.proofs.RunLemmas.{labels_single_numbered}
 use Rattle.ds_machine.specs.State.{State}
 use Rattle.ds_machine.specs.declared.command.Command.{Command}
@@ -30,7 +29,9 @@ use Rattle.rs_core.specs.declared.action.Action.TheVariants.{Kill, Start, Ping, 
 use Rattle.rs_core.specs.declared.event.Event.{Event}
 use Rattle.rs_core.specs.declared.event.Event.TheVariants as events
 use Rattle.rs_core.specs.declared.fault.NewFault.TheVariants as new_faults
+use Rattle.rs_core.specs.Machine.{asked}
 use Rattle.rs_core.specs.State.{RsRecord}
+use Rattle.rs_core.specs.Step.{RsStep, done_to}
 use Rattle.rs_core.specs.Run.{RsRun, RsActs, offers}
 use Rattle.rs_settings.specs.Settings.{SettingsRecord}
 use Rattle.rs_store.specs.ByRs.{is_by_rs}
@@ -285,6 +286,19 @@ rs_alone (x ∷ es) old new rs e run =
     ∙ asked_join (actions_in x.reply) (actions_by es)
 
 -- ---- what replies settle
+
+same_planned : {X E : Type 0} (p q : X) (x : Result (Option X) E) → x ≡ Ok (Some p) → x ≡ Ok (Some q) → p ≡ q
+same_planned p q x e f = cc
+
+planned_or_not : {X E : Type 0} (q : X) (x : Result (Option X) E) → x ≡ Ok None → x ≡ Ok (Some q) → ⊥
+planned_or_not q x e f = cc
+
+-- an event has one step
+step_settles : (s : RsRecord) (event : Event) (tick : ℕ) (acts : List Action) (t u : RsRecord) → RsStep s event tick acts t → RsStep s event tick acts u → t ≡ u
+step_settles s event tick acts t u (None, f, i, h) (None, g, j, k) = h.after ∙ sym k.after
+step_settles s event tick acts t u (Some p, f, i, h) (Some q, g, j, k) = h.after ∙ ap (λ z. done_to s tick z) (same_planned p q (asked s event tick) i j) ∙ sym k.after
+step_settles s event tick acts t u (None, f, i, h) (Some q, g, j, k) = absurd (planned_or_not q (asked s event tick) i j)
+step_settles s event tick acts t u (Some p, f, i, h) (None, g, j, k) = absurd (planned_or_not p (asked s event tick) j i)
 
 serve_settles : (event : Event) (tick : ℕ) (o : Option RsRecord) (reply : RsReply) (c d x y : ContentRecord) (a b : Option RsRecord)
     → EventTurn event tick o c reply a x → EventTurn event tick o d reply b y → a ≡ b
