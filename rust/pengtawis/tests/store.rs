@@ -96,7 +96,8 @@ fn a_journal_and_pages() {
     let (cursor, items) = (all.cursor(), all.items().unwrap());
     assert_eq!((cursor, items.len()), (Cursor { incarnation: 1, position: 601 }, 601));
     let (mut paged, mut after) = (Vec::new(), None::<String>);
-    loop {
+    for at in 0.. {
+        assert!(at < 3, "there are more pages than three");
         let mut page = store.page(after.as_deref().map(|it| (it, Kind::U32)), Some(Scope::new(".*", Kind::U32)), 256).unwrap();
         page.append_to(&mut paged).unwrap();
         if page.is_last() {
@@ -107,7 +108,7 @@ fn a_journal_and_pages() {
     }
     assert_eq!(paged, shown(&items).lines().filter(|it| it.contains(" u32 ")).map(|it| format!("{it}\n")).collect::<String>().into_bytes());
     let (mut cursor, mut counts) = (Cursor { incarnation: 1, position: 601 - 256 }, vec![]);
-    while counts.last() != Some(&56) {
+    while counts.len() < 3 {
         let mut since = store.since(cursor, None, 100).unwrap();
         counts.push(since.items().unwrap().len());
         cursor = since.cursor();
