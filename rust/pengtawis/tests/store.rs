@@ -116,6 +116,18 @@ fn a_journal_and_pages() {
     assert_eq!((counts, cursor.position), (vec![100, 100, 56], 601));
 }
 
+/// 200 values of 1024 bytes, whose lines have 400 KB: a call fetches 64 KB of them.
+#[test]
+fn more_than_one_room() {
+    let mut store = with_eth();
+    for at in 0..200u8 {
+        store.publish(ETH, &format!("m{at:03}"), &[at; 1024][..], version(3, 0), false).unwrap();
+    }
+    let items = store.snapshot(Some(Scope::new("m.*", Kind::Mem))).unwrap().items().unwrap();
+    let wanted: String = (0..200u8).map(|at| format!("m{at:03} mem eth0 3.0 = {}\n", format!("{at:02x}").repeat(1024))).collect();
+    assert!(shown(&items) == wanted && items.len() == 200, "{} bytes", items.text().len());
+}
+
 #[test]
 fn replicas_and_maps() {
     let (mut one, mut two) = (with_eth(), Store::open(2).unwrap());
