@@ -109,13 +109,13 @@ class Rs:
     """What RS knows. The state of a service is ("down",), ("gaveup",), ("waiting", until, failures) or
     ("up", endpoint, beat, ping, failures)."""
 
-    def __init__(self, settings, next):
+    def __init__(self, settings, next, first=16):
         self.slots, services = judged(settings)
-        if not 1 <= next <= MOST_GENERATION + 1:
+        if not (1 <= next <= MOST_GENERATION + 1 and 16 <= first <= 1024 - self.slots):
             raise Refused("outofrange")
         self.services = {service["label"]: service for service in services}
         self.states = {label: ("down",) for label in self.services}
-        self.next, self.tick, self.keys = next, 0, Slots()
+        self.next, self.first, self.tick, self.keys = next, first, 0, Slots()
 
     def event(self, verb, *args):
         """The actions of an event: its last argument is the tick."""
@@ -168,6 +168,25 @@ class Rs:
         due = [(label, "lose and kill") for label in missed] + [(label, "ping") for label in unasked] + [(label, "resume") for label in rested]
         return due[0] if due else None
 
+    def due(self):
+        """The first tick, from the last event's on, at which a tick has actions, or None."""
+        ticks = [state[1] for state in self.states.values() if state[0] == "waiting"]
+        for label, state in self.states.items():
+            period = self.services[label]["period"]
+            if state[0] == "up" and period:
+                ticks += [state[2] + 2 * period, state[3] + period]
+        first = max(self.tick, min(ticks, default=LAST_TICK + 1))
+        return first if first <= LAST_TICK else None
+
+    def instance(self, endpoint):
+        """The index of the service that runs under the endpoint, or None."""
+        return next((n for n, state in enumerate(self.states.values()) if state[0] == "up" and state[1] == endpoint), None)
+
+    def publishes(self, endpoint, name):
+        """Whether the instance may publish the name."""
+        place = self.instance(endpoint)
+        return place is not None and name in list(self.services.values())[place]["publishes"]
+
     # What is done.
 
     def done(self, label, asked, tick):
@@ -196,14 +215,14 @@ class Rs:
         return [f"ping {spelled(endpoint)}"] if asked == "ping" else []
 
     def start(self, label, failures, tick):
-        endpoint = (self.next, 16 + self.keys.take())
+        endpoint = (self.next, self.first + self.keys.take())
         self.next += 1
         self.states[label] = ("up", endpoint, tick, tick, failures)
         return [f"start {label} {spelled(endpoint)}", f"offer {label} label rs {endpoint[0]}.0 = {spelled(endpoint)}"]
 
     def end(self, label, kill, after):
         endpoint = self.states[label][1]
-        self.keys.freed.append(endpoint[1] - 16)
+        self.keys.freed.append(endpoint[1] - self.first)
         self.states[label] = after
         killed = [f"kill {spelled(endpoint)}"] if kill else []
         return killed + [f"offer {label} label rs {endpoint[0]}.1 -", f"sweep {label} {endpoint[0]}"]
@@ -238,6 +257,22 @@ def toml(value):
 def written(settings):
     """Settings as lines of TOML, each with its newline."""
     return "".join(f"{key} = {toml(it)}\n" for key, it in settings.items())
+
+
+def number(it):
+    """A number that may be missing, as it is printed."""
+    return "none" if it is None else it
+
+
+# What is read of RS between two events, by the word that asks for it.
+READINGS = {
+    "next": lambda rs: f"next {rs.next}",
+    "due": lambda rs: f"due {number(rs.due())}",
+    "service": lambda rs, index: told(dict(enumerate(rs.states.values())).get(index, ("unknown",))),
+    "instance": lambda rs, endpoint: f"instance {number(rs.instance(endpoint))}",
+    "publishes": lambda rs, endpoint, name: "may publish" if rs.publishes(endpoint, name) else "may not publish",
+    "labels": lambda rs, endpoint, name: "may not publish",
+}
 
 
 class Session:
@@ -275,8 +310,12 @@ class Session:
             return [told(self.rs.states.get(args[0], ("unknown",)))]
         if verb == "key":
             return [f"key {self.rs.keys.next_key()}"]
+        if verb in READINGS:
+            return [READINGS[verb](self.rs, *args)]
+        before = list(self.rs.states.values())
         actions = self.rs.event(verb, *args)
-        return actions + [f"actions {len(actions)}"]
+        gone = [n for n, (old, new) in enumerate(zip(before, self.rs.states.values())) if new[0] == "gaveup" != old[0]]
+        return actions + [f"actions {len(actions)}"] + [f"gave up {n}" for n in gone]
 
     def _number(self):
         if self.numbers is None:

@@ -28,7 +28,9 @@ class Script(demos.Script):
 
     def may_lack_room(self, command, ample):
         """Settings without a fault take memory, and an event that has actions."""
-        return ample[-1].startswith("services ") if command[0] == "settings" else ample[-1].startswith("actions ") and len(ample) > 1
+        if command[0] == "settings":
+            return ample[-1].startswith("services ")
+        return any(it.startswith("actions ") and it != "actions 0" for it in ample)
 
     def settings(self, most):
         """RS begins with up to so many services, some of them with few slots or few generations left."""
@@ -66,10 +68,18 @@ class Script(demos.Script):
             self.ask("death", self.endpoint(), cause, self.when())
         elif drawn < 0.84:
             self.ask("beat", self.endpoint(), self.when())
-        elif drawn < 0.94:
+        elif drawn < 0.92:
             self.ask("state", self.label())
         else:
-            self.ask("key")
+            self.read()
+
+    def read(self):
+        """What is read of RS between two events."""
+        drawn = self.random
+        self.ask(*drawn.choice([
+            ("key",), ("next",), ("due",), ("due",), ("service", drawn.randint(0, 64)), ("instance", self.endpoint()),
+            (drawn.choice(["publishes", "publishes", "labels"]), self.endpoint(), f"name{drawn.randint(0, 7)}.{drawn.randint(0, 2)}"),
+        ]))
 
     def tick(self):
         """A tick, now and then repeated until it has no actions or is refused, as a caller would."""

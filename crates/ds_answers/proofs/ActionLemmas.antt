@@ -90,11 +90,6 @@ actions_more side (y ∷ acts) x old mid new out first asks one (m, f, r, o, k, 
       ap (λ (l : List (Event × Outcome)). l ++ one) events ∙ append_assoc o k one,
     )
 
--- a line behind the others, and what the store replies behind that
-pub lines_behind : (start out line first now mid new : List ℕ) → now ≡ start ++ out → mid ≡ now ++ line → new ≡ mid ++ first → new ≡ start ++ (out ++ (line ++ first))
-lines_behind start out line first now mid new one two three =
-    three ∙ ap (λ (l : List ℕ). l ++ first) (two ∙ ap (λ (l : List ℕ). l ++ line) one) ∙ append_assoc (start ++ out) line first ∙ append_assoc start out (line ++ first)
-
 -- where an action asks nothing, nothing is asked
 pub asks_none : (side : Side) (command : Option Command) (world : WorldRecord) → command ≡ None → AsksIfAny side command world [] [] world
 asks_none side command world none = subst (λ (o : Option Command). AsksIfAny side o world [] [] world) (sym none) (refl, refl, refl)

@@ -6,7 +6,7 @@ use Rattle.driver_tables.specs.declared.moves.Move.{Move}
 use Rattle.driver_tables.specs.declared.moves.Move.TheVariants.{Start, Send, Answer, Held}
 use Rattle.service_words.specs.Moves.{move_line}
 use Rattle.ds_answers.specs.Tables.{all_in, move_lines}
-use Rattle.ds_answers.proofs.ListLemmas.{next_taken}
+use Rattle.ds_serve.proofs.ListLemmas.{next_taken}
 
 -- ---- one more behind them
 

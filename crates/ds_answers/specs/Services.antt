@@ -8,7 +8,7 @@ use Rattle.rs_core.specs.declared.event.Event.TheVariants.{Up, Stop, Refresh, Re
 use Rattle.rs_core.specs.declared.fault.RsFault.{RsFault}
 use Rattle.rs_core.specs.declared.fault.RsFault.TheVariants.{UnknownLabel, OldEndpoint, NoRoom}
 use Rattle.rs_core.specs.declared.state.State.TheVariants.{Down}
-use Rattle.rs_core.specs.Slots.{slots_with}
+use Rattle.rs_core.specs.Slots.{new_slots}
 use Rattle.rs_core.specs.State.{RsRecord, rs_of}
 use Rattle.rs_core.specs.Machine.{asked}
 use Rattle.rs_core.specs.Judging.{refusal, asks, has_actions}
@@ -35,7 +35,7 @@ use Rattle.ds_answers.specs.Servers.{Servers, ServersRecord, with_rs}
 
 -- RS of settings that were just accepted: every service is down, and the first start has generation 1
 abbrev pub begun_with : SettingsRecord → RsRecord
-begun_with settings = rs_of settings (replicate (length settings.services) Down) 0 1 (slots_with [] 0)
+begun_with settings = rs_of settings (replicate (length settings.services) Down) 0 1 (new_slots 16)
 
 -- The settings that a text stands for are accepted, or their fault is told; behind accepted ones no text is looked at. This is
 -- what there is of RS then, and the answer.

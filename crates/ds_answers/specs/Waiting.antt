@@ -10,11 +10,8 @@ use Rattle.ds_replica.specs.declared.outcome.Outcome.{Outcome}
 use Rattle.ds_world.specs.World.{WorldRecord}
 use Rattle.store_words.specs.Reply.{refused_noroom}
 use Rattle.ds_answers.specs.Servers.{Servers, ServersRecord, ServersLead}
+pub use Rattle.service_words.specs.Appending.{AppendsSome}
 use Rattle.ds_answers.specs.Services.{AsksIfAny, TellsActions, AnswersService}
-
--- something is
-abbrev pub AppendsSome : (before after : List ℕ) → Type 0
-AppendsSome before after = (part : List ℕ) × (after ≡ before ++ part)
 
 -- the answer of what so leads from servers to servers is
 abbrev pub AppendsLed : (Servers → List ℕ → Servers → Type 0) → (before after : List ℕ) → (old new : ServersRecord) → Type 0

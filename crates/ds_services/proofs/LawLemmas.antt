@@ -15,7 +15,7 @@ use Rattle.rs_core.specs.declared.state.State.TheVariants.{Down, Up}
 use Rattle.rs_core.specs.declared.state.Running.{Running}
 use Rattle.rs_core.specs.Action.{label_put}
 use Rattle.rs_core.specs.Numbering.{NumbererRecord, numberer}
-use Rattle.rs_core.specs.Slots.{slots_with}
+use Rattle.rs_core.specs.Slots.{new_slots}
 use Rattle.rs_core.specs.State.{RsRecord, rs_of}
 use Rattle.driver_tables.specs.DriverTable.{empty_table}
 use Rattle.ds_replica.specs.declared.seed.Seed.{Seed}
@@ -60,7 +60,7 @@ run_leads s (e ∷ es) t run =
 
 -- ---- a new system
 new_kept : (settings : SettingsRecord) (next : ℕ) → IsSettings settings → 1 ≤ next
-    → IsKept (rs_of settings (replicate (length settings.services) Down) 0 next (slots_with [] 0)) (replicate (length settings.services) (numberer 0 0)) []
+    → IsKept (rs_of settings (replicate (length settings.services) Down) 0 next (new_slots 16)) (replicate (length settings.services) (numberer 0 0)) []
 new_kept settings next checked some = record {
   settings = checked;
   count = length-replicate (length settings.services) (numberer 0 0);
@@ -92,7 +92,7 @@ new_sound settings a b next s new = record {
 }
   where
     new_rs : RsRecord
-    new_rs = rs_of settings (replicate (length settings.services) Down) 0 next (slots_with [] 0)
+    new_rs = rs_of settings (replicate (length settings.services) Down) 0 next (new_slots 16)
 
     no_numbers : List NumbererRecord
     no_numbers = replicate (length settings.services) (numberer 0 0)

@@ -5,7 +5,7 @@ use Rattle.ds_held.specs.Limits.{larger}
 use Rattle.ds_pattern.proofs.StarLemmas.{dot_star_accepted}
 use Rattle.rs_core.specs.declared.state.State.TheVariants.{Down}
 use Rattle.rs_core.specs.Numbering.{numberer}
-use Rattle.rs_core.specs.Slots.{slots_with}
+use Rattle.rs_core.specs.Slots.{new_slots}
 use Rattle.rs_core.specs.State.{rs_of}
 use Rattle.ds_replica.specs.declared.event.Event.TheVariants.{NewMap}
 use Rattle.ds_replica.specs.declared.outcome.EventFault.TheVariants.{MapsFull, BadPattern}
@@ -23,7 +23,7 @@ new_systems_exist settings a b next checked some =
     let one : World = record w { maps = new_map labels_query ∷ [] } in
     let two : World = record w { maps = new_map labels_query ∷ new_map labels_query ∷ [] } in (
       record {
-        rs = rs_of settings (replicate (length settings.services) Down) 0 next (slots_with [] 0);
+        rs = rs_of settings (replicate (length settings.services) Down) 0 next (new_slots 16);
         numberers = replicate (length settings.services) (numberer 0 0);
         world = two;
         file = assigned_all (filter_map file_unit settings.services);

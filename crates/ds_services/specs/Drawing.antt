@@ -1,11 +1,9 @@
 -- What stands against a change that a service makes, in its one order, and which instance's numbers it is drawn from.
-use Rattle.std.specs.Prelude.{if◌then◌else◌, ℕ, ◌==◌, Bool, not, ◌&&◌, nat_lt, List, Option, Some, None, Result, Ok, Err, slice_index_or}
+use Rattle.std.specs.Prelude.{if◌then◌else◌, ℕ, ◌==◌, Bool, not, nat_lt, List, Option, Some, None, Result, Ok, Err, slice_index_or}
 use Rattle.ds_names.specs.declared.key.Key.{Key}
-use Rattle.ds_names.specs.Kind.{is_label}
 use Rattle.ds_entry.specs.Change.{is_of_kind}
 use Rattle.ds_entry.specs.declared.body.Body.{Body}
-use Rattle.rs_settings.specs.declared.service.Service.{Service}
-use Rattle.rs_settings.specs.Shared.{has_name}
+pub use Rattle.rs_settings.specs.Dealing.{is_declared}
 use Rattle.rs_core.specs.declared.state.State.{State}
 use Rattle.rs_core.specs.declared.state.State.TheVariants.{Down, Up, Waiting, GaveUp}
 use Rattle.rs_core.specs.declared.state.Running.{Running}
@@ -31,10 +29,6 @@ numbers_of n generation = if n.generation == generation then n else numberer gen
 -- the numbers that are left to an instance
 abbrev pub numbers_left : List NumbererRecord → Instance → NumbererRecord
 numbers_left numberers it = numbers_of (numberer_at numberers it.place) it.running.endpoint.generation
-
--- the service publishes what has the key: no label, and a name that it declares
-abbrev pub is_declared : Service → Key → Bool
-is_declared service key = not (is_label key.kind) && has_name service.publishes key.name
 
 -- all numbers but the greatest, which no put has, are drawn
 abbrev pub is_spent : NumbererRecord → Bool

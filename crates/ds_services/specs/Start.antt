@@ -10,7 +10,7 @@ use Rattle.rs_settings.specs.declared.service.Service.{Service}
 use Rattle.rs_settings.specs.Settings.{SettingsRecord, IsSettings}
 use Rattle.rs_core.specs.declared.state.State.TheVariants.{Down}
 use Rattle.rs_core.specs.Numbering.{numberer}
-use Rattle.rs_core.specs.Slots.{slots_with}
+use Rattle.rs_core.specs.Slots.{new_slots}
 use Rattle.rs_core.specs.State.{rs_of}
 use Rattle.driver_tables.specs.declared.file_table.FileClass.TheVariants as files
 use Rattle.driver_tables.specs.Assign.{assigning}
@@ -69,7 +69,7 @@ assigned_all units = fold (λ (t : DriverTable) (u : ℕ × Driver). (assigning 
 pub record IsNew (settings : SettingsRecord) (a b : Seed) (next : ℕ) (s : System) : Type 0 where
   pub checked : IsSettings settings
   pub some : 1 ≤ next
-  pub rs : s.rs ≡ rs_of settings (replicate (length settings.services) Down) 0 next (slots_with [] 0)
+  pub rs : s.rs ≡ rs_of settings (replicate (length settings.services) Down) 0 next (new_slots 16)
   pub numberers : s.numberers ≡ replicate (length settings.services) (numberer 0 0)
   pub world : HappenAll (new_world a b larger) two_maps s.world
   pub file : s.file ≡ assigned_all (filter_map file_unit settings.services)

@@ -1,7 +1,7 @@
 -- What RS's actions lead to.
 use Rattle.std.proofs.Common.{◌≡◌, ◌≢◌, ℕ, zero, suc, ◌+◌, ◌≤◌, true, false, List, [], ◌∷◌, ◌++◌, length, take, min, Option, Some, None, refl, ap, sym, ◌∙◌, subst, inl, inr, arith}
 use Rattle.std.specs.List.{slice_get, filter_map, cons_option, AllByRecursion}
-use Rattle.std.proofs.lemmas.List.{append-nil, length_push, length-take, take_more}
+use Rattle.std.proofs.lemmas.List.{append-nil, length_push, take_more}
 use Rattle.std.proofs.lemmas.List.Elements.{filter_map-append, Contains-append_cases}
 use Rattle.std.proofs.lemmas.Option.{slice_get_within, get_or_from_slice_get}
 use Rattle.ds_names.specs.Endpoint.{EndpointRecord, endpoint_of}
@@ -96,9 +96,6 @@ few_of {X} {Y} f (x ∷ xs) = by (f x) (few_of f xs)
     by : (o : Option Y) → length (filter_map f xs) ≤ length xs → length (cons_option o (filter_map f xs)) ≤ length (x ∷ xs)
     by None l = omega arith
     by (Some y) l = omega arith
-
-pub less_taken : {X : Type 0} (xs : List X) (i : ℕ) → length (take i xs) ≤ i
-less_taken xs i = let e : length (take i xs) ≡ min i (length xs) = length-take i xs in omega (arith, e)
 
 pub taken_by : {X Y : Type 0} (f : X → Option Y) (xs : List X) (i : ℕ) (x : X) → slice_get xs i ≡ Some x → filter_map f (take (i + 1) xs) ≡ filter_map f (take i xs) ++ cons_option (f x) []
 taken_by {X} f xs i x e = ap (filter_map f) (take_more xs i x (slice_get_within xs i x e) ∙ ap (λ (y : X). take i xs ++ y ∷ []) (get_or_from_slice_get xs i x x e)) ∙ filter_map-append f (take i xs) (x ∷ [])

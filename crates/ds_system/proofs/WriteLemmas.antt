@@ -1,20 +1,14 @@
 -- What a service writes: by which instance it is numbered, what stands against it, and what it leads to.
-use Rattle.std.proofs.Common.{◌≡◌, ℕ, ◌+◌, ◌||◌, Bool, true, false, not, cond, List, [], ◌∷◌, ◌++◌, drop, Option, Some, None, Result, Ok, Err, IsOk, refl, ap, sym, ◌∙◌, subst}
-use Rattle.std.specs.List.{slice_get, slice_set, Contains}
+use Rattle.std.proofs.Common.{◌≡◌, ℕ, ◌+◌, ◌||◌, Bool, true, false, not, cond, List, [], ◌∷◌, ◌++◌, Option, Some, None, Result, Ok, Err, IsOk, refl, ap, sym, ◌∙◌, subst}
+use Rattle.std.specs.List.{slice_set}
 use Rattle.std.specs.Option.{option_map}
-use Rattle.std.proofs.lemmas.List.{drop_more}
-use Rattle.std.proofs.lemmas.List.Elements.{Contains-get_or}
-use Rattle.std.proofs.lemmas.Option.{slice_get_within, get_or_from_slice_get}
 use Rattle.ds_names.specs.Endpoint.{EndpointRecord}
 use Rattle.ds_names.specs.declared.key.Key.{Key}
 use Rattle.ds_names.specs.declared.version.Version.{Version}
 use Rattle.ds_entry.specs.Change.{ChangeRecord, change_of, is_of_kind, IsChange}
 use Rattle.ds_entry.specs.declared.body.Body.{Body}
 use Rattle.ds_entry.specs.declared.body.Body.TheVariants.{Put, Gone}
-use Rattle.ds_entry.proofs.Members.{list_any-from_Contains}
 use Rattle.ds_machine.specs.declared.reply.Reply.{Reply}
-use Rattle.rs_settings.specs.Values.{is_same}
-use Rattle.rs_settings.specs.Shared.{has_name}
 use Rattle.rs_core.specs.declared.state.State.{State}
 use Rattle.rs_core.specs.declared.state.State.TheVariants.{Up}
 use Rattle.rs_core.specs.declared.state.Running.{Running}
@@ -40,15 +34,6 @@ use Rattle.ds_services.specs.Refusals.{IsWriteFault}
 use Rattle.ds_system.specs.Stands.{SystemRecord, SystemStands, SystemEventLeads}
 use Rattle.ds_system.specs.Effects.{instance_at, write_event}
 use Rattle.ds_system.proofs.AskLemmas.{proper_one}
-
--- ---- the search for a name
-pub name_here : (names : List (List ℕ)) (name : List ℕ) (i : ℕ) (x : List ℕ) → slice_get names i ≡ Some x → is_same name x ≡ true → has_name names name ≡ true
-name_here names name i x at e = list_any-from_Contains (is_same name) names x (subst (λ (z : List ℕ). Contains names z) (get_or_from_slice_get names i x x at) (Contains-get_or names i x (slice_get_within names i x at))) e
-
-pub name_next : (names : List (List ℕ)) (name : List ℕ) (i : ℕ) (x : List ℕ) → slice_get names i ≡ Some x → is_same name x ≡ false → has_name (drop (i + 1) names) name ≡ has_name (drop i names) name
-name_next names name i x at e =
-    sym (ap (λ (l : List (List ℕ)). has_name l name) (drop_more names i x (slice_get_within names i x at))
-    ∙ ap (λ (b : Bool). b || has_name (drop (i + 1) names) name) (ap (is_same name) (get_or_from_slice_get names i x x at) ∙ e))
 
 -- ---- what is judged
 -- the service's instance, as RS told it by its label

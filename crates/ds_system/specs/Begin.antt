@@ -3,7 +3,7 @@ use Rattle.std.specs.Prelude.{◌≡◌, ◌<◌, ◌≤◌, ◌⊎◌, ◌++◌
 use Rattle.std.specs.List.{cons_option, filter_map}
 use Rattle.ds_names.specs.declared.room.NoRoom as room
 use Rattle.rs_core.specs.declared.state.State.TheVariants.{Down}
-use Rattle.rs_core.specs.Slots.{slots_with}
+use Rattle.rs_core.specs.Slots.{new_slots}
 use Rattle.rs_core.specs.State.{RsRecord, rs_of}
 use Rattle.rs_core.specs.Numbering.{numberer}
 use Rattle.driver_tables.specs.Driver.{Driver}
@@ -39,7 +39,7 @@ HasBothMaps a b world = (after : World) × HappenAll (new_world a b larger) two_
 
 -- RS of which every service is down
 abbrev pub resting_rs : SettingsRecord → ℕ → RsRecord
-resting_rs settings next = rs_of settings (replicate (length settings.services) Down) 0 next (slots_with [] 0)
+resting_rs settings next = rs_of settings (replicate (length settings.services) Down) 0 next (new_slots 16)
 
 -- where the old value stands for a table to which these units were assigned, and nothing was refused, the new value stands for that
 -- with one more behind them, if there is one

@@ -1,7 +1,7 @@
 //! `dstest`: the program for tests.
 //!
 //! Standard input has sections. Each begins with a line `=== NAME`, and the lines up to the next such line are its own: `store`,
-//! `rows`, `desk`, `threads`, `system` or `rs`. What their lines ask is told by the crates that answer them, each in turn.
+//! `rows`, `desk`, `threads`, `system`, `rs` or `pair`. What their lines ask is told by the crates that answer them, each in turn.
 //!
 //! Status 0: done. 1: a line that can't be read, or a call that didn't answer as it should. 3: memory, reading or writing failed, or
 //! a pass of a desk was refused a note, and standard error says which.
@@ -73,6 +73,7 @@ fn answer_alone(rt: &(impl Runtime + AllocGlobal), name: &str, lines: &str) -> R
         "rows" => test_rows::answer(rt),
         "system" => test_system::answer_systems(rt, lines),
         "rs" => test_system::answer_rs(rt, lines),
+        "pair" => test_system::answer_pair(rt, lines),
         _ => Err(Failure::BadLine),
     }
 }

@@ -35,20 +35,20 @@ not_given : (given key : ℕ) → given ≤ key → times_given given key ≡ 0
 not_given given key h = ap one (le-ltb key given h)
 
 -- one key more is given
-given_more : (given key : ℕ) → one ((16 + given) == (16 + key)) + times_given given key ≡ times_given (given + 1) key
-given_more given key = elim (cases_eq key given) [
-  | inl same ↦ rw (eq-eqb (16 + given) (16 + key) (omega (arith, same)), le-ltb key given (omega (arith, same)), lt-ltb key (given + 1) (omega (arith, same))) refl
-  | inr other ↦ rw (ne_eqb (16 + given) (16 + key) (omega (arith, other))) (elim (cases_lt key given) [
+given_more : (first given key : ℕ) → one ((first + given) == (first + key)) + times_given given key ≡ times_given (given + 1) key
+given_more first given key = elim (cases_eq key given) [
+  | inl same ↦ rw (eq-eqb (first + given) (first + key) (omega (arith, same)), le-ltb key given (omega (arith, same)), lt-ltb key (given + 1) (omega (arith, same))) refl
+  | inr other ↦ rw (ne_eqb (first + given) (first + key) (omega (arith, other))) (elim (cases_lt key given) [
     | inl low ↦ rw (lt-ltb key given low, lt-ltb key (given + 1) (omega (arith, low))) refl
     | inr high ↦ rw (le-ltb key given high, le-ltb key (given + 1) (omega (arith, high, other))) refl
   ])
 ]
 
--- a key is that of a slot where it is 16 less
-same_key : (slot k key : ℕ) → slot ≡ 16 + k → (slot == (16 + key)) ≡ (k == key)
-same_key slot k key e = elim (cases_eq k key) [
-  | inl same ↦ eq-eqb slot (16 + key) (omega (arith, e, same)) ∙ sym (eq-eqb k key same)
-  | inr other ↦ ne_eqb slot (16 + key) (omega (arith, e, other)) ∙ sym (ne_eqb k key other)
+-- a key is that of a slot where it is less by the first slot
+same_key : (first slot k key : ℕ) → slot ≡ first + k → (slot == (first + key)) ≡ (k == key)
+same_key first slot k key e = elim (cases_eq k key) [
+  | inl same ↦ eq-eqb slot (first + key) (omega (arith, e, same)) ∙ sym (eq-eqb k key same)
+  | inr other ↦ ne_eqb slot (first + key) (omega (arith, e, other)) ∙ sym (ne_eqb k key other)
 ]
 
 freed_more : (key k : ℕ) (freed : List ℕ) → times_freed key (k ∷ freed) ≡ one (k == key) + times_freed key freed
@@ -70,18 +70,18 @@ is_none : (b : Bool) → one b ≤ 0 → b ≡ false
 is_none true h = absurd (omega (arith, h))
 is_none false h = refl
 
-not_at : (key : ℕ) (state : State) → is_up state ≡ false → is_at key state ≡ false
-not_at key (Up r) h = cc
-not_at key (Waiting p) h = refl
-not_at key Down h = refl
-not_at key GaveUp h = refl
+not_at : (first key : ℕ) (state : State) → is_up state ≡ false → is_at first key state ≡ false
+not_at first key (Up r) h = cc
+not_at first key (Waiting p) h = refl
+not_at first key Down h = refl
+not_at first key GaveUp h = refl
 
 -- a state without an instance
-at_rest : (next : ℕ) (state : State) → IsAtRest state → IsState next state
-at_rest next (Up r) h = absurd h
-at_rest next (Waiting p) h = h
-at_rest next Down h = tt
-at_rest next GaveUp h = tt
+at_rest : (first next : ℕ) (state : State) → IsAtRest state → IsState first next state
+at_rest first next (Up r) h = absurd h
+at_rest first next (Waiting p) h = h
+at_rest first next Down h = tt
+at_rest first next GaveUp h = tt
 
 rest_not_up : (state : State) → IsAtRest state → is_up state ≡ false
 rest_not_up (Up r) h = absurd h
@@ -90,92 +90,94 @@ rest_not_up Down h = refl
 rest_not_up GaveUp h = refl
 
 -- a state stands where more generations were given
-stands : (next more : ℕ) (state : State) → next ≤ more → IsState next state → IsState more state
-stands next more (Up r) le h = record { valid = h.valid; given = h.given; below = omega (arith, h.below, le); slot = h.slot; failures = h.failures }
-stands next more (Waiting p) le h = h
-stands next more Down le h = tt
-stands next more GaveUp le h = tt
+stands : (first next more : ℕ) (state : State) → next ≤ more → IsState first next state → IsState first more state
+stands first next more (Up r) le h = record { valid = h.valid; given = h.given; below = omega (arith, h.below, le); slot = h.slot; failures = h.failures }
+stands first next more (Waiting p) le h = h
+stands first next more Down le h = tt
+stands first next more GaveUp le h = tt
 
 -- ---- the slots, where the state of one service changes
 
 -- the slots change as its state does
-record Follows (freed more : List ℕ) (given now : ℕ) (before after : State) : Type 0 where
+record Follows (first : ℕ) (freed more : List ℕ) (given now : ℕ) (before after : State) : Type 0 where
   once : (key : ℕ) →
-      times_freed key more + one (is_at key after) + times_given given key ≡ times_freed key freed + one (is_at key before) + times_given now key
+      times_freed key more + one (is_at first key after) + times_given given key ≡ times_freed key freed + one (is_at first key before) + times_given now key
   taken : length more + one (is_up after) + given ≡ length freed + one (is_up before) + now
 
 -- it takes the slot that is given next
-takes_next : (freed : List ℕ) (given : ℕ) (before : State) (r : Running) → is_up before ≡ false →
-    r.endpoint.slot ≡ 16 + next_of freed given →
-    Follows freed (giving freed given).freed given (giving freed given).given before (Up r)
-takes_next [] given before r rest slot = record {
-  once = λ key. rw (not_at key before rest, slot) (omega (arith, given_more given key));
+takes_next : (first : ℕ) (freed : List ℕ) (given : ℕ) (before : State) (r : Running) → is_up before ≡ false →
+    r.endpoint.slot ≡ first + next_of freed given →
+    Follows first freed (giving first freed given).freed given (giving first freed given).given before (Up r)
+takes_next first [] given before r rest slot = record {
+  once = λ key. rw (not_at first key before rest, slot) (omega (arith, given_more first given key));
   taken = rw rest (omega arith);
 }
-takes_next (k ∷ freed) given before r rest slot = record {
-  once = λ key. rw (not_at key before rest, same_key r.endpoint.slot k key slot, freed_more key k freed) (omega arith);
+takes_next first (k ∷ freed) given before r rest slot = record {
+  once = λ key. rw (not_at first key before rest, same_key first r.endpoint.slot k key slot, freed_more key k freed) (omega arith);
   taken = rw rest (omega arith);
 }
 
 -- it gives its slot back
-gives_back : (freed : List ℕ) (given : ℕ) (r : Running) (after : State) → 16 ≤ r.endpoint.slot → is_up after ≡ false →
-    Follows freed ((r.endpoint.slot - 16) ∷ freed) given given (Up r) after
-gives_back freed given r after high rest = record {
-  once = λ key. rw (not_at key after rest, same_key r.endpoint.slot (r.endpoint.slot - 16) key (omega (arith, high)), freed_more key (r.endpoint.slot - 16) freed) (omega arith);
+gives_back : (first : ℕ) (freed : List ℕ) (given : ℕ) (r : Running) (after : State) → first ≤ r.endpoint.slot → is_up after ≡ false →
+    Follows first freed ((r.endpoint.slot - first) ∷ freed) given given (Up r) after
+gives_back first freed given r after high rest = record {
+  once = λ key. rw (not_at first key after rest, same_key first r.endpoint.slot (r.endpoint.slot - first) key (omega (arith, high)), freed_more key (r.endpoint.slot - first) freed) (omega arith);
   taken = rw rest (omega arith);
 }
 
 -- it keeps its slot
-keeps_slot : (freed : List ℕ) (given : ℕ) (r q : Running) → r.endpoint.slot ≡ q.endpoint.slot →
-    Follows freed freed given given (Up r) (Up q)
-keeps_slot freed given r q same = record { once = λ key. rw same refl; taken = refl }
+keeps_slot : (first : ℕ) (freed : List ℕ) (given : ℕ) (r q : Running) → r.endpoint.slot ≡ q.endpoint.slot →
+    Follows first freed freed given given (Up r) (Up q)
+keeps_slot first freed given r q same = record { once = λ key. rw same refl; taken = refl }
 
 -- it has none
-has_none : (freed : List ℕ) (given : ℕ) (before after : State) → is_up before ≡ false → is_up after ≡ false →
-    Follows freed freed given given before after
-has_none freed given before after was is = record {
-  once = λ key. rw (not_at key before was, not_at key after is) refl;
+has_none : (first : ℕ) (freed : List ℕ) (given : ℕ) (before after : State) → is_up before ≡ false → is_up after ≡ false →
+    Follows first freed freed given given before after
+has_none first freed given before after was is = record {
+  once = λ key. rw (not_at first key before was, not_at first key after is) refl;
   taken = rw (was, is) refl;
 }
 
 -- ---- what RS keeps
 
-kept_slots : (old new : SlotsRecord) (states : List State) (at : ℕ) (after : State) → SlotsFit old states → at < length states →
-    Follows old.freed new.freed old.given new.given (get_or states at Down) after → new.given ≤ length states →
+kept_slots : (old new : SlotsRecord) (states : List State) (at : ℕ) (after : State) → new.first ≡ old.first → SlotsFit old states → at < length states →
+    Follows old.first old.freed new.freed old.given new.given (get_or states at Down) after → new.given ≤ length states →
     SlotsFit new (set states at after)
-kept_slots old new states at after kept within follows few = record {
-  once = λ key. omega (arith, kept.once key, follows.once key, sum_by-set (λ s. one (is_at key s)) states at after Down within);
+kept_slots old new states at after same kept within follows few = record {
+  once = λ key. rw same (omega (arith, kept.once key, follows.once key, sum_by-set (λ s. one (is_at old.first key s)) states at after Down within));
   taken = omega (arith, kept.taken, follows.taken, sum_by-set (λ s. one (is_up s)) states at after Down within);
   few = omega (arith, few, length-set states at after);
 }
 
 kept_on : (settings : SettingsRecord) (states : List State) (tick now next more : ℕ) (old new : SlotsRecord) (at : ℕ) (after : State)
-    → IsRs settings states tick next old → at < length states → now ≤ 2 ^ 62 → next ≤ more → more ≤ 2097152 → IsState more after
-    → Follows old.freed new.freed old.given new.given (get_or states at Down) after → new.given ≤ length states → new.given ≤ settings.slots
+    → new.first ≡ old.first → IsRs settings states tick next old → at < length states → now ≤ 2 ^ 62 → next ≤ more → more ≤ 2097152 → IsState old.first more after
+    → Follows old.first old.freed new.freed old.given new.given (get_or states at Down) after → new.given ≤ length states → new.given ≤ settings.slots
     → IsRs settings (set states at after) now more new
-kept_on settings states tick now next more old new at after kept within worn le spent here follows few own = record {
+kept_on settings states tick now next more old new at after same kept within worn le spent here follows few own = record {
   checked = kept.checked;
   count = length-set states at after ∙ kept.count;
   worn = worn;
   some = omega (arith, kept.some, le);
   spent = spent;
-  each = λ i l. by_place i l (cases_eq i at);
-  fit = kept_slots old new states at after kept.fit within follows few;
+  each = λ i l. subst (λ first. IsState first more (get_or (set states at after) i Down)) (sym same) (by_place i l (cases_eq i at));
+  fit = kept_slots old new states at after same kept.fit within follows few;
   own = own;
+  low = omega (arith, same, kept.low);
+  high = omega (arith, same, kept.high);
 }
   where
-    by_place : (i : ℕ) → i < length (set states at after) → (i ≡ at) ⊎ (i ≢ at) → IsState more (get_or (set states at after) i Down)
-    by_place i l (inl e) = subst (λ k. IsState more (get_or (set states at after) k Down)) (sym e) (subst (IsState more) (sym (get_or-set_same states at after Down within)) here)
-    by_place i l (inr other) = subst (IsState more) (sym (get_or-set_other states at i after Down other)) (stands next more (get_or states i Down) le (kept.each i (subst (λ n. i < n) (length-set states at after) l)))
+    by_place : (i : ℕ) → i < length (set states at after) → (i ≡ at) ⊎ (i ≢ at) → IsState old.first more (get_or (set states at after) i Down)
+    by_place i l (inl e) = subst (λ k. IsState old.first more (get_or (set states at after) k Down)) (sym e) (subst (IsState old.first more) (sym (get_or-set_same states at after Down within)) here)
+    by_place i l (inr other) = subst (IsState old.first more) (sym (get_or-set_other states at i after Down other)) (stands old.first next more (get_or states i Down) le (kept.each i (subst (λ n. i < n) (length-set states at after) l)))
 
 -- ---- what follows of it
 
 -- the key that is given next is one of the settings' just where fewer services are up than there are slots
-key_below : (limit : ℕ) (freed : List ℕ) (given : ℕ) (states : List State) → ((key : ℕ) →
-    times_freed key freed + count_by (is_at key) states ≡ times_given given key) →
+key_below : (first limit : ℕ) (freed : List ℕ) (given : ℕ) (states : List State) → ((key : ℕ) →
+    times_freed key freed + count_by (is_at first key) states ≡ times_given given key) →
     length freed + up_count states ≡ given → given ≤ limit → (next_of freed given < limit) ↔ (up_count states < limit)
-key_below limit [] given states once taken own = ((λ h. omega (arith, h, taken)), (λ h. omega (arith, h, taken)))
-key_below limit (k ∷ freed) given states once taken own = (
+key_below first limit [] given states once taken own = ((λ h. omega (arith, h, taken)), (λ h. omega (arith, h, taken)))
+key_below first limit (k ∷ freed) given states once taken own = (
   (λ h. omega (arith, taken, own)),
   (λ h. elim (cases_lt k given) [
     | inl low ↦ omega (arith, low, own)
@@ -187,7 +189,7 @@ pub next_key_within : (settings : SettingsRecord) (states : List State) (tick ne
     IsRs settings states tick next slots →
     (next_key slots < settings.slots) ↔ (up_count states < settings.slots)
 next_key_within settings states tick next slots kept =
-    key_below settings.slots slots.freed slots.given states kept.fit.once kept.fit.taken kept.own
+    key_below slots.first settings.slots slots.freed slots.given states kept.fit.once kept.fit.taken kept.own
 
 -- where a service isn't up, there are fewer that are than services
 fewer_up : (states : List State) (at : ℕ) → at < length states → is_up (get_or states at Down) ≡ false → up_count states < length states
@@ -208,77 +210,81 @@ some_up states at within up =
 -- no more keys are given than there are services
 giving_few : (settings : SettingsRecord) (states : List State) (tick next : ℕ) (slots : SlotsRecord) (at : ℕ) →
     IsRs settings states tick next slots → at < length states →
-    is_up (get_or states at Down) ≡ false → (giving slots.freed slots.given).given ≤ length states
+    is_up (get_or states at Down) ≡ false → (giving slots.first slots.freed slots.given).given ≤ length states
 giving_few settings states tick next slots at kept within rest = by slots.freed kept.fit.taken
   where
-    by : (freed : List ℕ) → length freed + up_count states ≡ slots.given → (giving freed slots.given).given ≤ length states
+    by : (freed : List ℕ) → length freed + up_count states ≡ slots.given → (giving slots.first freed slots.given).given ≤ length states
     by [] taken = omega (arith, taken, fewer_up states at within rest)
     by (k ∷ freed) taken = kept.fit.few
 
 -- nor more than the settings have slots
 giving_own : (settings : SettingsRecord) (states : List State) (tick next : ℕ) (slots : SlotsRecord) →
     IsRs settings states tick next slots →
-    up_count states < settings.slots → (giving slots.freed slots.given).given ≤ settings.slots
+    up_count states < settings.slots → (giving slots.first slots.freed slots.given).given ≤ settings.slots
 giving_own settings states tick next slots kept free = by slots.freed kept.fit.taken
   where
-    by : (freed : List ℕ) → length freed + up_count states ≡ slots.given → (giving freed slots.given).given ≤ settings.slots
+    by : (freed : List ℕ) → length freed + up_count states ≡ slots.given → (giving slots.first freed slots.given).given ≤ settings.slots
     by [] taken = omega (arith, taken, free)
     by (k ∷ freed) taken = kept.own
 
 -- no instance runs in the slot that is given next
-not_counted : (key : ℕ) (states : List State) (i : ℕ) → i < length states → count_by (is_at key) states ≤ 0 →
-    IsNotAt key (get_or states i Down)
-not_counted key states i l none = apart (get_or states i Down) (is_none (is_at key (get_or states i Down)) (omega (arith, none, get_or-le-sum_by (λ s. one (is_at key s)) states i Down l)))
+not_counted : (first key : ℕ) (states : List State) (i : ℕ) → i < length states → count_by (is_at first key) states ≤ 0 →
+    IsNotAt first key (get_or states i Down)
+not_counted first key states i l none =
+    apart (get_or states i Down) (is_none (is_at first key (get_or states i Down)) (omega (arith, none, get_or-le-sum_by (λ s. one (is_at first key s)) states i Down l)))
   where
-    apart : (state : State) → is_at key state ≡ false → IsNotAt key state
-    apart (Up r) h = λ (e : r.endpoint.slot ≡ 16 + key). differ (eq-eqb r.endpoint.slot (16 + key) e) h
+    apart : (state : State) → is_at first key state ≡ false → IsNotAt first key state
+    apart (Up r) h = λ (e : r.endpoint.slot ≡ first + key). differ (eq-eqb r.endpoint.slot (first + key) e) h
       where
-        differ : (r.endpoint.slot == (16 + key)) ≡ true → (r.endpoint.slot == (16 + key)) ≡ false → ⊥
+        differ : (r.endpoint.slot == (first + key)) ≡ true → (r.endpoint.slot == (first + key)) ≡ false → ⊥
         differ p q = cc
     apart (Waiting p) h = tt
     apart Down h = tt
     apart GaveUp h = tt
 
 pub next_key_free : (slots : SlotsRecord) (states : List State) → SlotsFit slots states → (i : ℕ) → i < length states →
-    IsNotAt (next_key slots) (get_or states i Down)
-next_key_free slots states kept i l = not_counted (next_key slots) states i l (by slots.freed kept.once)
+    IsNotAt slots.first (next_key slots) (get_or states i Down)
+next_key_free slots states kept i l = not_counted slots.first (next_key slots) states i l (by slots.freed kept.once)
   where
-    by : (freed : List ℕ) → ((key : ℕ) → times_freed key freed + count_by (is_at key) states ≡ times_given slots.given key) →
-        count_by (is_at (next_of freed slots.given)) states ≤ 0
+    by : (freed : List ℕ) → ((key : ℕ) → times_freed key freed + count_by (is_at slots.first key) states ≡ times_given slots.given key) →
+        count_by (is_at slots.first (next_of freed slots.given)) states ≤ 0
     by [] once = omega (arith, once slots.given, not_given slots.given slots.given (omega arith))
     by (k ∷ freed) once = omega (arith, once k, at_most_one slots.given k, freed_itself k freed)
 
 -- no two instances run in one slot
-counted_twice : (key : ℕ) (states : List State) (i j : ℕ) → i < j → j < length states → is_at key (get_or states i Down) ≡ true →
-    is_at key (get_or states j Down) ≡ true → 2 ≤ count_by (is_at key) states
-counted_twice key states i j below l p q =
+counted_twice : (first key : ℕ) (states : List State) (i j : ℕ) → i < j → j < length states → is_at first key (get_or states i Down) ≡ true →
+    is_at first key (get_or states j Down) ≡ true → 2 ≤ count_by (is_at first key) states
+counted_twice first key states i j below l p q =
     let without = set states i Down in
-    let first : one (is_at key (get_or states i Down)) ≡ 1 = ap one p in
-    let second : one (is_at key (get_or without j Down)) ≡ 1 = ap one (ap (is_at key) (get_or-set_other states i j Down Down apart) ∙ q) in
+    let here : one (is_at first key (get_or states i Down)) ≡ 1 = ap one p in
+    let second : one (is_at first key (get_or without j Down)) ≡ 1 = ap one (ap (is_at first key) (get_or-set_other states i j Down Down apart) ∙ q) in
     omega (
       arith,
-      first,
+      here,
       second,
-      sum_by-set (λ s. one (is_at key s)) states i Down Down (omega (arith, below, l)),
-      get_or-le-sum_by (λ s. one (is_at key s)) without j Down (omega (arith, l, length-set states i Down)),
+      sum_by-set (λ s. one (is_at first key s)) states i Down Down (omega (arith, below, l)),
+      get_or-le-sum_by (λ s. one (is_at first key s)) without j Down (omega (arith, l, length-set states i Down)),
     )
   where
     apart : j ≢ i
     apart e = omega (arith, e, below)
 
 pub two_slots : (next : ℕ) (slots : SlotsRecord) (states : List State) → SlotsFit slots states → ((i : ℕ) → i < length states →
-    IsState next (get_or states i Down)) →
+    IsState slots.first next (get_or states i Down)) →
     (i j : ℕ) → i < j → j < length states → HaveTwoSlots (get_or states i Down) (get_or states j Down)
 two_slots next slots states kept each i j below l = by (get_or states i Down) refl (get_or states j Down) refl
   where
+    first : ℕ
+    first = slots.first
+
     by : (a : State) → get_or states i Down ≡ a → (b : State) → get_or states j Down ≡ b → HaveTwoSlots a b
     by (Up r) e (Up q) f = λ (same : r.endpoint.slot ≡ q.endpoint.slot).
-        let high : 16 ≤ r.endpoint.slot = (subst (IsState next) e (each i (omega (arith, below, l)))).slot in
-        let key = r.endpoint.slot - 16 in
-        let here : is_at key (get_or states i Down) ≡ true = ap (is_at key) e ∙ eq-eqb r.endpoint.slot (16 + key) (omega (arith, high)) in
-        let there : is_at key (get_or states j Down) ≡ true =
-        ap (is_at key) f ∙ eq-eqb q.endpoint.slot (16 + key) (omega (arith, high, same)) in
-        omega (arith, kept.once key, at_most_one slots.given key, counted_twice key states i j below l here there)
+        let high : first ≤ r.endpoint.slot = (subst (IsState first next) e (each i (omega (arith, below, l)))).slot in
+        let key = r.endpoint.slot - first in
+        let here : is_at first key (get_or states i Down) ≡ true = ap (is_at first key) e ∙ eq-eqb r.endpoint.slot (first + key) (omega (arith, high)) in
+        let there : is_at first key (get_or states j Down) ≡ true =
+        ap (is_at first key) f ∙ eq-eqb q.endpoint.slot (first + key) (omega (arith, high, same)) in
+        omega (arith, kept.once key, at_most_one slots.given key, counted_twice first key states i j below l here there)
     by a e b f = tt
 
 pub pause_long : (k : ℕ) → 6 ≤ k → pause k ≡ 32
@@ -290,8 +296,8 @@ pause_long k h =
 
 -- what the instance of a service that is up keeps
 pub up_keeps : (settings : SettingsRecord) (states : List State) (tick next : ℕ) (slots : SlotsRecord) (at : ℕ) (r : Running) →
-    IsRs settings states tick next slots → at < length states → get_or states at Down ≡ Up r → IsRunning next r
-up_keeps settings states tick next slots at r kept within e = subst (IsState next) e (kept.each at within)
+    IsRs settings states tick next slots → at < length states → get_or states at Down ≡ Up r → IsRunning slots.first next r
+up_keeps settings states tick next slots at r kept within e = subst (IsState slots.first next) e (kept.each at within)
 
 -- there is room for the key of its slot
 pub stop_has_room : (settings : SettingsRecord) (states : List State) (tick next : ℕ) (slots : SlotsRecord) (at : ℕ) →
@@ -300,33 +306,38 @@ pub stop_has_room : (settings : SettingsRecord) (states : List State) (tick next
 stop_has_room settings states tick next slots at kept within up =
     omega (arith, kept.fit.taken, kept.fit.few, kept.count, kept.checked.count, some_up states at within up)
 
+-- the first slot stays
+giving_first : (first : ℕ) (freed : List ℕ) (given : ℕ) → (giving first freed given).first ≡ first
+giving_first first [] given = refl
+giving_first first (k ∷ freed) given = refl
+
 -- a service is started in the slot that is given next
 pub kept_by_start : (settings : SettingsRecord) (states : List State) (tick now next : ℕ) (slots : SlotsRecord) (at : ℕ) (r : Running) →
     IsRs settings states tick next slots → at < length states → now ≤ 2 ^ 62 → next ≤ 2097151 →
-    up_count states < settings.slots → is_up (get_or states at Down) ≡ false → IsRunning (next + 1) r →
-    r.endpoint.slot ≡ 16 + next_key slots → IsRs settings (set states at (Up r)) now (next + 1) (with_next_given slots)
+    up_count states < settings.slots → is_up (get_or states at Down) ≡ false → IsRunning slots.first (next + 1) r →
+    r.endpoint.slot ≡ slots.first + next_key slots → IsRs settings (set states at (Up r)) now (next + 1) (with_next_given slots)
 kept_by_start settings states tick now next slots at r kept within worn left free rest here slot =
-    kept_on settings states tick now next (next + 1) slots (with_next_given slots) at (Up r) kept within worn (omega arith) (omega (arith, left)) here
-    (takes_next slots.freed slots.given (get_or states at Down) r rest slot)
+    kept_on settings states tick now next (next + 1) slots (with_next_given slots) at (Up r) (giving_first slots.first slots.freed slots.given) kept within worn (omega arith) (omega (arith, left)) here
+    (takes_next slots.first slots.freed slots.given (get_or states at Down) r rest slot)
     (giving_few settings states tick next slots at kept within rest) (giving_own settings states tick next slots kept free)
 
 -- its instance is stopped
 pub kept_by_stop : (settings : SettingsRecord) (states : List State) (tick now next : ℕ) (slots : SlotsRecord) (at : ℕ) (r : Running) (after : State) → IsRs settings states tick next slots → at < length states → now ≤ 2 ^ 62 →
-    get_or states at Down ≡ Up r → IsAtRest after → IsRs settings (set states at after) now next (with_freed slots (r.endpoint.slot - 16))
+    get_or states at Down ≡ Up r → IsAtRest after → IsRs settings (set states at after) now next (with_freed slots (r.endpoint.slot - slots.first))
 kept_by_stop settings states tick now next slots at r after kept within worn up rest =
-    let key = r.endpoint.slot - 16 in
-    kept_on settings states tick now next next slots (with_freed slots key) at after kept within worn (omega arith) kept.spent (at_rest next after rest)
-    (subst (λ (z : State). Follows slots.freed (key ∷ slots.freed) slots.given slots.given z after) (sym up)
-    (gives_back slots.freed slots.given r after (up_keeps settings states tick next slots at r kept within up).slot (rest_not_up after rest)))
+    let key = r.endpoint.slot - slots.first in
+    kept_on settings states tick now next next slots (with_freed slots key) at after refl kept within worn (omega arith) kept.spent (at_rest slots.first next after rest)
+    (subst (λ (z : State). Follows slots.first slots.freed (key ∷ slots.freed) slots.given slots.given z after) (sym up)
+    (gives_back slots.first slots.freed slots.given r after (up_keeps settings states tick next slots at r kept within up).slot (rest_not_up after rest)))
     kept.fit.few kept.own
 
 -- its instance goes on, or another one does in the same slot
 pub kept_by_change : (settings : SettingsRecord) (states : List State) (tick now next more : ℕ) (slots : SlotsRecord) (at : ℕ) (r q : Running) → IsRs settings states tick next slots → at < length states → now ≤ 2 ^ 62 → next ≤ more → more ≤ 2097152 →
-    get_or states at Down ≡ Up r → IsRunning more q → r.endpoint.slot ≡ q.endpoint.slot →
+    get_or states at Down ≡ Up r → IsRunning slots.first more q → r.endpoint.slot ≡ q.endpoint.slot →
     IsRs settings (set states at (Up q)) now more slots
 kept_by_change settings states tick now next more slots at r q kept within worn le spent up here same =
-    kept_on settings states tick now next more slots slots at (Up q) kept within worn le spent here
-    (subst (λ (z : State). Follows slots.freed slots.freed slots.given slots.given z (Up q)) (sym up) (keeps_slot slots.freed slots.given r q same))
+    kept_on settings states tick now next more slots slots at (Up q) refl kept within worn le spent here
+    (subst (λ (z : State). Follows slots.first slots.freed slots.freed slots.given slots.given z (Up q)) (sym up) (keeps_slot slots.first slots.freed slots.given r q same))
     kept.fit.few kept.own
 
 -- a service that isn't up is left so
@@ -334,6 +345,6 @@ pub kept_at_rest : (settings : SettingsRecord) (states : List State) (tick now n
     IsRs settings states tick next slots → at < length states → now ≤ 2 ^ 62 →
     is_up (get_or states at Down) ≡ false → IsAtRest after → IsRs settings (set states at after) now next slots
 kept_at_rest settings states tick now next slots at after kept within worn was rest =
-    kept_on settings states tick now next next slots slots at after kept within worn (omega arith) kept.spent (at_rest next after rest)
-    (has_none slots.freed slots.given (get_or states at Down) after was (rest_not_up after rest))
+    kept_on settings states tick now next next slots slots at after refl kept within worn (omega arith) kept.spent (at_rest slots.first next after rest)
+    (has_none slots.first slots.freed slots.given (get_or states at Down) after was (rest_not_up after rest))
     kept.fit.few kept.own

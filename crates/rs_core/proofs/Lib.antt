@@ -3,3 +3,4 @@ pub mod KeptLemmas
 pub mod RunLemmas
 pub mod SaysLemmas
 pub mod RefusalLemmas
+pub mod ReadingLemmas

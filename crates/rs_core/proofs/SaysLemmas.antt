@@ -25,9 +25,9 @@ use Rattle.rs_core.specs.Action.{IsActionInPlace, label_put, start_actions, stop
 use Rattle.rs_core.specs.State.{RsRecord, state_at, service_at, no_service}
 use Rattle.rs_core.specs.Finding.{first_sought}
 use Rattle.rs_core.specs.Machine.{asked, failed, state_after, actions_of, next_after, new_endpoint, same_slot, started_at}
-use Rattle.rs_core.specs.Judging.{order, against, refusal, takes_generation, asks}
+use Rattle.rs_core.specs.Judging.{order, against, refusal, takes_generation, has_actions, asks}
 use Rattle.rs_core.specs.Run.{offers}
-use Rattle.rs_core.specs.Says.{Begun, begun_at, label_at, IsNextAfter, IsPutOf, IsGoneOf, RanOrBegan, StepsSay, LabelsAreFound}
+use Rattle.rs_core.specs.Says.{Begun, begun_at, label_at, IsNextAfter, IsPutOf, IsGoneOf, RanOrBegan, StepsSay, QuietStepsAreEmpty, LabelsAreFound}
 
 up_is : (r q : Running) → Up r ≡ Up q → r ≡ q
 up_is r q e = cc
@@ -156,7 +156,7 @@ generation_left s event tick p free is takes =
     grind (arith, nat_tests)
 
 -- what is read of a list where one place was written
-written : (xs : List State) (at i : ℕ) (x : State) → (get_or (set xs at x) i Down ≡ get_or xs i Down) ⊎ ((i ≡ at) × (get_or (set xs at x) i Down ≡ x))
+pub written : (xs : List State) (at i : ℕ) (x : State) → (get_or (set xs at x) i Down ≡ get_or xs i Down) ⊎ ((i ≡ at) × (get_or (set xs at x) i Down ≡ x))
 written [] at i x = inl refl
 written (y ∷ ys) zero zero x = inr (refl, refl)
 written (y ∷ ys) zero (suc i) x = inl refl
@@ -197,6 +197,31 @@ steps_say s t event tick actions (Some p, free, is, h) = record {
         → RanOrBegan (state_at s i) says.begun i r.endpoint
     by i r (inl same) up = inl (r, sym same ∙ up, refl)
     by i r (inr here) up = subst (λ k. RanOrBegan (state_at s k) says.begun k r.endpoint) (sym here.0) (says.runs r (sym here.1 ∙ up))
+
+-- ---- steps without actions
+
+-- a deed without actions does nothing to a service in any state
+quiet_deed : (s : RsRecord) (service : Service) (state : State) (deed : Deed) → has_actions deed ≡ false → actions_of s service state deed ≡ []
+quiet_deed s service Down Forget e = refl
+quiet_deed s service (Up r) Forget e = refl
+quiet_deed s service (Waiting p) Forget e = refl
+quiet_deed s service GaveUp Forget e = refl
+quiet_deed s service Down Hear e = refl
+quiet_deed s service (Up r) Hear e = refl
+quiet_deed s service (Waiting p) Hear e = refl
+quiet_deed s service GaveUp Hear e = refl
+quiet_deed s service state Begin e = absurd (let n : true ≡ false = e in cc)
+quiet_deed s service state Resume e = absurd (let n : true ≡ false = e in cc)
+quiet_deed s service state Halt e = absurd (let n : true ≡ false = e in cc)
+quiet_deed s service state Replace e = absurd (let n : true ≡ false = e in cc)
+quiet_deed s service state (Lose kill) e = absurd (let n : true ≡ false = e in cc)
+quiet_deed s service state Ping e = absurd (let n : true ≡ false = e in cc)
+
+pub quiet_steps : QuietStepsAreEmpty
+quiet_steps s t event tick actions (None, free, is, h) quiet = h.done
+quiet_steps s t event tick actions (Some p, free, is, h) quiet =
+    let none : has_actions p.deed ≡ false = subst (λ (z : Result (Option Plan) RsFault). asks has_actions z ≡ false) is quiet in
+    h.done ∙ quiet_deed s (service_at s p.place) (state_at s p.place) p.deed none
 
 -- ---- labels
 found_label : (label : List ℕ) (k : ℕ) (services : List Service) (states : List State) (i : ℕ) → first_sought (sought.Label label) k services states ≡ Some i

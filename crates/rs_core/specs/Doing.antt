@@ -16,7 +16,7 @@ after_start s place tick failures =
 -- its instance was stopped, which leaves it in this state
 abbrev pub after_stop : RsRecord → ℕ → ℕ → Running → State → RsRecord
 after_stop s place tick running after =
-    rs_of s.settings (slice_set s.states place after) tick s.next (with_freed s.slots (running.endpoint.slot - 16))
+    rs_of s.settings (slice_set s.states place after) tick s.next (with_freed s.slots (running.endpoint.slot - s.slots.first))
 
 -- its instance was stopped, and another one started in its slot
 abbrev pub after_replacement : RsRecord → ℕ → ℕ → Running → RsRecord

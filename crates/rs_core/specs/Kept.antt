@@ -1,5 +1,5 @@
 -- What RS keeps true of its states, slots and generations.
-use Rattle.std.specs.Prelude.{◌≡◌, ◌≢◌, ℕ, ◌+◌, ◌^◌, ◌<◌, ◌≤◌, ◌==◌, nat_lt, Bool, false, List, length, slice_index_or, count_by, if◌then◌else◌}
+use Rattle.std.specs.Prelude.{◌≡◌, ◌≢◌, ◌⊎◌, ℕ, ◌+◌, ◌^◌, ◌<◌, ◌≤◌, ◌==◌, nat_lt, Bool, false, List, length, slice_index_or, count_by, if◌then◌else◌}
 use Rattle.ds_names.specs.Endpoint.{IsEndpoint}
 use Rattle.rs_settings.specs.Settings.{SettingsRecord, IsSettings}
 use Rattle.rs_core.specs.declared.state.State.{State}
@@ -8,27 +8,27 @@ use Rattle.rs_core.specs.declared.state.Running.{Running}
 use Rattle.rs_core.specs.Slots.{SlotsRecord}
 use Rattle.rs_core.specs.State.{up_count}
 
--- the instance of a service: its generation was given, and its slot isn't one of the first 16
-pub record IsRunning (next : ℕ) (r : Running) : Type 0 where
+-- the instance of a service: its generation was given, and its slot isn't below RS's first one
+pub record IsRunning (first next : ℕ) (r : Running) : Type 0 where
   pub valid : IsEndpoint r.endpoint
   pub given : 0 < r.endpoint.generation
   pub below : r.endpoint.generation < next
-  pub slot : 16 ≤ r.endpoint.slot
+  pub slot : first ≤ r.endpoint.slot
   pub failures : r.failures ≤ 1000
 
 -- the state of a service: failures never pass a limit
-abbrev pub IsState : ℕ → State → Type 0
-IsState next (Up r) = IsRunning next r
-IsState next (Waiting p) = p.failures ≤ 1000
-IsState next Down = Unit {0}
-IsState next GaveUp = Unit {0}
+abbrev pub IsState : ℕ → ℕ → State → Type 0
+IsState first next (Up r) = IsRunning first next r
+IsState first next (Waiting p) = p.failures ≤ 1000
+IsState first next Down = Unit {0}
+IsState first next GaveUp = Unit {0}
 
 -- an instance of the service runs in the slot with the key
-abbrev pub is_at : ℕ → State → Bool
-is_at key (Up r) = r.endpoint.slot == 16 + key
-is_at key (Waiting p) = false
-is_at key Down = false
-is_at key GaveUp = false
+abbrev pub is_at : ℕ → ℕ → State → Bool
+is_at first key (Up r) = r.endpoint.slot == first + key
+is_at first key (Waiting p) = false
+is_at first key Down = false
+is_at first key GaveUp = false
 
 -- 1 for a key that was given, 0 for another one
 abbrev pub times_given : ℕ → ℕ → ℕ
@@ -37,11 +37,15 @@ times_given given key = if nat_lt key given then 1 else 0
 -- The slots fit the states: no slot is lost, and none has two instances.
 pub record SlotsFit (slots : SlotsRecord) (states : List State) : Type 0 where
   -- a key that was given is free again, or one instance's; no other key is
-  pub once : (key : ℕ) → count_by (λ k. k == key) slots.freed + count_by (is_at key) states ≡ times_given slots.given key
+  pub once : (key : ℕ) → count_by (λ k. k == key) slots.freed + count_by (is_at slots.first key) states ≡ times_given slots.given key
   -- of the keys that were given, as many aren't free as services are up
   pub taken : length slots.freed + up_count states ≡ slots.given
   -- no more keys were given than there are services
   pub few : slots.given ≤ length states
+
+-- no generation of a first start, which is 1 to 2097152, or no first slot of so many: RS's slots are 16 to 1023
+abbrev pub IsOutOfRange : ℕ → ℕ → ℕ → Type 0
+IsOutOfRange slots next first = ((next < 1) ⊎ (2097152 < next)) ⊎ ((first < 16) ⊎ (1024 < first + slots))
 
 -- settings in their ranges, a state for each service, the tick and the next generation in their ranges, each state so, and slots
 -- that fit the states, of no more keys than the settings allow
@@ -51,16 +55,19 @@ pub record IsRs (settings : SettingsRecord) (states : List State) (tick next : �
   pub worn : tick ≤ 2 ^ 62
   pub some : 1 ≤ next
   pub spent : next ≤ 2097152
-  pub each : (i : ℕ) → i < length states → IsState next (slice_index_or states i Down)
+  pub each : (i : ℕ) → i < length states → IsState slots.first next (slice_index_or states i Down)
   pub fit : SlotsFit slots states
   pub own : slots.given ≤ settings.slots
+  -- the system's own slots are below RS's, which are all slots of endpoints
+  pub low : 16 ≤ slots.first
+  pub high : slots.first + settings.slots ≤ 1024
 
 -- no instance of the service runs in the slot with the key
-abbrev pub IsNotAt : ℕ → State → Type 0
-IsNotAt key (Up r) = r.endpoint.slot ≢ 16 + key
-IsNotAt key (Waiting p) = Unit {0}
-IsNotAt key Down = Unit {0}
-IsNotAt key GaveUp = Unit {0}
+abbrev pub IsNotAt : ℕ → ℕ → State → Type 0
+IsNotAt first key (Up r) = r.endpoint.slot ≢ first + key
+IsNotAt first key (Waiting p) = Unit {0}
+IsNotAt first key Down = Unit {0}
+IsNotAt first key GaveUp = Unit {0}
 
 -- where both services run, they run in two slots
 abbrev pub HaveTwoSlots : State → State → Type 0

@@ -11,3 +11,4 @@ pub mod Kept
 pub mod Run
 pub mod Says
 pub mod Numbering
+pub mod Reading

@@ -81,9 +81,9 @@ failures_of GaveUp = 0
 abbrev pub started_at : EndpointRecord → ℕ → ℕ → State
 started_at endpoint tick failures = Up (record { endpoint = endpoint; beat = tick; ping = tick; failures = failures })
 
--- the endpoint of a start: the next generation, in the slot that is given next; the first 16 slots are left to others
+-- the endpoint of a start: the next generation, in the slot that is given next
 abbrev pub new_endpoint : RsRecord → EndpointRecord
-new_endpoint s = endpoint_of s.next (16 + next_key s.slots)
+new_endpoint s = endpoint_of s.next (s.slots.first + next_key s.slots)
 
 -- the endpoint of a start behind a stop: the slot that the stop freed is the one that is given next
 abbrev pub same_slot : RsRecord → Running → EndpointRecord
@@ -126,6 +126,6 @@ abbrev pub slots_after : RsRecord → State → Deed → SlotsRecord
 slots_after s Down Begin = with_next_given s.slots
 slots_after s GaveUp Begin = with_next_given s.slots
 slots_after s (Waiting p) Resume = with_next_given s.slots
-slots_after s (Up r) (Lose kill) = with_freed s.slots (r.endpoint.slot - 16)
-slots_after s (Up r) Halt = with_freed s.slots (r.endpoint.slot - 16)
+slots_after s (Up r) (Lose kill) = with_freed s.slots (r.endpoint.slot - s.slots.first)
+slots_after s (Up r) Halt = with_freed s.slots (r.endpoint.slot - s.slots.first)
 slots_after s state _ = s.slots

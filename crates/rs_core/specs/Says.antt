@@ -1,5 +1,5 @@
 -- What one step of the restart machine says of instances and of their labels.
-use Rattle.std.specs.Prelude.{◌≡◌, ◌⊎◌, ℕ, ◌+◌, ◌<◌, ◌≤◌, List, length, Option, Some, None, Contains}
+use Rattle.std.specs.Prelude.{◌≡◌, ◌⊎◌, ℕ, ◌+◌, ◌<◌, ◌≤◌, false, List, [], length, Option, Some, None, Contains}
 use Rattle.std.specs.List.{AllByRecursion}
 use Rattle.ds_names.specs.Endpoint.{EndpointRecord}
 use Rattle.ds_entry.specs.Change.{ChangeRecord}
@@ -12,6 +12,8 @@ use Rattle.rs_core.specs.declared.finding.Sought.TheVariants as sought
 use Rattle.rs_core.specs.Action.{IsActionInPlace, label_put, label_gone}
 use Rattle.rs_core.specs.State.{RsRecord, state_at, service_at}
 use Rattle.rs_core.specs.Finding.{service_place}
+use Rattle.rs_core.specs.Machine.{asked}
+use Rattle.rs_core.specs.Judging.{asks, has_actions}
 use Rattle.rs_core.specs.Run.{offers}
 use Rattle.rs_core.specs.Step.{RsStep}
 
@@ -77,3 +79,8 @@ pub record StepSays (s : RsRecord) (actions : List Action) (t : RsRecord) : Type
 -- every step says so
 abbrev pub StepsSay : Type 0
 StepsSay = (s t : RsRecord) (event : Event) (tick : ℕ) (actions : List Action) → RsStep s event tick actions t → StepSays s actions t
+
+-- a step at an event that asks for no actions has none
+abbrev pub QuietStepsAreEmpty : Type 0
+QuietStepsAreEmpty = (s t : RsRecord) (event : Event) (tick : ℕ) (actions : List Action) →
+    RsStep s event tick actions t → asks has_actions (asked s event tick) ≡ false → actions ≡ []

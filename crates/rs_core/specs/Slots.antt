@@ -2,18 +2,24 @@
 use Rattle.std.specs.Prelude.{ℕ, ◌+◌, List, [], ◌∷◌, refl}
 use Rattle.std.specs.Coded.{Coded, code_by, coded×, coded_ℕ, coded_list}
 
--- the keys that are free again, that freed last in front; and how many keys were given: all below that
+-- the slot with key 0; the keys that are free again, that freed last in front; and how many keys were given: all below that
 pub record SlotsRecord : Type 0 where
+  pub first : ℕ
   pub freed : List ℕ
   pub given : ℕ
 
 -- the record of these parts
-abbrev pub slots_with : List ℕ → ℕ → SlotsRecord
-slots_with freed given = record { freed = freed; given = given }
+abbrev pub slots_from : ℕ → List ℕ → ℕ → SlotsRecord
+slots_from first freed given = record { first = first; freed = freed; given = given }
+
+-- no key was given yet
+abbrev pub new_slots : ℕ → SlotsRecord
+new_slots first = slots_from first [] 0
 
 -- slots are stored as the pair of their parts
 abbrev pub slots_code : Coded SlotsRecord
-slots_code = code_by (List ℕ × ℕ) (coded× (coded_list coded_ℕ) coded_ℕ) (λ s. (s.freed, s.given)) (λ p. slots_with p.0 p.1) (λ _. refl)
+slots_code =
+    code_by (ℕ × (List ℕ × ℕ)) (coded× coded_ℕ (coded× (coded_list coded_ℕ) coded_ℕ)) (λ s. (s.first, (s.freed, s.given))) (λ p. slots_from p.0 p.1.0 p.1.1) (λ _. refl)
 
 -- the key that is given next: that freed last, and where none is free again the first that was never given
 abbrev pub next_of : List ℕ → ℕ → ℕ
@@ -24,13 +30,13 @@ abbrev pub next_key : SlotsRecord → ℕ
 next_key s = next_of s.freed s.given
 
 -- the slots once that key is given
-abbrev pub giving : List ℕ → ℕ → SlotsRecord
-giving [] given = slots_with [] (given + 1)
-giving (key ∷ freed) given = slots_with freed given
+abbrev pub giving : ℕ → List ℕ → ℕ → SlotsRecord
+giving first [] given = slots_from first [] (given + 1)
+giving first (key ∷ freed) given = slots_from first freed given
 
 abbrev pub with_next_given : SlotsRecord → SlotsRecord
-with_next_given s = giving s.freed s.given
+with_next_given s = giving s.first s.freed s.given
 
 -- the slots once the key is free again
 abbrev pub with_freed : SlotsRecord → ℕ → SlotsRecord
-with_freed s key = slots_with (key ∷ s.freed) s.given
+with_freed s key = slots_from s.first (key ∷ s.freed) s.given

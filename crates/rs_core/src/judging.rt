@@ -1,7 +1,7 @@
 //! What stands against an event or a deed.
 
 ghost use Rattle.std.specs.Prelude.{◌≡◌};
-ghost use Rattle.rs_core.specs.Judging.{is_bad_cause, takes_generation, takes_slot};
+ghost use Rattle.rs_core.specs.Judging.{has_actions, is_bad_cause, takes_generation, takes_slot};
 
 use crate::deed::Deed;
 use crate::event::Event;
@@ -27,4 +27,11 @@ pub(crate) fn takes_slot(deed: Deed) -> bool
     ensures { result ≡ takes_slot deed }
 {
     matches!(deed, Deed::Begin | Deed::Resume)
+}
+
+// Whether the deed has actions, whose list takes memory.
+pub(crate) fn has_actions(deed: Deed) -> bool
+    ensures { result ≡ has_actions deed }
+{
+    !matches!(deed, Deed::Forget | Deed::Hear)
 }

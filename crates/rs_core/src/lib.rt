@@ -8,6 +8,7 @@
 
 mod action;
 mod deed;
+mod due;
 mod event;
 mod fault;
 mod finding;
@@ -21,7 +22,7 @@ mod state;
 pub use action::{Action, Actions};
 pub use event::Event;
 pub use fault::{NewFault, RsFault};
-pub use law::{labels_are_single_numbered, numbers_rise, starts_rise, steps_say};
+pub use law::{labels_are_single_numbered, numbers_rise, readings_hold, starts_rise, steps_say};
 pub use numberer::{Numberer, SeqSpent};
 pub use rs::Rs;
 pub use state::{Pause, Running, State};

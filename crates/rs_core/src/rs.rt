@@ -3,17 +3,18 @@
 ghost use Rattle.std.specs.Prelude.{◌≡◌, ◌≢◌, ℕ, ◌<◌, ◌≤◌, [], option_map, ◌↔◌, ◌⊎◌, IsErrOf, length, replicate};
 ghost use Rattle.std.specs.Prelude.{None, Some, true, IfOk, IfErr, IfSome, OnErr};
 ghost use Rattle.rs_settings.specs.Settings.{IsService, IsSettings};
-ghost use Rattle.rs_core.specs.Slots.{slots_with, next_key};
+ghost use Rattle.rs_core.specs.Slots.{new_slots, next_key};
 ghost use Rattle.rs_core.specs.State.{rs_of, state_at, service_at, up_count};
 ghost use Rattle.rs_core.specs.Finding.{service_place};
 ghost use Rattle.rs_core.specs.Machine.{asked, failures_of};
 ghost use Rattle.rs_core.specs.Judging.{refusal, asks, has_actions};
 ghost use Rattle.rs_core.specs.Step.{RsStep};
-ghost use Rattle.rs_core.specs.Kept.{IsNotAt, HaveTwoSlots};
+ghost use Rattle.rs_core.specs.Kept.{IsNotAt, IsOutOfRange, HaveTwoSlots};
 ghost use Rattle.rs_core.specs.Says.{place_of_label};
 
 mod asking;
 mod doing;
+mod reading;
 
 use crate::action::Actions;
 use crate::event::Event;
@@ -55,13 +56,31 @@ impl Model for Rs {
 
 impl Rs {
     /// RS before any event: every service is down. `next` is the generation of the first start; OutOfRange unless it
-    /// is 1 to 2097152. NoRoom comes behind it, and only where there is a service: RS without any takes no memory.
+    /// is 1 to 2097152. NoRoom comes after it, and only where there is a service: RS without any takes no memory. The first slot
+    /// is 16.
     pub fn new(alloc: Global, settings: Settings, next: u32) -> Result<Rs, NewFault>
-        ensures value { IfOk result (λ rs. rs ≡ rs_of settings (replicate (length settings.services) State.Down) 0 next (slots_with [] 0)) }
+        ensures value { IfOk result (λ rs. rs ≡ rs_of settings (replicate (length settings.services) State.Down) 0 next (new_slots 16)) }
         ensures range { IsErrOf result NewFault.OutOfRange ↔ (next < 1 ⊎ 2097152 < next) }
         ensures room { IfErr result (λ fault. fault ≡ NewFault.NoRoom → settings.services ≢ []) }
     {
-        if next < 1 || next > 2097152 {
+        let _slots = settings.slots();
+        Rs::from_slot(alloc, settings, next, 16)
+    }
+
+    /// Like `new`, for RS whose slots begin at `first`. OutOfRange also where `first` is below 16, or the last slot above 1023.
+    ///
+    /// Two hosts whose slots are apart never give two instances one endpoint.
+    pub fn from_slot(
+        alloc: Global,
+        settings: Settings,
+        next: u32,
+        first: u16,
+    ) -> Result<Rs, NewFault>
+        ensures value { IfOk result (λ rs. rs ≡ rs_of settings (replicate (length settings.services) State.Down) 0 next (new_slots first)) }
+        ensures range { IsErrOf result NewFault.OutOfRange ↔ IsOutOfRange settings.slots next first }
+        ensures room { IfErr result (λ fault. fault ≡ NewFault.NoRoom → settings.services ≢ []) }
+    {
+        if next < 1 || next > 2097152 || first < 16 || u32::from(first) + settings.slots() > 1024 {
             return Err(NewFault::OutOfRange);
         }
         let Ok(states) = all_down(alloc, settings.services().len()) else {
@@ -71,7 +90,7 @@ impl Rs {
             alloc,
             settings,
             states,
-            slots: Slots::new(),
+            slots: Slots::new(first),
             tick: 0,
             next,
         })
@@ -134,14 +153,14 @@ impl Rs {
         self.next
     }
 
-    /// The key of the slot that the next start takes, unless it stops an instance itself: slot 16 has key 0.
+    /// The key of the slot that the next start takes, unless it stops an instance itself: the first slot has key 0.
     ///
     /// It is one of the settings' slots just where fewer services are up than there are slots. No running service has that
     /// slot, and no two of them have one slot.
     pub fn next_key(&self) -> usize
         ensures value { result ≡ next_key self.now.slots }
         ensures within { (result < self.now.settings.slots) ↔ (up_count self.now.states < self.now.settings.slots) }
-        ensures free { (i : ℕ) → i < length self.now.states → IsNotAt result (state_at self.now i) }
+        ensures free { (i : ℕ) → i < length self.now.states → IsNotAt self.now.slots.first result (state_at self.now i) }
         ensures own { (i j : ℕ) → i < j → j < length self.now.states → HaveTwoSlots (state_at self.now i) (state_at self.now j) }
     {
         self.slots.next_key()

@@ -72,14 +72,14 @@ pub(crate) fn failed(limit: u32, tick: u64, k: u32) -> State
     }
 }
 
-// The endpoint of a generation in the slot with a key.
-pub(crate) fn endpoint_at(generation: u32, key: usize) -> Endpoint
+// The endpoint of a generation in a slot.
+pub(crate) fn endpoint_at(generation: u32, slot: u16) -> Endpoint
     requires generation { generation ≤ 2097151 }
-    requires key { key < 1008 }
-    ensures { result ≡ endpoint_of generation (16 + key) }
+    requires slot { slot ≤ 1023 }
+    ensures { result ≡ endpoint_of generation slot }
 {
     match Generation::of(generation) {
-        Some(generation) => match Endpoint::of(generation, 16 + key as u16) {
+        Some(generation) => match Endpoint::of(generation, slot) {
             Some(endpoint) => endpoint,
             None => unreachable!(),
         },

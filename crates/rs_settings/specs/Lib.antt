@@ -6,3 +6,4 @@ pub mod Settings
 pub mod Apart
 pub mod Draft
 pub mod Ascending
+pub mod Dealing

@@ -2,6 +2,7 @@
 
 ghost use Rattle.std.specs.Prelude.{◌≡◌, ◌++◌, ◌∷◌, [], length, slice_get, OnOk, IfErr, OnErr, IfOk};
 ghost use Rattle.std.specs.Option.{option_copied};
+ghost use Rattle.rs_settings.specs.Shared.{has_name};
 
 use ds_names::{Name, NoRoom};
 use std::alloc::{AllocFailed, Global};
@@ -52,6 +53,18 @@ impl Names {
         ensures { option_copied result ≡ slice_get self.now index }
     {
         self.names.get(index)
+    }
+
+    /// Returns whether the name is among them.
+    pub(crate) fn has(&self, name: &Name) -> bool
+        ensures { result ≡ has_name self.now name.now }
+    {
+        for own in &self.names {
+            if *name == *own {
+                return true;
+            }
+        }
+        false
     }
 
     /// The same names again, in the same order.

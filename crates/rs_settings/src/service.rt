@@ -1,10 +1,11 @@
 //! Services.
 
 ghost use Rattle.std.specs.Prelude.{◌≡◌, IfOk};
+ghost use Rattle.rs_settings.specs.Dealing.{is_declared};
 
 use crate::class::Class;
 use crate::names::Names;
-use ds_names::{Name, NoRoom};
+use ds_names::{Key, Kind, Name, NoRoom};
 use std::alloc::Global;
 
 /// What RS is told of a service.
@@ -24,6 +25,13 @@ pub struct Service {
 }
 
 impl Service {
+    /// Returns whether the service may publish under the key: it is no label, and `publishes` has its name.
+    pub fn declares(&self, key: &Key) -> bool
+        ensures { result ≡ is_declared self.now key.now }
+    {
+        key.kind != Kind::Label && self.publishes.has(&key.name)
+    }
+
     /// The same service again.
     pub fn copy(&self, alloc: Global) -> Result<Service, NoRoom>
         ensures { IfOk result (λ service. service ≡ self.now) }

@@ -3,3 +3,4 @@ pub mod Process
 pub mod SettingsLines
 pub mod Actions
 pub mod Moves
+pub mod Appending

@@ -1,6 +1,6 @@
 //! What RS is asked.
 
-use ds_names::{Endpoint, Generation, Name};
+use ds_names::{Endpoint, Generation, Key, Kind, Name};
 use rs_core::Event;
 use std::str::Split;
 use test_words::{name_at, number_at};
@@ -16,6 +16,16 @@ pub(crate) enum Command {
     State(Name),
     /// `key`: the key of the slot that is free next.
     Key,
+    /// `next`: the generation of the next start.
+    Next,
+    /// `due`: the first tick at which a tick has actions.
+    Due,
+    /// `service INDEX`: what RS knows of the service with this index.
+    Service(usize),
+    /// `instance ENDPOINT`: the index of the service that runs under the endpoint.
+    Instance(Endpoint),
+    /// `publishes ENDPOINT NAME`: whether this instance may publish a number under this name, and `labels` whether a label.
+    Publishes(Endpoint, Key),
     /// `numbers GENERATION SEQ`: a numberer begins.
     Numbers { generation: Generation, seq: u32 },
     /// `number`: the numberer's next number.
@@ -30,6 +40,12 @@ pub(crate) fn read_command(line: &str) -> Option<Command> {
     match words.next()? {
         "settings" => Some(Command::Settings(number_at(&mut words)?)),
         "key" => Some(Command::Key),
+        "next" => Some(Command::Next),
+        "due" => Some(Command::Due),
+        "service" => Some(Command::Service(number_at(&mut words)?)),
+        "instance" => Some(Command::Instance(read_endpoint(&mut words)?)),
+        "publishes" => read_publishes(Kind::U32, &mut words),
+        "labels" => read_publishes(Kind::Label, &mut words),
         "number" => Some(Command::Number),
         "rows" => Some(Command::Rows),
         "numbers" => read_numbers(&mut words),
@@ -39,6 +55,12 @@ pub(crate) fn read_command(line: &str) -> Option<Command> {
             tick: number_at(&mut words)?,
         }),
     }
+}
+
+fn read_publishes(kind: Kind, words: &mut Split<'_, char>) -> Option<Command> {
+    let endpoint = read_endpoint(words)?;
+    let name = name_at(words)?;
+    Some(Command::Publishes(endpoint, Key { name, kind }))
 }
 
 fn read_numbers(words: &mut Split<'_, char>) -> Option<Command> {

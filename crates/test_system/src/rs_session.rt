@@ -3,7 +3,7 @@
 use crate::rs_command::{Command, read_command};
 use crate::rs_rows::tell_rows;
 use crate::rs_telling::{tell_new_fault, tell_settings_fault, tell_state, tell_version};
-use crate::words::{tell, tell_numbers};
+use crate::words::{tell, tell_index, tell_number, tell_numbers};
 use ds_names::{Name, NoRoom};
 use rs_core::{Actions, Event, Numberer, Rs};
 use rs_settings::read;
@@ -74,7 +74,29 @@ impl Session {
             Command::Rows => tell_rows(text, self.alloc),
             Command::Event { event, tick } => tell_event(text, &mut self.rs, event, tick),
             Command::State(label) => tell_service(text, &self.rs, &label),
-            Command::Key => tell_key(text, &self.rs),
+            _ => self.answer_reading(text, command),
+        }
+    }
+
+    // Answers what is read of RS between two events.
+    fn answer_reading(&self, text: &mut Vec<u8>, command: Command) -> Result<(), NoRoom> {
+        let Some(rs) = &self.rs else {
+            return tell(text, NO_SETTINGS);
+        };
+        match command {
+            Command::Next => tell_numbers(text, &[("next ", u64::from(rs.next_generation()))]),
+            Command::Due => tell_number(text, "due ", rs.due()),
+            Command::Service(index) => tell_state(text, rs.state_of(index)),
+            Command::Instance(endpoint) => tell_index(
+                text,
+                "instance ",
+                rs.place_of_instance(endpoint),
+            ),
+            Command::Publishes(endpoint, key) => tell_publishes(
+                text,
+                rs.may_publish(endpoint, &key),
+            ),
+            _ => tell_numbers(text, &[("key ", rs.next_key() as u64)]),
         }
     }
 
@@ -110,11 +132,15 @@ fn tell_service(text: &mut Vec<u8>, rs: &Option<Rs>, label: &Name) -> Result<(),
     }
 }
 
-fn tell_key(text: &mut Vec<u8>, rs: &Option<Rs>) -> Result<(), NoRoom> {
-    match rs {
-        Some(rs) => tell_numbers(text, &[("key ", rs.next_key() as u64)]),
-        None => tell(text, NO_SETTINGS),
-    }
+fn tell_publishes(text: &mut Vec<u8>, may: bool) -> Result<(), NoRoom> {
+    tell(
+        text,
+        if may {
+            b"may publish"
+        } else {
+            b"may not publish"
+        },
+    )
 }
 
 fn tell_event(
@@ -124,12 +150,24 @@ fn tell_event(
     tick: u64,
 ) -> Result<(), NoRoom> {
     match rs {
-        Some(rs) => match rs.event(event, tick) {
-            Ok(actions) => tell_actions(text, &actions),
-            Err(fault) => append_rs_fault(text, fault),
-        },
+        Some(rs) => {
+            let given_up = rs.gives_up(&event, tick);
+            match rs.event(event, tick) {
+                Ok(actions) => tell_step(text, &actions, given_up),
+                Err(fault) => append_rs_fault(text, fault),
+            }
+        }
         None => tell(text, NO_SETTINGS),
     }
+}
+
+// The actions of an event, and the service that RS gave up by it.
+fn tell_step(text: &mut Vec<u8>, actions: &Actions, given_up: Option<usize>) -> Result<(), NoRoom> {
+    tell_actions(text, actions)?;
+    if given_up.is_none() {
+        return Ok(());
+    }
+    tell_index(text, "gave up ", given_up)
 }
 
 // A line for each action of an event, and one for all.

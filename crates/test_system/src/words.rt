@@ -17,3 +17,27 @@ pub(crate) fn tell_numbers(text: &mut Vec<u8>, numbers: &[(&str, u64)]) -> Resul
     }
     tell(text, b"")
 }
+
+/// Puts a line behind a text: the word, and the number, or `none`.
+pub(crate) fn tell_number(
+    text: &mut Vec<u8>,
+    word: &str,
+    number: Option<u64>,
+) -> Result<(), NoRoom> {
+    match number {
+        Some(number) => tell_numbers(text, &[(word, number)]),
+        None => append_all(text, &[word.as_bytes(), b"none\n"]),
+    }
+}
+
+/// Puts a line behind a text: the word, and the index, or `none`.
+pub(crate) fn tell_index(
+    text: &mut Vec<u8>,
+    word: &str,
+    index: Option<usize>,
+) -> Result<(), NoRoom> {
+    match index {
+        Some(index) => tell_number(text, word, Some(index as u64)),
+        None => tell_number(text, word, None),
+    }
+}

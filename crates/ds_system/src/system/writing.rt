@@ -3,21 +3,20 @@
 ghost use Rattle.std.specs.Prelude.{slice_index_or, true, false, ◌≡◌, ◌<◌, ◌≤◌, length, vec_len, vec_capacity, Ok, Err, IfOk, IfErr, OnOk};
 ghost use Rattle.ds_names.specs.Kind.{is_label};
 ghost use Rattle.ds_entry.specs.Change.{change_of, is_of_kind, IsBody, IsChange};
-ghost use Rattle.rs_settings.specs.Shared.{has_name};
 ghost use Rattle.rs_core.specs.State.{service_at};
 ghost use Rattle.rs_core.specs.Numbering.{numberer};
-ghost use Rattle.ds_services.specs.Drawing.{is_declared, numberer_at, numbers_left, numbers_of};
+ghost use Rattle.ds_services.specs.Drawing.{numberer_at, numbers_left, numbers_of};
 ghost use Rattle.ds_system.specs.Stands.{SystemEventLeads};
 ghost use Rattle.ds_system.specs.Effects.{instance_at, judged_by, write_event};
 
 use crate::system::System;
 use ds_entry::{Body, Change};
-use ds_names::{Generation, Key, Kind, Name, NoRoom, Version};
+use ds_names::{Generation, Key, Name, NoRoom, Version};
 use ds_replica::Side;
 use ds_serve::asking;
 use ds_services::{SystemFault, SystemOutcome};
 use rs_core::{Numberer, Running, State};
-use rs_settings::{Names, Service};
+use rs_settings::Service;
 use std::alloc::Global;
 
 /// The instance that draws a number, and the numbers that are left to it.
@@ -26,28 +25,6 @@ struct Draw {
     place: usize,
     running: Running,
     numbers: Numberer,
-}
-
-// Whether the name is one of them.
-fn has_name(names: &Names, name: &Name) -> bool
-    ensures { result ≡ has_name names.now name.now }
-{
-    for index in 0..names.len() {
-        let Some(one) = names.get(index) else {
-            unreachable!()
-        };
-        if *name == *one {
-            return true;
-        }
-    }
-    false
-}
-
-// Whether the service publishes what has the key.
-fn is_declared(service: &Service, key: &Key) -> bool
-    ensures { result ≡ is_declared service.now key.now }
-{
-    key.kind != Kind::Label && has_name(&service.publishes, &key.name)
 }
 
 // The numbers of a generation: those that are left of it, or all.
@@ -120,7 +97,7 @@ impl System {
         let Some(place) = self.rs.place_of(label) else {
             return Err(SystemFault::UnknownLabel);
         };
-        if !is_declared(self.service_at(place), key) {
+        if !self.service_at(place).declares(key) {
             return Err(SystemFault::NotDeclared);
         }
         let Some(State::Up(running)) = self.rs.state(label) else {

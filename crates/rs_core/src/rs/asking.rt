@@ -16,7 +16,7 @@ use ds_names::{Endpoint, Name};
 
 impl Rs {
     // What is due at the tick.
-    fn due(&self, tick: u64) -> Option<Plan>
+    fn due_at(&self, tick: u64) -> Option<Plan>
         ensures value { result ≡ due self.now tick }
         ensures within { IfSome result (λ p. p.place < length self.now.states) }
     {
@@ -61,7 +61,7 @@ impl Rs {
     }
 
     // What the event asks.
-    fn asked(&self, event: &Event, tick: u64) -> Result<Option<Plan>, RsFault>
+    pub(crate) fn asked(&self, event: &Event, tick: u64) -> Result<Option<Plan>, RsFault>
         ensures value { result ≡ asked self.now event.now tick }
         ensures within { IfOk result (λ p. IfSome p (λ p. p.place < length self.now.states)) }
     {
@@ -70,7 +70,7 @@ impl Rs {
                 self.of_label(event, *label),
             Event::Death(endpoint, cause) => self.of_instance(*endpoint, on_death(*cause)),
             Event::Beat(endpoint) => self.of_instance(*endpoint, Deed::Hear),
-            Event::Tick => Ok(self.due(tick)),
+            Event::Tick => Ok(self.due_at(tick)),
         }
     }
 

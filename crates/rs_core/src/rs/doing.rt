@@ -4,6 +4,7 @@ ghost use Rattle.std.specs.Prelude.{◌≡◌, ◌<◌, ◌≤◌, ◌+◌, ◌^
 ghost use Rattle.rs_core.specs.Action.{start_actions, stop_actions};
 ghost use Rattle.rs_core.specs.State.{state_at, service_at, is_up, up_count};
 ghost use Rattle.rs_core.specs.Machine.{new_endpoint, plan};
+ghost use Rattle.rs_core.specs.Slots.{next_key};
 ghost use Rattle.rs_core.specs.Doing.{after_start, after_stop, after_replacement, after_note, failing, replacing};
 ghost use Rattle.rs_core.specs.Judging.{lack_for, has_actions};
 ghost use Rattle.rs_core.specs.Step.{IsDone};
@@ -77,6 +78,15 @@ impl Rs {
         }
     }
 
+    // The slot that is given next.
+    fn next_slot(&self) -> u16
+        requires { up_count self.now.states < self.now.settings.slots }
+        ensures value { result ≡ self.now.slots.first + next_key self.now.slots }
+        ensures limit { result ≤ 1023 }
+    {
+        self.slots.first() + self.next_key() as u16
+    }
+
     // Starts the service in the slot that is given next.
     fn begin(&mut self, place: usize, tick: u64, failures: u32) -> Result<Actions, NoRoom>
         requires within { place < length self.old.states }
@@ -90,7 +100,7 @@ impl Rs {
         ensures unchanged { OnErr result (self.new ≡ self.old) }
     {
         let label = self.service_at(place).label;
-        let endpoint = endpoint_at(self.next, self.next_key());
+        let endpoint = endpoint_at(self.next, self.next_slot());
         let mut actions = Actions::new(self.alloc);
         add_start(&mut actions, label, endpoint)?;
         self.slots.give();
@@ -125,7 +135,8 @@ impl Rs {
         let label = self.service_at(place).label;
         let mut actions = Actions::new(self.alloc);
         add_stop(&mut actions, kill, label, running.endpoint)?;
-        self.slots.free(running.endpoint.slot() as usize - 16);
+        let key = running.endpoint.slot() - self.slots.first();
+        self.slots.free(key as usize);
         self.states[place] = after;
         self.tick = tick;
         Ok(actions)
@@ -142,7 +153,7 @@ impl Rs {
         ensures unchanged { OnErr result (self.new ≡ self.old) }
     {
         let label = self.service_at(place).label;
-        let endpoint = endpoint_at(self.next, running.endpoint.slot() as usize - 16);
+        let endpoint = endpoint_at(self.next, running.endpoint.slot());
         let mut actions = Actions::new(self.alloc);
         add_stop(&mut actions, true, label, running.endpoint)?;
         add_start(&mut actions, label, endpoint)?;

@@ -7,8 +7,9 @@ use Rattle.service_words.specs.Actions.{action_line, action_count_line}
 use Rattle.store_words.proofs.ResultLemmas.{on_ok}
 use Rattle.ds_answers.specs.Services.{AnswersActions}
 use Rattle.ds_answers.specs.Waiting.{AppendsSome}
-use Rattle.ds_answers.proofs.ListLemmas.{next_taken, some_behind, on_each}
-use Rattle.ds_answers.proofs.ActionLemmas.{actions_more, in_place_at, lines_behind}
+use Rattle.ds_serve.proofs.ListLemmas.{next_taken}
+use Rattle.service_words.proofs.AppendLemmas.{lines_after, on_each, some_after}
+use Rattle.ds_answers.proofs.ActionLemmas.{actions_more, in_place_at}
 use Rattle.ds_answers.proofs.acting.pass_on.Goals as goal
 
 pub loop-index-init : goal.loop-index-init
@@ -28,7 +29,7 @@ loop-index-preserved c =
     let at : slice_get acts i ≡ Some x = sym (subst (λ o. option_copied o ≡ slice_get acts i) c.in-Some.is c.get.ensures) in (
       done.0 ++ (action_line x ++ one.0),
       done.1 ++ one.1,
-      lines_behind c.args.output.now.items done.0 (action_line x) one.0 c.loop-index.output.items c.append_action.new.buffer.items c.ask.new.output.items done.2 (c.in_ok-append_action.ensures).written one.2,
+      lines_after c.args.output.now.items done.0 (action_line x) one.0 c.loop-index.output.items c.append_action.new.buffer.items c.ask.new.output.items done.2 (c.in_ok-append_action.ensures).written one.2,
       subst (λ (l : List Action). AnswersActions c.args.side l c.args.world.now (done.0 ++ (action_line x ++ one.0)) (done.1 ++ one.1) c.ask.new.world) (next_taken acts i x at)
           (actions_more c.args.side (take i acts) x c.args.world.now c.loop-index.world c.ask.new.world done.0 one.0 done.1 one.1 done.3 one.3),
     )
@@ -63,4 +64,4 @@ returns-clause-told c =
 
 pub returns-clause-some : goal.returns-clause-some
 returns-clause-some c =
-    some_behind c.append_action_count.result c.args.output.now.items c.loop-index.invariant.0 c.loop-index.output.items c.append_action_count.new.buffer.items c.loop-index.invariant.2 c.append_action_count.ensures.unchanged
+    some_after c.append_action_count.result c.args.output.now.items c.loop-index.invariant.0 c.loop-index.output.items c.append_action_count.new.buffer.items c.loop-index.invariant.2 c.append_action_count.ensures.unchanged

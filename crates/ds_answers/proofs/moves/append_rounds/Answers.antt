@@ -1,6 +1,7 @@
 use Rattle.std.proofs.Common.{◌≤◌, length, take, arith}
 use Rattle.ds_answers.specs.Tables.{all_in}
-use Rattle.ds_answers.proofs.ListLemmas.{on_each, some_more}
+use Rattle.ds_answers.proofs.ListLemmas.{some_more}
+use Rattle.service_words.proofs.AppendLemmas.{on_each}
 use Rattle.ds_answers.proofs.MoveLemmas.{moves_few, moves_fit}
 use Rattle.ds_answers.proofs.moves.append_rounds.Goals as goal
 

@@ -19,7 +19,7 @@ returns-clause-drawn c =
     let rs : own ≡ v.rs = ap (λ (x : SystemRecord). x.rs) c.self.view_is in
     let here : place_of_label own c.args.label.now ≡ Some i = sym c.place_of.ensures.value ∙ c.in-Some.is in
     let place : place_of_label v.rs c.args.label.now ≡ Some i = subst (λ (x : RsRecord). place_of_label x c.args.label.now ≡ Some i) rs here in
-    let declared : is_declared (service_at v.rs i) c.args.key.now ≡ true = ap (λ (z : Service). is_declared z c.args.key.now) (sym c.service_at.ensures) ∙ (sym c.is_declared.ensures ∙ c.if-not-is_declared.false) in
+    let declared : is_declared (service_at v.rs i) c.args.key.now ≡ true = ap (λ (z : Service). is_declared z c.args.key.now) (sym c.service_at.ensures) ∙ (sym c.declares.ensures ∙ c.if-not-declares.false) in
     let up : state_at v.rs i ≡ Up r = subst (λ (x : RsRecord). state_at x i ≡ Up r) rs (up_from own c.args.label.now i c.state.result c.in-Some-Up.field-0 r c.state.ensures here c.in-Some-Up.is c.in-Some-Up.field-0-is) in
     let numbers : c.numbers_of-numbers.result ≡ numbers_left v.numberers (instance_at i r) =
     c.numbers_of-numbers.ensures ∙ (ap (λ (g : ℕ). numbers_of c.numbers_at.result.now g) c.generation.ensures.value ∙ ap (λ (n : NumbererRecord). numbers_of n r.endpoint.generation) c.numbers_at.ensures.value) in
@@ -39,7 +39,7 @@ returns-then-is_spent-clause-refused c =
     let rs : own ≡ v.rs = ap (λ (x : SystemRecord). x.rs) c.self.view_is in
     let here : place_of_label own c.args.label.now ≡ Some i = sym c.place_of.ensures.value ∙ c.in-Some.is in
     let place : place_of_label v.rs c.args.label.now ≡ Some i = subst (λ (x : RsRecord). place_of_label x c.args.label.now ≡ Some i) rs here in
-    let declared : is_declared (service_at v.rs i) c.args.key.now ≡ true = ap (λ (z : Service). is_declared z c.args.key.now) (sym c.service_at.ensures) ∙ (sym c.is_declared.ensures ∙ c.if-not-is_declared.false) in
+    let declared : is_declared (service_at v.rs i) c.args.key.now ≡ true = ap (λ (z : Service). is_declared z c.args.key.now) (sym c.service_at.ensures) ∙ (sym c.declares.ensures ∙ c.if-not-declares.false) in
     let up : state_at v.rs i ≡ Up r = subst (λ (x : RsRecord). state_at x i ≡ Up r) rs (up_from own c.args.label.now i c.state.result c.in-Some-Up.field-0 r c.state.ensures here c.in-Some-Up.is c.in-Some-Up.field-0-is) in
     let numbers : c.numbers_of-numbers.result ≡ numbers_left v.numberers (instance_at i r) =
     c.numbers_of-numbers.ensures ∙ (ap (λ (g : ℕ). numbers_of c.numbers_at.result.now g) c.generation.ensures.value ∙ ap (λ (n : NumbererRecord). numbers_of n r.endpoint.generation) c.numbers_at.ensures.value) in

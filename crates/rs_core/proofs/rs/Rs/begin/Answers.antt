@@ -21,16 +21,16 @@ invariant_of-self c =
     subst (λ (z : RsRecord). up_count z.states < z.settings.slots) (sym c.self.view_is) c.requires.slot in
     let rest : is_up (get_or s.states.items c.args.place Down) ≡ false =
     subst (λ (z : RsRecord). is_up (state_at z c.args.place) ≡ false) (sym c.self.view_is) c.requires.rest in
-    let key : c.next_key.result ≡ next_key s.slots =
-    c.next_key.ensures.value ∙ ap (λ (z : RsRecord). next_key z.slots) (sym c.self.view_is) in
-    let same : c.endpoint_at-endpoint.result ≡ endpoint_of s.next (16 + next_key s.slots) =
-    c.endpoint_at-endpoint.ensures ∙ ap (λ k. endpoint_of s.next (16 + k)) key in
+    let where_is : c.next_slot.result ≡ s.slots.first + next_key s.slots =
+    c.next_slot.ensures.value ∙ ap (λ (z : RsRecord). z.slots.first + next_key z.slots) (sym c.self.view_is) in
+    let same : c.endpoint_at-endpoint.result ≡ endpoint_of s.next (s.slots.first + next_key s.slots) =
+    c.endpoint_at-endpoint.ensures ∙ ap (λ k. endpoint_of s.next k) where_is in
     let generation : c.endpoint_at-endpoint.result.generation ≡ s.next = ap (λ (e : EndpointRecord). e.generation) same in
-    let slot : c.endpoint_at-endpoint.result.slot ≡ 16 + next_key s.slots = ap (λ (e : EndpointRecord). e.slot) same in
+    let slot : c.endpoint_at-endpoint.result.slot ≡ s.slots.first + next_key s.slots = ap (λ (e : EndpointRecord). e.slot) same in
     let small : next_key s.slots < s.settings.slots =
     (next_key_within s.settings s.states.items s.tick s.next s.slots c.self.invariant).1 free in
-    let here : IsRunning (s.next + 1) r = record {
-      valid = record { generation = omega (arith, generation, next); slot = omega (arith, slot, small, c.self.invariant.checked.slots) };
+    let here : IsRunning s.slots.first (s.next + 1) r = record {
+      valid = record { generation = omega (arith, generation, next); slot = omega (arith, slot, small, c.self.invariant.high) };
       given = omega (arith, generation, c.self.invariant.some);
       below = omega (arith, generation);
       slot = omega (arith, slot);

@@ -16,7 +16,7 @@ pub returns-clause-free : goal.returns-clause-free
 returns-clause-free c =
     let s = c.self.inside in
     rw c.next_key.ensures (subst (λ (r : RsRecord). (i : ℕ) → i < length r.states →
-    IsNotAt (next_key s.slots) (state_at r i)) c.self.view_is
+    IsNotAt r.slots.first (next_key s.slots) (state_at r i)) c.self.view_is
     (next_key_free s.slots s.states.items c.self.invariant.fit))
 
 pub returns-clause-own : goal.returns-clause-own

@@ -18,10 +18,10 @@ invariant_of-self c =
     let next : s.next ≤ 2097151 = subst (λ (z : RsRecord). z.next ≤ 2097151) (sym c.self.view_is) c.requires.next in
     let up : get_or s.states.items c.args.place Down ≡ Up r =
     subst (λ (z : RsRecord). state_at z c.args.place ≡ Up r) (sym c.self.view_is) c.requires.up in
-    let was : IsRunning s.next r = up_keeps s.settings s.states.items s.tick s.next s.slots c.args.place r c.self.invariant within up in
+    let was : IsRunning s.slots.first s.next r = up_keeps s.settings s.states.items s.tick s.next s.slots c.args.place r c.self.invariant within up in
     let generation : e.result.generation ≡ s.next = ap (λ (x : EndpointRecord). x.generation) e.ensures in
     let slot : r.endpoint.slot ≡ e.result.slot = omega (arith, ap (λ (x : EndpointRecord). x.slot) e.ensures, c.slot.ensures, was.slot) in
-    let here : IsRunning (s.next + 1) q = record {
+    let here : IsRunning s.slots.first (s.next + 1) q = record {
       valid = record { generation = omega (arith, generation, next); slot = omega (arith, slot, was.valid.slot) };
       given = omega (arith, generation, c.self.invariant.some);
       below = omega (arith, generation);

@@ -1,0 +1,122 @@
+//! What is read of RS between two events.
+
+ghost use Rattle.std.specs.Prelude.{◌≡◌, ◌<◌, ◌≤◌, ◌^◌, ℕ, nat_le, length, slice_get, is_some, IfSome};
+ghost use Rattle.rs_core.specs.Machine.{asked, due, failures_of};
+ghost use Rattle.rs_core.specs.Judging.{asks, has_actions};
+ghost use Rattle.rs_core.specs.Reading.{any_due, declares_at, given_up, gives_up, is_from, place_of_instance, IsFrom};
+
+use crate::deed::Deed;
+use crate::due::first_due;
+use crate::event::Event;
+use crate::finding::Sought;
+use crate::judging::has_actions;
+use crate::rs::Rs;
+use crate::state::State;
+use ds_names::{Endpoint, Key};
+use rs_settings::Service;
+
+/// The last tick that RS takes.
+const LAST_TICK: u64 = 4611686018427387904;
+
+impl Rs {
+    /// Returns whether an event at a tick has actions, where no fault stands against it. `event` takes memory only then.
+    pub fn acts(&self, event: &Event, tick: u64) -> bool
+        ensures { result ≡ asks has_actions (asked self.now event.now tick) }
+    {
+        match self.asked(event, tick) {
+            Ok(Some(plan)) => has_actions(plan.deed),
+            _ => false,
+        }
+    }
+
+    /// Returns the index of the service that RS gives up at the event, where no fault stands against the event: its instance fails
+    /// once more than its limit. `event` tells it by no action.
+    pub fn gives_up(&self, event: &Event, tick: u64) -> Option<usize>
+        ensures value { result ≡ given_up self.now event.now tick }
+        ensures within { IfSome result (λ i. i < length self.now.states) }
+    {
+        let Ok(Some(plan)) = self.asked(event, tick) else {
+            return None;
+        };
+        let gives_up = gives_up(
+            plan.deed,
+            self.service_at(plan.place),
+            &self.state_at(plan.place),
+        );
+        if gives_up { Some(plan.place) } else { None }
+    }
+
+    /// Returns the first tick, from the last event's on, at which a tick has actions. `None` where no tick has any until another event.
+    ///
+    /// From that tick on each tick has actions, until one is served; below it none has.
+    pub fn due(&self) -> Option<u64>
+        ensures first { (tick : ℕ) → self.now.tick ≤ tick → tick ≤ 2 ^ 62 → is_some (due self.now tick) ≡ is_from result tick }
+        ensures range { IfSome result (λ first. (self.now.tick ≤ first) × (first ≤ 2 ^ 62)) }
+    {
+        match self.first_due() {
+            Some(first) => self.reached(first),
+            None => None,
+        }
+    }
+
+    /// Returns what RS knows of the service at an index of the settings. `None` past the end.
+    pub fn state_of(&self, index: usize) -> Option<State>
+        ensures { result ≡ slice_get self.now.states index }
+    {
+        self.states.as_slice().get(index).copied()
+    }
+
+    /// Returns the index of the service that runs under the endpoint. `None` where none does.
+    pub fn place_of_instance(&self, endpoint: Endpoint) -> Option<usize>
+        ensures value { result ≡ place_of_instance self.now endpoint }
+        ensures within { IfSome result (λ i. i < length self.now.states) }
+    {
+        self.place(Sought::Instance(endpoint))
+    }
+
+    /// Returns whether the instance with the endpoint may publish under the key: it runs, and its service declares the key.
+    pub fn may_publish(&self, endpoint: Endpoint, key: &Key) -> bool
+        ensures { result ≡ declares_at self.now (place_of_instance self.now endpoint) key.now }
+    {
+        match self.place_of_instance(endpoint) {
+            Some(place) => self.service_at(place).declares(key),
+            None => false,
+        }
+    }
+
+    // The first tick at which something is due of some service, which may be before the last event's.
+    fn first_due(&self) -> Option<u64>
+        ensures { IsFrom (λ tick. any_due tick self.now.settings.services self.now.states) result }
+    {
+        first_due(self.settings.services(), self.states.as_slice())
+    }
+
+    // The tick, or the last event's where that is later. `None` for a tick that RS never takes.
+    #[tactic(auto, using(std::proofs::lemmas::Bool::Decides::nat_tests))]
+    fn reached(&self, first: u64) -> Option<u64>
+        ensures first { (tick : ℕ) → self.now.tick ≤ tick → tick ≤ 2 ^ 62 → is_from result tick ≡ nat_le first tick }
+        ensures range { IfSome result (λ tick. (self.now.tick ≤ tick) × (tick ≤ 2 ^ 62)) }
+    {
+        if first > LAST_TICK {
+            return None;
+        }
+        if first < self.tick {
+            return Some(self.tick);
+        }
+        Some(first)
+    }
+}
+
+// Whether the deed makes RS give up the service.
+fn gives_up(deed: Deed, service: &Service, state: &State) -> bool
+    requires { failures_of state.now ≤ 1000 }
+    ensures { result ≡ gives_up deed service.now state.now }
+{
+    match deed {
+        Deed::Lose(_) => match state {
+            State::Up(running) => service.limit < running.failures + 1,
+            _ => false,
+        },
+        _ => false,
+    }
+}

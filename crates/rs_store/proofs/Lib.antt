@@ -1,0 +1,3 @@
+mod ServeLemmas
+mod LawLemmas
+pub mod CrossingLemmas

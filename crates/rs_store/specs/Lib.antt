@@ -1,0 +1,6 @@
+pub mod Pair
+pub mod ByRs
+pub mod Owed
+pub mod Serving
+pub mod Turns
+pub mod Laws

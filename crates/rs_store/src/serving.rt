@@ -1,0 +1,174 @@
+//! The turns of RS and its store: a client's command, a beginning, an event.
+
+ghost use Rattle.std.specs.Prelude.{◌≡◌, ◌≤◌, true, [], length, vec_capacity, IfSome, IfNone};
+ghost use Rattle.std.specs.List.{AllByRecursion};
+ghost use Rattle.rs_core.specs.Action.{IsActionInPlace};
+ghost use Rattle.rs_core.specs.Judging.{asks, has_actions};
+ghost use Rattle.rs_core.specs.Machine.{asked};
+ghost use Rattle.ds_serve.specs.Asked.{command_of as command_for};
+ghost use Rattle.ds_store.specs.Turns.{Turn};
+ghost use Rattle.rs_store.specs.Serving.{ClientTurn, BeginTurn, HasRoomFor, RsRefuses, EventTurn, TurnFor, TurnsFor, before_beginning as reply_without};
+
+use crate::by_rs::is_by_rs;
+use crate::call::RsReply;
+use crate::replies::Replies;
+use ds_machine::{Command, Reply};
+use ds_serve::command_of;
+use ds_store::Store;
+use rs_core::{Action, Actions, Event, Rs, RsFault, steps_say};
+use rs_settings::Settings;
+use std::alloc::Global;
+
+/// The most actions of one event: a kill, a label taken back, a sweep, a start and a label put.
+const MOST_ACTIONS: usize = 5;
+
+/// Passes a client's command to the store. Once RS has begun, a command with RS as its caller is refused as NotAllowed, before any
+/// other cause, and the store is unchanged.
+pub fn ask(services: &Option<Rs>, store: &mut Store, command: Command) -> RsReply
+    ensures { ClientTurn services.now store.old command result store.new }
+{
+    if services.is_some() && is_by_rs(&command) {
+        return RsReply::NotAllowed;
+    }
+    RsReply::Replied(turn(store, command))
+}
+
+/// Begins RS with settings: every service is down, the first start has the generation `next`, and its slots begin at `first`. Of a
+/// system with one RS these are 1 and 16. A later run continues at the generation that the earlier one had next; two hosts that
+/// exchange what they hold have slots apart.
+///
+/// Refusals in their order: Exists, where RS has begun; OutOfRange, where `next` isn't 1 to 2097152, `first` is below 16, or the
+/// last slot above 1023; NoRoom, and only where the settings have a service. A refused beginning changes nothing.
+pub fn begin(
+    alloc: Global,
+    services: &mut Option<Rs>,
+    settings: Settings,
+    next: u32,
+    first: u16,
+) -> RsReply
+    ensures { BeginTurn services.old settings next first result services.new }
+{
+    if services.is_some() {
+        return RsReply::Exists;
+    }
+    let (count, slots) = (settings.services().len(), settings.slots());
+    match Rs::from_slot(alloc, settings, next, first) {
+        Ok(rs) => {
+            *services = Some(rs);
+            RsReply::Begun {
+                services: count,
+                slots,
+            }
+        }
+        Err(fault) => RsReply::NotBegun(fault),
+    }
+}
+
+/// Gives RS an event at a tick, and passes the label changes and the sweeps of its actions to the store, in their order.
+///
+/// A refused event changes neither RS nor the store. NoRoom comes after every other fault, and only for an event that has actions.
+/// Before RS has begun an event finds no service: a label is unknown, an endpoint is old, and a tick has no actions.
+pub fn serve(
+    alloc: Global,
+    services: &mut Option<Rs>,
+    store: &mut Store,
+    event: Event,
+    tick: u64,
+) -> RsReply
+    ensures { EventTurn event tick services.old store.old result services.new store.new }
+{
+    steps_say();
+    let Some(rs) = services else {
+        return without_settings(alloc, &event);
+    };
+    let Some(mut replies) = room_for(alloc, rs, &event, tick) else {
+        return RsReply::Refused(out_of_room(rs, &event, tick));
+    };
+    let given_up = rs.gives_up(&event, tick);
+    match rs.event(event, tick) {
+        Ok(actions) => {
+            pass_on(store, &actions, &mut replies);
+            RsReply::Acted {
+                actions,
+                replies: Replies::of(replies),
+                given_up,
+            }
+        }
+        Err(fault) => RsReply::Refused(fault),
+    }
+}
+
+// A list with room for the replies to the actions of an event, reserved before RS steps: after the step nothing may be lost. An
+// event without actions takes no memory.
+fn room_for(alloc: Global, rs: &Rs, event: &Event, tick: u64) -> Option<Vec<Option<Reply>>>
+    ensures room { IfSome result (λ replies. HasRoomFor rs.now event.now tick replies.items (vec_capacity replies)) }
+    ensures wanted { IfNone result (asks has_actions (asked rs.now event.now tick) ≡ true) }
+{
+    if !rs.acts(event, tick) {
+        return Some(Vec::new(alloc));
+    }
+    match Vec::with_capacity(alloc, MOST_ACTIONS) {
+        Ok(replies) => Some(replies),
+        Err(_) => None,
+    }
+}
+
+// The refusal of an event for which memory ran out: the first fault that stands against it, or else NoRoom.
+fn out_of_room(rs: &Rs, event: &Event, tick: u64) -> RsFault
+    requires { asks has_actions (asked rs.now event.now tick) ≡ true }
+    ensures { RsRefuses rs.now event.now tick result }
+{
+    match rs.refusal(event, tick) {
+        Some(fault) => fault,
+        None => RsFault::NoRoom,
+    }
+}
+
+// The reply to an event before RS has begun.
+fn without_settings(alloc: Global, event: &Event) -> RsReply
+    ensures { result ≡ reply_without event.now }
+{
+    match event {
+        Event::Up(_) | Event::Stop(_) | Event::Refresh(_) | Event::Restart(_) => {
+            RsReply::Refused(RsFault::UnknownLabel)
+        }
+        Event::Death(_, _) | Event::Beat(_) => RsReply::Refused(RsFault::OldEndpoint),
+        Event::Tick => RsReply::Acted {
+            actions: Actions::new(alloc),
+            replies: Replies::of(Vec::new(alloc)),
+            given_up: None,
+        },
+    }
+}
+
+// Passes the actions to the store, in their order. The list has room for the replies.
+fn pass_on(store: &mut Store, actions: &Actions, replies: &mut Vec<Option<Reply>>)
+    requires in_place { AllByRecursion IsActionInPlace actions.now }
+    requires room { length actions.now ≤ vec_capacity replies.old }
+    requires none { replies.old.items ≡ [] }
+    ensures { TurnsFor store.old actions.now replies.new.items store.new }
+{
+    for index in 0..actions.len() {
+        let Some(action) = actions.get(index) else {
+            unreachable!()
+        };
+        replies.push_reserved(turn_for(store, action));
+    }
+}
+
+// The store's turn for an action, if the action is a command to it.
+fn turn_for(store: &mut Store, action: &Action) -> Option<Reply>
+    requires { IsActionInPlace action.now }
+    ensures { TurnFor store.old (command_for action.now) result store.new }
+{
+    let command = command_of(action)?;
+    Some(turn(store, command))
+}
+
+// One turn of the store.
+fn turn(store: &mut Store, command: Command) -> Reply
+    ensures { Turn store.old command result store.new }
+{
+    let _stood = store.cursor();
+    store.apply(command)
+}
