@@ -96,7 +96,8 @@ fn a_journal_and_pages() {
     let (cursor, items) = (all.cursor(), all.items().unwrap());
     assert_eq!((cursor, items.len()), (Cursor { incarnation: 1, position: 601 }, 601));
     let (mut paged, mut after) = (Vec::new(), None::<String>);
-    loop {
+    for at in 0.. {
+        assert!(at < 3, "there are more pages than three");
         let mut page = store.page(after.as_deref().map(|it| (it, Kind::U32)), Some(Scope::new(".*", Kind::U32)), 256).unwrap();
         page.append_to(&mut paged).unwrap();
         if page.is_last() {
@@ -107,12 +108,24 @@ fn a_journal_and_pages() {
     }
     assert_eq!(paged, shown(&items).lines().filter(|it| it.contains(" u32 ")).map(|it| format!("{it}\n")).collect::<String>().into_bytes());
     let (mut cursor, mut counts) = (Cursor { incarnation: 1, position: 601 - 256 }, vec![]);
-    while counts.last() != Some(&56) {
+    while counts.len() < 3 {
         let mut since = store.since(cursor, None, 100).unwrap();
         counts.push(since.items().unwrap().len());
         cursor = since.cursor();
     }
     assert_eq!((counts, cursor.position), (vec![100, 100, 56], 601));
+}
+
+/// 200 values of 1024 bytes, whose lines have 400 KB: a call fetches 64 KB of them.
+#[test]
+fn more_than_one_room() {
+    let mut store = with_eth();
+    for at in 0..200u8 {
+        store.publish(ETH, &format!("m{at:03}"), &[at; 1024][..], version(3, 0), false).unwrap();
+    }
+    let items = store.snapshot(Some(Scope::new("m.*", Kind::Mem))).unwrap().items().unwrap();
+    let wanted: String = (0..200u8).map(|at| format!("m{at:03} mem eth0 3.0 = {}\n", format!("{at:02x}").repeat(1024))).collect();
+    assert!(shown(&items) == wanted && items.len() == 200, "{} bytes", items.text().len());
 }
 
 #[test]
