@@ -3,15 +3,15 @@
  * A program opens a store in a handle, sends it requests, fetches the text of each answer in pieces, and closes it. A
  * subscriber keeps a map, another handle, and lets it take the items of stores.
  *
- * All memory that crosses is the caller's: no call keeps a pointer, and none returns memory to be freed. A store and a map
- * free their own memory when they are closed.
+ * All memory that a call reads or writes is the caller's: no call keeps a pointer to it, and none returns memory to be freed. A
+ * store and a map have memory of their own, which closing them frees.
  *
  * The caller keeps these right, since no call can check them:
  *   - a handle begins as DS_CLOSED, and only these calls read, write or copy it;
- *   - the address of a handle, a request, an answer or a struct ds_given is never NULL; that of a buffer of length 0 may be;
- *   - a length is at most that of the buffer, and the buffers of one call don't overlap;
- *   - one thread at a time calls on a handle.
- * Every other misuse is answered by a word.
+ *   - the address of a handle, a request, an answer or a struct ds_given is never NULL; that of a buffer of length 0 may be NULL;
+ *   - a length is at most that of its buffer, and the buffers of one call don't overlap;
+ *   - at most one thread at a time makes a call on a handle.
+ * Any other misuse is answered by a word, and changes nothing.
  *
  * Link libds_c.a and the toolchain's liblibc_c.a, which calls malloc, realloc and free. */
 #ifndef DS_H
@@ -24,14 +24,14 @@
 extern "C" {
 #endif
 
-/* The version of this header. Versions with one first number have one layout of structs, one set of numbers and every call of the versions
- * before them. */
+/* The version of this header. Versions with the same first number have the same layout of structs and the same numbers, and each has all
+ * calls of the earlier ones. */
 #define DS_VERSION "0.9.0"
 
-/* Returns the version of the library that the program runs with, as `0.9.0`: a static text. It is plain C, c/ds_version.c. */
+/* Returns the version of the library that the program runs with, such as `0.9.0`, as a static text. It is plain C, c/ds_version.c. */
 const char *ds_version(void);
 
-/* The commands. Each needs the parts after it; the others may be anything. */
+/* The commands, each with the parts of struct ds_request that it needs. The other parts may be anything. */
 enum ds_command {
     DS_PUBLISH,   /* caller, key, version, value, overwrite: puts a value under the key */
     DS_DELETE,    /* caller, key, version: leaves a tombstone under the key of a live entry */
@@ -39,11 +39,11 @@ enum ds_command {
     DS_RETRIEVE,  /* key: the value of a live entry */
     DS_NAMEOF,    /* generation, slot: the least name whose live label holds this endpoint */
     DS_SUBSCRIBE, /* sub, kinds, text (a pattern), initial, overwrite */
-    DS_CHECK,     /* sub, max: the first items that were not shown to the subscription */
+    DS_CHECK,     /* sub, max: the first items that the subscription wasn't shown yet */
     DS_SINCE,     /* scope, incarnation, position, max: what took effect from a cursor on */
     DS_SNAPSHOT,  /* scope: everything held */
     DS_PAGE,      /* scope, behind (with name), max: a part of what is held */
-    DS_MERGE      /* text (the lines of items): merges items of another store */
+    DS_MERGE      /* text (lines of items): merges items of another store */
 };
 
 enum ds_kinds { DS_LABEL = 1, DS_U32 = 2, DS_STR = 4, DS_MEM = 8 };
@@ -51,20 +51,20 @@ enum ds_kinds { DS_LABEL = 1, DS_U32 = 2, DS_STR = 4, DS_MEM = 8 };
 /* A request. Begin with zeros, and set what the command needs. */
 struct ds_request {
     uint64_t incarnation, position; /* the cursor of a since */
-    uint64_t text_at, text_length;  /* the place of its text in the texts of the call: a string, memory, a pattern or lines */
+    uint64_t text_at, text_length;  /* where its text is within the texts of the call: a string, memory, a pattern or lines */
     uint32_t command;               /* of enum ds_command */
-    uint32_t generation;            /* with slot: the caller, or the endpoint of a nameof; at most 2097151 */
+    uint32_t generation;            /* with slot: the caller's endpoint, or that of a nameof; at most 2097151 */
     uint32_t epoch, seq;            /* the version; an epoch is at most 2097151 */
-    uint32_t value;                 /* a number; with value_slot a label's endpoint; a sweep's generation */
+    uint32_t value;                 /* a number; with value_slot, a label's endpoint; a sweep's generation */
     uint32_t sub, max;              /* max: 1 to 256 */
     uint16_t slot, value_slot;      /* at most 1023 */
     uint8_t kinds;                  /* one of enum ds_kinds for a key, a sum of them for a pattern */
     uint8_t overwrite;              /* 1: a live entry, or a subscription, may be replaced */
     uint8_t initial;                /* 1: what is held already counts as not shown */
-    uint8_t under;                  /* the scope. 0: everything; 1: what the pattern and the kinds match */
-    uint8_t behind;                 /* 0: the first page; else the page after the key of name and this kind */
-    uint8_t name_length;            /* of the name: 1 to 64 letters, digits, dots, underscores and dashes */
-    char name[64];                  /* with kinds the key; of a sweep the owner */
+    uint8_t under;                  /* the scope. 0: everything; 1: what the pattern in its text, and kinds, match */
+    uint8_t behind;                 /* of a page. 0: the first one; else a kind: the page past the key of name and this kind */
+    uint8_t name_length;            /* of the name, which has 1 to 64 letters, digits, dots, underscores and dashes */
+    char name[64];                  /* with kinds, the key; of a sweep, the owner */
 };
 
 /* The words of answers. */
@@ -72,22 +72,22 @@ enum ds_word {
     DS_CHANGED,    /* it took effect */
     DS_KNOWN,      /* it was held already */
     DS_SWEPT,      /* count: how many live entries were dropped */
-    DS_FOUND,      /* kind; a number: value; a label: value and value_slot; a string or memory: one piece of text */
+    DS_FOUND,      /* kind. Of a number: value; of a label: value and value_slot; of a string or memory: one piece of text */
     DS_NAMED,      /* one piece of text, the name */
     DS_SUBSCRIBED, /* after: the stamp */
-    DS_CHECKED,    /* a piece of text for each item; before, after: the stamps */
-    DS_JOURNALED,  /* a piece of text for each item; before, after: the cursor's incarnation and its position */
-    DS_SNAPPED,    /* the same */
-    DS_PAGED,      /* the same; last: 1 if no more follows */
-    DS_MERGED,     /* count: items done; taken, stale: of these */
-    DS_STOPPED,    /* a merge: count items are done, and the next one was refused, by refusal */
-    DS_REFUSED,    /* by refusal; nothing changed */
+    DS_CHECKED,    /* a piece of text for each item; before, after: the subscription's stamp before and after the check */
+    DS_JOURNALED,  /* a piece of text for each item; before: the cursor's incarnation; after: its position */
+    DS_SNAPPED,    /* as DS_JOURNALED */
+    DS_PAGED,      /* as DS_JOURNALED; last: 1 if no page follows */
+    DS_MERGED,     /* count: how many items are done; taken, stale: how many of these took effect, or were stale */
+    DS_STOPPED,    /* a merge: count items are done; the next one was refused, as refusal says */
+    DS_REFUSED,    /* as refusal says; nothing changed */
     DS_NOREQUEST,  /* no command has such parts, its text is outside the texts, or the line is not of one store; nothing changed */
-    DS_SHOWN,      /* to a line of show or all. count: how many items; a piece of text for each */
-    DS_BADLINE     /* to a line that can't be read. count: the place, a byte from 0; nothing changed */
+    DS_SHOWN,      /* answers a line `show` or `all`. count: how many items; a piece of text for each */
+    DS_BADLINE     /* answers a line that can't be read. count: the byte, from 0, where the bad part begins; nothing changed */
 };
 
-/* Returns the name of a word of enum ds_word in lower case, as `changed`, and "" for every other number: a static text. */
+/* Returns a word of enum ds_word in lower case, such as `changed`, and "" for any other number. The text is static. */
 static inline const char *ds_word_text(uint32_t word) {
     switch (word) {
     case DS_CHANGED: return "changed";
@@ -110,7 +110,8 @@ static inline const char *ds_word_text(uint32_t word) {
     }
 }
 
-/* The refusals of requests, in the order in which the store judges, and then those of calls. docs/reference/refusals.md has them. */
+/* First the refusals of requests, in the order in which the store judges; then those of opening; then those of closed and open handles.
+ * docs/reference/refusals.md describes them. */
 enum ds_refusal {
     DS_BADSUB = 1, DS_TOOMANY, DS_TOOLONG, DS_BADPATTERN, DS_BADKIND, DS_BADLABEL, DS_BADVERSION, DS_NOCALLER, DS_NOTALLOWED,
     DS_NOTOWNER, DS_CLASH, DS_STALE, DS_EXISTS, DS_NOTFOUND, DS_OLDCURSOR, DS_AHEAD, DS_BEHIND, DS_FULL, DS_WORN, DS_NOROOM,
@@ -118,8 +119,8 @@ enum ds_refusal {
     DS_ISCLOSED, DS_ISOPEN
 };
 
-/* Returns the word of a refusal of enum ds_refusal, as `nocaller`, and "" for every other number, 0 among them: a static text. A script
- * prints it after `refused`. */
+/* Returns the word of a refusal of enum ds_refusal, such as `nocaller`, and "" for any other number, 0 too. The text is static. A script
+ * prints this word after `refused`. */
 static inline const char *ds_refusal_text(uint32_t refusal) {
     switch (refusal) {
     case DS_BADSUB: return "badsub";
@@ -153,25 +154,25 @@ static inline const char *ds_refusal_text(uint32_t refusal) {
 struct ds_answer {
     uint64_t count, taken, stale;
     uint64_t before, after;
-    uint64_t pieces;        /* how many pieces of text it has, for ds_items */
+    uint64_t pieces;        /* how many pieces of text the answer has, for ds_items */
     uint32_t word;          /* of enum ds_word */
     uint32_t refusal;       /* 0, or of enum ds_refusal */
     uint32_t epoch, seq;    /* the version of a clash */
     uint32_t value;
     uint16_t value_slot;
     uint8_t kind, last;
-    uint8_t owed[16];       /* the subscriptions that are owed a notice, a bit for each: ds_is_owed */
+    uint8_t owed[16];       /* a bit for each subscription that is owed a notice; ds_is_owed reads it */
 };
 
-/* The bytes of the longest piece of text: the line of an item of 1024 bytes of memory, with a name and an owner of 64 bytes. A buffer of
- * this size takes any piece. */
+/* The length in bytes of the longest piece of text: the line of an item with 1024 bytes of memory, and a name and an owner of 64 bytes. A
+ * buffer of this size takes any piece. */
 enum { DS_MAX_PIECE = 2204 };
 
-/* Why ds_items or ds_text stopped: at the end; the next piece or byte doesn't fit; out of memory. */
+/* Why ds_items or ds_text stopped: in this order, the text ended; the next piece or byte doesn't fit; memory ran out. */
 enum ds_stop { DS_WHOLE = 0, DS_TOOSMALL = 1, DS_WANTING = 20 };
 
-/* Of ds_items: how many pieces it wrote, how many bytes they have, and why it stopped. Of ds_text: how many bytes the whole text has, how
- * many it wrote, and why it stopped. */
+/* What ds_items or ds_text wrote, and why it stopped. From ds_items, count is how many pieces it wrote, and length their bytes. From
+ * ds_text, count is the length of the whole text in bytes, and length how many bytes it wrote. */
 struct ds_given {
     uint64_t count, length;
     uint32_t stop; /* of enum ds_stop */
@@ -185,8 +186,8 @@ static inline int ds_is_owed(const struct ds_answer *answer, unsigned sub) {
 struct ds_handle { void *private_; };
 #define DS_CLOSED { NULL }
 
-/* Opens a store in a closed handle. Give each run of a store another incarnation, so that no cursor is taken for one of an earlier run.
- * The first item gets the position first, at most 2^62. The journal keeps the last ring items, 1 to 4096.
+/* Opens a store in a closed handle. Give each run of a store another incarnation, so that no cursor of an earlier run is taken for one of
+ * this run. The first item gets the position `first`, at most 2^62. The journal keeps the last `ring` items; `ring` is 1 to 4096.
  * Returns 0; DS_ISOPEN if a store is open in the handle, which is unchanged; or the first of DS_BADRING, DS_BADFIRST and DS_NOROOM
  * that applies, and the handle stays closed. */
 uint32_t ds_open(struct ds_handle *handle, uint64_t incarnation, uint64_t first, uint32_t ring);
@@ -196,18 +197,18 @@ uint32_t ds_open(struct ds_handle *handle, uint64_t incarnation, uint64_t first,
 uint32_t ds_call(struct ds_handle *handle, const struct ds_request *request, const char *texts, size_t texts_length,
                  struct ds_answer *answer);
 
-/* Carries out requests in order, each as ds_call does, and writes their answers and, in done, their count. It stops at the last request,
- * at the last place for an answer, and after the first answer with text, so that ds_items can fetch it. Call it again for the rest.
+/* Carries out requests in order, each as ds_call does. Writes their answers, and how many there are to done. It stops after the last
+ * request, when answers is full, or after the first answer with text, so that ds_items can fetch that text. Call it again for the rest.
  * Returns 0, or DS_ISCLOSED, and then answers and done are unchanged. */
 uint32_t ds_run(struct ds_handle *handle, const struct ds_request *requests, size_t requests_count, const char *texts,
                 size_t texts_length, struct ds_answer *answers, size_t answers_count, size_t *done);
 
-/* Writes the text of the last answer from piece number first on, counted from 0: as many whole pieces as fit into room, and their count
- * in given. A piece is a name, a string, memory, or the line of an item with its newline, as docs/reference/lines.md has it. The lines of
- * one store's answer may be the text of another's DS_MERGE.
- * Nothing is lost if room is too small: until the next request, the next piece is number first + given->count. So call it until all of the
- * answer's pieces are fetched, as examples/c/driver.c does. given->count is 0 only if the room has less than DS_MAX_PIECE bytes, memory
- * runs out, or there is no more.
+/* Writes the text of the last answer into room, from the piece of number `first` on, counted from 0: as many whole pieces as fit. Writes
+ * how many these are to given. A piece is a name, a string, memory, or the line of an item with its newline (docs/reference/lines.md). The
+ * lines of one store's answer may be the text of a DS_MERGE at another store.
+ * Nothing is lost if room is too small: continue at piece first + given->count, before the next request, until all of the answer's pieces
+ * are fetched, as examples/c/driver.c does. given->count is 0 only if room_length is below DS_MAX_PIECE, memory runs out, or there is no
+ * more.
  * Returns 0, or DS_ISCLOSED, and then room and given are unchanged. */
 uint32_t ds_items(struct ds_handle *handle, size_t first, char *room, size_t room_length, struct ds_given *given);
 
@@ -215,44 +216,46 @@ uint32_t ds_items(struct ds_handle *handle, size_t first, char *room, size_t roo
  * changed or freed afterwards. These are lines of one store:
  *   - offer, publish, delete, sweep, retrieve, nameof, subscribe, check, since, snapshot, page: the answer is that of ds_call for the
  *     same command; an offer is a merge of one item;
- *   - show and all, the puts held, and everything held: DS_SHOWN, or DS_REFUSED by DS_NOROOM.
- * Any other line of a script is answered DS_NOREQUEST. A line that can't be read, or has more after its newline, is answered DS_BADLINE,
- * and a line for which memory runs out DS_REFUSED by DS_NOROOM. The store is unchanged then.
+ *   - show, for the puts that are held, and all, for everything held: the answer is DS_SHOWN, or DS_REFUSED by DS_NOROOM.
+ * Any other line of a script is answered DS_NOREQUEST. A line that can't be read, or that has more after its newline, is answered
+ * DS_BADLINE. A line for which memory runs out is answered DS_REFUSED by DS_NOROOM. In these cases the store is unchanged.
  * Returns 0, or DS_ISCLOSED, and then the answer is unchanged. */
 uint32_t ds_call_line(struct ds_handle *handle, const char *line, size_t line_length, struct ds_answer *answer);
 
-/* Writes the text of the last answer as a script prints it, from byte number first on, counted from 0: as many bytes as fit into room. In
- * given, count is the length of the whole text, length how many bytes were written, and stop why no more:
+/* Writes the text of the last answer into room, as a script prints it, from the byte of number `first` on, counted from 0: as many bytes as
+ * fit. In given, count is the length of the whole text, length is how many bytes were written, and stop says why it stopped:
  *   - DS_WHOLE: there is no more;
  *   - DS_TOOSMALL: room is full, and the next byte is number first + length;
  *   - DS_WANTING: memory ran out, nothing was written, and the same call may be made again.
- * So nothing is lost until the next request. DS_NOREQUEST and DS_BADLINE have no text. It serves after ds_call, too, and ds_items after
- * ds_call_line: the pieces are those of ds_call, and for DS_SHOWN the lines of items.
+ * So nothing is lost until the next request. DS_NOREQUEST and DS_BADLINE have no text. ds_text may be called after ds_call too, and
+ * ds_items after ds_call_line: the pieces are then those of ds_call, and for DS_SHOWN the lines of the items.
  * Returns 0, or DS_ISCLOSED, and then room and given are unchanged. */
 uint32_t ds_text(struct ds_handle *handle, size_t first, char *room, size_t room_length, struct ds_given *given);
 
 /* Closes the handle, and frees all its memory. Returns 0, or DS_ISCLOSED. */
 uint32_t ds_close(struct ds_handle *handle);
 
-/* What a subscriber keeps of the items of stores, for up to 4096 keys and 64 owners: of each key under its query the change with the
- * greatest version, and of each owner the highest floor. Items may come from any store, in any order, any number of times: once the map
- * has a generation of a label, no earlier one replaces it. A map begins as DS_CLOSED, and the rules of a handle above apply to it. */
+/* A subscriber's map: what it keeps of the items of stores, for up to 4096 keys and 64 owners. Of each key under its query it keeps the
+ * change with the greatest version, and of each owner the highest floor. Items may come from any store, in any order, any number of times:
+ * once the map has a generation of a label, no earlier one replaces it. A map begins as DS_CLOSED, and the rules for a handle at the top
+ * apply to it. */
 struct ds_map { void *private_; };
 
-/* Makes an empty map in a closed handle, for the names that a pattern matches whole, of the kinds in a sum of enum ds_kinds.
+/* Makes an empty map in a closed handle. Its query is a pattern, which must match a name whole, and kinds, a sum of enum ds_kinds.
  * Returns 0; DS_ISOPEN if there is a map, which is unchanged; or the first of DS_BADKIND, DS_TOOLONG, DS_BADPATTERN and DS_NOROOM that
  * applies, and the map stays closed. Memory may run out before the pattern is read. */
 uint32_t ds_map_new(struct ds_map *map, uint8_t kinds, const char *pattern, size_t pattern_length);
 
-/* Merges items into the map, whose lines are in lines as ds_items writes them, in order, and writes the answer:
- *   - DS_MERGED: count items are done, taken and stale of these. An item that isn't under the query is only counted as done;
+/* Merges items into the map in order, and writes the answer. Their lines are in `lines`, as ds_items writes them:
+ *   - DS_MERGED: count items are done, of which taken took effect and stale were stale. An item that isn't under the query counts as done
+ *     only;
  *   - DS_STOPPED: count items are done, and the next one was refused by DS_NOTOWNER, DS_CLASH, DS_FULL or DS_NOROOM. Take the rest again;
  *   - DS_REFUSED by DS_NOROOM, or DS_NOREQUEST if these aren't the lines of items: nothing changed.
  * Returns 0, or DS_ISCLOSED, and then the answer is unchanged. */
 uint32_t ds_map_take(struct ds_map *map, const char *lines, size_t lines_length, struct ds_answer *answer);
 
-/* Finds where a label is now, as a retrieve does: DS_FOUND, with value and value_slot; DS_REFUSED by DS_NOTFOUND if no live one is held; or
- * DS_NOREQUEST if the bytes aren't a name. It takes no memory.
+/* Finds where a label is now, and answers as a retrieve does: DS_FOUND, with value and value_slot; DS_REFUSED by DS_NOTFOUND if the map
+ * holds no live label of this name; or DS_NOREQUEST if the bytes aren't a name. It takes no memory.
  * Returns 0, or DS_ISCLOSED, and then the answer is unchanged. */
 uint32_t ds_map_label(struct ds_map *map, const char *name, size_t name_length, struct ds_answer *answer);
 

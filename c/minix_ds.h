@@ -1,10 +1,10 @@
 /* The calls of MINIX 3's data store (DS), over ds.h: those of a driver, a server or RS, with MINIX's flags and errors.
  *
- * Callers share a struct ds_server, which has the store's handle. It begins as DS_SERVER_CLOSED; ds_open and ds_close of its store open
- * and close it. Each caller has a struct ds_caller of its own, which begins with zeros and isn't moved while its server is open: the
- * endpoint by which the store knows the caller, its subscription, and the number of its last change. An endpoint is
- * generation * 1024 + slot. The calls are those of MINIX 3.3's lib/libsys/ds.c, written from knowledge of them, not copied. Errors are
- * those of errno.h, negative, as in MINIX. Several refusals of the store share one error; the caller's field refusal has the store's own.
+ * Callers share a struct ds_server, which has the store's handle. It begins as DS_SERVER_CLOSED. Open it by ds_open of its field store, and
+ * close it by ds_close. Each caller has a struct ds_caller of its own, with its endpoint, its subscription and the number of its last
+ * change. It begins with zeros, and isn't moved while its server is open. An endpoint is generation * 1024 + slot. The calls are those of
+ * MINIX 3.3's lib/libsys/ds.c, written from knowledge of them, not copied. They return 0, or an error of errno.h, negative, as in MINIX.
+ * Several refusals of the store share one error; the caller's field refusal has the store's own.
  *
  * Left out: ds_publish_map, ds_snapshot_map and ds_retrieve_map, which share memory, and getsysinfo. These calls are tested; the
  * store below them is proved. */
@@ -35,7 +35,7 @@ struct ds_caller;
 /* A store that callers share. */
 struct ds_server {
     struct ds_handle store;
-    struct ds_caller *waits; /* the caller whose item isn't fetched yet, since memory ran out, or NULL */
+    struct ds_caller *waits; /* if memory ran out: the caller whose item isn't fetched yet; else NULL */
 };
 #define DS_SERVER_CLOSED { DS_CLOSED, NULL }
 
@@ -48,10 +48,10 @@ struct ds_caller {
     uint32_t refusal;  /* of enum ds_refusal: why its last call was refused, or 0 */
     uint8_t owed[16];  /* a bit for each subscription that is owed a notice; the caller clears it */
     char line[DS_MAX_LINE + 1]; /* the item that was shown but not returned yet, or nothing */
-    uint64_t given[DS_MAX_KEYS]; /* a mark for each entry that ds_check returned, 0 if free: 32 KB, so no call takes memory */
+    uint64_t given[DS_MAX_KEYS]; /* a mark for each entry that ds_check returned, 0 if free: 32 KB, so no call takes memory for them */
 };
 
-/* Publishes where a service is; only RS, whose endpoint is 0/2, may. The same endpoint again changes nothing. */
+/* Publishes where a service is. Only RS, whose endpoint is 0/2, may do so. Publishing the same endpoint again changes nothing. */
 int ds_publish_label(struct ds_caller *caller, const char *label, ds_endpoint_t endpoint, int flags);
 /* Publishes a number, a string, or memory of at most 1024 bytes, in the caller's name. */
 int ds_publish_u32(struct ds_caller *caller, const char *name, uint32_t value, int flags);
@@ -61,7 +61,8 @@ int ds_publish_mem(struct ds_caller *caller, const char *name, const void *value
 int ds_retrieve_label_name(struct ds_caller *caller, char *name, ds_endpoint_t endpoint); /* name: DS_MAX_KEYLEN bytes */
 int ds_retrieve_label_endpt(struct ds_caller *caller, const char *label, ds_endpoint_t *endpoint);
 int ds_retrieve_u32(struct ds_caller *caller, const char *name, uint32_t *value);
-/* Retrieves at most length bytes, and a zero after them: value has length + 1. A longer string is E2BIG, and nothing is written. */
+/* Retrieves a string of at most length bytes, and a zero after them: value has room for length + 1. A longer one is E2BIG, and nothing is
+ * written. */
 int ds_retrieve_str(struct ds_caller *caller, const char *name, char *value, size_t length);
 /* *length is the size of value, and becomes the number of bytes retrieved. */
 int ds_retrieve_mem(struct ds_caller *caller, const char *name, void *value, size_t *length);
@@ -73,10 +74,10 @@ int ds_delete_mem(struct ds_caller *caller, const char *name);
 
 /* Subscribes to entries whose whole name matches the pattern, of the types in flags, or of all types if flags has none. */
 int ds_subscribe(struct ds_caller *caller, const char *pattern, int flags);
-/* Returns the name, type and owner of the next entry that changed; ENOENT if there is none. key has DS_MAX_KEYLEN bytes. A deletion is
- * returned only of an entry that this caller was given before, by its name, which is no longer there; DS, too, forgets deleted entries.
- * A floor has its owner's name, and type 0. ENOMEM loses nothing: the next check returns the same entry. Until then, each call of a
- * caller that shares the server fetches the entry first, and returns ENOMEM if that fails. So use the store by these calls alone. */
+/* Returns the name, type and owner of the next entry that changed; ENOENT if there is none. key has DS_MAX_KEYLEN bytes. A deleted entry is
+ * returned only if an earlier check returned it to this caller; it can no longer be retrieved. DS, too, forgets deleted entries. A floor is
+ * returned with its owner's name, and type 0. ENOMEM loses nothing: the next check returns the same entry. Until then, each call of any
+ * caller that shares the server fetches that entry first, and returns ENOMEM if it can't. So use the store only by these calls. */
 int ds_check(struct ds_caller *caller, char *key, int *type, ds_endpoint_t *owner);
 
 #endif

@@ -1,14 +1,14 @@
-/* Keeps a store in step with those of other hosts over a redis stream: it tells the stream what takes effect in the store, and merges
- * what others told. docs/reference/fleet.md draws it.
+/* Keeps a store in step with those of other hosts over a redis stream: it appends to the stream what takes effect in the store, and merges
+ * what others appended. In these comments, to tell is to append to the stream. docs/reference/fleet.md draws it.
  *
- * The store behind the handle is proved; this carrier is tested. Items join, so stores with the same items agree, in whatever order and
- * however often the items arrived.
+ * The store behind the handle is proved; this carrier is tested. If no two changes contradict each other, stores that got the same items
+ * agree, in whatever order and however often the items arrived.
  *
- * A fleet owns two connections, one descriptor (the bell), and the text that no server has answered for yet. While it looks up the name in
- * its URL it has a thread, which takes no signal and only calls getaddrinfo; no call waits for it. ds_fleet_open copies its arguments,
- * except the handle, which the caller keeps open until ds_fleet_close. Only these calls use the handle meanwhile, so one thread at a
- * time may call on it and its fleet. They send requests to the store, so fetch the text of an answer first. There is nothing global; the
- * caller has to ignore SIGPIPE. The server is redis 7 or newer, the system Linux. */
+ * A fleet owns two connections, one descriptor (the bell), and the text that the server hasn't acknowledged yet. While it looks up the host
+ * of its URL it has a thread, which takes no signal and only calls getaddrinfo; no call waits for that thread, and it doesn't use the
+ * handle. ds_fleet_open copies its arguments, except the handle: the caller keeps that open until ds_fleet_close. At most one thread at a
+ * time makes a call on the handle or its fleet. The calls of a fleet send requests to the store, so fetch the text of an answer before you
+ * make one. Nothing is global, and the caller has to ignore SIGPIPE. The server is redis 7 or newer, the system Linux. */
 #ifndef DS_FLEET_H
 #define DS_FLEET_H
 
@@ -24,72 +24,73 @@ struct ds_fleet;
 /* The outcome of a call. ds_fleet_word spells it in lower case, without its prefix. */
 enum ds_fleet_word {
     DS_FLEET_INSTEP, /* everything that took effect is in the stream, and everything from the stream is merged */
-    DS_FLEET_LATE,   /* the time is over; call again */
-    DS_FLEET_AWAY,   /* there is no server, or it went: a later step calls it again, and nothing is lost */
-    DS_FLEET_DENIED, /* the server answers by an error, which is in the state: a later step tries again, and nothing is lost */
+    DS_FLEET_LATE,   /* the patience of a step is over: call it again */
+    DS_FLEET_AWAY,   /* there is no server, or the connection broke: a later step connects again, and nothing is lost */
+    DS_FLEET_DENIED, /* the server answered by an error, which the state has in `said`: a later step tries again, and nothing is lost */
     DS_FLEET_NOROOM, /* out of memory: call again, nothing is lost */
     DS_FLEET_CLOSED, /* no store is open in the handle */
     DS_FLEET_BADURL, DS_FLEET_NOTLS, DS_FLEET_BADNAME, /* of ds_fleet_open alone */
-    DS_FLEET_BADSCOPE, /* of ds_fleet_open: it can't be read. Of a step: the stream has another one; it tells nothing, and a later step looks again */
+    DS_FLEET_BADSCOPE, /* of ds_fleet_open: the scope can't be read. Of a step: the stream has another scope; the step tells nothing, and a
+                          later one looks again */
     DS_FLEET_SYSTEM    /* of ds_fleet_open alone; errno says why */
 };
 
 enum { DS_FLEET_KEEP = 1000, DS_FLEET_ID = 48, DS_FLEET_SAID = 256 /* bytes of a text, with its zero */ };
 
-/* Takes one line of the log, without its newline, while a step runs. */
+/* A function that gets one line of the log, without its newline, while a step runs. */
 typedef void ds_fleet_tell(void *context, const char *line);
 
 struct ds_fleet_options {
     const char *url;      /* redis://[[USER]:PASSWORD@]HOST[:PORT][/DATABASE], or unix://[[USER]:PASSWORD@]/PATH */
     const char *stream;   /* the beginning of the names of its three keys, 1 to 128 bytes; NULL: "ds" */
-    const char *pattern;  /* the scope: what the pattern matches whole, of the kinds; the same for all who share a stream, or `badscope` */
-    uint8_t kinds;        /* a sum of enum ds_kinds; 0: everything, and then pattern may be anything */
-    long keep;            /* a stream with more entries is compacted; 0: DS_FLEET_KEEP */
-    ds_fleet_tell *tell;  /* gets a line `WORD: TEXT` of what was refused or can't be read, as often as others send it, of servers met
-                             and lost, and of compactions; may be NULL */
+    const char *pattern;  /* with kinds, the scope: the names that it matches whole. All on one stream need the same scope: else badscope */
+    uint8_t kinds;        /* a sum of enum ds_kinds; 0: the scope is everything, and pattern may be anything */
+    long keep;            /* a stream with more entries than this is compacted; 0: DS_FLEET_KEEP */
+    ds_fleet_tell *tell;  /* gets a line `WORD: TEXT` for each item that is refused or can't be read, as often as others send it, for each
+                             server met or lost, and for each compaction; may be NULL */
     void *context;        /* the first argument of tell */
 };
 
-/* Joins the store of the handle to a stream, without waiting: the first step calls the server, and the first steps tell what the store
- * holds already.
- * Returns DS_FLEET_INSTEP, and then *fleet is to be closed by ds_fleet_close. Else *fleet is NULL, and the word says why: CLOSED, BADURL,
- * NOTLS, BADNAME, BADSCOPE, NOROOM or SYSTEM. */
+/* Joins the store of the handle to a stream, without waiting: the first step connects to the server, and the first steps tell what the
+ * store holds already.
+ * Returns DS_FLEET_INSTEP; then close *fleet by ds_fleet_close. Else *fleet is NULL, and the word says why: CLOSED, BADURL, NOTLS, BADNAME,
+ * BADSCOPE, NOROOM or SYSTEM. */
 enum ds_fleet_word ds_fleet_open(struct ds_fleet **fleet, struct ds_handle *store, const struct ds_fleet_options *options);
 
-/* Tells what is new, and merges what others told. It waits until the store is in step, for `patience` milliseconds at most; 0 waits for
- * nothing. The first DS_FLEET_INSTEP means that the store has caught up: serve no client before, since a publisher that begins with
- * less than is known would number its versions anew. DS_FLEET_BADSCOPE ends the step at once. Call it when the bell rings, and after each
+/* Tells what is new, and merges what others told. It waits until the store is in step, for at most `patience` milliseconds; with 0 it
+ * doesn't wait. The first DS_FLEET_INSTEP means that the store has caught up. Serve no client before that: a publisher that doesn't see its
+ * own earlier versions would use their numbers again. DS_FLEET_BADSCOPE ends the step at once. Call it when the bell rings, and after each
  * change of the store. */
 enum ds_fleet_word ds_fleet_step(struct ds_fleet *fleet, unsigned patience);
 
-/* Returns a descriptor that can be read when there is something to step for: what others told, an answer, a second that is over. It is
- * the same one until ds_fleet_close; only these calls read it. */
+/* Returns a descriptor that becomes readable when a step has something to do: others told something, the server answered, or a second
+ * passed. It is the same one until ds_fleet_close. Wait for it, but don't read it. */
 int ds_fleet_bell(const struct ds_fleet *fleet);
 
-/* Returns a mark after everything that has taken effect in the store; 0 if memory runs out, or no store is open. */
+/* Returns a mark past everything that has taken effect in the store so far; 0 if memory runs out, or no store is open. */
 uint64_t ds_fleet_mark(struct ds_fleet *fleet);
-/* Returns whether the server has answered for everything before the mark, so that it is in the stream. So one client may get its answer
- * while others change the store. */
+/* Returns whether the server has acknowledged everything before the mark, so that it is in the stream. So one client may get its answer
+ * while others still change the store. */
 bool ds_fleet_is_told(const struct ds_fleet *fleet, uint64_t mark);
 
-/* Adds to the mask the subscriptions that are owed a notice by what others told since the last call, a bit for each. */
+/* Sets in owed the bit of each subscription to which what others told since the last call owes a notice. Other bits are unchanged. */
 void ds_fleet_owed(struct ds_fleet *fleet, uint8_t owed[16]);
 
 /* The state of a fleet. */
 struct ds_fleet_state {
     enum ds_fleet_word word;              /* of the last step */
-    bool caught_up;                       /* a step was in step already */
-    uint64_t position;                    /* of the store's journal, up to which it was read */
+    bool caught_up;                       /* some step has answered DS_FLEET_INSTEP */
+    uint64_t position;                    /* the position up to which the store's journal was read */
     char last[DS_FLEET_ID];               /* the last entry of the stream that was read, or 0-0 */
-    uint64_t behind;                      /* by how many milliseconds that is older than the last one there, a second ago at most */
-    uint64_t untold;                      /* bytes of lines that no server has answered for */
-    uint64_t entries_told, entries_read;  /* of the stream; read: those of others */
+    uint64_t behind;                      /* how many milliseconds older that is than the stream's last entry, as of a second ago at most */
+    uint64_t untold;                      /* bytes of lines that no server has acknowledged */
+    uint64_t entries_told, entries_read;  /* entries of the stream: appended by this fleet; of others, and read by it */
     uint64_t connections, compactions;
     uint64_t unread;                      /* lines and entries from which no item could be read */
-    uint64_t refused[DS_NOROOM + 1];      /* of how many keys and owners an item is refused now, by enum ds_refusal */
-    unsigned differing;                   /* how many others held something else when they had read the same entries */
+    uint64_t refused[DS_NOROOM + 1];      /* for each of enum ds_refusal: of how many keys and owners an item is refused now */
+    unsigned differing;                   /* how many other stores held something else after they had read the same entries */
     char server[DS_FLEET_ID];             /* the run of the server that was met, or nothing */
-    char said[DS_FLEET_SAID];             /* why the server went or was denied last, in its words, or nothing */
+    char said[DS_FLEET_SAID];             /* why the server last went away or denied something, in its words, or nothing */
 };
 
 void ds_fleet_state(const struct ds_fleet *fleet, struct ds_fleet_state *state);
@@ -97,7 +98,7 @@ void ds_fleet_state(const struct ds_fleet *fleet, struct ds_fleet_state *state);
 /* Ends both connections and frees all memory; the store is unchanged, and open. NULL is allowed. */
 void ds_fleet_close(struct ds_fleet *fleet);
 
-/* Returns the word in lower case, as `instep`; and that of a refusal of enum ds_refusal, as `clash`: static texts. */
+/* Return static texts: the word in lower case, such as `instep`; the word of a refusal of enum ds_refusal, such as `clash`. */
 const char *ds_fleet_word(enum ds_fleet_word word);
 const char *ds_fleet_refusal(uint32_t refusal);
 

@@ -1,6 +1,7 @@
 """Pengtawis: where drivers are that crash and restart. docs/guide/python.md is its page.
 
-A `Store` and a `Map` are in this process, over libds. A `Client` and an `AsyncClient` ask a dsfleet. Every refusal is an exception.
+A `Store` and a `Map` are in this process, over libds. A `Client` and an `AsyncClient` send lines to a dsfleet. Every refusal is an
+exception.
 """
 from .client import AsyncClient, Client
 from .map import Map

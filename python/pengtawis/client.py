@@ -24,7 +24,7 @@ class _Inbox:
         self._notices: Dict[int, None] = {}  # in the order in which they came; one of each subscription is enough
 
     def answers(self, some: bytes) -> Iterator[List[str]]:
-        """Yields the lines of each answer that is complete. Each byte is searched once, since an answer may have megabytes."""
+        """Yields the lines of each complete answer. Each byte is searched only once, since an answer may have megabytes."""
         searched = max(len(self._rest) - 1, 0)
         self._rest += some
         end = self._rest.find(b"\n\n", searched)
@@ -62,10 +62,10 @@ def _judged(answer: List[str]) -> List[str]:
 
 
 class Client:
-    """Asks a dsfleet over a connection that is open until the end of its `with`, for one thread at a time.
+    """Sends lines to a dsfleet over a connection that is open until the end of its `with`. One thread at a time may use it.
 
     A call that takes longer than `timeout` seconds raises socket.timeout, which is TimeoutError from Python 3.10 on. Later calls
-    get their own answers. ConnectionError means that dsfleet hung up.
+    still get their own answers. ConnectionError means that dsfleet hung up.
     """
 
     def __init__(self, path: str, timeout: Optional[float] = None) -> None:
@@ -87,7 +87,7 @@ class Client:
         self.close()
 
     def close(self) -> None:
-        """Hangs up. What was subscribed stays subscribed."""
+        """Closes the connection. Subscriptions in the store stay."""
         self._socket.close()
 
     def ask(self, line: str) -> List[str]:
@@ -107,7 +107,7 @@ class Client:
         return _judged(self._answers.popleft())
 
     def notices(self, timeout: Optional[float] = None) -> Iterator[int]:
-        """Yields the subscriptions that are owed a notice, after `listen SUB`, as they come. Ends after `timeout` seconds without one."""
+        """Yields each subscription when its notice comes. First send `listen SUB`. Ends after `timeout` seconds without a notice."""
         while True:
             yield from self._inbox.notices()
             self._socket.settimeout(timeout)
@@ -130,9 +130,10 @@ class Client:
 
 
 class AsyncClient:
-    """Asks a dsfleet from asyncio, over a connection that is open until the end of its `async with`. Calls may overlap.
+    """Sends lines to a dsfleet from asyncio, over a connection that is open until the end of its `async with`. Calls may overlap.
 
-    A call may be cancelled, also by asyncio.wait_for. Later calls get their own answers. ConnectionError means that dsfleet hung up.
+    A call may be cancelled, also by asyncio.wait_for. Later calls still get their own answers. ConnectionError means that dsfleet
+    hung up.
     """
 
     def __init__(self, path: str) -> None:
@@ -144,7 +145,7 @@ class AsyncClient:
         self._socket.setblocking(False)
         try:
             await asyncio.get_running_loop().sock_connect(self._socket, self._path)
-            # Writes through a descriptor of its own: a write that fails would lose what is received and not read yet.
+            # Writes go through another descriptor of the socket: on the same one, a failed write would lose what isn't read yet.
             _, self._writer = await asyncio.open_unix_connection(sock=self._socket.dup())
         except BaseException:
             self._socket.close()
@@ -173,7 +174,7 @@ class AsyncClient:
         return _judged(await call)
 
     async def notices(self) -> AsyncIterator[int]:
-        """Yields the subscriptions that are owed a notice, after `listen SUB`, as they come. Ends with the connection."""
+        """Yields each subscription when its notice comes. First send `listen SUB`. Ends with the connection."""
         while True:
             for sub in self._inbox.notices():
                 yield sub

@@ -100,7 +100,7 @@ class Handle:
             self.close()
 
     def close(self) -> None:
-        """Frees all memory. A second call does nothing; any other call is refused by IsClosed."""
+        """Frees all memory. A second close does nothing; any other call on a closed handle raises IsClosed."""
         getattr(self._library, self._closes)(self._at)
 
     def _call(self, call: str, *words: Any) -> None:
@@ -110,7 +110,7 @@ class Handle:
             raise NUMBERED[refusal]()
 
     def _ask(self, call: str, *words: Any) -> Answer:
-        """Returns the answer to a call, which the next call overwrites."""
+        """Makes a call, and returns its answer, or raises what the answer refuses. The next call overwrites the answer."""
         self._call(call, *words, self._answer_at)
         fault = fault_of(self._answer, BadLine if call == "ds_call_line" else ValueError)
         if fault:
@@ -119,7 +119,7 @@ class Handle:
 
 
 def fault_of(answer: Answer, malformed: Type[ValueError] = ValueError) -> Optional[Exception]:
-    """Returns the exception that an answer is, if it is one."""
+    """Returns the exception for an answer that refuses something, or None."""
     if answer.word == BAD_LINE:
         return BadLine(f"the line can't be read from byte {answer.count} on")
     if answer.word == NO_REQUEST:

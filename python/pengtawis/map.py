@@ -8,7 +8,7 @@ from .values import Endpoint, Items, Merged, mask_of
 
 
 class Map(Handle):
-    """Follows stores, whose items may come late, twice or out of order. It never returns an older generation than it did.
+    """Follows stores, whose items may come late, twice or out of order. It never returns an older generation than it did before.
 
     It is open until the end of its `with`. `library` is the path of libds.so, as for a Store.
 
@@ -24,7 +24,7 @@ class Map(Handle):
         self._call("ds_map_new", mask_of(kinds), spelled, len(spelled))
 
     def take(self, items: Items) -> Merged:
-        """Takes items in their order, up to the first that is refused. The others may then be taken again."""
+        """Takes items in order, up to the first that is refused. That one and those after it may be taken again later."""
         answer = self._ask("ds_map_take", items.text, len(items.text))
         return Merged(answer.count, answer.taken, answer.stale, frozenset())
 

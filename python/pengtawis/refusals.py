@@ -7,7 +7,7 @@ from .values import Version
 
 
 class Refused(Exception):
-    """Says that a call was refused. It changed nothing, except that a merge and a take keep the `done` items before.
+    """Says that a call was refused. It changed nothing. Exception: a merge and a take keep the first `done` items.
 
     >>> NotFound.word
     'notfound'

@@ -19,11 +19,11 @@ Pair = Tuple[int, int]  # an endpoint, a version or a cursor
 class Store(Handle):
     """Holds facts about programs that crash and restart, until the end of its `with`.
 
-    Threads that share a store hold a lock of their own around each use.
+    Threads may share a store if they hold a lock of their own around each use.
 
-    Without `incarnation` it is the time in nanoseconds, so that no cursor of an earlier run is taken for one of this run.
-    `library` is the path of libds.so.1. Without it the variable PENGTAWIS_LIBRARY names the library, or it is where ./install
-    puts it, lib/pengtawis/libds.so.1 below ~/.local or /usr/local, or where the system's loader finds it.
+    `incarnation` is the time in nanoseconds by default, so that no cursor of an earlier run is taken for one of this run.
+    `library` is the path of libds.so.1. Without it the path is that of the variable PENGTAWIS_LIBRARY; without that, it is where
+    ./install puts the library, lib/pengtawis/libds.so.1 below ~/.local or /usr/local; else the system's loader finds it.
 
     >>> with Store() as store:
     ...     _ = store.publish(RS, "eth0", Endpoint(3, 16), version=(3, 0))
@@ -50,7 +50,9 @@ class Store(Handle):
     def publish_all(
         self, caller: Pair, entries: Iterable[Tuple[str, Value, Pair]], overwrite: bool = False
     ) -> List[Union[Done, Exception]]:
-        """Publishes entries, each a name, a value and a version, by one call of the library. Returns what `publish` returns or raises for each.
+        """Publishes entries, each a name, a value and a version, by one call of the library.
+
+        Returns, for each, what `publish` would return or raise.
 
         >>> with Store() as store:
         ...     _ = store.publish(RS, "eth0", Endpoint(3, 16), version=(3, 0))
@@ -130,7 +132,7 @@ class Store(Handle):
     def page(
         self, after: Optional[Tuple[str, type]] = None, pattern: str = ".*", kinds: Iterable[type] = KINDS, most: int = MOST
     ) -> Page:
-        """Returns the first `most` changes of a snapshot, in the order of their keys, that are past a key. The first page has all floors, too.
+        """Returns the first `most` changes of a snapshot past the key `after`, in the order of keys. The first page has all floors, too.
 
         >>> with Store() as store:
         ...     for at in range(3):
@@ -147,7 +149,7 @@ class Store(Handle):
     def since(
         self, cursor: Pair, pattern: str = ".*", kinds: Iterable[type] = KINDS, most: int = MOST
     ) -> Iterator[Reading]:
-        """Yields what took effect after a cursor, at most `most` items at a time, with the next cursor. It yields at least once.
+        """Yields what took effect after a cursor, at most `most` items at a time, each time with the next cursor. Yields at least once.
 
         >>> with Store() as store:
         ...     _, cursor = store.snapshot()
@@ -163,7 +165,7 @@ class Store(Handle):
             cursor, more = reading.cursor, len(reading.items) == most
 
     def merge(self, items: Items) -> Merged:
-        """Takes over the items of other stores, 256 at a time, up to the first that is refused."""
+        """Merges the items of other stores, 256 at a time, up to the first that is refused."""
         total, at = Merged(0, 0, 0, frozenset()), 0
         while at < len(items.text):
             end = at
@@ -185,7 +187,7 @@ class Store(Handle):
         return self.text()
 
     def text(self) -> str:
-        """Returns the last answer as dsctl prints it. If `line` raised NoRoom, call it for the answer."""
+        """Returns the last answer as dsctl prints it. If `line` raised NoRoom, call this to get its answer."""
         text, room = io.BytesIO(), PIECE
         while True:
             given = self._more(text, "ds_text", text.tell(), room)
@@ -201,7 +203,7 @@ class Store(Handle):
         return super()._ask(call, *words)
 
     def _leave(self) -> None:
-        """Fetches what is left of the last answer, which the next one replaces."""
+        """Fetches the rest of a check's text, if some is left, before the next answer replaces it."""
         if self._left is not None:
             self._fetch(self._left)
         self._fetched = 0
@@ -233,7 +235,7 @@ class Store(Handle):
         self._left = None
 
     def _more(self, text: io.BytesIO, call: str, first: int, room: int) -> Given:
-        """Lets the library write more of the last answer's text to where `text` is. It isn't copied again."""
+        """Has the library write more of the last answer's text straight into `text`, at its position, so nothing is copied again."""
         end = text.tell()
         text.seek(end + room - 1)
         text.write(b"\0")

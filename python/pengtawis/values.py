@@ -49,7 +49,7 @@ class Floor(NamedTuple):
 
 
 class Items:
-    """Holds changes and floors as their lines in docs/reference/lines.md, which are `text`. Iteration reads them.
+    """Holds changes and floors as lines (docs/reference/lines.md) in `text`. Iteration reads these lines.
 
     >>> list(Items(b"! eth0 3\\n"))
     [Floor(owner='eth0', generation=3)]
@@ -65,7 +65,7 @@ class Items:
         return self.text.count(b"\n")
 
 
-# The answers of a store. `owed` has the subscriptions that are owed a notice; `Store.since` continues from a reading's cursor.
+# The answers of a store. `owed` is the set of subscriptions that are owed a notice. `Store.since` continues from the cursor of a Reading.
 Done = NamedTuple("Done", [("changed", bool), ("owed", FrozenSet[int])])
 Swept = NamedTuple("Swept", [("dropped", int), ("owed", FrozenSet[int])])
 Subscribed = NamedTuple("Subscribed", [("stamp", int), ("owed", FrozenSet[int])])

@@ -11,12 +11,12 @@ macro_rules! refusals {
         #[non_exhaustive]
         pub enum Refusal {
             $(#[doc = $said] $name,)*
-            /// This version is held already, with another value: that of the key, or of the change.
+            /// The version that it has is held already, with another value: that of the key, or of the change.
             Clash(Version),
         }
 
         impl Refusal {
-            /// The word by which a script and a dsfleet name it.
+            /// Returns the word by which a script and a dsfleet name the refusal.
             ///
             /// ```
             /// assert_eq!(pengtawis::Refusal::NotFound.word(), "notfound");
@@ -86,25 +86,25 @@ pub enum Error {
     Refused(Refusal),
     /// A merge, or a take of a map, stopped at an item that was refused. The items before it are done.
     Stopped(Stopped),
-    /// A name, a number or a line of items is none, or out of range. Nothing changed.
+    /// A name, a number or a line of items is malformed, or out of range. Nothing changed.
     NoRequest,
     /// The line can't be read from this byte on. Nothing changed.
     BadLine(u64),
 }
 
-/// What was done before an item was refused. The items after it may be given again.
+/// What was done before an item was refused. That item and those after it may be given again later.
 #[derive(Clone, Copy, Debug, PartialEq, Eq)]
 pub struct Stopped {
     /// Why the next item was refused.
     pub refusal: Refusal,
     /// How many items are done.
     pub done: u64,
-    /// The subscriptions that are owed a notice of them.
+    /// The subscriptions that are owed a notice by these items.
     pub owed: Owed,
 }
 
 impl Error {
-    /// The refusal, unless the call itself was malformed.
+    /// Returns the refusal; `None` if the call itself was malformed.
     pub fn refusal(&self) -> Option<Refusal> {
         match self {
             Error::Refused(refusal) => Some(*refusal),
@@ -113,7 +113,7 @@ impl Error {
         }
     }
 
-    /// The fault that an answer says, if it says one.
+    /// Returns the error that an answer stands for, if any.
     pub(crate) fn of(answer: &Answer) -> Option<Error> {
         let refusal = || Refusal::numbered(answer.refusal, Version { epoch: answer.epoch, seq: answer.seq });
         match answer.word {

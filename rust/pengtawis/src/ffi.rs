@@ -76,7 +76,7 @@ pub mod command {
     pub const MERGE: u32 = 10;
 }
 
-/// `enum ds_word`, as far as answers are told apart by it.
+/// `enum ds_word`: those words by which this crate tells answers apart.
 pub mod word {
     pub const CHANGED: u32 = 0;
     pub const STOPPED: u32 = 11;
@@ -108,7 +108,7 @@ extern "C" {
 }
 
 impl Request {
-    /// A request of a command, whose other parts are zero.
+    /// Returns a request with this command, whose other parts are zero.
     pub const fn new(command: u32) -> Request {
         Request {
             incarnation: 0, position: 0, text_at: 0, text_length: 0, command, generation: 0, epoch: 0, seq: 0, value: 0, sub: 0,
@@ -121,7 +121,7 @@ impl Request {
 mod tests {
     use super::*;
 
-    /// Handles that are closed, or open already, are refused. No `Store` and no `Map` can be either.
+    /// A call on a closed handle is refused, and so is opening an open one. A `Store` and a `Map` make no such call.
     #[test]
     fn closed_and_open() {
         let (mut store, mut map, mut answer) = (std::ptr::null_mut(), std::ptr::null_mut(), Answer::default());

@@ -3,7 +3,8 @@
 use crate::values::{Endpoint, Kind, Version};
 use std::borrow::Cow;
 
-/// The lines of items, as a store gives them. A merge, and the take of a map, take them as they are.
+/// The lines of items, as a store returns them. [`Store::merge`](crate::Store::merge) and [`Map::take`](crate::Map::take) take them
+/// unchanged.
 ///
 /// ```
 /// use pengtawis::{Body, Endpoint, Item, Items};
@@ -38,13 +39,13 @@ impl Items {
         self.text.is_empty()
     }
 
-    /// The items. A line that is no item's, which no store gives, is passed over.
+    /// Returns the items. A line that isn't an item's is skipped; a store returns no such line.
     pub fn iter(&self) -> impl Iterator<Item = Item<'_>> {
         self.text.split(|it| *it == b'\n').filter_map(|it| Item::read(std::str::from_utf8(it).ok()?))
     }
 }
 
-/// Takes lines as they are: a store reads them, and refuses them, by itself.
+/// Keeps the lines unchecked: the store or map that takes them reads them, and may refuse them.
 impl From<Vec<u8>> for Items {
     fn from(text: Vec<u8>) -> Items {
         Items { text }
@@ -81,7 +82,7 @@ pub enum Body<'a> {
 }
 
 impl<'a> Item<'a> {
-    /// Reads a line without its newline. `None`: it is no item's.
+    /// Reads a line without its newline. `None` if it isn't an item's line.
     pub fn read(line: &'a str) -> Option<Item<'a>> {
         if let Some(rest) = line.strip_prefix("! ") {
             let (owner, generation) = rest.split_once(' ')?;
@@ -119,7 +120,7 @@ fn body_of(kind: Kind, text: &str) -> Option<Body<'_>> {
     }
 }
 
-/// A backslash stands before each quote and each backslash.
+/// Removes the backslash before each quote and each backslash.
 fn unquoted(text: &str) -> Cow<'_, str> {
     if !text.contains('\\') {
         return Cow::Borrowed(text);

@@ -1,4 +1,4 @@
-//! The structs of ffi.rs are laid out as tests/programs/c_abi.txt says of those of `c/ds.h`.
+//! Checks that the structs of ffi.rs have the layout that tests/programs/c_abi.txt records for `c/ds.h`.
 
 use crate::ffi;
 use std::mem::{align_of, size_of};

@@ -1,7 +1,7 @@
 //! Pengtawis: where drivers are that crash and restart. `docs/guide/rust.md` is its page.
 //!
 //! A [`Store`] and a [`Map`] are in this process, over the library for C, which is proved; this crate around it is tested. Every refusal is a
-//! variant of [`Refusal`]. No call panics, and memory that runs out is [`Refusal::NoRoom`]: nothing is lost by it.
+//! variant of [`Refusal`]. No call panics. If memory runs out, a call is refused as [`Refusal::NoRoom`], and nothing is lost.
 
 mod error;
 mod ffi;

@@ -6,7 +6,7 @@ use crate::items::Items;
 use crate::store::merged;
 use crate::values::{Endpoint, Kinds, Merged, Version};
 
-/// Follows stores, whose items may come late, twice or out of order. It never returns an older generation than it did.
+/// Follows stores, whose items may come late, twice or out of order. It never returns an older generation than it did before.
 ///
 /// ```
 /// use pengtawis::{Endpoint, Items, Kind, Map};
@@ -25,7 +25,7 @@ pub struct Map {
 unsafe impl Send for Map {}
 
 impl Map {
-    /// Makes the map of what a pattern matches whole, of some kinds, to which nothing came yet.
+    /// Makes an empty map for names of some kinds that a pattern matches whole.
     pub fn new(pattern: &str, kinds: impl Into<Kinds>) -> Result<Map, Refusal> {
         let mut handle = std::ptr::null_mut();
         // SAFETY: the handle begins as null, and the length is the pattern's.
@@ -35,7 +35,7 @@ impl Map {
         }
     }
 
-    /// Takes items in their order, up to the first that is refused. The others may then be taken again.
+    /// Takes items in order, up to the first that is refused. That one and those after it may be taken again later.
     pub fn take(&mut self, items: &Items) -> Result<Merged, Error> {
         let (mut answer, text) = (Answer::default(), items.text());
         // SAFETY: the handle is open, and the length is the text's.

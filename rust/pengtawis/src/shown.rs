@@ -11,8 +11,8 @@ const ROOM: usize = 1 << 16; // bytes that are asked for at a time
 
 /// The answer to a check, a since, a snapshot, a page or a line, whose text isn't fetched yet.
 ///
-/// It borrows the store: no other request can replace the answer. Each byte is copied once, by the library, to where it is wanted.
-/// A call that is refused by [`Refusal::NoRoom`] may be made again, and loses nothing.
+/// It borrows the store, so no other request can replace the answer. The library copies each byte only once, straight into the caller's
+/// text. A call that is refused as [`Refusal::NoRoom`] may be made again, and loses nothing.
 ///
 /// ```compile_fail
 /// # let mut store = pengtawis::Store::open(1).unwrap();
@@ -40,22 +40,22 @@ impl<'store> Shown<'store> {
         Shown { store, answer, fetched: 0, text: Vec::new() }
     }
 
-    /// How many items it has.
+    /// Returns how many items the answer has.
     pub fn count(&self) -> u64 {
         self.answer.pieces
     }
 
-    /// Where a since continues. A check has no cursor; of a page it is the one that all pages together reach back to.
+    /// Returns the cursor from which a since continues. A check has none. After a walk of all pages, continue from the first page's.
     pub fn cursor(&self) -> Cursor {
         Cursor { incarnation: self.answer.before, position: self.answer.after }
     }
 
-    /// Whether a page is the last one.
+    /// Returns whether a page is the last one.
     pub fn is_last(&self) -> bool {
         self.answer.last == 1
     }
 
-    /// Fetches its items. They are returned once.
+    /// Fetches the items of the answer. A second call returns none.
     pub fn items(&mut self) -> Result<Items, Refusal> {
         let mut text = std::mem::take(&mut self.text);
         let fetched = self.append_to(&mut text);
@@ -66,7 +66,7 @@ impl<'store> Shown<'store> {
         Ok(Items::from(text))
     }
 
-    /// Appends the lines of its items to a text. After a refusal those that were fetched are there, and the same call fetches the others.
+    /// Appends the lines of the items to a text. A refusal keeps the lines that were fetched; call again for the others.
     pub fn append_to(&mut self, text: &mut Vec<u8>) -> Result<(), Refusal> {
         while self.fetched < self.answer.pieces {
             let (room, first) = (ROOM.min((self.answer.pieces - self.fetched) as usize * MAX_PIECE), self.fetched as usize);
@@ -75,7 +75,7 @@ impl<'store> Shown<'store> {
         Ok(())
     }
 
-    /// The whole answer as `dsctl` prints it.
+    /// Returns the whole answer as `dsctl` prints it.
     ///
     /// ```
     /// # let mut store = pengtawis::Store::open(1)?;

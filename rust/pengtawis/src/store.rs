@@ -12,8 +12,8 @@ const LONGEST_NAME: usize = 64;
 
 /// Holds facts about programs that crash and restart.
 ///
-/// Its calls take `&mut self`: a store is asked one request after the other. It may move to another thread, and threads share one behind a
-/// [`Mutex`](std::sync::Mutex). Its memory goes back when it is dropped.
+/// Its calls take `&mut self`, so it gets one request at a time. It may move to another thread, and threads may share one in a
+/// [`Mutex`](std::sync::Mutex). Dropping it frees its memory.
 ///
 /// ```
 /// use pengtawis::{Endpoint, Store, Version, RS};
@@ -34,13 +34,13 @@ pub struct Store {
 unsafe impl Send for Store {}
 
 impl Store {
-    /// Opens a store whose journal keeps 256 items. Each run needs another incarnation, so that no cursor of an earlier one is taken for
-    /// one of this run: the time in nanoseconds is one.
+    /// Opens a store whose journal keeps 256 items. Each run needs another incarnation, such as the time in nanoseconds, so that no cursor
+    /// of an earlier run is taken for one of this run.
     pub fn open(incarnation: u64) -> Result<Store, Refusal> {
         Store::open_with(incarnation, 0, 256)
     }
 
-    /// Opens a store whose first item has a position, at most 2^62, and whose journal keeps the last `ring` items, 1 to 4096.
+    /// Opens a store whose first item gets the position `first`, at most 2^62, and whose journal keeps the last `ring` items, 1 to 4096.
     pub fn open_with(incarnation: u64, first: u64, ring: u32) -> Result<Store, Refusal> {
         let mut handle = std::ptr::null_mut();
         // SAFETY: the handle begins as null.
@@ -72,7 +72,7 @@ impl Store {
         Ok(Swept { dropped: answer.count, owed: Owed(answer.owed) })
     }
 
-    /// Returns the value of a live entry, whose kind is that of the wanted type: an [`Endpoint`], a `u32`, a `String` or a `Vec<u8>`.
+    /// Returns the value of a live entry. The type chooses the kind: an [`Endpoint`], a `u32`, a `String` or a `Vec<u8>`.
     pub fn retrieve<T: Found>(&mut self, name: &str) -> Result<T, Error> {
         let answer = self.ask(keyed(Request::new(command::RETRIEVE), name, T::KIND)?, &[])?;
         Ok(T::found(self, &answer)?)
@@ -84,30 +84,30 @@ impl Store {
         Ok(text_of(self.piece(LONGEST_NAME)?)?)
     }
 
-    /// Follows a scope by a subscription, 0 to 127. With `initial` the first check shows what is held already.
+    /// Makes the subscription `sub`, 0 to 127, to a scope. With `initial` the first check shows what is held already.
     pub fn subscribe(&mut self, sub: u32, scope: Scope<'_>, initial: bool, overwrite: bool) -> Result<Subscribed, Error> {
         let request = Request { sub, initial: initial.into(), overwrite: overwrite.into(), ..Request::new(command::SUBSCRIBE) };
         let answer = self.ask(Request { kinds: scope.kinds.0, ..request }, scope.pattern.as_bytes())?;
         Ok(Subscribed { stamp: answer.after, owed: Owed(answer.owed) })
     }
 
-    /// Shows the first `most` items, 1 to 256, that the subscription wasn't shown yet. Where it has as many, there may be more.
+    /// Shows the first `most` items, 1 to 256, that the subscription wasn't shown yet. If it shows `most` items, there may be more.
     pub fn check(&mut self, sub: u32, most: u32) -> Result<Shown<'_>, Error> {
         self.show(Request { sub, max: most, ..Request::new(command::CHECK) }, None)
     }
 
-    /// Shows the first `most` items, 1 to 256, that took effect after a cursor, under a scope or all of them.
+    /// Shows the first `most` items, 1 to 256, that took effect after a cursor. Without a scope, of all keys.
     pub fn since(&mut self, cursor: Cursor, scope: Option<Scope<'_>>, most: u32) -> Result<Shown<'_>, Error> {
         let Cursor { incarnation, position } = cursor;
         self.show(Request { incarnation, position, max: most, ..Request::new(command::SINCE) }, scope)
     }
 
-    /// Shows all that is held under a scope, or all of it: tombstones too, and all floors.
+    /// Shows all that is held under a scope, tombstones too, and all floors. Without a scope, shows everything held.
     pub fn snapshot(&mut self, scope: Option<Scope<'_>>) -> Result<Shown<'_>, Error> {
         self.show(Request::new(command::SNAPSHOT), scope)
     }
 
-    /// Shows the first `most` items, 1 to 256, of what a snapshot shows, after a key or from the start.
+    /// Shows a part of what a snapshot shows: the first `most` changes, 1 to 256, past the key `after`. The first page has all floors, too.
     pub fn page(&mut self, after: Option<(&str, Kind)>, scope: Option<Scope<'_>>, most: u32) -> Result<Shown<'_>, Error> {
         let mut request = Request { max: most, ..Request::new(command::PAGE) };
         if let Some((name, kind)) = after {
@@ -116,7 +116,7 @@ impl Store {
         self.show(request, scope)
     }
 
-    /// Takes over the items of other stores, up to the first that is refused.
+    /// Merges the items of other stores in order, up to the first that is refused.
     pub fn merge(&mut self, items: &Items) -> Result<Merged, Error> {
         let (text, mut total, mut at) = (items.text(), Merged::default(), 0);
         while at < text.len() {
@@ -148,7 +148,7 @@ impl Store {
         &mut self.handle
     }
 
-    /// Appends the pieces of the last answer from one on, as many as fit into some room, and says how many these are.
+    /// Appends pieces of the last answer, from the piece `first` on, as many as fit into `room` bytes, and returns how many these are.
     pub(crate) fn pieces(&mut self, first: usize, room: usize, text: &mut Vec<u8>) -> Result<u64, Refusal> {
         let mut given = Given::default();
         text.try_reserve(room).map_err(|_| Refusal::NoRoom)?;
@@ -163,14 +163,14 @@ impl Store {
         Err(Refusal::NoRoom)
     }
 
-    /// The only piece of the last answer, which mostly has no more bytes than this.
+    /// Fetches the only piece of the last answer, which has at most `longest` bytes.
     fn piece(&mut self, longest: usize) -> Result<Vec<u8>, Refusal> {
         let mut text = Vec::new();
         self.pieces(0, longest, &mut text)?;
         Ok(text)
     }
 
-    /// Sends a request, whose text is all of `text` unless it names a part.
+    /// Sends a request. Its text is all of `text`, unless the request names a part.
     fn ask(&mut self, mut request: Request, text: &[u8]) -> Result<Answer, Error> {
         let mut answer = Answer::default();
         if request.text_length == 0 {

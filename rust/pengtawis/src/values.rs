@@ -1,4 +1,4 @@
-//! What a store holds and answers, but for its items.
+//! What a store holds and answers, except items.
 
 use std::fmt;
 use std::ops::BitOr;
@@ -66,7 +66,7 @@ pub struct Kinds(pub(crate) u8);
 
 impl Kinds {
     pub const ALL: Kinds = Kinds(15);
-    /// No kind, to which kinds may be added. A map of none is refused as [`BadKind`](crate::Refusal::BadKind).
+    /// The empty set, to which kinds may be added. A map of no kind is refused as [`BadKind`](crate::Refusal::BadKind).
     pub const NONE: Kinds = Kinds(0);
 }
 
@@ -111,7 +111,7 @@ impl Value<'_> {
         }
     }
 
-    /// Its number, its slot and its text, of which its kind has one or two.
+    /// Returns the number, the slot and the text of a value. A kind has one or two of them; the others are zero or empty.
     pub(crate) fn parts(&self) -> (u32, u16, &[u8]) {
         match self {
             Value::Label(at) => (at.generation, at.slot, &[]),
@@ -172,18 +172,18 @@ impl Owed {
         self.0 == [0; 16]
     }
 
-    /// The numbers of these subscriptions, in their order.
+    /// Returns the numbers of these subscriptions, in ascending order.
     pub fn iter(&self) -> impl Iterator<Item = u32> + '_ {
         (0..128).filter(|it| self.contains(*it))
     }
 
-    /// Adds those of another answer.
+    /// Adds the subscriptions of another answer.
     pub fn add(&mut self, other: &Owed) {
         self.0.iter_mut().zip(other.0).for_each(|(mine, more)| *mine |= more);
     }
 }
 
-/// That a change is held. `changed` is false where it was held already.
+/// The answer that a change is held. `changed` is false if it was held already.
 #[derive(Clone, Copy, Debug, PartialEq, Eq)]
 pub struct Done {
     pub changed: bool,
@@ -204,7 +204,7 @@ pub struct Subscribed {
     pub owed: Owed,
 }
 
-/// How many items were done, and how many of these took effect or were late. The others were held already, or aren't under a map's query.
+/// How many items were done, and how many of these took effect or were stale. The others were held already, or aren't under a map's query.
 #[derive(Clone, Copy, Debug, Default, PartialEq, Eq)]
 pub struct Merged {
     pub done: u64,
