@@ -93,21 +93,18 @@ impl PairSession {
         text: &mut Vec<u8>,
         command: ScriptCommand,
     ) -> Result<(), Failure> {
-        let wording = command.wording();
-        if let Some((event, tick)) = command.service_event() {
-            return self.send(text, wording, RsCommand::Tell { event, tick });
-        }
         match command {
-            ScriptCommand::Settings { text: settings } => self.begin(text, &settings),
-            _ => match command.into_store_command(self.alloc)? {
-                Some(command) => self.send(text, wording, RsCommand::Ask(command)),
-                None => Err(Failure::BadLine),
-            },
+            ScriptCommand::Settings { text: settings } => self.begin(text, settings),
+            command => {
+                let wording = command.wording();
+                let asked = asked_of(self.alloc, command)?;
+                self.send(text, wording, asked)
+            }
         }
     }
 
     // Begins RS with the settings of a text, or tells what is wrong with them.
-    fn begin(&mut self, text: &mut Vec<u8>, settings: &SettingsText) -> Result<(), Failure> {
+    fn begin(&mut self, text: &mut Vec<u8>, settings: SettingsText) -> Result<(), Failure> {
         match read(self.alloc, settings.bytes()) {
             Ok(settings) => {
                 let (next, first) = (self.next, self.first);
@@ -138,4 +135,21 @@ impl PairSession {
         }
         Ok(append_served(text, wording, &reply)?)
     }
+}
+
+// What a line asks: it tells RS of an event, or asks the store.
+fn asked_of(alloc: Global, command: ScriptCommand) -> Result<RsCommand, Failure> {
+    match told_by(&command) {
+        Some(told) => Ok(told),
+        None => match command.into_store_command(alloc)? {
+            Some(command) => Ok(RsCommand::Ask(command)),
+            None => Err(Failure::BadLine),
+        },
+    }
+}
+
+// The event that a line tells RS of.
+fn told_by(command: &ScriptCommand) -> Option<RsCommand> {
+    let (event, tick) = command.service_event()?;
+    Some(RsCommand::Tell { event, tick })
 }
