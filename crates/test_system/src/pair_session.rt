@@ -6,6 +6,7 @@
 
 use crate::rs_telling::tell_state;
 use crate::words::{tell_index, tell_number};
+use ds_lines::split_line;
 use ds_names::Name;
 use ds_words::{CommandFault, ScriptCommand, SettingsText, read_command};
 use rs_core::State;
@@ -81,6 +82,9 @@ impl PairSession {
 
     // Answers a line that scripts have.
     fn answer(&mut self, text: &mut Vec<u8>, line: &str) -> Result<(), Failure> {
+        if split_line(line.as_bytes()).is_some() {
+            return Err(Failure::BadLine);
+        }
         match read_command(self.alloc, line.as_bytes()) {
             Ok(command) => self.answer_command(text, command),
             Err(CommandFault::BadLine { .. }) => Err(Failure::BadLine),
