@@ -1,10 +1,10 @@
 -- What is read of bytes, by what is read of their line.
 use Rattle.std.proofs.Common.{◌≡◌, ◌≤◌, ℕ, List, Result, Ok, Err, IfOk, IfErr, inl, inr, refl, sym, subst, length, ◌∙◌}
-use Rattle.ds_lines.specs.Lines.{IsUnbroken, with_newline}
-use Rattle.ds_words.specs.declared.command.ScriptCommand.{ScriptCommand}
-use Rattle.ds_words.specs.declared.fault.CommandFault.{CommandFault}
-use Rattle.ds_words.specs.declared.fault.CommandFault.TheVariants.{BadLine, NoRoom}
-use Rattle.ds_words.specs.Command.{IsCommand, IsLineOf, IsCommandLineFault, IsFaultAmong, ReadsCommand}
+use Rattle.line_io.specs.Lines.{IsUnbroken, with_newline}
+use Rattle.script_commands.specs.declared.command.ScriptCommand.{ScriptCommand}
+use Rattle.script_commands.specs.declared.fault.CommandFault.{CommandFault}
+use Rattle.script_commands.specs.declared.fault.CommandFault.TheVariants.{BadLine, NoRoom}
+use Rattle.script_commands.specs.Command.{IsCommand, IsLineOf, IsCommandLineFault, IsFaultAmong, ReadsCommand}
 use Rattle.c_line.specs.Line.{ReadsBytes}
 
 -- a line without its newline

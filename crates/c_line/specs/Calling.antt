@@ -1,11 +1,11 @@
 -- What a line does to a session.
 use Rattle.std.specs.Prelude.{◌≡◌, ◌⊎◌, ℕ, Bool, true, false, List, Option, None, Some, MatchOption}
-use Rattle.ds_words.specs.declared.command.ScriptCommand.{ScriptCommand}
-use Rattle.ds_words.specs.declared.command.ScriptCommand.TheVariants.{Show, All}
-use Rattle.ds_words.specs.Command.{CommandTakesMemory, is_offer, store_command}
-use Rattle.ds_words.specs.Wording.{wording}
-use Rattle.c_words.specs.declared.answer.Answer.{Answer}
-use Rattle.c_words.specs.Answer.{told_bad_line}
+use Rattle.script_commands.specs.declared.command.ScriptCommand.{ScriptCommand}
+use Rattle.script_commands.specs.declared.command.ScriptCommand.TheVariants.{Show, All}
+use Rattle.script_commands.specs.Command.{CommandTakesMemory, is_offer, store_command}
+use Rattle.script_commands.specs.Wording.{wording}
+use Rattle.c_values.specs.declared.answer.Answer.{Answer}
+use Rattle.c_values.specs.Answer.{told_bad_line}
 use Rattle.c_session.specs.declared.last.Last.TheVariants.{Nothing}
 use Rattle.c_session.specs.declared.session.Session.{Session}
 use Rattle.c_session.specs.Called.{Tells, Rests, RestsForNone, RestsForRoom, ShowsIfRoom}

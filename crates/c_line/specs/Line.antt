@@ -1,10 +1,10 @@
 -- Which line bytes are, and whose.
 use Rattle.std.specs.Prelude.{◌≡◌, ◌≢◌, ◌⊎◌, ℕ, ◌+◌, List, [], ◌++◌, length, Result, Ok, Err}
-use Rattle.ds_lines.specs.Lines.{IsUnbroken, with_newline}
-use Rattle.ds_words.specs.declared.command.ScriptCommand.{ScriptCommand}
-use Rattle.ds_words.specs.declared.fault.CommandFault.{CommandFault}
-use Rattle.ds_words.specs.declared.fault.CommandFault.TheVariants.{BadLine, NoRoom}
-use Rattle.ds_words.specs.Command.{IsLineOf, IsBadLine, CommandTakesMemory}
+use Rattle.line_io.specs.Lines.{IsUnbroken, with_newline}
+use Rattle.script_commands.specs.declared.command.ScriptCommand.{ScriptCommand}
+use Rattle.script_commands.specs.declared.fault.CommandFault.{CommandFault}
+use Rattle.script_commands.specs.declared.fault.CommandFault.TheVariants.{BadLine, NoRoom}
+use Rattle.script_commands.specs.Command.{IsLineOf, IsBadLine, CommandTakesMemory}
 
 -- the bytes are the line, whose newline may be missing
 pub record IsLineIn (bytes line : List ℕ) : Type 0 where

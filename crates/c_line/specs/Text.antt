@@ -5,9 +5,9 @@ use Rattle.std.specs.Fmt.{decimal}
 use Rattle.ds_entry.specs.declared.item.Item.{Item}
 use Rattle.ds_held.specs.Limits.{larger}
 use Rattle.ds_line.specs.ItemSpelling.{item_spelling}
-use Rattle.ds_lines.specs.Lines.{with_newline}
-use Rattle.store_words.specs.Reply.{reply_lines}
-use Rattle.c_words.specs.declared.giving.Given.{Given}
+use Rattle.line_io.specs.Lines.{with_newline}
+use Rattle.store_answers.specs.Reply.{reply_lines}
+use Rattle.c_values.specs.declared.giving.Given.{Given}
 use Rattle.c_session.specs.declared.last.Last.{Last}
 use Rattle.c_session.specs.declared.last.Last.TheVariants.{Nothing, Reply, Shown}
 

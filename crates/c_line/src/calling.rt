@@ -5,9 +5,9 @@ ghost use Rattle.c_line.specs.Calling.{what_shows, LineAsks, CarriesOut, CallsLi
 
 use crate::reading::read_bytes;
 use c_session::Session;
-use c_words::Answer;
+use c_values::Answer;
 use ds_names::NoRoom;
-use ds_words::{CommandFault, ScriptCommand};
+use script_commands::{CommandFault, ScriptCommand};
 use std::alloc::Global;
 
 /// Carries out the command that stands on a line, whose newline may be missing.

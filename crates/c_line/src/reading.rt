@@ -2,14 +2,14 @@
 
 ghost use Rattle.std.specs.Prelude.{◌≡◌, ◌≤◌, ◌+◌, length, take, IfOk, IfErr};
 ghost use Rattle.ds_line.specs.declared.expected.Expected.TheVariants.{Limit};
-ghost use Rattle.ds_lines.specs.Lines.{IsUnbroken, with_newline};
-ghost use Rattle.ds_words.specs.Command.{IsLineOf, IsCommandLineFault};
-ghost use Rattle.ds_words.specs.declared.fault.CommandFault.TheVariants.{BadLine};
+ghost use Rattle.line_io.specs.Lines.{IsUnbroken, with_newline};
+ghost use Rattle.script_commands.specs.Command.{IsLineOf, IsCommandLineFault};
+ghost use Rattle.script_commands.specs.declared.fault.CommandFault.TheVariants.{BadLine};
 ghost use Rattle.c_line.specs.Line.{ReadsBytes};
 
 use ds_line::Expected;
-use ds_lines::{LONGEST_LINE, newline_place};
-use ds_words::{CommandFault, ScriptCommand, read_command, read_line};
+use line_io::{LONGEST_LINE, newline_place};
+use script_commands::{CommandFault, ScriptCommand, read_command, read_line};
 use std::alloc::Global;
 
 // The most bytes of a line to which a newline is put in a small block. `read_command` clears one for the longest line.

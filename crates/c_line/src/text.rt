@@ -4,13 +4,13 @@ ghost use Rattle.std.specs.Prelude.{◌≡◌, ◌≤◌, IfOk, drop, length};
 ghost use Rattle.c_line.specs.Text.{given_text, shown_text, GivesPart, GivesText};
 
 use c_session::{Last, Session};
-use c_words::Given;
+use c_values::Given;
 use ds_entry::Items;
 use ds_held::Limits;
 use ds_line::{append_item, append_numbers};
 use ds_names::NoRoom;
 use std::alloc::Global;
-use store_words::write_reply;
+use store_answers::write_reply;
 
 // Why no more was given: there is no more, more doesn't fit, or memory for the text is wanting.
 const WHOLE: u32 = 0;

@@ -16,10 +16,10 @@ use Rattle.ds_join.specs.declared.count.Count.{Count}
 use Rattle.ds_submap.specs.Map.{SubMapRecord, empty_map, endpoint_of_label}
 use Rattle.ds_submap.specs.Take.{AreCounted, IsTakeStopped, JoinsUnder, done_items}
 use Rattle.ds_submap.specs.Floors.{EachFloorStands}
-use Rattle.c_words.specs.Answer.{answer_of, no_request, told_no_room}
-use Rattle.c_words.specs.Lines.{AreLines}
-use Rattle.c_words.specs.Request.{is_name}
-use Rattle.c_words.specs.declared.answer.Answer.{Answer}
+use Rattle.c_values.specs.Answer.{answer_of, no_request, told_no_room}
+use Rattle.c_values.specs.Lines.{AreLines}
+use Rattle.c_values.specs.Request.{is_name}
+use Rattle.c_values.specs.declared.answer.Answer.{Answer}
 
 -- the number is a sum of the bits of kinds
 abbrev pub IsKindSum : ℕ → Type 0

@@ -3,7 +3,7 @@
 ghost use Rattle.std.specs.Prelude.{◌≡◌, ◌≤◌, IfOk, IfErr, length};
 ghost use Rattle.c_map.specs.Map.{IsMapOf, IsMapRefusal, TakesItems, GivesItems, told_label};
 
-use c_words::{Answer, answer_of, no_room, read_items};
+use c_values::{Answer, answer_of, no_room, read_items};
 use ds_entry::{Items, Value};
 use ds_machine::{Refusal, Reply};
 use ds_names::{Kinds, Name, NoRoom};

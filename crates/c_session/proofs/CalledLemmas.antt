@@ -5,12 +5,12 @@ use Rattle.std.specs.Option.{option_map}
 use Rattle.ds_names.specs.Endpoint.{EndpointRecord}
 use Rattle.ds_names.specs.declared.key.Key.{Key}
 use Rattle.ds_machine.specs.declared.command.Command.TheVariants.{Retrieve, NameOf}
-use Rattle.c_words.specs.declared.request.Request.{Request}
-use Rattle.c_words.specs.declared.answer.Answer.{Answer}
-use Rattle.c_words.specs.declared.texts.Publication.{Publication}
-use Rattle.c_words.specs.Asked.{StandsFor, StandsForNone, has_text}
-use Rattle.c_words.specs.Request.{command_of, publish_of, publish_command, key_of, caller_of}
-use Rattle.c_words.proofs.AskedLemmas.{none_of_parts}
+use Rattle.c_values.specs.declared.request.Request.{Request}
+use Rattle.c_values.specs.declared.answer.Answer.{Answer}
+use Rattle.c_values.specs.declared.texts.Publication.{Publication}
+use Rattle.c_values.specs.Asked.{StandsFor, StandsForNone, has_text}
+use Rattle.c_values.specs.Request.{command_of, publish_of, publish_command, key_of, caller_of}
+use Rattle.c_values.proofs.AskedLemmas.{none_of_parts}
 use Rattle.c_session.specs.declared.session.Session.{Session}
 use Rattle.c_session.specs.Called.{CalledWith, Called}
 

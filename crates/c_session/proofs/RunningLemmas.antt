@@ -10,9 +10,9 @@ use Rattle.ds_machine.specs.declared.command.Command.{Command}
 use Rattle.ds_machine.specs.declared.reply.Reply.{Reply}
 use Rattle.ds_content.specs.Content.{ContentRecord}
 use Rattle.ds_store.specs.Turns.{Turn}
-use Rattle.c_words.specs.declared.request.Request.{Request}
-use Rattle.c_words.specs.declared.answer.Answer.{Answer}
-use Rattle.c_words.specs.Asked.{request_text}
+use Rattle.c_values.specs.declared.request.Request.{Request}
+use Rattle.c_values.specs.declared.answer.Answer.{Answer}
+use Rattle.c_values.specs.Asked.{request_text}
 use Rattle.c_session.specs.declared.session.Session.{Session}
 use Rattle.c_session.specs.Called.{Called}
 use Rattle.c_session.specs.Running.{CallsInTurn, HasNoText, IsNoEntry, IsEntryOf, CallsAreTurns}

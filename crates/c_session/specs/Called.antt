@@ -8,13 +8,13 @@ use Rattle.ds_machine.specs.declared.refusal.Refusal.TheVariants.{NoRoom}
 use Rattle.ds_machine.specs.declared.reply.Reply.{Reply}
 use Rattle.ds_machine.specs.declared.reply.Reply.TheVariants.{Refused}
 use Rattle.ds_store.specs.Turns.{Turn}
-use Rattle.store_words.specs.declared.wording.Wording.{Wording}
-use Rattle.store_words.specs.declared.wording.Wording.TheVariants.{AsMerge}
-use Rattle.c_words.specs.declared.request.Request.{Request}
-use Rattle.c_words.specs.declared.answer.Answer.{Answer}
-use Rattle.c_words.specs.Answer.{answer_of, no_request, told_no_room, told_shown}
-use Rattle.c_words.specs.Asked.{StandsFor, StandsForNone, has_text}
-use Rattle.c_words.specs.Pieces.{pieces_of}
+use Rattle.store_answers.specs.declared.wording.Wording.{Wording}
+use Rattle.store_answers.specs.declared.wording.Wording.TheVariants.{AsMerge}
+use Rattle.c_values.specs.declared.request.Request.{Request}
+use Rattle.c_values.specs.declared.answer.Answer.{Answer}
+use Rattle.c_values.specs.Answer.{answer_of, no_request, told_no_room, told_shown}
+use Rattle.c_values.specs.Asked.{StandsFor, StandsForNone, has_text}
+use Rattle.c_values.specs.Pieces.{pieces_of}
 use Rattle.c_session.specs.declared.last.Last.{Last}
 use Rattle.c_session.specs.declared.last.Last.TheVariants.{Nothing, Reply as Replied, Shown}
 use Rattle.c_session.specs.declared.session.Session.{Session}

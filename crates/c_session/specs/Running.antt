@@ -6,10 +6,10 @@ use Rattle.history.specs.History.{Run}
 use Rattle.ds_machine.specs.declared.command.Command.{Command}
 use Rattle.ds_machine.specs.declared.reply.Reply.{Reply}
 use Rattle.ds_store.specs.Turns.{Turn}
-use Rattle.c_words.specs.declared.request.Request.{Request}
-use Rattle.c_words.specs.declared.answer.Answer.{Answer}
-use Rattle.c_words.specs.Answer.{answer_of, no_request, told_no_room}
-use Rattle.c_words.specs.Asked.{StandsFor, request_text}
+use Rattle.c_values.specs.declared.request.Request.{Request}
+use Rattle.c_values.specs.declared.answer.Answer.{Answer}
+use Rattle.c_values.specs.Answer.{answer_of, no_request, told_no_room}
+use Rattle.c_values.specs.Asked.{StandsFor, request_text}
 use Rattle.c_session.specs.declared.session.Session.{Session}
 use Rattle.c_session.specs.Called.{Called}
 

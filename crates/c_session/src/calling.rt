@@ -1,13 +1,13 @@
 //! Requests, and what they ask of a session.
 
-ghost use Rattle.c_words.specs.Asked.{request_text};
+ghost use Rattle.c_values.specs.Asked.{request_text};
 ghost use Rattle.c_session.specs.Called.{RestsForNone, CalledWith, Called};
 
 use crate::session::Session;
-use c_words::{Answer, Request, read_request, text_of};
+use c_values::{Answer, Request, read_request, text_of};
 use ds_names::NoRoom;
 use std::alloc::Global;
-use store_words::Wording;
+use store_answers::Wording;
 
 impl Session {
     /// Lets the store answer a request, whose text is in `texts`: by one step of its machine to the command that the

@@ -7,10 +7,10 @@ ghost use Rattle.std.specs.Prelude.{◌≡◌, ℕ, List};
 ghost use Rattle.c_session.specs.Called.{CalledWith};
 
 use crate::session::Session;
-use c_words::{Answer, Request, caller_of, key_of, read_publication};
+use c_values::{Answer, Request, caller_of, key_of, read_publication};
 use ds_names::NoRoom;
 use std::alloc::Global;
-use store_words::Wording;
+use store_answers::Wording;
 
 impl Session {
     /// Answers a request of a Publish.

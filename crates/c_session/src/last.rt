@@ -2,16 +2,16 @@
 
 ghost use Rattle.std.specs.Prelude.{◌≡◌, drop, IfOk};
 ghost use Rattle.ds_held.specs.Held.{held_items};
-ghost use Rattle.c_words.specs.Pieces.{GivesPieces};
+ghost use Rattle.c_values.specs.Pieces.{GivesPieces};
 ghost use Rattle.c_session.specs.Called.{pieces_in, held_shown};
 
-use c_words::{Given, give, give_items};
+use c_values::{Given, give, give_items};
 use ds_entry::Items;
 use ds_held::Held;
 use ds_machine::Reply;
 use ds_names::NoRoom;
 use std::alloc::Global;
-use store_words::Wording;
+use store_answers::Wording;
 
 /// What a session gave last.
 #[derive(Drop)]

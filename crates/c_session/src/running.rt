@@ -3,7 +3,7 @@
 ghost use Rattle.c_session.specs.Running.{CallsAreTurns, RunsCalls};
 
 use crate::session::Session;
-use c_words::{Answer, Request};
+use c_values::{Answer, Request};
 use std::alloc::Global;
 
 impl Session {

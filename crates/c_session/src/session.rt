@@ -7,19 +7,19 @@ ghost use Rattle.ds_machine.specs.State.{opening};
 ghost use Rattle.ds_names.specs.Limits.{last_place};
 ghost use Rattle.ds_content.specs.Stands.{ContentStands};
 ghost use Rattle.ds_store.specs.Opening.{IsOpenRefusal};
-ghost use Rattle.c_words.specs.Answer.{answer_of, told_shown};
-ghost use Rattle.c_words.specs.Pieces.{GivesPieces};
+ghost use Rattle.c_values.specs.Answer.{answer_of, told_shown};
+ghost use Rattle.c_values.specs.Pieces.{GivesPieces};
 ghost use Rattle.c_session.specs.Called.{Tells, Rests, RestsForRoom, ShowsIfRoom, pieces_in};
 ghost use Rattle.c_session.specs.declared.last.Last.TheVariants.{Nothing, Reply as Replied, Shown};
 
 use crate::last::{Last, held_shown};
-use c_words::{Answer, Given, answer_of, no_room};
+use c_values::{Answer, Given, answer_of, no_room};
 use ds_entry::Items;
 use ds_machine::{Command, Refusal, Reply};
 use ds_names::NoRoom;
 use ds_store::Store;
 use std::alloc::Global;
-use store_words::Wording;
+use store_answers::Wording;
 
 /// A store, and what was given last.
 #[derive(Drop)]

@@ -5,12 +5,12 @@ use Rattle.ds_machine.specs.State.{opening}
 use Rattle.ds_machine.specs.declared.refusal.Refusal.{Refusal}
 use Rattle.ds_content.specs.Stands.{ContentStands}
 use Rattle.ds_store.specs.Opening.{IsOpenRefusal}
-use Rattle.c_words.specs.declared.request.Request.{Request}
-use Rattle.c_words.specs.declared.answer.Answer.{Answer}
-use Rattle.c_words.specs.declared.giving.Given.{Given}
-use Rattle.c_words.specs.Answer.{refusal_number}
-use Rattle.c_words.specs.Asked.{request_text}
-use Rattle.c_words.specs.Pieces.{GivesPieces}
+use Rattle.c_values.specs.declared.request.Request.{Request}
+use Rattle.c_values.specs.declared.answer.Answer.{Answer}
+use Rattle.c_values.specs.declared.giving.Given.{Given}
+use Rattle.c_values.specs.Answer.{refusal_number}
+use Rattle.c_values.specs.Asked.{request_text}
+use Rattle.c_values.specs.Pieces.{GivesPieces}
 use Rattle.c_session.specs.declared.session.Session.{Session}
 use Rattle.c_session.specs.declared.last.Last.TheVariants.{Nothing}
 use Rattle.c_session.specs.Called.{Called, pieces_in}

@@ -2,8 +2,8 @@
 use Rattle.std.specs.Prelude.{◌≡◌, ℕ, List, Option, None, Some}
 use Rattle.ds_machine.specs.declared.refusal.Refusal.{Refusal}
 use Rattle.ds_submap.specs.Map.{SubMapRecord}
-use Rattle.c_words.specs.declared.answer.Answer.{Answer}
-use Rattle.c_words.specs.Answer.{refusal_number}
+use Rattle.c_values.specs.declared.answer.Answer.{Answer}
+use Rattle.c_values.specs.Answer.{refusal_number}
 use Rattle.c_map.specs.Map.{IsMapOf, IsMapRefusal, GivesItems, told_label}
 use Rattle.ds_c.specs.Calls.{done, is_closed, is_open}
 

@@ -17,7 +17,7 @@ ghost use Rattle.std.specs.declared.option.Option.TheVariants.{None};
 ghost use Rattle.ds_c.specs.Calls.{Opens, Opened, Calls, Fetches, Closes};
 
 use c_session::Session;
-use c_words::{Answer, Given, Request, refusal_number};
+use c_values::{Answer, Given, Request, refusal_number};
 use ds_machine::Refusal;
 pub use handle::Handle;
 pub use lines::{ds_call_line, ds_text};

@@ -6,7 +6,7 @@ ghost use Rattle.ds_c.specs.Calls.{CallsByLine, FetchesText};
 use crate::handle::Handle;
 use crate::words::{DONE, IS_CLOSED};
 use c_line::{call_line, give_text};
-use c_words::{Answer, Given};
+use c_values::{Answer, Given};
 use std::alloc::Global;
 
 /// Carries out the command that stands on a line of a script. The text of the answer is kept for `ds_text` and `ds_items`.

@@ -4,7 +4,7 @@ ghost use Rattle.ds_c.specs.Calls.{RunsInTurn};
 
 use crate::handle::Handle;
 use crate::words::{DONE, IS_CLOSED};
-use c_words::{Answer, Request};
+use c_values::{Answer, Request};
 use std::alloc::Global;
 
 /// Lets the store answer requests, one after the other, each as `ds_call` does. `done` says how many were answered. It ends behind

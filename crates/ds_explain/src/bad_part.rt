@@ -3,9 +3,9 @@
 use crate::stray::stray_at;
 use crate::wanted::{part, wanted};
 use ds_line::Expected;
-use ds_lines::{LONGEST_LINE, split_line};
 use ds_names::{is_name_byte, read_byte};
-use ds_words::{CommandFault, ScriptCommand, read_line};
+use line_io::{LONGEST_LINE, split_line};
+use script_commands::{CommandFault, ScriptCommand, read_line};
 use std::alloc::Global;
 use std::rt::Runtime;
 

@@ -3,10 +3,10 @@
 use crate::bad_line::COMMANDS;
 use crate::bad_part::{BadPart, end_wanted, say_at};
 use ds_line::word_at;
-use ds_lines::{LONGEST_LINE, split_line};
 use ds_names::limits::MOST_ITEMS;
 use ds_names::{read_byte, read_decimal};
-use ds_words::{CommandFault, ScriptCommand, read_line};
+use line_io::{LONGEST_LINE, split_line};
+use script_commands::{CommandFault, ScriptCommand, read_line};
 use std::rt::Runtime;
 use trace_check::{Stands, Wanted, WrongLine};
 use typed_words::{IfNear, Plain, nearest};

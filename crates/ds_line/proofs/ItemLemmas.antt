@@ -21,7 +21,7 @@ use Rattle.ds_line.specs.ItemReading.{ReadsItemLine}
 use Rattle.ds_line.specs.Reading.{ReadsChangeLine}
 use Rattle.ds_line.specs.ItemFault.{HasNoItem, IsItemFault, IsItemFaultIn}
 use Rattle.ds_line.specs.FaultPlace.{IsFaultIn}
-use Rattle.ds_lines.specs.Lines.{EndsLine}
+use Rattle.line_io.specs.Lines.{EndsLine}
 use Rattle.ds_line.specs.declared.fault.LineFault.{LineFault}
 use Rattle.ds_line.specs.declared.fault.LineFault.TheVariants.{BadLine, NoRoom}
 use Rattle.ds_line.proofs.OpeningLemmas.{text_at}

@@ -19,7 +19,7 @@ use Rattle.ds_entry.specs.declared.body.Body.TheVariants.{Put, Gone}
 use Rattle.ds_entry.specs.Change.{ChangeRecord, IsValue, IsBody, IsChange}
 use Rattle.ds_line.specs.Part.{Name, Word, Number, Part, part, byte, texts, is_hex_byte}
 use Rattle.ds_line.specs.Spelling.{space, newline, kind_word, escaped_byte, escaped, quoted, value_part, body_parts, spelling}
-use Rattle.ds_lines.specs.Lines.{EndsLine}
+use Rattle.line_io.specs.Lines.{EndsLine}
 use Rattle.ds_line.proofs.QuoteLemmas.{shape}
 use Rattle.ds_line.proofs.DigitLemmas.{hex_run}
 use Rattle.ds_line.proofs.OpeningLemmas.{word_is_word}

@@ -5,7 +5,7 @@ ghost use Rattle.ds_entry.specs.Item.{IsItem};
 ghost use Rattle.ds_entry.specs.declared.item.Item.{Item};
 ghost use Rattle.ds_line.specs.FaultPlace.{IsFaultPlace};
 ghost use Rattle.ds_line.specs.ItemSpelling.{item_parts, item_spelling};
-ghost use Rattle.ds_lines.specs.Lines.{EndsLine};
+ghost use Rattle.line_io.specs.Lines.{EndsLine};
 
 /// The law of spellings: two items with one spelling are one item.
 pub fn items_have_one_line()

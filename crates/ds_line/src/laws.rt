@@ -4,7 +4,7 @@ ghost use Rattle.std.specs.Prelude.{◌≡◌, ◌≢◌, ℕ, List, [], ◌∷�
 ghost use Rattle.ds_entry.specs.Change.{ChangeRecord, IsChange};
 ghost use Rattle.ds_line.specs.Spelling.{change_parts, spelling};
 ghost use Rattle.ds_line.specs.FaultPlace.{IsFaultPlace};
-ghost use Rattle.ds_lines.specs.Lines.{EndsLine};
+ghost use Rattle.line_io.specs.Lines.{EndsLine};
 
 /// The law of spellings: two changes with one spelling are one change.
 pub fn changes_have_one_line()

@@ -2,9 +2,9 @@
 use Rattle.std.proofs.Common.{◌≡◌, ℕ, ◌⊎◌, sym, subst, inl, inr}
 use Rattle.ds_script.specs.declared.fault.ReplayFault.{ReplayFault}
 use Rattle.ds_script.specs.declared.fault.ReplayFault.TheVariants.{BadLine, ReadFault, WriteFault, NoRoom}
-use Rattle.ds_lines.specs.declared.streams.Source.{Ghosts as Reader}
-use Rattle.ds_lines.specs.declared.streams.Sink.{Ghosts as Writer}
-use Rattle.ds_lines.specs.Streams.{CallsLead, HasFailedWrite}
+use Rattle.line_io.specs.declared.streams.Source.{Ghosts as Reader}
+use Rattle.line_io.specs.declared.streams.Sink.{Ghosts as Writer}
+use Rattle.line_io.specs.Streams.{CallsLead, HasFailedWrite}
 use Rattle.ds_script.specs.Causes.{HasCause, HasWriteCause, HasTurnCause, SettlesFor}
 
 -- a fault of the lines that one read brought

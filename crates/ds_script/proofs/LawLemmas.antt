@@ -22,18 +22,18 @@ use Rattle.rs_core.specs.State.{RsRecord}
 use Rattle.rs_core.specs.declared.event.Event as services
 use Rattle.rs_core.specs.declared.event.Event.TheVariants.{Death, Beat, Tick}
 use Rattle.driver_tables.specs.Stands.{TableRecord, TableStands}
-use Rattle.ds_answers.specs.Servers.{Servers, ServersRecord, ServersStand, with_rs}
-use Rattle.ds_answers.specs.Services.{AnswersSettings, ServicesAnswer}
-use Rattle.ds_answers.specs.Tables.{AnswersAssign, AnswersFollow, AnswersSubmit, AnswersReply}
-use Rattle.ds_answers.proofs.AskLemmas.{EventsGoOn, one_goes_on, told_go_on, told_proper}
-use Rattle.ds_words.specs.Command.{IsCommand}
-use Rattle.ds_words.specs.Event.{event_of}
-use Rattle.ds_words.specs.Wording.{wording}
-use Rattle.ds_words.specs.ServiceEvent.{request_event}
-use Rattle.ds_words.proofs.ProperLemmas.{lines_are_proper}
-use Rattle.ds_words.specs.declared.command.ScriptCommand.{ScriptCommand}
-use Rattle.ds_words.specs.declared.command.ScriptCommand.TheVariants.{Show, All, Entries, Ring, Side, Settings, Service, Assign, Follow, Submit, Reply}
-use Rattle.ds_words.specs.declared.command.ScriptCommand.TheVariants as lines
+use Rattle.script_services.specs.Servers.{Servers, ServersRecord, ServersStand, with_rs}
+use Rattle.script_services.specs.Services.{AnswersSettings, ServicesAnswer}
+use Rattle.script_services.specs.Tables.{AnswersAssign, AnswersFollow, AnswersSubmit, AnswersReply}
+use Rattle.script_services.proofs.AskLemmas.{EventsGoOn, one_goes_on, told_go_on, told_proper}
+use Rattle.script_commands.specs.Command.{IsCommand}
+use Rattle.script_commands.specs.Event.{event_of}
+use Rattle.script_commands.specs.Wording.{wording}
+use Rattle.script_commands.specs.ServiceEvent.{request_event}
+use Rattle.script_commands.proofs.ProperLemmas.{lines_are_proper}
+use Rattle.script_commands.specs.declared.command.ScriptCommand.{ScriptCommand}
+use Rattle.script_commands.specs.declared.command.ScriptCommand.TheVariants.{Show, All, Entries, Ring, Side, Settings, Service, Assign, Follow, Submit, Reply}
+use Rattle.script_commands.specs.declared.command.ScriptCommand.TheVariants as lines
 use Rattle.ds_script.specs.declared.report.BadLines.{BadLines}
 use Rattle.ds_script.specs.Session.{SessionContent, IsOpened, seed, made, turned}
 use Rattle.ds_script.specs.Answer.{AnswersEvent, AnswersByServers, AnswersByServices, AnswersCommand, AnswersLine, items_of_map, picked, shown}

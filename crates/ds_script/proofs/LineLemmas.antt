@@ -3,15 +3,15 @@ use Rattle.std.proofs.Common.{◌≡◌, ◌≢◌, ℕ, zero, suc, ◌≤◌, �
 use Rattle.ds_entry.specs.declared.item.Item.{Item}
 use Rattle.ds_line.specs.Part.{texts}
 use Rattle.ds_line.specs.ItemSpelling.{item_parts}
-use Rattle.ds_words.specs.Command.{IsCommand, CommandTakesMemory, IsFaultAmong, ReadsAs, is_offer}
-use Rattle.ds_lines.specs.Lines.{with_newline}
-use Rattle.store_words.specs.Reply.{refused_noroom}
-use Rattle.ds_words.specs.Later.{IsLater}
-use Rattle.ds_words.specs.Fast.{IsOffer, OfPlaced}
-use Rattle.ds_words.specs.declared.command.ScriptCommand.{ScriptCommand}
-use Rattle.ds_words.specs.declared.command.ScriptCommand.TheVariants.{Offer, Show, All, Entries, Ring, Settings}
-use Rattle.ds_words.specs.declared.fault.CommandFault.{CommandFault}
-use Rattle.ds_words.specs.declared.fault.CommandFault.TheVariants.{BadLine, NoRoom}
+use Rattle.script_commands.specs.Command.{IsCommand, CommandTakesMemory, IsFaultAmong, ReadsAs, is_offer}
+use Rattle.line_io.specs.Lines.{with_newline}
+use Rattle.store_answers.specs.Reply.{refused_noroom}
+use Rattle.script_commands.specs.Later.{IsLater}
+use Rattle.script_commands.specs.Fast.{IsOffer, OfPlaced}
+use Rattle.script_commands.specs.declared.command.ScriptCommand.{ScriptCommand}
+use Rattle.script_commands.specs.declared.command.ScriptCommand.TheVariants.{Offer, Show, All, Entries, Ring, Settings}
+use Rattle.script_commands.specs.declared.fault.CommandFault.{CommandFault}
+use Rattle.script_commands.specs.declared.fault.CommandFault.TheVariants.{BadLine, NoRoom}
 use Rattle.ds_script.specs.Answer.{MayStand, AnswersAsEvent, AnswersLine, AnswersOrRefuses, AnswerTakesRoom, IsLineRefused, AppendsLine}
 use Rattle.ds_script.specs.Progress.{IsUnendedFault, KeepsSession}
 use Rattle.ds_script.specs.Session.{SessionContent}

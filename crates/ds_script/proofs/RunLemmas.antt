@@ -4,7 +4,7 @@ use Rattle.std.specs.Io.KnownBytes.{Appends, Consumes, IsAtEnd}
 use Rattle.std.proofs.KnownBytes.{Consumes-nil}
 use Rattle.std.proofs.lemmas.List.Elements.{All-nil, All-append, All-push}
 use Rattle.std.proofs.lemmas.List.Concat.{flat_map-append}
-use Rattle.ds_lines.specs.Lines.{IsUnbroken, joined, unended, with_newline}
+use Rattle.line_io.specs.Lines.{IsUnbroken, joined, unended, with_newline}
 use Rattle.ds_script.specs.declared.fault.ReplayFault.{ReplayFault}
 use Rattle.ds_script.specs.declared.fault.ReplayFault.TheVariants.{BadLine, ReadFault, WriteFault, NoRoom}
 use Rattle.ds_script.specs.declared.report.BadLines.TheVariants.{End}

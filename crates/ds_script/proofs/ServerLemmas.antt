@@ -3,9 +3,9 @@ use Rattle.std.proofs.Common.{ℕ, List, inl, inr, refl, ap}
 use Rattle.rs_core.specs.declared.event.Event as services
 use Rattle.ds_replica.specs.declared.event.Side.{Side}
 use Rattle.ds_world.specs.World.{WorldRecord}
-use Rattle.ds_answers.specs.Servers.{Servers, ServersRecord}
-use Rattle.ds_answers.specs.Services.{AnswersSettings}
-use Rattle.ds_answers.specs.Waiting.{AppendsLed, AppendsLedOrRefuses, AppendsService}
+use Rattle.script_services.specs.Servers.{Servers, ServersRecord}
+use Rattle.script_services.specs.Services.{AnswersSettings}
+use Rattle.script_services.specs.Waiting.{AppendsLed, AppendsLedOrRefuses, AppendsService}
 use Rattle.ds_script.specs.Session.{SessionContent}
 use Rattle.ds_script.specs.Answer.{AppendsByServers, AppendsByServices, AppendsSettings}
 

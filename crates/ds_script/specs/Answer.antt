@@ -13,22 +13,22 @@ use Rattle.ds_replica.specs.declared.event.Event.{Event}
 use Rattle.ds_replica.specs.declared.event.Side.{Side}
 use Rattle.ds_replica.specs.declared.outcome.Outcome.{Outcome}
 use Rattle.ds_replica.specs.declared.outcome.Outcome.TheVariants.{Made}
-use Rattle.ds_words.specs.Command.{IsCommand, CommandTakesMemory, IsLineAs}
-use Rattle.ds_words.specs.Later.{IsLater}
-use Rattle.ds_lines.specs.Lines.{with_newline}
-use Rattle.ds_words.specs.Event.{event_of}
-use Rattle.store_words.specs.Outcome.{outcome_lines, ring_line, side_line}
-use Rattle.ds_words.specs.Wording.{wording}
-use Rattle.store_words.specs.Reply.{reply_lines, refused_noroom}
-use Rattle.ds_words.specs.declared.command.ScriptCommand.{ScriptCommand}
-use Rattle.ds_words.specs.declared.command.ScriptCommand.TheVariants as lines
-use Rattle.store_words.specs.declared.wording.Wording.{Wording}
-use Rattle.ds_words.specs.ServiceEvent.{request_event}
+use Rattle.script_commands.specs.Command.{IsCommand, CommandTakesMemory, IsLineAs}
+use Rattle.script_commands.specs.Later.{IsLater}
+use Rattle.line_io.specs.Lines.{with_newline}
+use Rattle.script_commands.specs.Event.{event_of}
+use Rattle.store_answers.specs.Outcome.{outcome_lines, ring_line, side_line}
+use Rattle.script_commands.specs.Wording.{wording}
+use Rattle.store_answers.specs.Reply.{reply_lines, refused_noroom}
+use Rattle.script_commands.specs.declared.command.ScriptCommand.{ScriptCommand}
+use Rattle.script_commands.specs.declared.command.ScriptCommand.TheVariants as lines
+use Rattle.store_answers.specs.declared.wording.Wording.{Wording}
+use Rattle.script_commands.specs.ServiceEvent.{request_event}
 use Rattle.rs_core.specs.declared.event.Event as services
 use Rattle.rs_core.specs.declared.event.Event.TheVariants.{Death, Beat, Tick}
-use Rattle.ds_answers.specs.Servers.{Servers, ServersLead}
-use Rattle.ds_answers.specs.Services.{AnswersSettings, AnswersService}
-use Rattle.ds_answers.specs.Tables.{map_items, AnswersAssign, AnswersFollow, AnswersSubmit, AnswersReply}
+use Rattle.script_services.specs.Servers.{Servers, ServersLead}
+use Rattle.script_services.specs.Services.{AnswersSettings, AnswersService}
+use Rattle.script_services.specs.Tables.{map_items, AnswersAssign, AnswersFollow, AnswersSubmit, AnswersReply}
 use Rattle.ds_script.specs.Session.{SessionContent, IsOpened, IsHappening, turned, held_of}
 use Rattle.ds_entry.specs.Under.{entries_of}
 

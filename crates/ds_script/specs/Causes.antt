@@ -2,9 +2,9 @@
 use Rattle.std.specs.Prelude.{◌≡◌, ◌⊎◌}
 use Rattle.ds_script.specs.declared.fault.ReplayFault.{ReplayFault}
 use Rattle.ds_script.specs.declared.fault.ReplayFault.TheVariants.{ReadFault, WriteFault}
-use Rattle.ds_lines.specs.declared.streams.Source.{Ghosts as Reader}
-use Rattle.ds_lines.specs.declared.streams.Sink.{Ghosts as Writer}
-use Rattle.ds_lines.specs.Streams.{HasFailedRead, HasFailedWrite}
+use Rattle.line_io.specs.declared.streams.Source.{Ghosts as Reader}
+use Rattle.line_io.specs.declared.streams.Sink.{Ghosts as Writer}
+use Rattle.line_io.specs.Streams.{HasFailedRead, HasFailedWrite}
 
 -- ReadFault comes only where a read of this call failed, or 2^32 of them were made, and WriteFault only where a write failed.
 abbrev pub HasCause : {R W : Type 0} → Reader R → Writer W → ReplayFault → (old new : R) → W → Type 0

@@ -15,18 +15,18 @@ use Rattle.ds_replica.specs.Headline.{HoldSame}
 use Rattle.ds_replica.specs.CaughtUp.{MapsNameNewest}
 use Rattle.ds_replica.specs.Known.{known_at, new_account, extended_all}
 use Rattle.ds_replica.specs.World.{World}
-use Rattle.ds_words.specs.Command.{IsLineAs}
-use Rattle.ds_words.specs.ServiceEvent.{request_event}
-use Rattle.ds_words.specs.Event.{event_of}
-use Rattle.ds_words.specs.Wording.{wording}
-use Rattle.ds_words.specs.declared.command.ScriptCommand.{ScriptCommand}
-use Rattle.ds_words.specs.declared.command.ScriptCommand.TheVariants as lines
+use Rattle.script_commands.specs.Command.{IsLineAs}
+use Rattle.script_commands.specs.ServiceEvent.{request_event}
+use Rattle.script_commands.specs.Event.{event_of}
+use Rattle.script_commands.specs.Wording.{wording}
+use Rattle.script_commands.specs.declared.command.ScriptCommand.{ScriptCommand}
+use Rattle.script_commands.specs.declared.command.ScriptCommand.TheVariants as lines
 use Rattle.ds_world.specs.World.{WorldStands}
 use Rattle.rs_core.specs.declared.event.Event as services
 use Rattle.rs_core.specs.declared.event.Event.TheVariants.{Death, Beat, Tick}
-use Rattle.ds_answers.specs.Servers.{Servers, ServersStand, no_servers, with_rs}
-use Rattle.ds_answers.specs.Services.{AnswersSettings, ServicesAnswer}
-use Rattle.ds_answers.specs.Tables.{AnswersAssign, AnswersFollow, AnswersSubmit, AnswersReply}
+use Rattle.script_services.specs.Servers.{Servers, ServersStand, no_servers, with_rs}
+use Rattle.script_services.specs.Services.{AnswersSettings, ServicesAnswer}
+use Rattle.script_services.specs.Tables.{AnswersAssign, AnswersFollow, AnswersSubmit, AnswersReply}
 use Rattle.ds_script.specs.declared.report.BadLines.{BadLines}
 use Rattle.ds_script.specs.declared.report.BadLines.TheVariants.{End}
 use Rattle.ds_script.specs.Session.{SessionContent, IsOpened, seed, made, turned}

@@ -4,7 +4,7 @@ use Rattle.std.specs.Io.KnownBytes.{Appends}
 use Rattle.ds_script.specs.declared.fault.ReplayFault.{ReplayFault}
 use Rattle.ds_script.specs.declared.fault.ReplayFault.TheVariants.{BadLine}
 use Rattle.ds_line.specs.declared.expected.Expected.{Expected}
-use Rattle.ds_lines.specs.declared.streams.Sink.{Ghosts as Writer}
+use Rattle.line_io.specs.declared.streams.Sink.{Ghosts as Writer}
 use Rattle.ds_script.specs.Replay.{badline}
 use Rattle.ds_script.specs.Progress.{EndsAtBad, TellsBad}
 use Rattle.ds_script.specs.Causes.{HasWriteCause}

@@ -4,15 +4,15 @@
 use Rattle.std.specs.Prelude.{◌≡◌, ℕ, suc, ◌+◌, ◌⊎◌, Bool, true, false, List, [], ◌∷◌, ◌++◌, length, Option}
 use Rattle.std.specs.List.{All}
 use Rattle.std.specs.Io.KnownBytes.{Appends, Consumes, IsAtEnd}
-use Rattle.ds_lines.specs.Lines.{IsUnbroken, joined, unended}
-use Rattle.ds_words.specs.declared.fault.CommandFault.{CommandFault}
-use Rattle.ds_words.specs.declared.fault.CommandFault.TheVariants as lines
+use Rattle.line_io.specs.Lines.{IsUnbroken, joined, unended}
+use Rattle.script_commands.specs.declared.fault.CommandFault.{CommandFault}
+use Rattle.script_commands.specs.declared.fault.CommandFault.TheVariants as lines
 use Rattle.ds_script.specs.declared.fault.ReplayFault.{ReplayFault}
 use Rattle.ds_script.specs.declared.fault.ReplayFault.TheVariants.{BadLine, ReadFault, WriteFault, NoRoom}
 use Rattle.ds_script.specs.declared.report.BadLines.{BadLines}
 use Rattle.ds_script.specs.declared.report.BadLines.TheVariants.{End}
 use Rattle.ds_script.specs.Session.{SessionContent}
-use Rattle.ds_lines.specs.Transfer.{WritesPart}
+use Rattle.line_io.specs.Transfer.{WritesPart}
 use Rattle.ds_script.specs.Replay.{AnswersLines, IsBadBehind, BeginsBadLine, badline, StopsWith}
 
 -- What a replay has reached: what it drives, the answers that wait, the counts of lines and of bad ones, and what becomes of

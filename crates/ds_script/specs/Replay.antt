@@ -3,8 +3,8 @@ use Rattle.std.specs.Prelude.{◌≡◌, ℕ, suc, ◌<◌, ◌+◌, ◌⊎◌, 
 use Rattle.std.specs.List.{All}
 use Rattle.std.specs.Fmt.{decimal}
 use Rattle.std.specs.Io.KnownBytes.{IsAtEnd}
-use Rattle.ds_lines.specs.Lines.{IsUnbroken, joined, HasLines, with_newline}
-use Rattle.ds_words.specs.Command.{IsBadLineAs}
+use Rattle.line_io.specs.Lines.{IsUnbroken, joined, HasLines, with_newline}
+use Rattle.script_commands.specs.Command.{IsBadLineAs}
 use Rattle.ds_script.specs.declared.fault.ReplayFault.{ReplayFault}
 use Rattle.ds_script.specs.declared.fault.ReplayFault.TheVariants.{BadLine, ReadFault, WriteFault, NoRoom}
 use Rattle.ds_script.specs.declared.report.BadLines.{BadLines}

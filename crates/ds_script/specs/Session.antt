@@ -11,7 +11,7 @@ use Rattle.ds_replica.specs.World.{World, new_world}
 use Rattle.ds_world.specs.World.{WorldRecord, WorldStands, store_in}
 use Rattle.ds_world.specs.Run.{EventLeads}
 use Rattle.ds_world.specs.Told.{IsTold}
-use Rattle.ds_answers.specs.Servers.{ServersRecord, ServersStand, no_servers}
+use Rattle.script_services.specs.Servers.{ServersRecord, ServersStand, no_servers}
 
 -- what callers see of a session: the world, the side that is asked, and RS with the driver tables
 pub record SessionContent : Type 0 where

@@ -1,15 +1,15 @@
 -- What the steps of a replay do: to what it drives and the answers that wait, and to the writer.
 use Rattle.std.specs.Prelude.{◌≡◌, ℕ, ◌≤◌, suc, Bool, List, [], ◌∷◌, Option, Result, MatchResult}
 use Rattle.std.specs.Io.KnownBytes.{IsAtEnd}
-use Rattle.ds_lines.specs.Lines.{IsUnbroken, unended, with_newline}
+use Rattle.line_io.specs.Lines.{IsUnbroken, unended, with_newline}
 use Rattle.ds_script.specs.declared.fault.ReplayFault.{ReplayFault}
-use Rattle.ds_lines.specs.declared.streams.Source.{Ghosts as Reader}
-use Rattle.ds_lines.specs.declared.streams.Sink.{Ghosts as Writer}
+use Rattle.line_io.specs.declared.streams.Source.{Ghosts as Reader}
+use Rattle.line_io.specs.declared.streams.Sink.{Ghosts as Writer}
 use Rattle.ds_script.specs.declared.report.BadLines.{BadLines}
 use Rattle.ds_script.specs.declared.report.BadLines.TheVariants.{End, GoOn}
 use Rattle.ds_script.specs.declared.taking.Replay.{Replay}
 use Rattle.ds_script.specs.Session.{IsOpened}
-use Rattle.ds_lines.specs.Reading.{LinesContent, no_lines}
+use Rattle.line_io.specs.Reading.{LinesContent, no_lines}
 use Rattle.ds_script.specs.Replay.{IsBadBehind}
 use Rattle.ds_script.specs.Progress.{Reached, TakesLines, TakesText, LineStops, TextStops, LastStops, Turns, TurnStops}
 use Rattle.ds_script.specs.Causes.{HasWriteCause, HasTurnCause}

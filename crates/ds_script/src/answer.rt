@@ -1,11 +1,11 @@
 //! Carrying commands out, and their answers.
 
 ghost use Rattle.std.specs.Prelude.{◌≡◌, ◌≤◌, ◌++◌, false, IfErr, OnOk, OnErr};
-ghost use Rattle.store_words.specs.Outcome.{ring_line};
-ghost use Rattle.store_words.specs.Reply.{refused_noroom};
-ghost use Rattle.ds_words.specs.Command.{IsCommand, is_offer};
-ghost use Rattle.ds_words.specs.ServiceEvent.{request_event};
-ghost use Rattle.ds_words.specs.declared.fault.CommandFault.TheVariants as faults;
+ghost use Rattle.store_answers.specs.Outcome.{ring_line};
+ghost use Rattle.store_answers.specs.Reply.{refused_noroom};
+ghost use Rattle.script_commands.specs.Command.{IsCommand, is_offer};
+ghost use Rattle.script_commands.specs.ServiceEvent.{request_event};
+ghost use Rattle.script_commands.specs.declared.fault.CommandFault.TheVariants as faults;
 ghost use Rattle.ds_script.specs.Answer.{AppendsCommand, AppendsRing, AppendsSide};
 
 use crate::entries::append_entries;
@@ -14,11 +14,11 @@ use crate::session::Session;
 use crate::shown::append_shown;
 use ds_names::{Name, NoRoom};
 use ds_replica::Side;
-use ds_words::{CommandFault, Request, ScriptCommand};
 use rs_core::Event;
+use script_commands::{CommandFault, Request, ScriptCommand};
 use std::alloc::Global;
 use std::mem::swap;
-use store_words::{append_noroom, append_ring, append_side};
+use store_answers::{append_noroom, append_ring, append_side};
 
 /// Carries out any command but an offer, and appends its answer to the output. Not inlined: its locals would be cleared
 /// for every line.

@@ -7,8 +7,8 @@ ghost use Rattle.ds_script.specs.Passing.{EndsFor, PassesOver, TellsExpected};
 use crate::fault::ReplayFault;
 use crate::report::{BadLine, Report};
 use ds_line::append_numbers;
-use ds_lines::{Sink, send};
 use ds_names::NoRoom;
+use line_io::{Sink, send};
 
 /// Writes the answers that wait, reports the line, and gives the fault that it is; or WriteFault, and nobody is told.
 pub(crate) fn end_at<W: Sink, B: Report>(

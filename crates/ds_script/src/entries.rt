@@ -9,7 +9,7 @@ use ds_line::append_all;
 use ds_names::NoRoom;
 use ds_submap::SubMap;
 use std::alloc::Global;
-use store_words::append_noroom;
+use store_answers::append_noroom;
 
 /// Appends the puts of a map, or the refusal for want of one, or of memory.
 pub(crate) fn append_entries(

@@ -1,17 +1,17 @@
 //! Commands that are events of a world, and what is told of them.
 
 ghost use Rattle.std.specs.Prelude.{◌≡◌, ◌≢◌, ◌++◌, false, None, OnOk, OnErr};
-ghost use Rattle.ds_words.specs.Command.{is_offer};
-ghost use Rattle.ds_words.specs.Event.{event_of};
+ghost use Rattle.script_commands.specs.Command.{is_offer};
+ghost use Rattle.script_commands.specs.Event.{event_of};
 ghost use Rattle.ds_script.specs.Answer.{AppendsEvent, told_lines};
 
 use crate::session::Session;
 use ds_held::Limits;
 use ds_names::NoRoom;
 use ds_replica::Outcome;
-use ds_words::ScriptCommand;
+use script_commands::ScriptCommand;
 use std::alloc::Global;
-use store_words::{Wording, append_message, append_outcome};
+use store_answers::{Wording, append_message, append_outcome};
 
 /// Applies the event of any command but an offer to the world, and appends its outcome to the output.
 pub(crate) fn answer_event(

@@ -1,14 +1,14 @@
 //! Fast answers, to the lines that most scripts consist of: an offer's, a publication's and a retrieval's.
 //!
 //! Each promises what `answer_line` promises, of the lines of one word, after any number of lines. It reads the line by a fast
-//! reader of `ds_words` and takes the store's reply itself, so it clears no room for another command's parts, and builds no event
+//! reader of `script_commands` and takes the store's reply itself, so it clears no room for another command's parts, and builds no event
 //! and no outcome. docs/design/fast-ways.md says what that saves.
 
 ghost use Rattle.std.specs.Prelude.{◌≡◌, ◌≤◌, ℕ, List, false, length, IfErr, OnOk, OnErr};
-ghost use Rattle.ds_lines.specs.Lines.{EndsLine, with_newline};
+ghost use Rattle.line_io.specs.Lines.{EndsLine, with_newline};
 ghost use Rattle.ds_replica.specs.Happens.{gives_items};
-ghost use Rattle.ds_words.specs.Fast.{IsOffer, IsPublish, IsRetrieve};
-ghost use Rattle.ds_words.specs.declared.command.ScriptCommand.TheVariants.{Offer, Store};
+ghost use Rattle.script_commands.specs.Fast.{IsOffer, IsPublish, IsRetrieve};
+ghost use Rattle.script_commands.specs.declared.command.ScriptCommand.TheVariants.{Offer, Store};
 ghost use Rattle.ds_script.specs.Answer.{AppendsEvent, AppendsLine};
 ghost use Rattle.ds_script.specs.Progress.{IsUnendedFault, KeepsSession};
 
@@ -18,9 +18,9 @@ use ds_entry::Item;
 use ds_held::Limits;
 use ds_machine::Command;
 use ds_names::NoRoom;
-use ds_words::{CommandFault, Publication};
+use script_commands::{CommandFault, Publication};
 use std::alloc::Global;
-use store_words::{Wording, append_offered, append_reply};
+use store_answers::{Wording, append_offered, append_reply};
 
 /// Answers the line of an offer. Not inlined: its item is read into this frame, and isn't copied.
 #[inline(never)]
@@ -39,7 +39,7 @@ pub(crate) fn fast_offer(
     ensures kept { IfErr result (λ fault. KeepsSession fault session.old session.new) }
 {
     let mut slot = None;
-    match ds_words::fast_offer(alloc, line, &mut slot) {
+    match script_commands::fast_offer(alloc, line, &mut slot) {
         Ok(()) => {}
         Err(fault) => return answer_unread(output, fault),
     }
@@ -66,7 +66,7 @@ pub(crate) fn fast_publish(
     ensures fault { IfErr result (λ fault. (before : ℕ) (text : List ℕ) → line.now ≡ with_newline text → IsUnendedFault before fault text) }
     ensures kept { IfErr result (λ fault. KeepsSession fault session.old session.new) }
 {
-    let publication = match ds_words::fast_publish(alloc, line) {
+    let publication = match script_commands::fast_publish(alloc, line) {
         Ok(publication) => publication,
         Err(fault) => return answer_unread(output, fault),
     };
@@ -105,7 +105,7 @@ pub(crate) fn fast_retrieve(
     ensures fault { IfErr result (λ fault. (before : ℕ) (text : List ℕ) → line.now ≡ with_newline text → IsUnendedFault before fault text) }
     ensures kept { IfErr result (λ fault. KeepsSession fault session.old session.new) }
 {
-    let key = match ds_words::fast_retrieve(line) {
+    let key = match script_commands::fast_retrieve(line) {
         Ok(key) => key,
         Err(fault) => return answer_unread(output, fault),
     };

@@ -1,8 +1,8 @@
 //! Why a replay ends early.
 
 use ds_line::Expected;
-use ds_lines::WriteFailed;
 use ds_names::NoRoom;
+use line_io::WriteFailed;
 use thiserror::Error;
 
 /// Why a replay ended before its input did.

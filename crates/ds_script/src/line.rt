@@ -1,7 +1,7 @@
 //! One line, and its answer.
 
 ghost use Rattle.std.specs.Prelude.{◌≡◌, ℕ, List, IfErr, OnOk, OnErr};
-ghost use Rattle.ds_lines.specs.Lines.{EndsLine, with_newline};
+ghost use Rattle.line_io.specs.Lines.{EndsLine, with_newline};
 ghost use Rattle.ds_script.specs.Answer.{AppendsLine};
 ghost use Rattle.ds_script.specs.Progress.{IsUnendedFault, KeepsSession};
 
@@ -9,9 +9,9 @@ use crate::answer::{answer_command, answer_unread};
 use crate::fast::{fast_offer, fast_publish, fast_retrieve};
 use crate::session::Session;
 use ds_line::Expected;
-use ds_lines::LONGEST_LINE;
 use ds_names::NoRoom;
-use ds_words::{CommandFault, is_offer, is_publish, is_retrieve, read_line_behind};
+use line_io::LONGEST_LINE;
+use script_commands::{CommandFault, is_offer, is_publish, is_retrieve, read_line_behind};
 use std::alloc::Global;
 
 /// Answers one line behind so many others, which comes with its newline and has no other. `Err` says that it is no

@@ -9,7 +9,6 @@ ghost use Rattle.ds_replica.specs.declared.event.Event.TheVariants.{Ask};
 ghost use Rattle.ds_replica.specs.declared.outcome.Outcome.TheVariants.{Replied};
 ghost use Rattle.ds_script.specs.Session.{IsOpened, seed as described_seed, held_of, turned, IsHappening};
 
-use ds_answers::Servers;
 use ds_entry::Item;
 use ds_held::Held;
 use ds_machine::{Command, Reply};
@@ -18,6 +17,7 @@ use ds_names::NoRoom;
 use ds_replica::{Event, Outcome, Seed, Side};
 use ds_submap::SubMap;
 use ds_world::World;
+use script_services::Servers;
 use std::alloc::Global;
 use std::marker::Model;
 
@@ -40,8 +40,8 @@ impl Model for Session {
     ghost use Rattle.ds_replica.specs.contracts.event.Side.{the_row as side_row};
     ghost use Rattle.ds_world.specs.World.{WorldRecord};
     ghost use Rattle.ds_world.specs.contracts.world.World.{the_row as world_row};
-    ghost use Rattle.ds_answers.specs.Servers.{ServersRecord};
-    ghost use Rattle.ds_answers.specs.contracts.servers.Servers.{the_row as servers_row};
+    ghost use Rattle.script_services.specs.Servers.{ServersRecord};
+    ghost use Rattle.script_services.specs.contracts.servers.Servers.{the_row as servers_row};
     ghost use Rattle.ds_script.specs.Session.{SessionContent};
 
     ghost Value = { SessionContent };

@@ -11,7 +11,7 @@ use ds_held::Held;
 use ds_line::{append_item, append_numbers};
 use ds_names::NoRoom;
 use std::alloc::Global;
-use store_words::append_noroom;
+use store_answers::append_noroom;
 
 /// Appends the answer to `show`, which are the puts, or to `all`, with floors and tombstones, or the refusal for want of
 /// memory.

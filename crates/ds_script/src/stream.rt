@@ -8,14 +8,14 @@ ghost use Rattle.ds_script.specs.Progress.{Stops, Settles};
 ghost use Rattle.ds_script.specs.Causes.{HasCause, SettlesFor};
 ghost use Rattle.ds_script.specs.Session.{IsOpened};
 ghost use Rattle.ds_script.specs.Taking.{KeepsWriter, IsAtStart};
-ghost use Rattle.ds_lines.specs.Reading.{no_lines};
+ghost use Rattle.line_io.specs.Reading.{no_lines};
 
 use crate::fault::ReplayFault;
 use crate::report::{BadLines, Nobody, Report};
 use crate::session::{RING, Session};
 use crate::taking::Replay;
 use crate::tally::Tally;
-use ds_lines::{Lines, Sink, Source, WriteFailed, write_out};
+use line_io::{Lines, Sink, Source, WriteFailed, write_out};
 use std::alloc::Global;
 
 /// What a replay has come to.

@@ -1,7 +1,7 @@
 //! Lines of a replay, one after the other.
 
 ghost use Rattle.std.specs.Prelude.{◌≡◌, ◌<◌, ◌+◌, ◌^◌, suc, length, OnOk, IfErr};
-ghost use Rattle.ds_lines.specs.Lines.{EndsLine, IsUnbroken};
+ghost use Rattle.line_io.specs.Lines.{EndsLine, IsUnbroken};
 ghost use Rattle.ds_script.specs.Taking.{IsShortFront, KeepsWriter, TakesLine, TakesBad, TakesWhole, TakesFront, TakesLast, TakesUnended};
 
 use crate::bad_line::{end_at, pass_over};
@@ -11,8 +11,8 @@ use crate::report::{BadLine, BadLines, Report};
 use crate::session::Session;
 use crate::tally::Tally;
 use ds_line::Expected;
-use ds_lines::{LONGEST_LINE, Lines, Sink, send, send_full};
-use ds_words::CommandFault;
+use line_io::{LONGEST_LINE, Lines, Sink, send, send_full};
+use script_commands::CommandFault;
 use std::alloc::Global;
 
 /// The most bytes that are kept of a line whose end wasn't read, where bad lines don't end the replay.

@@ -1,13 +1,13 @@
 //! One read of a replay, and the answers to the lines that it brings.
 
 ghost use Rattle.std.specs.Prelude.{◌≡◌, ◌<◌, ◌^◌, true, suc, IfOk};
-ghost use Rattle.ds_lines.specs.Lines.{IsUnbroken};
+ghost use Rattle.line_io.specs.Lines.{IsUnbroken};
 ghost use Rattle.ds_script.specs.Taking.{KeepsWriter, TakesTurn, KeepsCount};
 
 use crate::fault::ReplayFault;
 use crate::report::Report;
 use crate::taking::Replay;
-use ds_lines::{Filled, Lines, Sink, Source, send};
+use line_io::{Filled, Lines, Sink, Source, send};
 
 impl<W: Sink, B: Report> Replay<'_, W, B> {
     /// Writes the answers that wait, reads once, and answers all whole lines that are there then; or at the end the last line, whose

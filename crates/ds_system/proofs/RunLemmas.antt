@@ -1,13 +1,13 @@
 -- Runs of a system's events, and what holds since it was new.
 use Rattle.std.proofs.Common.{◌≡◌, List, [], ◌∷◌, ◌++◌, map, refl, ap, ◌∙◌, subst}
 use Rattle.history.proofs.RunLemmas.{path_push, path_join, path_cut}
-use Rattle.ds_services.specs.declared.event.SystemEvent.{SystemEvent}
-use Rattle.ds_services.specs.declared.outcome.SystemOutcome.{SystemOutcome}
-use Rattle.ds_services.specs.System.{System}
-use Rattle.ds_services.specs.Happening.{SystemDoes, SystemEntry, SystemRun}
-use Rattle.ds_services.proofs.LawLemmas.{systems_keep_laws}
-use Rattle.ds_services.proofs.OlderLemmas.{no_send_to_older}
-use Rattle.ds_services.proofs.ApartLemmas.{labels_are_apart}
+use Rattle.system_model.specs.declared.event.SystemEvent.{SystemEvent}
+use Rattle.system_model.specs.declared.outcome.SystemOutcome.{SystemOutcome}
+use Rattle.system_model.specs.System.{System}
+use Rattle.system_model.specs.Happening.{SystemDoes, SystemEntry, SystemRun}
+use Rattle.system_model.proofs.LawLemmas.{systems_keep_laws}
+use Rattle.system_model.proofs.OlderLemmas.{no_send_to_older}
+use Rattle.system_model.proofs.ApartLemmas.{labels_are_apart}
 use Rattle.ds_system.specs.Stands.{SystemRecord, SystemEventLeads}
 use Rattle.ds_system.specs.Since.{SystemRunLeads, SystemPast, IsRightAmong, HoldsOfPast, SystemLawsHold}
 

@@ -29,12 +29,12 @@ use Rattle.ds_replica.specs.declared.outcome.Outcome.TheVariants as results
 use Rattle.ds_replica.specs.Happens.{HappenAll, gives_items}
 use Rattle.ds_replica.proofs.HappenLemmas.{happen_then}
 use Rattle.ds_world.specs.World.{WorldRecord}
-use Rattle.ds_serve.specs.Asked.{asking_for, command_of, commands}
-use Rattle.ds_services.specs.declared.event.SystemEvent.TheVariants as events
-use Rattle.ds_services.specs.declared.outcome.SystemOutcome.TheVariants.{Acted, Refused}
-use Rattle.ds_services.specs.declared.outcome.SystemFault.TheVariants as refusals
-use Rattle.ds_services.specs.Refusals.{IsServiceFault}
-use Rattle.ds_services.specs.Steps.{WorldEvents, AreProper, no_steps, events_alone, asks_replied}
+use Rattle.rs_to_store.specs.Asked.{asking_for, command_of, commands}
+use Rattle.system_model.specs.declared.event.SystemEvent.TheVariants as events
+use Rattle.system_model.specs.declared.outcome.SystemOutcome.TheVariants.{Acted, Refused}
+use Rattle.system_model.specs.declared.outcome.SystemFault.TheVariants as refusals
+use Rattle.system_model.specs.Refusals.{IsServiceFault}
+use Rattle.system_model.specs.Steps.{WorldEvents, AreProper, no_steps, events_alone, asks_replied}
 use Rattle.ds_system.specs.Stands.{SystemRecord, SystemEventLeads}
 use Rattle.ds_system.specs.Effects.{AskedIfAny, AllAsked}
 use Rattle.ds_system.proofs.AskLemmas.{proper_one}

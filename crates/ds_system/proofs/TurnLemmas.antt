@@ -16,15 +16,15 @@ use Rattle.driver_tables.specs.Stands.{TableRecord, TableStands}
 use Rattle.ds_replica.specs.declared.event.Holder.TheVariants.{Map}
 use Rattle.ds_replica.specs.World.{MapState, World, map_held, held_by}
 use Rattle.ds_world.specs.World.{WorldRecord, WorldStands, map_state, held_in}
-use Rattle.ds_serve.specs.Following.{labels_of, Follows, HasFollowed}
-use Rattle.ds_services.specs.declared.event.Table.{Table}
-use Rattle.ds_services.specs.declared.event.Table.TheVariants.{File, Net}
-use Rattle.ds_services.specs.declared.event.SystemEvent.TheVariants as events
-use Rattle.ds_services.specs.declared.outcome.SystemOutcome.TheVariants.{Moved}
-use Rattle.ds_services.specs.System.{System, table_at, system_with_table, map_number}
-use Rattle.ds_services.specs.Turn.{TableTurn, FollowsItems}
-use Rattle.ds_services.specs.Steps.{no_steps, turn_alone}
-use Rattle.ds_services.specs.Effects.{Submits}
+use Rattle.rs_to_store.specs.Following.{labels_of, Follows, HasFollowed}
+use Rattle.system_model.specs.declared.event.Table.{Table}
+use Rattle.system_model.specs.declared.event.Table.TheVariants.{File, Net}
+use Rattle.system_model.specs.declared.event.SystemEvent.TheVariants as events
+use Rattle.system_model.specs.declared.outcome.SystemOutcome.TheVariants.{Moved}
+use Rattle.system_model.specs.System.{System, table_at, system_with_table, map_number}
+use Rattle.system_model.specs.Turn.{TableTurn, FollowsItems}
+use Rattle.system_model.specs.Steps.{no_steps, turn_alone}
+use Rattle.system_model.specs.Effects.{Submits}
 use Rattle.ds_system.specs.Stands.{SystemRecord, kept_table, keeping_table, SystemStands, SystemEventLeads}
 use Rattle.ds_system.specs.Turns.{moved_so, HasSubmitted, HasReplied, ServersFollow}
 

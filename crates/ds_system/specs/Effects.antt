@@ -13,11 +13,11 @@ use Rattle.ds_replica.specs.Bringing.{IsProper}
 use Rattle.ds_replica.specs.Happens.{HappenAll}
 use Rattle.ds_world.specs.World.{WorldRecord, Leads}
 use Rattle.ds_world.specs.Run.{EventLeads}
-use Rattle.ds_services.specs.declared.event.SystemEvent.{SystemEvent}
-use Rattle.ds_services.specs.declared.event.SystemEvent.TheVariants as events
-use Rattle.ds_services.specs.declared.outcome.SystemFault.{SystemFault}
-use Rattle.ds_services.specs.Drawing.{Instance, judged}
-use Rattle.ds_services.specs.Steps.{asks_replied, AreProper}
+use Rattle.system_model.specs.declared.event.SystemEvent.{SystemEvent}
+use Rattle.system_model.specs.declared.event.SystemEvent.TheVariants as events
+use Rattle.system_model.specs.declared.outcome.SystemFault.{SystemFault}
+use Rattle.system_model.specs.Drawing.{Instance, judged}
+use Rattle.system_model.specs.Steps.{asks_replied, AreProper}
 use Rattle.ds_system.specs.Stands.{SystemRecord}
 
 -- a command went to the store of a side, if there was one, and its reply came behind those before

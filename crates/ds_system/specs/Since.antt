@@ -6,13 +6,13 @@ use Rattle.ds_replica.specs.declared.seed.Seed.{Seed}
 use Rattle.ds_world.specs.declared.fault.WorldFault.{WorldFault}
 use Rattle.ds_world.specs.declared.fault.WorldFault.TheVariants.{TooMany, NoRoom}
 use Rattle.ds_world.specs.Run.{most_events}
-use Rattle.ds_services.specs.declared.event.SystemEvent.{SystemEvent}
-use Rattle.ds_services.specs.declared.outcome.SystemOutcome.{SystemOutcome}
-use Rattle.ds_services.specs.System.{System}
-use Rattle.ds_services.specs.Happening.{SystemDoes, SystemEntry, SystemRun}
-use Rattle.ds_services.specs.Start.{IsNew, account_since}
-use Rattle.ds_services.specs.Laws.{SystemLaws}
-use Rattle.ds_services.specs.Sending.{sent_over, TurnsAreRight}
+use Rattle.system_model.specs.declared.event.SystemEvent.{SystemEvent}
+use Rattle.system_model.specs.declared.outcome.SystemOutcome.{SystemOutcome}
+use Rattle.system_model.specs.System.{System}
+use Rattle.system_model.specs.Happening.{SystemDoes, SystemEntry, SystemRun}
+use Rattle.system_model.specs.Start.{IsNew, account_since}
+use Rattle.system_model.specs.Laws.{SystemLaws}
+use Rattle.system_model.specs.Sending.{sent_over, TurnsAreRight}
 use Rattle.ds_system.specs.Stands.{SystemRecord, SystemStands}
 
 -- ---- a list of events

@@ -8,11 +8,11 @@ use Rattle.driver_tables.specs.DriverTable.{DriverTable}
 use Rattle.driver_tables.specs.Stands.{TableRecord, TableStands}
 use Rattle.ds_replica.specs.declared.event.Holder.TheVariants.{Map}
 use Rattle.ds_world.specs.World.{WorldRecord, held_in}
-use Rattle.ds_serve.specs.Following.{HasFollowed}
-use Rattle.ds_services.specs.declared.outcome.SystemOutcome.{SystemOutcome}
-use Rattle.ds_services.specs.declared.outcome.SystemOutcome.TheVariants.{Moved}
-use Rattle.ds_services.specs.Turn.{TableTurn, FollowsItems}
-use Rattle.ds_services.specs.Effects.{Submits, Replies}
+use Rattle.rs_to_store.specs.Following.{HasFollowed}
+use Rattle.system_model.specs.declared.outcome.SystemOutcome.{SystemOutcome}
+use Rattle.system_model.specs.declared.outcome.SystemOutcome.TheVariants.{Moved}
+use Rattle.system_model.specs.Turn.{TableTurn, FollowsItems}
+use Rattle.system_model.specs.Effects.{Submits, Replies}
 
 -- the move of an answer, and its fault
 abbrev pub own_move_of : Result Move TableFault → Option Move

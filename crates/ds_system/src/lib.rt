@@ -10,6 +10,6 @@ mod fault;
 mod system;
 mod turning;
 
-pub use ds_services::{SystemEvents, SystemOutcomes};
 pub use fault::BeginFault;
 pub use system::System;
+pub use system_model::{SystemEvents, SystemOutcomes};

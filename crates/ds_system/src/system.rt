@@ -7,11 +7,11 @@ ghost use Rattle.ds_system.specs.Since.{SystemRunLeads, SystemLawsHold, IsSystem
 
 use driver_tables::{FileTable, NetTable};
 use ds_entry::{Body, Change};
-use ds_services::{SystemEvent, SystemEvents, SystemOutcome, SystemOutcomes};
 use ds_world::{World, WorldFault};
 use rs_core::{Numberer, Rs};
 use std::alloc::Global;
 use std::marker::Model;
+use system_model::{SystemEvent, SystemEvents, SystemOutcome, SystemOutcomes};
 
 mod asking;
 mod moving;

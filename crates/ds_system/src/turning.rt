@@ -7,9 +7,9 @@ ghost use Rattle.ds_system.specs.Turns.{moved_so, FollowsMap, HasSubmitted, HasR
 
 use driver_tables::{Drivers, FileTable, Move, Moves, NetTable, TableFault};
 use ds_names::Endpoint;
-use ds_serve::follow;
-use ds_services::{Rounds, SystemOutcome};
 use ds_world::World;
+use rs_to_store::follow;
+use system_model::{Rounds, SystemOutcome};
 
 /// The number of the map that the file server follows.
 pub(crate) const FILE_MAP: usize = 0;

@@ -1,7 +1,7 @@
 //! A run of threads that publish, follow and exchange.
 
 use ds_live::{LiveFault, LiveReport, OpenGate, Sizes, live_run};
-use dsctl_words::Failure;
+use dsctl_cli::Failure;
 use std::process::ExitCode;
 use std::rt::Runtime;
 use std::sync::Wait;

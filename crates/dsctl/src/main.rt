@@ -1,6 +1,6 @@
 //! `dsctl`: the data store at the command line. It reads standard input and writes standard output.
 //!
-//! The program is thin: the words of the command line and of the prompt are `dsctl_words`'s, the work is `ds_script`'s, `rs_settings`'s, `trace_check`'s,
+//! The program is thin: the words of the command line and of the prompt are `dsctl_cli`'s, the work is `ds_script`'s, `rs_settings`'s, `trace_check`'s,
 //! `trace_record`'s and `ds_live`'s, what is said of a line that can't be read is `ds_explain`'s, and what is left here is the printing of
 //! settings, verdicts and reports and the choice of the exit status. 0: done. 1: refused input. 2: usage. 3: memory, reading or writing failed, or a run of
 //! threads, and standard error says which.
@@ -15,10 +15,10 @@ mod traces;
 
 use answers::Answers;
 use ds_explain::{Audience, explain};
-use ds_lines::Plain;
 use ds_live::Sizes;
 use ds_script::{BadLine, BadLines, ReplayFault, Replayed, Report, replay_reporting};
-use dsctl_words::{Failure, Greeting, Terminals, Typed, Words, greet};
+use dsctl_cli::{Failure, Greeting, Terminals, Typed, Words, greet};
+use line_io::Plain;
 use std::io::{self, IsTerminal};
 use std::process::ExitCode;
 use std::rt::Runtime;
@@ -44,7 +44,7 @@ fn run<R: Runtime + AllocGlobal + Threads + Wait + Sync>(
     rt: &R,
     terminals: Terminals,
 ) -> Result<ExitCode, Failure> {
-    match dsctl_words::read(rt) {
+    match dsctl_cli::read(rt) {
         Words::Replay { go_on } => replay_input(rt, terminals, bad_lines(go_on, terminals)),
         Words::Settings => settings::show_input(rt, terminals),
         Words::Verify => traces::judge_input(rt, terminals),

@@ -2,8 +2,8 @@
 
 use crate::answers::Answers;
 use ds_held::Limits;
-use ds_lines::Plain;
-use dsctl_words::{Failure, Greeting, Terminals, TraceForm, Typed, greet};
+use dsctl_cli::{Failure, Greeting, Terminals, TraceForm, Typed, greet};
+use line_io::Plain;
 use std::io;
 use std::process::ExitCode;
 use std::rt::Runtime;

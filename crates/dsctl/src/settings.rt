@@ -1,7 +1,7 @@
 //! What a settings text tells RS, or its first fault.
 
 use ds_explain::{explain_settings, write_settings};
-use dsctl_words::{Failure, Greeting, Terminals, greet};
+use dsctl_cli::{Failure, Greeting, Terminals, greet};
 use rs_settings::{Settings, SettingsCause, SettingsFault, read};
 use std::io::{self, BufWriter, ErrorKind, Read};
 use std::process::ExitCode;

@@ -3,8 +3,8 @@
 use crate::answers::Answers;
 use crate::front::WithFront;
 use ds_explain::explain_trace;
-use ds_lines::Plain;
-use dsctl_words::{Failure, Greeting, Terminals, Typed, greet};
+use dsctl_cli::{Failure, Greeting, Terminals, Typed, greet};
+use line_io::Plain;
 use std::io;
 use std::process::ExitCode;
 use std::rt::Runtime;

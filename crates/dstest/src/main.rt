@@ -12,7 +12,7 @@ use std::process::ExitCode;
 use std::rt::Runtime;
 use std::sync::Wait;
 use std::thread::Threads;
-use test_words::Failure;
+use test_kit::Failure;
 
 fn main(rt: HostRuntime) -> ExitCode {
     let Err(failure) = run(&rt) else {

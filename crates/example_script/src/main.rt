@@ -4,8 +4,8 @@
 //! 3: memory, reading or writing failed, and standard error says which.
 #![tactic(auto)]
 
-use ds_lines::Plain;
 use ds_script::{ReplayFault, replay};
+use line_io::Plain;
 use std::io;
 use std::process::ExitCode;
 use std::rt::Runtime;

@@ -20,7 +20,7 @@ use Rattle.rs_core.proofs.RunLemmas.{labels_single_numbered}
 use Rattle.ds_machine.specs.State.{State}
 use Rattle.ds_machine.specs.declared.command.Command.{Command}
 use Rattle.ds_machine.specs.declared.reply.Reply.{Reply}
-use Rattle.ds_serve.specs.Asked.{asking_for, command_of, commands}
+use Rattle.rs_to_store.specs.Asked.{asking_for, command_of, commands}
 use Rattle.ds_store.specs.Turns.{Turn, commands_of}
 use Rattle.ds_store.proofs.TurnLemmas.{turns_run}
 use Rattle.ds_store.proofs.SettledLemmas.{histories_settle}

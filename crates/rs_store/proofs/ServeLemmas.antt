@@ -2,7 +2,7 @@
 use Rattle.std.proofs.Common.{◌≡◌, suc, List, [], ◌∷◌, ◌++◌, length, Option, Some, refl, sym, ap, subst, ◌∙◌}
 use Rattle.ds_content.specs.Content.{ContentRecord}
 use Rattle.ds_machine.specs.declared.reply.Reply.{Reply}
-use Rattle.ds_serve.specs.Asked.{command_of}
+use Rattle.rs_to_store.specs.Asked.{command_of}
 use Rattle.rs_core.specs.declared.action.Action.{Action}
 use Rattle.rs_store.specs.Serving.{TurnFor, TurnsFor}
 

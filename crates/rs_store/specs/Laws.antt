@@ -8,7 +8,7 @@ use Rattle.ds_content.specs.Stands.{ContentStands}
 use Rattle.ds_machine.specs.State.{State}
 use Rattle.ds_machine.specs.declared.command.Command.{Command}
 use Rattle.ds_machine.specs.declared.reply.Reply.{Reply}
-use Rattle.ds_serve.specs.Asked.{command_of, commands}
+use Rattle.rs_to_store.specs.Asked.{command_of, commands}
 use Rattle.ds_store.specs.Turns.{Turn, commands_of}
 use Rattle.ds_entry.specs.SingleNumbered.{IsSingleNumbered}
 use Rattle.rs_core.specs.declared.action.Action.{Action}

@@ -3,7 +3,7 @@ use Rattle.std.specs.Prelude.{◌≡◌, ◌≢◌, ◌⊎◌, ◌≤◌, ℕ, B
 use Rattle.ds_content.specs.Content.{ContentRecord}
 use Rattle.ds_machine.specs.declared.command.Command.{Command}
 use Rattle.ds_machine.specs.declared.reply.Reply.{Reply}
-use Rattle.ds_serve.specs.Asked.{command_of}
+use Rattle.rs_to_store.specs.Asked.{command_of}
 use Rattle.ds_store.specs.Turns.{Turn}
 use Rattle.rs_settings.specs.Settings.{SettingsRecord}
 use Rattle.rs_core.specs.declared.action.Action.{Action}

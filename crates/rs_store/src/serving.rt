@@ -5,7 +5,7 @@ ghost use Rattle.std.specs.List.{AllByRecursion};
 ghost use Rattle.rs_core.specs.Action.{IsActionInPlace};
 ghost use Rattle.rs_core.specs.Judging.{asks, has_actions};
 ghost use Rattle.rs_core.specs.Machine.{asked};
-ghost use Rattle.ds_serve.specs.Asked.{command_of as command_for};
+ghost use Rattle.rs_to_store.specs.Asked.{command_of as command_for};
 ghost use Rattle.ds_store.specs.Turns.{Turn};
 ghost use Rattle.rs_store.specs.Serving.{ClientTurn, BeginTurn, HasRoomFor, RsRefuses, EventTurn, TurnFor, TurnsFor, before_beginning as reply_without};
 
@@ -13,10 +13,10 @@ use crate::by_rs::is_by_rs;
 use crate::call::RsReply;
 use crate::replies::Replies;
 use ds_machine::{Command, Reply};
-use ds_serve::command_of;
 use ds_store::Store;
 use rs_core::{Action, Actions, Event, Rs, RsFault, steps_say};
 use rs_settings::Settings;
+use rs_to_store::command_of;
 use std::alloc::Global;
 
 /// The most actions of one event: a kill, a label taken back, a sweep, a start and a label put.

@@ -14,7 +14,7 @@ use ds_store::Store;
 use std::alloc::Global;
 use std::sync::Wait;
 use std::thread::Threads;
-use test_words::Failure;
+use test_kit::Failure;
 
 /// Does what a line asks for, and prints what came of it.
 pub(crate) fn answer_line<R: Print + Threads + Wait + Sync>(

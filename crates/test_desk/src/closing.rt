@@ -11,7 +11,7 @@ use crate::table::Table;
 use crate::tell::{tell, tell_fault};
 use desk::{CloseStop, Closed, Desk, Note, Pass, Passes};
 use std::alloc::Global;
-use test_words::Failure;
+use test_kit::Failure;
 
 /// Closes the desk with both passes, and prints what is left, with the row of a subscription; or why it stays open.
 pub(crate) fn close_both<M: Followed + Drop, R: Print>(

@@ -2,7 +2,7 @@
 
 use history::Machine;
 use std::alloc::Global;
-use test_words::Failure;
+use test_kit::Failure;
 
 /// A machine that publishes the labels of drivers, and tells those who follow it.
 pub(crate) trait Followed: Machine {

@@ -38,7 +38,7 @@ use answering::answer_line;
 use line::read_line;
 use std::sync::Wait;
 use std::thread::Threads;
-use test_words::Failure;
+use test_kit::Failure;
 
 /// Answers the lines in turn, up to the first that can't be read.
 pub fn answer<R: Print + AllocGlobal + Threads + Wait + Sync>(

@@ -12,7 +12,7 @@ use crate::tell::{tell, tell_fault};
 use desk::{Answer, Desk, Pass, Taken};
 use std::alloc::Global;
 use std::sync::Wait;
-use test_words::Failure;
+use test_kit::Failure;
 
 /// Opens a desk, has its two passes do what the row says, and closes it. What they are answered is printed.
 pub(crate) fn play<M: Followed + Drop, R: Print + Wait>(

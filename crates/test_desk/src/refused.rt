@@ -4,7 +4,7 @@ use crate::followed::Followed;
 use crate::rows::NO_DESK;
 use desk::{Desk, DeskFault};
 use std::alloc::Global;
-use test_words::Failure;
+use test_kit::Failure;
 
 /// Asks to open desks that there aren't, and prints why not, and the position of each machine that comes back.
 pub(crate) fn refuse_desks<M: Followed + Drop, R: Print>(

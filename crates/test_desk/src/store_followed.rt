@@ -7,7 +7,7 @@ use ds_entry::Value;
 use ds_machine::{Command, Reply};
 use ds_store::Store;
 use std::alloc::Global;
-use test_words::Failure;
+use test_kit::Failure;
 
 impl Followed for Box<Store> {
     fn begin_at(alloc: Global, position: u64) -> Option<Box<Store>> {

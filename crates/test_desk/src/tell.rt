@@ -1,7 +1,7 @@
 //! What is printed.
 
 use desk::DeskFault;
-use test_words::Failure;
+use test_kit::Failure;
 
 /// Prints each text with the number behind it, and then the end.
 pub(crate) fn tell(rt: &impl Print, numbers: &[(&str, u128)], end: &str) -> Result<(), Failure> {

@@ -5,7 +5,7 @@ use crate::telling::tell;
 use ds_entry::{Body, Change, Item, Items};
 use ds_line::{read_change, read_item, write_change, write_item};
 use std::alloc::Global;
-use test_words::append_items;
+use test_kit::append_items;
 
 /// Each change, made again of a copy of its value. `None` where a line isn't read whole, the two aren't equal, or memory is
 /// wanting.

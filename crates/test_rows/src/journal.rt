@@ -5,7 +5,7 @@ use ds_feed::{Cursor, Journal, Since, SinceFault};
 use ds_line::read_item;
 use std::alloc::Global;
 use std::io::Write;
-use test_words::{append_items, append_number};
+use test_kit::{append_items, append_number};
 
 // The incarnation of the journal.
 const INCARNATION: u64 = 1;

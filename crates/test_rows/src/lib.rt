@@ -28,7 +28,7 @@ use std::alloc::Global;
 use std::io::{self, Write};
 use std::rt::Runtime;
 use telling::tell;
-use test_words::Failure;
+use test_kit::Failure;
 
 // What rows are of.
 #[derive(Clone, Copy)]

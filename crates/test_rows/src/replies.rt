@@ -5,7 +5,7 @@ use ds_entry::Value;
 use ds_held::Limits;
 use ds_machine::{Refusal, Reply};
 use std::alloc::Global;
-use store_words::{Wording, write_reply};
+use store_answers::{Wording, write_reply};
 
 /// The text of each reply. One of the notices that the first owes is for subscription 40. `None` where memory is wanting.
 pub(crate) fn tell_rows(text: &mut Vec<u8>, alloc: Global) -> Option<()> {

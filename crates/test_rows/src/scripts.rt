@@ -2,8 +2,8 @@
 
 use crate::telling::tell;
 use ds_line::Expected;
-use ds_lines::{FailRead, FailWrite};
 use ds_script::{ReplayFault, replay};
+use line_io::{FailRead, FailWrite};
 use std::alloc::Global;
 
 /// A script, its answers, and how it ends.

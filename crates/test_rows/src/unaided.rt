@@ -5,7 +5,7 @@ use ds_entry::{Body, Change, Value};
 use ds_held::Held;
 use ds_names::{Endpoint, Generation, Key, Kind, Name, Version};
 use std::alloc::Global;
-use test_words::append_number;
+use test_kit::append_number;
 
 // Texts, two of which are no names.
 const NAMES: [&[u8]; 3] = [b"eth0", b"", b"eth 0"];

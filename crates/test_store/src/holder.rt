@@ -14,7 +14,7 @@ use ds_line::{append_all, append_change};
 use ds_names::{Key, NoRoom};
 use std::alloc::Global;
 use std::rt::Runtime;
-use test_words::{Failure, append_items, append_number};
+use test_kit::{Failure, append_items, append_number};
 
 /// What a holder is asked.
 #[derive(Drop)]

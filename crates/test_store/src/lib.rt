@@ -16,7 +16,7 @@ mod store;
 mod subject;
 
 use std::rt::Runtime;
-use test_words::Failure;
+use test_kit::Failure;
 
 // Bytes of one answer for which there is room before the first is asked for.
 const ANSWER: usize = 1 << 20;

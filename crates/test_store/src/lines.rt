@@ -3,12 +3,12 @@
 use ds_entry::{Item, Items};
 use ds_held::Limits;
 use ds_line::kind_at;
-use ds_lines::split_line;
 use ds_names::{Key, Kind, Name};
-use ds_words::{CommandFault, ScriptCommand, read_command};
+use line_io::split_line;
+use script_commands::{CommandFault, ScriptCommand, read_command};
 use std::alloc::Global;
 use std::str::Split;
-use test_words::{Failure, number_at};
+use test_kit::{Failure, number_at};
 
 /// The command of a line of a script.
 pub(crate) fn read_line(alloc: Global, line: &str) -> Result<ScriptCommand, Failure> {

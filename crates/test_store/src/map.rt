@@ -12,10 +12,10 @@ use ds_line::{append_all, append_change, append_value};
 use ds_names::{Endpoint, Key, Kind, Name, NoRoom};
 use ds_pattern::PatternFault;
 use ds_submap::SubMap;
-use ds_words::ScriptCommand;
+use script_commands::ScriptCommand;
 use std::alloc::Global;
 use std::rt::Runtime;
-use test_words::{Failure, append_items, append_number};
+use test_kit::{Failure, append_items, append_number};
 
 /// What a map is asked.
 #[derive(Drop)]

@@ -12,11 +12,11 @@ use ds_held::Limits;
 use ds_machine::{Command, Refusal, Reply};
 use ds_names::{Endpoint, Key, Kind, Name, NoRoom, Version};
 use ds_store::{Store, run};
-use ds_words::ScriptCommand;
+use script_commands::ScriptCommand;
 use std::alloc::Global;
 use std::rt::Runtime;
-use store_words::{Wording, append_reply};
-use test_words::{Failure, append_number, number_at};
+use store_answers::{Wording, append_reply};
+use test_kit::{Failure, append_number, number_at};
 
 /// What a store is asked.
 #[derive(Drop)]

@@ -6,7 +6,7 @@ use ds_names::NoRoom;
 use std::alloc::Global;
 use std::io::{self, Write};
 use std::rt::Runtime;
-use test_words::Failure;
+use test_kit::Failure;
 
 /// What is asked by the lines of a part.
 pub(crate) trait Subject {

@@ -25,7 +25,7 @@ use rs_session::Session;
 use std::alloc::Global;
 use std::io::{self, Write};
 use std::rt::Runtime;
-use test_words::Failure;
+use test_kit::Failure;
 
 /// Answers the parts of systems in turn, and writes what is told of all.
 pub fn answer_systems(rt: &(impl Runtime + AllocGlobal), parts: &str) -> Result<(), Failure> {

@@ -5,15 +5,15 @@
 //! that a world can be asked. `side a` and `side b` say at which store what follows is asked. `N times LINE` is so many such events.
 
 use ds_entry::{Text, TextFault, Value};
-use ds_lines::split_line;
 use ds_names::{Key, Kind, Name};
 use ds_replica::Side;
-use ds_services::{SystemEvent, Table};
 use ds_system::SystemEvents;
-use ds_words::{CommandFault, ScriptCommand, Server, read_command};
+use line_io::split_line;
+use script_commands::{CommandFault, ScriptCommand, Server, read_command};
 use std::alloc::Global;
 use std::str::Split;
-use test_words::{Failure, name_at, number_at};
+use system_model::{SystemEvent, Table};
+use test_kit::{Failure, name_at, number_at};
 
 /// The events of the lines.
 pub(crate) fn read_events(alloc: Global, lines: &str) -> Result<SystemEvents, Failure> {

@@ -6,17 +6,17 @@
 
 use crate::rs_telling::tell_state;
 use crate::words::{tell_index, tell_number};
-use ds_lines::split_line;
 use ds_names::Name;
-use ds_words::{CommandFault, ScriptCommand, SettingsText, read_command};
+use line_io::split_line;
+use rs_answers::append_served;
 use rs_core::State;
 use rs_settings::{SettingsCause, read};
 use rs_store::{RsCommand, RsReply, RsStore};
-use rs_words::append_served;
-use service_words::append_settings_fault;
+use script_commands::{CommandFault, ScriptCommand, SettingsText, read_command};
+use service_answers::append_settings_fault;
 use std::alloc::Global;
-use store_words::Wording;
-use test_words::{Failure, name_at, number_at};
+use store_answers::Wording;
+use test_kit::{Failure, name_at, number_at};
 
 /// RS and its store.
 #[derive(Drop)]

@@ -10,7 +10,7 @@ use ds_world::{World, WorldFault};
 use rs_settings::{Settings, SettingsCause, read};
 use std::alloc::Global;
 use std::str::Split;
-use test_words::{Failure, number_at};
+use test_kit::{Failure, number_at};
 
 /// Begins a system as the lines of a part up to `end` say, and tells what came of the events on the others; or why none begins.
 pub(crate) fn answer_part(text: &mut Vec<u8>, alloc: Global, part: &str) -> Result<(), Failure> {

@@ -3,7 +3,7 @@
 use ds_names::{Endpoint, Generation, Key, Kind, Name};
 use rs_core::Event;
 use std::str::Split;
-use test_words::{name_at, number_at};
+use test_kit::{name_at, number_at};
 
 /// What a line asks for.
 #[derive(Clone, Copy)]

@@ -7,9 +7,9 @@ use crate::words::{tell, tell_index, tell_number, tell_numbers};
 use ds_names::{Name, NoRoom};
 use rs_core::{Actions, Event, Numberer, Rs};
 use rs_settings::read;
-use service_words::{append_action, append_action_count, append_rs_fault, append_settings};
+use service_answers::{append_action, append_action_count, append_rs_fault, append_settings};
 use std::alloc::Global;
-use test_words::Failure;
+use test_kit::Failure;
 
 const NO_SETTINGS: &[u8] = b"refused nosettings";
 

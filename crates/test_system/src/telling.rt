@@ -7,15 +7,15 @@ use ds_held::Limits;
 use ds_line::append_item;
 use ds_names::NoRoom;
 use ds_replica::Outcome;
-use ds_services::{Replies, Rounds, SystemFault, SystemOutcome};
 use ds_world::World;
 use rs_core::{Action, Actions};
-use service_words::{
+use service_answers::{
     append_action, append_action_count, append_move, append_move_count, append_rs_fault,
     append_table_fault,
 };
 use std::alloc::Global;
-use store_words::{Wording, append_message, append_outcome, append_reply};
+use store_answers::{Wording, append_message, append_outcome, append_reply};
+use system_model::{Replies, Rounds, SystemFault, SystemOutcome};
 
 /// What came of an event. A message is told by what the store gave.
 pub(crate) fn tell_outcome(

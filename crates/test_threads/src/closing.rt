@@ -11,7 +11,7 @@ use ds_entry::Items;
 use ds_machine::{Command, Reply, Scope};
 use ds_store::Store;
 use std::alloc::Global;
-use test_words::Failure;
+use test_kit::Failure;
 
 /// What the first store held, what the follower's map has, and what the second store held. Each is `None` where memory was wanting.
 #[derive(Drop)]

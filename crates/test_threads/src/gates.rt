@@ -7,7 +7,7 @@ use std::alloc::Global;
 use std::rt::Runtime;
 use std::sync::Wait;
 use std::thread::Threads;
-use test_words::Failure;
+use test_kit::Failure;
 
 /// Each row.
 pub(crate) fn run_at_gates<R: Runtime + Threads + Wait + Sync>(

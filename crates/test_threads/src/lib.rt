@@ -32,7 +32,7 @@ use review::watch_and_compare;
 use std::rt::Runtime;
 use std::sync::Wait;
 use std::thread::Threads;
-use test_words::Failure;
+use test_kit::Failure;
 
 /// Answers the lines in turn, up to the first that can't be read.
 pub fn answer<R: Runtime + AllocGlobal + Threads + Wait + Sync>(

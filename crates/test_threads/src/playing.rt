@@ -8,7 +8,7 @@ use crate::steps::{bring_up, call, exchange, look, start_many, take, tell_label}
 use crate::world::World;
 use std::alloc::Global;
 use std::sync::Wait;
-use test_words::Failure;
+use test_kit::Failure;
 
 /// Plays all rows.
 pub(crate) fn play_rows<R: Print + Wait>(rt: &R, alloc: Global) -> Result<(), Failure> {

@@ -20,7 +20,7 @@ use ds_refresh::{Follower, Fresh, refresh};
 use ds_store::Store;
 use std::alloc::Global;
 use std::sync::Wait;
-use test_words::Failure;
+use test_kit::Failure;
 
 /// A pass calls, and what the store refuses is printed.
 pub(crate) fn call<R: Print + Wait>(

@@ -1,7 +1,7 @@
 //! What a row prints.
 
 use ds_pass::LiveFault;
-use test_words::Failure;
+use test_kit::Failure;
 
 /// Prints lines of a word and a number.
 pub(crate) fn tell(rt: &impl Print, lines: &[(&str, u128)]) -> Result<(), Failure> {

@@ -2,9 +2,9 @@
 use Rattle.std.proofs.Common.{◌≡◌, ℕ, suc, ◌⊎◌, List, [], ◌∷◌, ◌++◌, get_or, drop, inl, inr, refl, sym, ap, subst, ◌∙◌, arith, append_assoc, append-nil}
 use Rattle.std.specs.List.{All}
 use Rattle.std.proofs.lemmas.Grind.{flat_map-append}
-use Rattle.ds_lines.specs.Lines.{HasLines, IsUnbroken, joined, unended, with_newline}
-use Rattle.trace_words.specs.Verdict.{Fails, IsLegal, IsWrongAt}
-use Rattle.trace_words.specs.Walk.{NoneEnds}
+use Rattle.line_io.specs.Lines.{HasLines, IsUnbroken, joined, unended, with_newline}
+use Rattle.trace_model.specs.Verdict.{Fails, IsLegal, IsWrongAt}
+use Rattle.trace_model.specs.Walk.{NoneEnds}
 use Rattle.trace_walk.proofs.BeginLemmas.{joined_none}
 use Rattle.trace_walk.proofs.WalkingLemmas.{first_line, only_line}
 

@@ -1,7 +1,7 @@
 -- Which line a verdict tells, and what has to stand there.
 use Rattle.std.specs.Prelude.{◌≡◌, ◌≢◌, ℕ}
-use Rattle.trace_words.specs.declared.verdict.Verdict.{Verdict}
-use Rattle.trace_words.specs.declared.verdict.Verdict.TheVariants as verdicts
+use Rattle.trace_model.specs.declared.verdict.Verdict.{Verdict}
+use Rattle.trace_model.specs.declared.verdict.Verdict.TheVariants as verdicts
 use Rattle.trace_walk.specs.declared.wrong_line.Wanted.{Wanted}
 use Rattle.trace_walk.specs.declared.wrong_line.Wanted.TheVariants.{Reply}
 

@@ -1,14 +1,14 @@
 -- What comes of writing a trace of format 1 in format 2.
 use Rattle.std.specs.Prelude.{◌≡◌, ℕ, List, [], ◌++◌, length, Option}
 use Rattle.std.specs.Io.KnownBytes.{Appends}
-use Rattle.ds_lines.specs.Lines.{HasLines, joined}
-use Rattle.trace_words.specs.declared.header.Format.TheVariants.{One, Two}
-use Rattle.trace_words.specs.declared.header.Header.{Header}
-use Rattle.trace_words.specs.declared.verdict.Verdict.TheVariants as verdicts
-use Rattle.trace_words.specs.Legal.{IsTrace, opened_by}
-use Rattle.trace_words.specs.Text.{TraceEntry, IsHeader, header_text, trace_text}
-use Rattle.trace_words.specs.Upgrade.{Become, IsUpgraded, IsUpgradedBefore, IsUpgradedInPart, IsUpgradedSoFar, upgraded}
-use Rattle.trace_words.specs.Verdict.{IsVerdict}
+use Rattle.line_io.specs.Lines.{HasLines, joined}
+use Rattle.trace_model.specs.declared.header.Format.TheVariants.{One, Two}
+use Rattle.trace_model.specs.declared.header.Header.{Header}
+use Rattle.trace_model.specs.declared.verdict.Verdict.TheVariants as verdicts
+use Rattle.trace_model.specs.Legal.{IsTrace, opened_by}
+use Rattle.trace_model.specs.Text.{TraceEntry, IsHeader, header_text, trace_text}
+use Rattle.trace_model.specs.Upgrade.{Become, IsUpgraded, IsUpgradedBefore, IsUpgradedInPart, IsUpgradedSoFar, upgraded}
+use Rattle.trace_model.specs.Verdict.{IsVerdict}
 use Rattle.trace_walk.specs.declared.fault.WalkFault.{WalkFault}
 use Rattle.trace_walk.specs.declared.fault.WalkFault.TheVariants as walks
 use Rattle.trace_check.specs.declared.upgrading.UpgradeFault.{UpgradeFault}

@@ -1,7 +1,7 @@
 -- What comes of going through a trace.
 use Rattle.std.specs.Prelude.{◌≡◌, ℕ, List, Option}
-use Rattle.trace_words.specs.declared.verdict.Verdict.{Verdict}
-use Rattle.trace_words.specs.Verdict.{IsVerdict}
+use Rattle.trace_model.specs.declared.verdict.Verdict.{Verdict}
+use Rattle.trace_model.specs.Verdict.{IsVerdict}
 use Rattle.trace_walk.specs.declared.walk.Walk.{Walk}
 use Rattle.trace_walk.specs.Steps.{WalksAt}
 use Rattle.trace_walk.specs.Walking.{Spot}

@@ -4,8 +4,8 @@ ghost use Rattle.std.specs.Prelude.{◌≡◌, ◌≢◌, IfSome, IfNone};
 ghost use Rattle.trace_walk.specs.declared.wrong_line.Wanted.TheVariants as wanteds;
 ghost use Rattle.trace_check.specs.Telling.{IsOfLine, TellsNoLine};
 
+use trace_model::Verdict;
 use trace_walk::{Stands, Walk, Wanted, WrongLine};
-use trace_words::Verdict;
 
 /// The verdict on a trace, and the walk that came to it.
 #[derive(Drop)]

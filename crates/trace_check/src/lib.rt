@@ -1,6 +1,6 @@
 //! Recorded traces of one store, judged against the store's machine.
 //!
-//! What a trace is, and which verdict belongs to it, `trace_words` says, and `trace_walk` goes through one entry after the other. Here
+//! What a trace is, and which verdict belongs to it, `trace_model` says, and `trace_walk` goes through one entry after the other. Here
 //! it goes through a whole trace, which is judged so. So a trace of format 1 is also written in format 2.
 #![tactic(auto)]
 
@@ -9,7 +9,7 @@ mod upgrading;
 mod verifying;
 
 pub use judged::Judged;
+pub use trace_model::Verdict;
 pub use trace_walk::{Stands, Wanted, WrongLine};
-pub use trace_words::Verdict;
 pub use upgrading::{UpgradeFault, upgrade};
 pub use verifying::{judge, verify};

@@ -1,16 +1,16 @@
 //! Traces of format 1 in format 2.
 
 ghost use Rattle.std.specs.Prelude.{◌≡◌, IfOk, IfErr, IfSome};
-ghost use Rattle.ds_lines.specs.Streams.{HasFailedWrite};
-ghost use Rattle.trace_words.specs.Upgrade.{upgraded};
+ghost use Rattle.line_io.specs.Streams.{HasFailedWrite};
+ghost use Rattle.trace_model.specs.Upgrade.{upgraded};
 ghost use Rattle.trace_check.specs.Upgrading.{EndsBehindHeader, EndsUpgraded, StopsBehindHeader, StopsUpgrading, UpgradesAll, UpgradesInPart};
 
-use ds_lines::{Sink, Source, WriteFailed, write_out};
 use ds_names::NoRoom;
+use line_io::{Sink, Source, WriteFailed, write_out};
 use std::alloc::Global;
 use thiserror::Error;
+use trace_model::{Format, Header, append_header};
 use trace_walk::{Walk, WalkFault, append_passed};
-use trace_words::{Format, Header, append_header};
 
 /// Why a trace isn't written in format 2, or not whole.
 #[derive(Clone, Copy, Debug, PartialEq, Eq, Error)]

@@ -1,14 +1,14 @@
 //! Whether a trace is legal.
 
 ghost use Rattle.std.specs.Prelude.{IfSome};
-ghost use Rattle.trace_words.specs.Verdict.{IsVerdict};
+ghost use Rattle.trace_model.specs.Verdict.{IsVerdict};
 ghost use Rattle.trace_check.specs.Verifying.{EndsWith};
 
 use crate::judged::Judged;
-use ds_lines::Source;
+use line_io::Source;
 use std::alloc::Global;
+use trace_model::Verdict;
 use trace_walk::Walk;
-use trace_words::Verdict;
 
 /// Judges the trace that a reader gives, of format 1 or 2. Where it isn't legal, the first line that no legal trace has in its place
 /// is told, from 1, also where that line is missing.

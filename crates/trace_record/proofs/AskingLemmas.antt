@@ -2,10 +2,10 @@
 use Rattle.std.proofs.Common.{◌≡◌, ℕ, ◌<◌, ◌≤◌, Bool, true, false, List, [], ◌∷◌, ◌++◌, length, cond, nat_lt, refl, sym, ap, subst, ◌∙◌, arith, append_assoc, append-nil, length-append}
 use Rattle.std.specs.Char.{is_ascii_digit}
 use Rattle.std.specs.Fmt.{decimal}
-use Rattle.ds_lines.specs.Lines.{EndsLine, with_newline}
-use Rattle.trace_words.specs.Text.{TraceEntry, asked_text}
-use Rattle.trace_words.proofs.AskedLemmas.{pass_ends}
-use Rattle.trace_words.proofs.SplitLemmas.{ends_after, without}
+use Rattle.line_io.specs.Lines.{EndsLine, with_newline}
+use Rattle.trace_model.specs.Text.{TraceEntry, asked_text}
+use Rattle.trace_model.proofs.AskedLemmas.{pass_ends}
+use Rattle.trace_model.proofs.SplitLemmas.{ends_after, without}
 use Rattle.trace_record.specs.Asking.{has_pass, asked_by, AskAll}
 
 -- with its mark a line is a line

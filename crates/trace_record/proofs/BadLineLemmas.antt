@@ -1,13 +1,13 @@
 -- Which line is the first that asks nothing.
 use Rattle.std.proofs.Common.{◌≡◌, ℕ, suc, ◌<◌, List, [], ◌∷◌, ◌++◌, length, Option, inl, inr, refl, sym, ap, subst, ◌∙◌, arith, append_assoc, append-nil, length-append}
 use Rattle.std.specs.List.{flat_map}
-use Rattle.ds_lines.specs.Lines.{HasLines, joined, with_newline}
-use Rattle.ds_lines.specs.Reading.{LinesContent}
+use Rattle.line_io.specs.Lines.{HasLines, joined, with_newline}
+use Rattle.line_io.specs.Reading.{LinesContent}
 use Rattle.trace_walk.specs.Walking.{HasLine, IsLong, IsRead, IsShort}
-use Rattle.trace_words.specs.declared.asked.Head.TheVariants as heads
-use Rattle.trace_words.specs.declared.header.Format.{Format}
-use Rattle.trace_words.specs.Head.{IsHeadOf}
-use Rattle.trace_words.specs.Text.{plus_text}
+use Rattle.trace_model.specs.declared.asked.Head.TheVariants as heads
+use Rattle.trace_model.specs.declared.header.Format.{Format}
+use Rattle.trace_model.specs.Head.{IsHeadOf}
+use Rattle.trace_model.specs.Text.{plus_text}
 use Rattle.trace_record.specs.Asking.{AsksNothing, AsksNothingAt, IsFirstLines, IsNoItem, IsRingLine, asked_by}
 use Rattle.trace_record.specs.Reading.{IsAtLine}
 use Rattle.trace_record.specs.Steps.{LacksNext, LacksOne}

@@ -4,13 +4,13 @@ use Rattle.std.specs.Prelude.{◌↔◌}
 use Rattle.std.specs.Fmt.{decimal}
 use Rattle.std.proofs.lemmas.Fmt.{length-decimal-le}
 use Rattle.ds_feed.specs.Kept.{IsRing}
-use Rattle.ds_lines.specs.Lines.{EndsLine, with_newline}
-use Rattle.ds_words.specs.Command.{CommandTakesMemory, ReadsCommand}
-use Rattle.ds_words.specs.declared.command.ScriptCommand.{ScriptCommand}
-use Rattle.ds_words.specs.declared.command.ScriptCommand.TheVariants.{Ring}
-use Rattle.ds_words.specs.declared.fault.CommandFault.{CommandFault}
-use Rattle.ds_words.specs.declared.fault.CommandFault.TheVariants.{BadLine, NoRoom}
-use Rattle.trace_words.proofs.AskedLemmas.{same_command}
+use Rattle.line_io.specs.Lines.{EndsLine, with_newline}
+use Rattle.script_commands.specs.Command.{CommandTakesMemory, ReadsCommand}
+use Rattle.script_commands.specs.declared.command.ScriptCommand.{ScriptCommand}
+use Rattle.script_commands.specs.declared.command.ScriptCommand.TheVariants.{Ring}
+use Rattle.script_commands.specs.declared.fault.CommandFault.{CommandFault}
+use Rattle.script_commands.specs.declared.fault.CommandFault.TheVariants.{BadLine, NoRoom}
+use Rattle.trace_model.proofs.AskedLemmas.{same_command}
 use Rattle.trace_record.specs.Asking.{IsRingLine, ring_text}
 use Rattle.trace_record.specs.Reading.{SaysRing}
 

@@ -4,15 +4,15 @@ use Rattle.std.specs.Io.KnownBytes.{Appends}
 use Rattle.std.proofs.KnownBytes.{Appends-nil, Appends-trans}
 use Rattle.ds_content.specs.Content.{ContentRecord}
 use Rattle.ds_content.specs.Stands.{ContentStands}
-use Rattle.ds_lines.specs.Lines.{HasLines}
-use Rattle.ds_lines.specs.Reading.{LinesContent}
-use Rattle.ds_lines.specs.Transfer.{SendsFront, WritesPart}
+use Rattle.line_io.specs.Lines.{HasLines}
+use Rattle.line_io.specs.Reading.{LinesContent}
+use Rattle.line_io.specs.Transfer.{SendsFront, WritesPart}
 use Rattle.ds_machine.specs.State.{State}
 use Rattle.trace_walk.specs.Walking.{IsAt}
 use Rattle.trace_walk.proofs.BeginLemmas.{by_known}
-use Rattle.trace_words.specs.declared.header.Format.{Format}
-use Rattle.trace_words.specs.declared.header.Header.{Header}
-use Rattle.trace_words.specs.Legal.{opened_by}
+use Rattle.trace_model.specs.declared.header.Format.{Format}
+use Rattle.trace_model.specs.declared.header.Header.{Header}
+use Rattle.trace_model.specs.Legal.{opened_by}
 use Rattle.trace_record.specs.declared.fault.RecordFault.{RecordFault}
 use Rattle.trace_record.specs.declared.fault.RecordFault.TheVariants.{BadLine, ReadFault, WriteFault, NoRoom}
 use Rattle.trace_record.specs.declared.form.Form.{Form}

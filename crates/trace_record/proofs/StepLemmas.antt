@@ -8,22 +8,22 @@ use Rattle.std.proofs.lemmas.List.Elements.{All-nil, All-push}
 use Rattle.ds_content.specs.Content.{ContentRecord}
 use Rattle.ds_content.specs.Stands.{ContentStands}
 use Rattle.ds_entry.specs.declared.item.Item.{Item}
-use Rattle.ds_lines.specs.Lines.{EndsLine, with_newline}
-use Rattle.ds_lines.specs.Reading.{LinesContent}
+use Rattle.line_io.specs.Lines.{EndsLine, with_newline}
+use Rattle.line_io.specs.Reading.{LinesContent}
 use Rattle.ds_machine.specs.State.{State}
-use Rattle.ds_words.specs.declared.command.ScriptCommand.{ScriptCommand}
-use Rattle.store_words.specs.Reply.{reply_lines}
+use Rattle.script_commands.specs.declared.command.ScriptCommand.{ScriptCommand}
+use Rattle.store_answers.specs.Reply.{reply_lines}
 use Rattle.trace_walk.specs.Walking.{IsAt, IsShort}
-use Rattle.trace_words.specs.declared.asked.Asked.{Asked}
-use Rattle.trace_words.specs.declared.asked.Asked.TheVariants as askeds
-use Rattle.trace_words.specs.declared.asked.Head.{Head}
-use Rattle.trace_words.specs.declared.asked.Head.TheVariants as heads
-use Rattle.trace_words.specs.declared.header.Format.{Format}
-use Rattle.trace_words.specs.declared.header.Header.{Header}
-use Rattle.trace_words.specs.Head.{IsHeadOf}
-use Rattle.trace_words.specs.Legal.{StepOf}
-use Rattle.trace_words.specs.OneReply.{IsTraced}
-use Rattle.trace_words.specs.Text.{TraceEntry, MayAsk, MayMerge, asked_text, entry_text, marked, merge_text, pass_text, plus_text, worded_as}
+use Rattle.trace_model.specs.declared.asked.Asked.{Asked}
+use Rattle.trace_model.specs.declared.asked.Asked.TheVariants as askeds
+use Rattle.trace_model.specs.declared.asked.Head.{Head}
+use Rattle.trace_model.specs.declared.asked.Head.TheVariants as heads
+use Rattle.trace_model.specs.declared.header.Format.{Format}
+use Rattle.trace_model.specs.declared.header.Header.{Header}
+use Rattle.trace_model.specs.Head.{IsHeadOf}
+use Rattle.trace_model.specs.Legal.{StepOf}
+use Rattle.trace_model.specs.OneReply.{IsTraced}
+use Rattle.trace_model.specs.Text.{TraceEntry, MayAsk, MayMerge, asked_text, entry_text, marked, merge_text, pass_text, plus_text, worded_as}
 use Rattle.trace_record.specs.declared.fault.RecordFault.{RecordFault}
 use Rattle.trace_record.specs.declared.fault.RecordFault.TheVariants.{BadLine, ReadFault, WriteFault, NoRoom}
 use Rattle.trace_record.specs.declared.recorder.Recorder.{Recorder}

@@ -5,15 +5,15 @@ use Rattle.std.specs.List.{All, flat_map}
 use Rattle.ds_entry.specs.declared.item.Item.{Item}
 use Rattle.ds_feed.specs.Kept.{IsRing}
 use Rattle.ds_line.specs.Part.{texts}
-use Rattle.ds_lines.specs.Lines.{HasLines, with_newline, joined}
+use Rattle.line_io.specs.Lines.{HasLines, with_newline, joined}
 use Rattle.ds_names.specs.Limits.{most_items}
-use Rattle.ds_words.specs.Command.{command_parts}
-use Rattle.ds_words.specs.declared.command.ScriptCommand.TheVariants.{Ring}
+use Rattle.script_commands.specs.Command.{command_parts}
+use Rattle.script_commands.specs.declared.command.ScriptCommand.TheVariants.{Ring}
 use Rattle.trace_walk.specs.Walking.{IsShort}
-use Rattle.trace_words.specs.declared.asked.Head.{Head}
-use Rattle.trace_words.specs.declared.header.Format.{Format}
-use Rattle.trace_words.specs.Head.{IsHeadOf}
-use Rattle.trace_words.specs.Text.{TraceEntry, MayMerge, asked_text, merge_text, pass_text, plus_text}
+use Rattle.trace_model.specs.declared.asked.Head.{Head}
+use Rattle.trace_model.specs.declared.header.Format.{Format}
+use Rattle.trace_model.specs.Head.{IsHeadOf}
+use Rattle.trace_model.specs.Text.{TraceEntry, MayMerge, asked_text, merge_text, pass_text, plus_text}
 
 -- a pass stands in front: a digit
 abbrev pub has_pass : List ℕ → Bool

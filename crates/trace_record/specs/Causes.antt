@@ -1,8 +1,8 @@
 -- Why a recording ends by its reader or its writer.
 use Rattle.std.specs.Prelude.{◌≡◌, ℕ, ◌⊎◌, Result, Ok, Err}
-use Rattle.ds_lines.specs.Streams.{CallsLead, HasFailedRead, HasFailedWrite}
-use Rattle.ds_lines.specs.declared.streams.Source.{Ghosts as Reader}
-use Rattle.ds_lines.specs.declared.streams.Sink.{Ghosts as Writer}
+use Rattle.line_io.specs.Streams.{CallsLead, HasFailedRead, HasFailedWrite}
+use Rattle.line_io.specs.declared.streams.Source.{Ghosts as Reader}
+use Rattle.line_io.specs.declared.streams.Sink.{Ghosts as Writer}
 use Rattle.trace_record.specs.declared.fault.RecordFault.{RecordFault}
 use Rattle.trace_record.specs.declared.fault.RecordFault.TheVariants.{ReadFault, WriteFault}
 

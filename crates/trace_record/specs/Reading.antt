@@ -1,11 +1,11 @@
 -- Going from line to line of an input, wherever in whatever input that is. `from` and `to` are what the reader has before and after.
 use Rattle.std.specs.Prelude.{◌≡◌, ℕ, true, false, Bool, List, [], Option, None, Some, Result, Ok, Err}
-use Rattle.ds_lines.specs.Lines.{EndsLine, with_newline}
-use Rattle.ds_lines.specs.Reading.{LinesContent}
+use Rattle.line_io.specs.Lines.{EndsLine, with_newline}
+use Rattle.line_io.specs.Reading.{LinesContent}
 use Rattle.trace_walk.specs.Walking.{IsAt, IsRead, IsLong, HasLine, IsShort}
-use Rattle.trace_words.specs.declared.asked.Head.{Head}
-use Rattle.trace_words.specs.declared.header.Format.{Format}
-use Rattle.trace_words.specs.Head.{IsHeadOf}
+use Rattle.trace_model.specs.declared.asked.Head.{Head}
+use Rattle.trace_model.specs.declared.header.Format.{Format}
+use Rattle.trace_model.specs.Head.{IsHeadOf}
 use Rattle.trace_record.specs.declared.begin.Beginning.{Beginning}
 use Rattle.trace_record.specs.declared.fault.RecordFault.{RecordFault}
 use Rattle.trace_record.specs.declared.fault.RecordFault.TheVariants.{BadLine, WriteFault, NoRoom}

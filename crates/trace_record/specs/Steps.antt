@@ -3,23 +3,23 @@ use Rattle.std.specs.Prelude.{◌≡◌, ◌≢◌, ℕ, suc, ◌<◌, List, [],
 use Rattle.std.specs.List.{All, flat_map}
 use Rattle.ds_content.specs.Stands.{ContentStands}
 use Rattle.ds_entry.specs.declared.item.Item.{Item}
-use Rattle.ds_lines.specs.Lines.{HasLines, joined}
-use Rattle.ds_lines.specs.Reading.{LinesContent}
+use Rattle.line_io.specs.Lines.{HasLines, joined}
+use Rattle.line_io.specs.Reading.{LinesContent}
 use Rattle.ds_machine.specs.State.{State}
 use Rattle.ds_machine.specs.declared.command.Command.{Command}
 use Rattle.ds_machine.specs.declared.reply.Reply.{Reply}
-use Rattle.store_words.specs.Reply.{reply_lines}
-use Rattle.store_words.specs.declared.wording.Wording.{Wording}
+use Rattle.store_answers.specs.Reply.{reply_lines}
+use Rattle.store_answers.specs.declared.wording.Wording.{Wording}
 use Rattle.trace_walk.specs.Walking.{IsAt, IsShort}
-use Rattle.trace_words.specs.declared.asked.Asked.{Asked}
-use Rattle.trace_words.specs.declared.asked.Head.{Head}
-use Rattle.trace_words.specs.declared.asked.Head.TheVariants as heads
-use Rattle.trace_words.specs.declared.header.Format.{Format}
-use Rattle.trace_words.specs.declared.header.Header.{Header}
-use Rattle.trace_words.specs.Head.{IsHeadOf}
-use Rattle.trace_words.specs.Legal.{IsTrace, StepOf, opened_by}
-use Rattle.trace_words.specs.OneReply.{IsTraced}
-use Rattle.trace_words.specs.Text.{TraceEntry, IsHeader, MayAsk, MayMerge, asked_text, command_asked, header_text, marked, plus_text, worded_as}
+use Rattle.trace_model.specs.declared.asked.Asked.{Asked}
+use Rattle.trace_model.specs.declared.asked.Head.{Head}
+use Rattle.trace_model.specs.declared.asked.Head.TheVariants as heads
+use Rattle.trace_model.specs.declared.header.Format.{Format}
+use Rattle.trace_model.specs.declared.header.Header.{Header}
+use Rattle.trace_model.specs.Head.{IsHeadOf}
+use Rattle.trace_model.specs.Legal.{IsTrace, StepOf, opened_by}
+use Rattle.trace_model.specs.OneReply.{IsTraced}
+use Rattle.trace_model.specs.Text.{TraceEntry, IsHeader, MayAsk, MayMerge, asked_text, command_asked, header_text, marked, plus_text, worded_as}
 use Rattle.trace_record.specs.declared.fault.RecordFault.{RecordFault}
 use Rattle.trace_record.specs.declared.fault.RecordFault.TheVariants.{BadLine, WriteFault}
 use Rattle.trace_record.specs.declared.form.Form.{Form}

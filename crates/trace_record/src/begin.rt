@@ -8,8 +8,8 @@ use crate::fault::RecordFault;
 use crate::line::next_line;
 use crate::place::Wanted;
 use crate::ring::{RING, ring_of};
-use ds_lines::{Lines, Source};
 use ds_names::NoRoom;
+use line_io::{Lines, Source};
 use std::alloc::Global;
 
 /// How an input begins: how many items the journal keeps, and whether a line is gone to that asks.

@@ -1,7 +1,7 @@
 //! Why a recording ends early.
 
-use ds_lines::WriteFailed;
 use ds_names::NoRoom;
+use line_io::WriteFailed;
 use std::alloc::AllocError;
 use thiserror::Error;
 

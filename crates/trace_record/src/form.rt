@@ -1,11 +1,11 @@
 //! In which form a run is recorded.
 
 ghost use Rattle.std.specs.Prelude.{◌≡◌};
-ghost use Rattle.trace_words.specs.Text.{FormatHas};
+ghost use Rattle.trace_model.specs.Text.{FormatHas};
 ghost use Rattle.trace_record.specs.Record.{header_of};
 
 use ds_held::Limits;
-use trace_words::{Format, Header};
+use trace_model::{Format, Header};
 
 /// The format of a trace, and the limits of its store. Those of format 1 are 64 subscriptions and 1024 keys.
 #[derive(Clone, Copy, Debug, PartialEq, Eq)]

@@ -1,16 +1,16 @@
 //! The lines of an input.
 
 ghost use Rattle.std.specs.Prelude.{◌≡◌, IfOk, IfErr};
-ghost use Rattle.ds_lines.specs.Lines.{EndsLine};
+ghost use Rattle.line_io.specs.Lines.{EndsLine};
 ghost use Rattle.trace_record.specs.Asking.{asked_by};
 ghost use Rattle.trace_record.specs.Causes.{ReadsOn};
 ghost use Rattle.trace_record.specs.Reading.{Comes, IsBadHead, IsHeadBehind, IsReady};
 
 use crate::fault::RecordFault;
 use crate::place::{Wanted, longest, place_of_command, place_of_long};
-use ds_lines::{LONGEST_LINE, Lines, Pulled, Source};
+use line_io::{LONGEST_LINE, Lines, Pulled, Source};
 use std::alloc::Global;
-use trace_words::{AskedFault, Format, Head, read_head};
+use trace_model::{AskedFault, Format, Head, read_head};
 
 /// Goes to the next line, where such a line has to stand. Gives whether there is one.
 pub(crate) fn next_line<R: Source>(

@@ -1,12 +1,12 @@
 //! Where a bad line can't be read.
 
-ghost use Rattle.ds_lines.specs.Lines.{EndsLine};
+ghost use Rattle.line_io.specs.Lines.{EndsLine};
 
 use crate::pass::{has_pass, mark_length};
 use ds_line::{LineFault, read_item};
-use ds_lines::{LONGEST_LINE, Lines};
 use ds_names::{read_byte, read_decimal};
-use ds_words::{CommandFault, ScriptCommand, read_line_behind};
+use line_io::{LONGEST_LINE, Lines};
+use script_commands::{CommandFault, ScriptCommand, read_line_behind};
 use std::alloc::Global;
 
 /// What has to stand on a line.

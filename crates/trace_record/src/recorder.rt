@@ -1,9 +1,9 @@
 //! A recording under way.
 
 ghost use Rattle.std.specs.Prelude.{◌≡◌, ◌≢◌, ◌++◌, ◌∷◌, [], None, OnOk, OnErr, IfOk, IfErr};
-ghost use Rattle.ds_lines.specs.Lines.{EndsLine};
-ghost use Rattle.ds_lines.specs.Pulling.{LeadsOn};
-ghost use Rattle.trace_words.specs.Text.{command_asked};
+ghost use Rattle.line_io.specs.Lines.{EndsLine};
+ghost use Rattle.line_io.specs.Pulling.{LeadsOn};
+ghost use Rattle.trace_model.specs.Text.{command_asked};
 ghost use Rattle.trace_record.specs.Causes.{IsCausedOn};
 ghost use Rattle.trace_record.specs.Steps.{KeepsOutput, OpensAs, HeadsFrom, FailsAtHead, AddsLines, MissesLines, AddsItems, MissesItems, AddsItem, MissesItem, AddsReply, AnswersAsked, AddsEntry, FailsInEntry};
 
@@ -14,14 +14,14 @@ use crate::pass::append_asking;
 use crate::place::{Wanted, place_of_item};
 use ds_entry::{Item, Items};
 use ds_line::append_all;
-use ds_lines::{Lines, Source};
 use ds_machine::Reply;
 use ds_names::NoRoom;
 use ds_store::Store;
+use line_io::{Lines, Source};
 use std::alloc::Global;
-use store_words::{Wording, append_reply};
+use store_answers::{Wording, append_reply};
+use trace_model::{Asked, AskedFault, Head, Header, append_header, append_marked, read_plus};
 use trace_walk::ask_store;
-use trace_words::{Asked, AskedFault, Head, Header, append_header, append_marked, read_plus};
 
 /// A recording under way: where it is in the input, the store that answers, with what it was opened, whole entries that wait to be
 /// written, and the text of the entry under way and of its reply.

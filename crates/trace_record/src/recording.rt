@@ -13,7 +13,7 @@ use crate::line::next_line;
 use crate::place::Wanted;
 use crate::recorder::Recorder;
 use crate::waiting::send_waiting;
-use ds_lines::{Lines, Sink, Source, write_out};
+use line_io::{Lines, Sink, Source, write_out};
 use std::alloc::Global;
 
 /// Asks a store what the lines of an input ask, one after the other, and writes the trace of that run. Gives the number of its

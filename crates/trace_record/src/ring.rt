@@ -1,13 +1,13 @@
 //! The first line of an input, which may say how many items the journal keeps.
 
 ghost use Rattle.std.specs.Prelude.{◌≡◌, ◌↔◌, ℕ, true, IfOk};
-ghost use Rattle.ds_lines.specs.Lines.{EndsLine};
-ghost use Rattle.ds_words.specs.declared.command.ScriptCommand.{ScriptCommand};
+ghost use Rattle.line_io.specs.Lines.{EndsLine};
+ghost use Rattle.script_commands.specs.declared.command.ScriptCommand.{ScriptCommand};
 ghost use Rattle.trace_record.specs.Reading.{SaysRing};
 
 use crate::fault::RecordFault;
 use ds_names::NoRoom;
-use ds_words::{CommandFault, ScriptCommand, read_line};
+use script_commands::{CommandFault, ScriptCommand, read_line};
 use std::alloc::Global;
 
 /// How many items the journal keeps where no line says it.

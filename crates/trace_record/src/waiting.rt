@@ -1,12 +1,12 @@
 //! Writing what waits.
 
 ghost use Rattle.std.specs.Prelude.{◌≡◌, OnOk, OnErr, IfErr};
-ghost use Rattle.ds_lines.specs.Streams.{HasFailedWrite};
-ghost use Rattle.ds_lines.specs.Transfer.{SendsFront, WritesPart};
+ghost use Rattle.line_io.specs.Streams.{HasFailedWrite};
+ghost use Rattle.line_io.specs.Transfer.{SendsFront, WritesPart};
 ghost use Rattle.trace_record.specs.declared.fault.RecordFault.TheVariants as faults;
 
 use crate::fault::RecordFault;
-use ds_lines::{Sink, newline_place, send};
+use line_io::{Sink, newline_place, send};
 
 /// What waits is written though another line is there, once that are so many bytes.
 const FULL: usize = 65536;

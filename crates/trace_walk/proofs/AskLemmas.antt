@@ -3,8 +3,8 @@ use Rattle.std.proofs.Common.{◌≡◌, ◌≢◌, ℕ, ◌<◌, true, false, L
 use Rattle.ds_content.specs.Content.{ContentRecord}
 use Rattle.ds_content.specs.Stands.{ContentStands}
 use Rattle.ds_entry.specs.declared.item.Item.{Item}
-use Rattle.ds_lines.specs.Lines.{EndsLine as EndsALine, with_newline}
-use Rattle.ds_lines.specs.Reading.{LinesContent}
+use Rattle.line_io.specs.Lines.{EndsLine as EndsALine, with_newline}
+use Rattle.line_io.specs.Reading.{LinesContent}
 use Rattle.ds_machine.specs.Machine.{Step, StopsForRoom}
 use Rattle.ds_machine.specs.State.{State}
 use Rattle.ds_machine.specs.declared.command.Command.{Command}
@@ -13,23 +13,23 @@ use Rattle.ds_machine.specs.declared.refusal.Refusal.TheVariants as refusals
 use Rattle.ds_machine.specs.declared.reply.Reply.{Reply as AReply}
 use Rattle.ds_machine.specs.declared.reply.Reply.TheVariants.{Refused}
 use Rattle.ds_names.specs.Endpoint.{EndpointRecord}
-use Rattle.store_words.specs.Reply.{reply_lines, refused_noroom}
-use Rattle.ds_words.specs.declared.command.ScriptCommand.TheVariants as commands
-use Rattle.store_words.specs.declared.wording.Wording.{Wording}
-use Rattle.store_words.specs.declared.wording.Wording.TheVariants.{AsMerge}
+use Rattle.store_answers.specs.Reply.{reply_lines, refused_noroom}
+use Rattle.script_commands.specs.declared.command.ScriptCommand.TheVariants as commands
+use Rattle.store_answers.specs.declared.wording.Wording.{Wording}
+use Rattle.store_answers.specs.declared.wording.Wording.TheVariants.{AsMerge}
 use Rattle.ds_machine.specs.OneStep.{room_wanted}
-use Rattle.trace_words.specs.declared.asked.Asked.{Asked}
-use Rattle.trace_words.specs.declared.asked.Asked.TheVariants as askeds
-use Rattle.trace_words.specs.declared.header.Format.TheVariants.{One}
-use Rattle.trace_words.specs.declared.header.Header.{Header}
-use Rattle.trace_words.specs.Legal.{StepOf, EntryLeads}
-use Rattle.trace_words.specs.Noroom.{noroom_line, stopped_line}
-use Rattle.trace_words.specs.Sweep.{older_sweep}
-use Rattle.trace_words.specs.Text.{TraceEntry, IsEntry, asked_text, command_asked, marked, marked_from, worded_as}
-use Rattle.trace_words.specs.Walk.{IsPlaceInEntry, MayReply}
-use Rattle.trace_words.proofs.EntryLemmas.{entries_lead}
-use Rattle.trace_words.proofs.OneReplyLemmas.{none_of, older_plain}
-use Rattle.trace_words.proofs.PlaceLemmas.{reply_places, within_replies, wants_step, asks_some}
+use Rattle.trace_model.specs.declared.asked.Asked.{Asked}
+use Rattle.trace_model.specs.declared.asked.Asked.TheVariants as askeds
+use Rattle.trace_model.specs.declared.header.Format.TheVariants.{One}
+use Rattle.trace_model.specs.declared.header.Header.{Header}
+use Rattle.trace_model.specs.Legal.{StepOf, EntryLeads}
+use Rattle.trace_model.specs.Noroom.{noroom_line, stopped_line}
+use Rattle.trace_model.specs.Sweep.{older_sweep}
+use Rattle.trace_model.specs.Text.{TraceEntry, IsEntry, asked_text, command_asked, marked, marked_from, worded_as}
+use Rattle.trace_model.specs.Walk.{IsPlaceInEntry, MayReply}
+use Rattle.trace_model.proofs.EntryLemmas.{entries_lead}
+use Rattle.trace_model.proofs.OneReplyLemmas.{none_of, older_plain}
+use Rattle.trace_model.proofs.PlaceLemmas.{reply_places, within_replies, wants_step, asks_some}
 use Rattle.trace_walk.specs.declared.fault.WalkFault.{WalkFault}
 use Rattle.trace_walk.specs.declared.fault.WalkFault.TheVariants.{IllegalAt, BadLineAt, ReadFault, NoRoom}
 use Rattle.trace_walk.specs.declared.place.Place.TheVariants.{Reply}

@@ -4,19 +4,19 @@ use Rattle.std.specs.Fmt.{decimal}
 use Rattle.std.proofs.lemmas.Fmt.{length-decimal-le}
 use Rattle.ds_content.specs.Content.{ContentRecord}
 use Rattle.ds_held.specs.Limits.{LimitsRecord, smaller}
-use Rattle.ds_lines.specs.Lines.{HasLines, IsUnbroken, with_newline, joined}
-use Rattle.ds_lines.specs.Reading.{LinesContent, no_lines}
-use Rattle.ds_lines.specs.Pulling.{left}
-use Rattle.ds_lines.proofs.InputLemmas.{has_lines}
-use Rattle.trace_words.specs.declared.header.Format.{Format}
-use Rattle.trace_words.specs.declared.header.Format.TheVariants.{One, Two}
-use Rattle.trace_words.specs.declared.header.Header.{Header}
-use Rattle.trace_words.specs.declared.verdict.Verdict.TheVariants as verdicts
-use Rattle.trace_words.specs.Legal.{IsTrace}
-use Rattle.trace_words.specs.Text.{IsHeader, FormatHas, HasNoHeader, header_text, format_text, numbers_text, limits_text}
-use Rattle.trace_words.specs.Verdict.{IsLegal, MayBegin, WantsReply, IsVerdict}
-use Rattle.trace_words.proofs.HeaderLemmas.{few_limits}
-use Rattle.trace_words.proofs.WalkLemmas.{header_behind, bad_header}
+use Rattle.line_io.specs.Lines.{HasLines, IsUnbroken, with_newline, joined}
+use Rattle.line_io.specs.Reading.{LinesContent, no_lines}
+use Rattle.line_io.specs.Pulling.{left}
+use Rattle.line_io.proofs.InputLemmas.{has_lines}
+use Rattle.trace_model.specs.declared.header.Format.{Format}
+use Rattle.trace_model.specs.declared.header.Format.TheVariants.{One, Two}
+use Rattle.trace_model.specs.declared.header.Header.{Header}
+use Rattle.trace_model.specs.declared.verdict.Verdict.TheVariants as verdicts
+use Rattle.trace_model.specs.Legal.{IsTrace}
+use Rattle.trace_model.specs.Text.{IsHeader, FormatHas, HasNoHeader, header_text, format_text, numbers_text, limits_text}
+use Rattle.trace_model.specs.Verdict.{IsLegal, MayBegin, WantsReply, IsVerdict}
+use Rattle.trace_model.proofs.HeaderLemmas.{few_limits}
+use Rattle.trace_model.proofs.WalkLemmas.{header_behind, bad_header}
 use Rattle.trace_walk.specs.declared.fault.WalkFault.{WalkFault}
 use Rattle.trace_walk.specs.declared.fault.WalkFault.TheVariants as faults
 use Rattle.trace_walk.specs.declared.place.Place.TheVariants.{Form}

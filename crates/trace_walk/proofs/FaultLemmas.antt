@@ -2,12 +2,12 @@
 use Rattle.std.proofs.Common.{◌≡◌, ℕ, suc, ◌<◌, ◌≤◌, Bool, true, List, [], ◌∷◌, ◌++◌, length, Option, Some, IfSome, Result, refl, sym, ap, subst, ◌∙◌, arith, append_assoc, append-nil, length-append}
 use Rattle.std.specs.Result.{IfErr, IsErrAnd}
 use Rattle.std.proofs.lemmas.Result.{err_from_is_err_and}
-use Rattle.ds_lines.specs.Lines.{HasLines, IsUnbroken, EndsLine, with_newline, joined}
-use Rattle.ds_lines.specs.Reading.{LinesContent}
-use Rattle.trace_words.specs.Text.{marked, marked_from}
-use Rattle.trace_words.specs.Verdict.{Fails}
-use Rattle.trace_words.specs.Walk.{IsPlaceInEntry, NoneEnds}
-use Rattle.trace_words.proofs.MarkLemmas.{marked_line, marked_append}
+use Rattle.line_io.specs.Lines.{HasLines, IsUnbroken, EndsLine, with_newline, joined}
+use Rattle.line_io.specs.Reading.{LinesContent}
+use Rattle.trace_model.specs.Text.{marked, marked_from}
+use Rattle.trace_model.specs.Verdict.{Fails}
+use Rattle.trace_model.specs.Walk.{IsPlaceInEntry, NoneEnds}
+use Rattle.trace_model.proofs.MarkLemmas.{marked_line, marked_append}
 use Rattle.trace_walk.specs.declared.fault.WalkFault.{WalkFault}
 use Rattle.trace_walk.specs.declared.fault.WalkFault.TheVariants.{IllegalAt, BadLineAt, ReadFault, NoRoom}
 use Rattle.trace_walk.specs.declared.place.Place.{Place}

@@ -5,20 +5,20 @@ use Rattle.std.proofs.lemmas.Grind.{flat_map-append}
 use Rattle.std.proofs.lemmas.List.Elements.{All-nil, All-cons, All-append}
 use Rattle.ds_content.specs.Content.{ContentRecord}
 use Rattle.ds_entry.specs.declared.item.Item.{Item}
-use Rattle.ds_lines.specs.Lines.{HasLines, IsUnbroken, with_newline, joined}
-use Rattle.ds_lines.specs.Reading.{LinesContent}
-use Rattle.ds_words.specs.declared.command.ScriptCommand.{ScriptCommand}
-use Rattle.trace_words.specs.declared.asked.Asked.TheVariants as askeds
-use Rattle.trace_words.specs.declared.asked.AskedFault.{AskedFault}
-use Rattle.trace_words.specs.declared.asked.AskedFault.TheVariants as badly
-use Rattle.trace_words.specs.declared.asked.Head.{Head}
-use Rattle.trace_words.specs.declared.asked.Head.TheVariants as heads
-use Rattle.trace_words.specs.declared.header.Header.{Header}
-use Rattle.trace_words.specs.Head.{IsHeadOf, HasNoHead}
-use Rattle.trace_words.specs.Text.{MayMerge, merge_text, pass_text, plus_text}
-use Rattle.trace_words.specs.Walk.{IsPlaceInEntry, IsPlus}
-use Rattle.trace_words.proofs.PlaceLemmas.{plus_places}
-use Rattle.trace_words.proofs.WalkLemmas.{bad_head, behind_begins, no_reply}
+use Rattle.line_io.specs.Lines.{HasLines, IsUnbroken, with_newline, joined}
+use Rattle.line_io.specs.Reading.{LinesContent}
+use Rattle.script_commands.specs.declared.command.ScriptCommand.{ScriptCommand}
+use Rattle.trace_model.specs.declared.asked.Asked.TheVariants as askeds
+use Rattle.trace_model.specs.declared.asked.AskedFault.{AskedFault}
+use Rattle.trace_model.specs.declared.asked.AskedFault.TheVariants as badly
+use Rattle.trace_model.specs.declared.asked.Head.{Head}
+use Rattle.trace_model.specs.declared.asked.Head.TheVariants as heads
+use Rattle.trace_model.specs.declared.header.Header.{Header}
+use Rattle.trace_model.specs.Head.{IsHeadOf, HasNoHead}
+use Rattle.trace_model.specs.Text.{MayMerge, merge_text, pass_text, plus_text}
+use Rattle.trace_model.specs.Walk.{IsPlaceInEntry, IsPlus}
+use Rattle.trace_model.proofs.PlaceLemmas.{plus_places}
+use Rattle.trace_model.proofs.WalkLemmas.{bad_head, behind_begins, no_reply}
 use Rattle.trace_walk.specs.declared.fault.WalkFault.{WalkFault}
 use Rattle.trace_walk.specs.declared.fault.WalkFault.TheVariants.{IllegalAt, BadLineAt, ReadFault, NoRoom}
 use Rattle.trace_walk.specs.declared.place.Place.TheVariants.{Form}

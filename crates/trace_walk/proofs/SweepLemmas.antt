@@ -27,9 +27,9 @@ use Rattle.ds_machine.proofs.ReachedLemmas.{with_accepted}
 use Rattle.ds_machine.proofs.OneStepLemmas.{none_some}
 use Rattle.ds_machine.specs.Batches.{AreFree}
 use Rattle.ds_machine.proofs.BatchLemmas.{free_in_parts, owed_in_parts}
-use Rattle.trace_words.specs.Sweep.{is_swept, tombstone, tombstones, older_sweep}
-use Rattle.trace_words.specs.Text.{TraceEntry, entry_text}
-use Rattle.trace_words.specs.Upgrade.{MergeInParts, IsPart, merge_entry}
+use Rattle.trace_model.specs.Sweep.{is_swept, tombstone, tombstones, older_sweep}
+use Rattle.trace_model.specs.Text.{TraceEntry, entry_text}
+use Rattle.trace_model.specs.Upgrade.{MergeInParts, IsPart, merge_entry}
 use Rattle.trace_walk.specs.declared.merges.Merges.{Merges}
 use Rattle.trace_walk.specs.Merging.{AreEntries, IsEmpty, taking_entry}
 use Rattle.trace_walk.specs.declared.sweep.Sweep.{Sweep}

@@ -6,7 +6,7 @@ use Rattle.ds_names.specs.Endpoint.{EndpointRecord}
 use Rattle.ds_entry.specs.declared.item.Item.{Item}
 use Rattle.ds_entry.proofs.Members.{Contains-nil}
 use Rattle.ds_held.specs.Limits.{LimitsRecord}
-use Rattle.ds_lines.specs.Lines.{EndsLine}
+use Rattle.line_io.specs.Lines.{EndsLine}
 use Rattle.ds_line.proofs.NewlineLemmas.{unbroken_decimal}
 use Rattle.ds_names.specs.Limits.{most_items}
 use Rattle.ds_machine.specs.Machine.{Step, StopsForRoom, MergeWantsRoom}
@@ -17,28 +17,28 @@ use Rattle.ds_machine.specs.declared.command.Command.TheVariants as commands
 use Rattle.ds_machine.specs.declared.refusal.Refusal.TheVariants as refusals
 use Rattle.ds_machine.specs.declared.reply.Reply.{Reply}
 use Rattle.ds_machine.specs.declared.reply.Reply.TheVariants.{MergeStopped, Refused}
-use Rattle.ds_words.specs.Command.{IsCommand, store_command}
-use Rattle.store_words.specs.Reply.{reply_lines, owed_line}
-use Rattle.ds_words.specs.declared.command.ScriptCommand.{ScriptCommand}
-use Rattle.ds_words.specs.declared.command.ScriptCommand.TheVariants as lines
-use Rattle.store_words.specs.declared.wording.Wording.{Wording}
-use Rattle.store_words.specs.declared.wording.Wording.TheVariants.{AsOffer, AsMerge}
+use Rattle.script_commands.specs.Command.{IsCommand, store_command}
+use Rattle.store_answers.specs.Reply.{reply_lines, owed_line}
+use Rattle.script_commands.specs.declared.command.ScriptCommand.{ScriptCommand}
+use Rattle.script_commands.specs.declared.command.ScriptCommand.TheVariants as lines
+use Rattle.store_answers.specs.declared.wording.Wording.{Wording}
+use Rattle.store_answers.specs.declared.wording.Wording.TheVariants.{AsOffer, AsMerge}
 use Rattle.ds_machine.specs.OneStep.{is_noroom, room_wanted}
 use Rattle.ds_machine.proofs.OneStepLemmas.{done_same, none_done, none_some, outcomes_want_none, whole_command}
-use Rattle.trace_words.specs.declared.asked.Asked.{Asked}
-use Rattle.trace_words.specs.declared.asked.Asked.TheVariants as askeds
-use Rattle.trace_words.specs.declared.header.Format.{Format}
-use Rattle.trace_words.specs.declared.header.Format.TheVariants.{One, Two}
-use Rattle.trace_words.specs.Legal.{StepOf}
-use Rattle.trace_words.specs.Noroom.{noroom_line, stopped_line}
-use Rattle.trace_words.specs.Sweep.{older_sweep}
-use Rattle.trace_words.specs.OneReply.{HaveOneFirst, IsSpelt, IsTraced}
-use Rattle.trace_words.specs.Text.{TraceEntry, MayAsk, command_asked, worded_as}
-use Rattle.trace_words.specs.Upgrade.{BecomesAs}
-use Rattle.trace_words.specs.Walk.{MayReply}
-use Rattle.trace_words.proofs.OneReplyLemmas.{older_plain, steps_told, offer_wants, is_merge, asked_small, reply_spelt}
-use Rattle.trace_words.proofs.SplitLemmas.{lines_one, without, ends_after}
-use Rattle.trace_words.proofs.TellLemmas.{first_lines_tell, noroom_is}
+use Rattle.trace_model.specs.declared.asked.Asked.{Asked}
+use Rattle.trace_model.specs.declared.asked.Asked.TheVariants as askeds
+use Rattle.trace_model.specs.declared.header.Format.{Format}
+use Rattle.trace_model.specs.declared.header.Format.TheVariants.{One, Two}
+use Rattle.trace_model.specs.Legal.{StepOf}
+use Rattle.trace_model.specs.Noroom.{noroom_line, stopped_line}
+use Rattle.trace_model.specs.Sweep.{older_sweep}
+use Rattle.trace_model.specs.OneReply.{HaveOneFirst, IsSpelt, IsTraced}
+use Rattle.trace_model.specs.Text.{TraceEntry, MayAsk, command_asked, worded_as}
+use Rattle.trace_model.specs.Upgrade.{BecomesAs}
+use Rattle.trace_model.specs.Walk.{MayReply}
+use Rattle.trace_model.proofs.OneReplyLemmas.{older_plain, steps_told, offer_wants, is_merge, asked_small, reply_spelt}
+use Rattle.trace_model.proofs.SplitLemmas.{lines_one, without, ends_after}
+use Rattle.trace_model.proofs.TellLemmas.{first_lines_tell, noroom_is}
 use Rattle.trace_walk.specs.declared.merges.Merges.{Merges}
 use Rattle.trace_walk.specs.declared.passed.Passed.TheVariants.{AsItStands, Swept}
 use Rattle.trace_walk.specs.declared.sweep.Sweep.{Sweep}

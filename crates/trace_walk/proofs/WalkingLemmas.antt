@@ -5,10 +5,10 @@ use Rattle.std.specs.Io.KnownBytes.{Consumes, IsAtEnd}
 use Rattle.std.proofs.lemmas.Grind.{flat_map-append}
 use Rattle.std.proofs.lemmas.List.{append_cancel_right}
 use Rattle.std.proofs.lemmas.List.Elements.{All-nil}
-use Rattle.ds_lines.specs.Lines.{IsUnbroken, EndsLine, with_newline, joined, unended, HasLines}
-use Rattle.ds_lines.specs.Reading.{LinesContent}
-use Rattle.ds_lines.specs.Pulling.{left, ComesNext, StandsFirst}
-use Rattle.trace_words.proofs.SplitLemmas.{split_same}
+use Rattle.line_io.specs.Lines.{IsUnbroken, EndsLine, with_newline, joined, unended, HasLines}
+use Rattle.line_io.specs.Reading.{LinesContent}
+use Rattle.line_io.specs.Pulling.{left, ComesNext, StandsFirst}
+use Rattle.trace_model.proofs.SplitLemmas.{split_same}
 use Rattle.trace_walk.specs.Walking.{IsAt, HasLine, IsRead, IsLong, IsLongFault, line_fault}
 use Rattle.trace_walk.specs.declared.place.Place.{Place}
 use Rattle.trace_walk.specs.declared.place.Place.TheVariants.{Form, Reply}

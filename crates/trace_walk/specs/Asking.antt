@@ -6,13 +6,13 @@ use Rattle.ds_machine.specs.Machine.{Step}
 use Rattle.ds_machine.specs.State.{State}
 use Rattle.ds_machine.specs.declared.command.Command.{Command}
 use Rattle.ds_machine.specs.declared.reply.Reply.{Reply}
-use Rattle.ds_words.specs.Command.{store_command}
-use Rattle.ds_words.specs.declared.command.ScriptCommand.{ScriptCommand}
-use Rattle.trace_words.specs.declared.asked.Asked.{Asked}
-use Rattle.trace_words.specs.declared.header.Format.{Format}
-use Rattle.trace_words.specs.Legal.{StepOf}
-use Rattle.trace_words.specs.OneReply.{IsTraced}
-use Rattle.trace_words.specs.Text.{command_asked}
+use Rattle.script_commands.specs.Command.{store_command}
+use Rattle.script_commands.specs.declared.command.ScriptCommand.{ScriptCommand}
+use Rattle.trace_model.specs.declared.asked.Asked.{Asked}
+use Rattle.trace_model.specs.declared.header.Format.{Format}
+use Rattle.trace_model.specs.Legal.{StepOf}
+use Rattle.trace_model.specs.OneReply.{IsTraced}
+use Rattle.trace_model.specs.Text.{command_asked}
 
 -- It takes the step of a trace's store for which the entry asks, and gives the reply, in each state to which a trace of the format comes.
 abbrev pub StepsBy : ContentRecord → Format → Asked → Reply → ContentRecord → Type 0

@@ -3,8 +3,8 @@ use Rattle.std.specs.Prelude.{◌≡◌, ◌≢◌, ℕ, suc, ◌<◌, ◌≤◌
 use Rattle.ds_content.specs.Content.{ContentRecord}
 use Rattle.ds_content.specs.Stands.{ContentStands}
 use Rattle.ds_entry.specs.declared.item.Item.{Item}
-use Rattle.ds_lines.specs.Lines.{HasLines, joined, with_newline}
-use Rattle.ds_lines.specs.Reading.{LinesContent}
+use Rattle.line_io.specs.Lines.{HasLines, joined, with_newline}
+use Rattle.line_io.specs.Reading.{LinesContent}
 use Rattle.ds_machine.specs.Machine.{StopsForRoom}
 use Rattle.ds_machine.specs.State.{State}
 use Rattle.ds_machine.specs.declared.command.Command.{Command}
@@ -12,19 +12,19 @@ use Rattle.ds_machine.specs.declared.refusal.Refusal.TheVariants as refusals
 use Rattle.ds_machine.specs.declared.reply.Reply.{Reply}
 use Rattle.ds_machine.specs.declared.reply.Reply.TheVariants as replies
 use Rattle.ds_names.specs.Limits.{most_items}
-use Rattle.ds_words.specs.declared.command.ScriptCommand.{ScriptCommand}
+use Rattle.script_commands.specs.declared.command.ScriptCommand.{ScriptCommand}
 use Rattle.ds_machine.specs.declared.command.Command.TheVariants as machine
-use Rattle.ds_words.specs.declared.command.ScriptCommand.TheVariants as commands
-use Rattle.store_words.specs.Reply.{reply_lines, refused_noroom}
-use Rattle.store_words.specs.declared.wording.Wording.{Wording}
-use Rattle.trace_words.specs.declared.asked.Asked.{Asked}
-use Rattle.trace_words.specs.declared.asked.Asked.TheVariants as askeds
-use Rattle.trace_words.specs.declared.asked.Head.{Head}
-use Rattle.trace_words.specs.declared.header.Header.{Header}
-use Rattle.trace_words.specs.Legal.{opened_by}
-use Rattle.trace_words.specs.Noroom.{stopped_line}
-use Rattle.trace_words.specs.Text.{header_text, marked}
-use Rattle.trace_words.specs.Walk.{IsPlaceInEntry}
+use Rattle.script_commands.specs.declared.command.ScriptCommand.TheVariants as commands
+use Rattle.store_answers.specs.Reply.{reply_lines, refused_noroom}
+use Rattle.store_answers.specs.declared.wording.Wording.{Wording}
+use Rattle.trace_model.specs.declared.asked.Asked.{Asked}
+use Rattle.trace_model.specs.declared.asked.Asked.TheVariants as askeds
+use Rattle.trace_model.specs.declared.asked.Head.{Head}
+use Rattle.trace_model.specs.declared.header.Header.{Header}
+use Rattle.trace_model.specs.Legal.{opened_by}
+use Rattle.trace_model.specs.Noroom.{stopped_line}
+use Rattle.trace_model.specs.Text.{header_text, marked}
+use Rattle.trace_model.specs.Walk.{IsPlaceInEntry}
 use Rattle.trace_walk.specs.declared.fault.WalkFault.{WalkFault}
 use Rattle.trace_walk.specs.declared.passed.Passed.{Passed}
 use Rattle.trace_walk.specs.declared.place.Place.{Place}

@@ -8,15 +8,15 @@ use Rattle.ds_held.specs.Limits.{LimitsRecord}
 use Rattle.ds_machine.specs.Batches.{AreFree}
 use Rattle.ds_machine.specs.State.{State, takes_effect, owed}
 use Rattle.ds_machine.specs.declared.reply.Reply.{Reply}
-use Rattle.ds_words.specs.declared.command.ScriptCommand.{ScriptCommand}
+use Rattle.script_commands.specs.declared.command.ScriptCommand.{ScriptCommand}
 use Rattle.ds_machine.specs.declared.command.Command.TheVariants as machine
-use Rattle.ds_words.specs.declared.command.ScriptCommand.TheVariants as commands
-use Rattle.trace_words.specs.declared.header.Format.{Format}
-use Rattle.trace_words.specs.declared.header.Format.TheVariants.{One}
-use Rattle.trace_words.specs.OneReply.{IsTraced}
-use Rattle.trace_words.specs.Sweep.{is_swept, tombstone, older_sweep}
-use Rattle.trace_words.specs.Text.{TraceEntry}
-use Rattle.trace_words.specs.Upgrade.{SweepBecomes}
+use Rattle.script_commands.specs.declared.command.ScriptCommand.TheVariants as commands
+use Rattle.trace_model.specs.declared.header.Format.{Format}
+use Rattle.trace_model.specs.declared.header.Format.TheVariants.{One}
+use Rattle.trace_model.specs.OneReply.{IsTraced}
+use Rattle.trace_model.specs.Sweep.{is_swept, tombstone, older_sweep}
+use Rattle.trace_model.specs.Text.{TraceEntry}
+use Rattle.trace_model.specs.Upgrade.{SweepBecomes}
 use Rattle.trace_walk.specs.declared.merges.Merges.{Merges}
 use Rattle.trace_walk.specs.declared.sweep.Sweep.{Sweep}
 use Rattle.trace_walk.specs.Merging.{AreEntries}

@@ -1,9 +1,9 @@
 //! Asking a store what an entry of a trace asks.
 
 ghost use Rattle.std.specs.Prelude.{◌≡◌, ◌≢◌, None, IfOk};
-ghost use Rattle.trace_words.specs.declared.asked.Asked.TheVariants as askeds;
-ghost use Rattle.trace_words.specs.Text.{command_asked, worded_as};
-ghost use Rattle.ds_words.specs.Command.{store_command};
+ghost use Rattle.trace_model.specs.declared.asked.Asked.TheVariants as askeds;
+ghost use Rattle.trace_model.specs.Text.{command_asked, worded_as};
+ghost use Rattle.script_commands.specs.Command.{store_command};
 ghost use Rattle.trace_walk.specs.Sweeping.{SweepsAs};
 ghost use Rattle.trace_walk.specs.Asking.{StepsAsSaid, StepsBy};
 
@@ -12,10 +12,10 @@ use ds_held::Limits;
 use ds_machine::{Command, Reply};
 use ds_names::NoRoom;
 use ds_store::Store;
-use ds_words::ScriptCommand;
+use script_commands::ScriptCommand;
 use std::alloc::Global;
-use store_words::Wording;
-use trace_words::{Asked, Format};
+use store_answers::Wording;
+use trace_model::{Asked, Format};
 
 /// What a store answers to what an entry asks: its reply, and how the lines of it are worded.
 #[derive(Drop)]

@@ -5,8 +5,8 @@ ghost use Rattle.trace_walk.specs.Steps.{SaysAll, MissesReply, SaysRest, MissesR
 
 use crate::fault::WalkFault;
 use crate::place::{Place, wanted_line};
-use ds_lines::{Lines, Source, split_line};
-use trace_words::is_marked;
+use line_io::{Lines, Source, split_line};
+use trace_model::is_marked;
 
 /// The lines of the reply stand there, the first of which is gone to.
 pub(crate) fn expect<R: Source>(

@@ -5,7 +5,7 @@ ghost use Rattle.trace_walk.specs.Walking.{of_line, verdict_of};
 
 use ds_names::NoRoom;
 use std::alloc::AllocError;
-use trace_words::{AskedFault, Verdict};
+use trace_model::{AskedFault, Verdict};
 
 /// Why a walk through a trace ended before its input did.
 #[derive(Clone, Copy, Debug, PartialEq, Eq)]

@@ -1,7 +1,7 @@
 //! Merges of tombstones, as entries of a trace.
 
 ghost use Rattle.std.specs.Prelude.{◌≡◌, ◌+◌, ◌-◌, ◌<◌, ◌^◌, ◌++◌, OnOk};
-ghost use Rattle.trace_words.specs.Text.{entry_text};
+ghost use Rattle.trace_model.specs.Text.{entry_text};
 ghost use Rattle.trace_walk.specs.Merging.{told_merge, taking_entry, IsEmpty};
 
 use ds_entry::Item;
@@ -9,8 +9,8 @@ use ds_held::Limits;
 use ds_machine::Reply;
 use ds_names::NoRoom;
 use std::alloc::Global;
-use store_words::{Wording, append_reply};
-use trace_words::{append_marked, append_merge};
+use store_answers::{Wording, append_reply};
+use trace_model::{append_marked, append_merge};
 
 /// Entries of a trace that merge tombstones, as text.
 #[derive(Drop)]

@@ -7,7 +7,7 @@ use crate::merges::Merges;
 use crate::walk::Walk;
 use ds_line::append_all;
 use ds_names::NoRoom;
-use trace_words::append_marked;
+use trace_model::append_marked;
 
 /// What an entry of format 1, which a walk went through, is in format 2.
 #[derive(Drop)]

@@ -1,12 +1,12 @@
 //! What has to stand on a line of a trace, and going to that line.
 
 ghost use Rattle.std.specs.Prelude.{◌≡◌, ◌≤◌, length, true, false, IfOk, IfErr};
-ghost use Rattle.ds_lines.specs.Lines.{EndsLine};
+ghost use Rattle.line_io.specs.Lines.{EndsLine};
 ghost use Rattle.trace_walk.specs.Walking.{line_fault, is_reply};
 ghost use Rattle.trace_walk.specs.Steps.{ComesToLine, ComesToLong, FindsNone, MissesLine};
 
 use crate::fault::WalkFault;
-use ds_lines::{Lines, Pulled, Source};
+use line_io::{Lines, Pulled, Source};
 
 /// What has to stand on a line.
 #[derive(Clone, Copy, Debug, PartialEq, Eq)]

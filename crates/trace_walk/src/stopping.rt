@@ -2,7 +2,7 @@
 
 ghost use Rattle.std.specs.Prelude.{◌≡◌, ◌<◌, length, is_some, IfOk, IfErr, IfSome, IfNone};
 ghost use Rattle.ds_machine.specs.OneStep.{room_wanted};
-ghost use Rattle.trace_words.specs.Noroom.{stopped_line};
+ghost use Rattle.trace_model.specs.Noroom.{stopped_line};
 ghost use Rattle.trace_walk.specs.Steps.{EndsMidway, IsUnmerged, StopsMidway, FailsToStop, StopsNowhere};
 
 use crate::fault::WalkFault;
@@ -10,7 +10,7 @@ use ds_entry::Items;
 use ds_machine::{Command, Refusal, Reply};
 use ds_store::Store;
 use std::alloc::Global;
-use trace_words::stopped_at;
+use trace_model::stopped_at;
 
 /// Behind how many of its items the line stops a Merge for want of memory.
 pub(crate) fn stop_of(line: &[u8], count: usize) -> Option<usize>

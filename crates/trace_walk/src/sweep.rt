@@ -4,7 +4,7 @@ ghost use Rattle.std.specs.Prelude.{◌≡◌, ◌≤◌, true, length, Some, If
 ghost use Rattle.std.specs.List.{slice_get};
 ghost use Rattle.std.specs.Option.{option_and_then};
 ghost use Rattle.ds_held.specs.Held.{held_items, held_changes};
-ghost use Rattle.trace_words.specs.Sweep.{is_swept, tombstone, tombstones};
+ghost use Rattle.trace_model.specs.Sweep.{is_swept, tombstone, tombstones};
 ghost use Rattle.trace_walk.specs.Sweeping.{tombstone_over, older_of, MergesPart, SweepsInMerges};
 
 use crate::merges::Merges;
@@ -14,9 +14,9 @@ use ds_machine::{Command, Refusal, Reply};
 use ds_names::limits::{LAST_PLACE, LAST_SEQ, MOST_ITEMS};
 use ds_names::{Endpoint, Generation, Name, NoRoom, Version};
 use ds_store::Store;
-use ds_words::ScriptCommand;
+use script_commands::ScriptCommand;
 use std::alloc::Global;
-use trace_words::Format;
+use trace_model::Format;
 
 /// What RS asks to sweep.
 #[derive(Clone, Copy, Debug)]

@@ -9,11 +9,11 @@ use crate::fault::WalkFault;
 use crate::passed::Passed;
 use crate::place::{Place, next_line, wanted_line};
 use ds_entry::{Item, Items};
-use ds_lines::{Lines, Source};
 use ds_names::NoRoom;
 use ds_store::Store;
+use line_io::{Lines, Source};
 use std::alloc::Global;
-use trace_words::{Asked, Head, Header, read_head, read_header, read_plus};
+use trace_model::{Asked, Head, Header, read_head, read_header, read_plus};
 
 /// A walk under way: where it is in the input, the store that answers, and what it was opened with. Of the entry it keeps the lines of
 /// what it asks, as they stand, and those of the reply, without their marks, the first of which has to stand in the line `first`.

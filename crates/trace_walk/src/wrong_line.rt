@@ -4,7 +4,7 @@ ghost use Rattle.std.specs.Prelude.{◌≡◌, ◌≢◌};
 ghost use Rattle.trace_walk.specs.declared.wrong_line.Wanted.TheVariants as wanteds;
 
 use crate::walk::Walk;
-use ds_lines::{LONGEST_LINE, Lines, split_line};
+use line_io::{LONGEST_LINE, Lines, split_line};
 
 /// What has to stand in a line of a trace.
 #[derive(Clone, Copy, Debug, PartialEq, Eq)]

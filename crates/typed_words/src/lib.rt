@@ -1,6 +1,6 @@
 //! Words that somebody typed: how they are shown, and the nearest word that is known.
 //!
-//! `ds_explain` shows words of lines and of settings, `dsctl_words` those of the prompt's help. Of this project.
+//! `ds_explain` shows words of lines and of settings, `dsctl_cli` those of the prompt's help. Of this project.
 #![tactic(auto)]
 
 mod known;

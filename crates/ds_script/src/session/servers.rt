@@ -1,15 +1,15 @@
 //! What a script asks of RS and of the driver tables.
 
 ghost use Rattle.std.specs.Prelude.{◌≡◌, OnOk, OnErr};
-ghost use Rattle.ds_answers.specs.Services.{AnswersSettings};
-ghost use Rattle.ds_answers.specs.Tables.{AnswersAssign, AnswersFollow, AnswersReply, AnswersSubmit};
+ghost use Rattle.script_services.specs.Services.{AnswersSettings};
+ghost use Rattle.script_services.specs.Tables.{AnswersAssign, AnswersFollow, AnswersReply, AnswersSubmit};
 ghost use Rattle.ds_script.specs.Answer.{AppendsByServers, AppendsByServices, AppendsSettings, items_of_map};
 
 use crate::session::Session;
-use ds_answers::answer_event;
 use ds_names::{Endpoint, Name, NoRoom};
-use ds_words::{Device, Server, SettingsText};
 use rs_core::Event;
+use script_commands::{Device, Server, SettingsText};
+use script_services::answer_event;
 use std::alloc::Global;
 
 impl Session {

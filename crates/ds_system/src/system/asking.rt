@@ -4,8 +4,8 @@ ghost use Rattle.std.specs.Prelude.{◌≡◌, ◌∷◌, [], slice_get, IfOk};
 ghost use Rattle.std.specs.Option.{option_copied};
 ghost use Rattle.ds_entry.specs.Change.{IsChange};
 ghost use Rattle.ds_entry.specs.declared.item.Item.TheVariants.{Change as Changed};
-ghost use Rattle.ds_services.specs.Steps.{is_barred, is_bringing};
-ghost use Rattle.ds_services.specs.declared.event.SystemEvent.TheVariants as events;
+ghost use Rattle.system_model.specs.Steps.{is_barred, is_bringing};
+ghost use Rattle.system_model.specs.declared.event.SystemEvent.TheVariants as events;
 ghost use Rattle.ds_system.specs.Stands.{SystemEventLeads};
 
 use crate::system::System;
@@ -13,8 +13,8 @@ use ds_entry::{Change, Item, Items};
 use ds_machine::Command;
 use ds_names::NoRoom;
 use ds_replica::{Event, Side};
-use ds_services::{SystemFault, SystemOutcome};
 use std::alloc::Global;
+use system_model::{SystemFault, SystemOutcome};
 
 // A list of one change.
 fn alone(alloc: Global, change: &Change) -> Result<Items, NoRoom>

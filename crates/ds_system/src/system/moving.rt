@@ -1,13 +1,13 @@
 //! What both servers do: they follow their maps, take requests and replies.
 
 ghost use Rattle.std.specs.Prelude.{◌≡◌};
-ghost use Rattle.ds_services.specs.declared.event.SystemEvent.TheVariants as events;
+ghost use Rattle.system_model.specs.declared.event.SystemEvent.TheVariants as events;
 ghost use Rattle.ds_system.specs.Stands.{SystemEventLeads};
 
 use crate::system::System;
 use crate::turning::{FILE_MAP, NET_MAP, moved, replies, servers_follow, submits};
 use ds_names::Endpoint;
-use ds_services::{Rounds, SystemOutcome, Table};
+use system_model::{Rounds, SystemOutcome, Table};
 
 impl System {
     // Both servers look at the labels in their maps, the file server first.

@@ -4,8 +4,8 @@ ghost use Rattle.std.specs.Prelude.{◌≡◌, ◌<◌, ◌≤◌, ◌+◌, ◌+
 ghost use Rattle.std.specs.List.{AllByRecursion};
 ghost use Rattle.rs_core.specs.Action.{IsActionInPlace};
 ghost use Rattle.rs_core.specs.Run.{offers};
-ghost use Rattle.ds_serve.specs.Asked.{command_of as command_for, commands};
-ghost use Rattle.ds_services.specs.declared.event.SystemEvent.TheVariants as events;
+ghost use Rattle.rs_to_store.specs.Asked.{command_of as command_for, commands};
+ghost use Rattle.system_model.specs.declared.event.SystemEvent.TheVariants as events;
 ghost use Rattle.ds_system.specs.Stands.{SystemEventLeads};
 ghost use Rattle.ds_system.specs.Effects.{AskedIfAny, AllAsked};
 
@@ -13,11 +13,11 @@ use crate::system::System;
 use ds_entry::Change;
 use ds_machine::Reply;
 use ds_replica::Side;
-use ds_serve::command_of;
-use ds_services::{Replies, SystemFault, SystemOutcome};
 use ds_world::World;
 use rs_core::{Action, Actions, Event, RsFault};
+use rs_to_store::command_of;
 use std::alloc::Global;
+use system_model::{Replies, SystemFault, SystemOutcome};
 
 /// The most that RS does at one event: a kill, a label taken back, a sweep, a start and a label put.
 const MOST_ACTIONS: usize = 5;

@@ -5,7 +5,7 @@ ghost use Rattle.ds_names.specs.Kind.{is_label};
 ghost use Rattle.ds_entry.specs.Change.{change_of, is_of_kind, IsBody, IsChange};
 ghost use Rattle.rs_core.specs.State.{service_at};
 ghost use Rattle.rs_core.specs.Numbering.{numberer};
-ghost use Rattle.ds_services.specs.Drawing.{numberer_at, numbers_left, numbers_of};
+ghost use Rattle.system_model.specs.Drawing.{numberer_at, numbers_left, numbers_of};
 ghost use Rattle.ds_system.specs.Stands.{SystemEventLeads};
 ghost use Rattle.ds_system.specs.Effects.{instance_at, judged_by, write_event};
 
@@ -13,11 +13,11 @@ use crate::system::System;
 use ds_entry::{Body, Change};
 use ds_names::{Generation, Key, Name, NoRoom, Version};
 use ds_replica::Side;
-use ds_serve::asking;
-use ds_services::{SystemFault, SystemOutcome};
 use rs_core::{Numberer, Running, State};
 use rs_settings::Service;
+use rs_to_store::asking;
 use std::alloc::Global;
+use system_model::{SystemFault, SystemOutcome};
 
 /// The instance that draws a number, and the numbers that are left to it.
 #[derive(Drop)]

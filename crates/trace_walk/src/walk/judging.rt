@@ -1,8 +1,8 @@
 //! What a walk does at a reply.
 
 ghost use Rattle.std.specs.Prelude.{◌≡◌, ◌≢◌, ◌<◌, length, None, IfOk, IfErr};
-ghost use Rattle.trace_words.specs.declared.asked.Asked.TheVariants as askeds;
-ghost use Rattle.trace_words.specs.Noroom.{noroom_line, stopped_line};
+ghost use Rattle.trace_model.specs.declared.asked.Asked.TheVariants as askeds;
+ghost use Rattle.trace_model.specs.Noroom.{noroom_line, stopped_line};
 ghost use Rattle.trace_walk.specs.Steps.{GoesBehind, FailsBehind, GoesPastReply, FailsAtReply, HasRefused, PassesLine, PassesSweep, PassesMerge, FailsAtMerge, PassesPlain, FailsAtPlain, PassesFor, FailsFor, SaysReply, FailsToSay, swept_line};
 ghost use Rattle.trace_walk.specs.Sweeping.{older_of};
 ghost use Rattle.trace_walk.specs.Passing.{IsRefusedAs};
@@ -16,12 +16,12 @@ use crate::place::{Place, wanted_line};
 use crate::stopping::{stop_of, stopped, wants_room};
 use crate::sweep::{Sweep, older, sweep_older};
 use ds_entry::Items;
-use ds_lines::Source;
 use ds_machine::{Command, Reply};
-use ds_words::ScriptCommand;
+use line_io::Source;
+use script_commands::ScriptCommand;
 use std::alloc::Global;
-use store_words::{Wording, append_noroom, append_reply};
-use trace_words::{Asked, Format, is_noroom};
+use store_answers::{Wording, append_noroom, append_reply};
+use trace_model::{Asked, Format, is_noroom};
 
 impl Walk {
     /// Reads the reply to what was asked, which the store has to give.

@@ -1,6 +1,6 @@
 use Rattle.std.proofs.Common.{◌++◌, Err, take, drop, suc, inl, sym, ap, subst, length, ◌∙◌, arith}
 use Rattle.std.proofs.lemmas.List.{take-append-drop, take_all, length-drop, length-take-le}
-use Rattle.ds_words.specs.declared.fault.CommandFault.{CommandFault}
+use Rattle.script_commands.specs.declared.fault.CommandFault.{CommandFault}
 use Rattle.c_line.specs.Line.{ReadsBytes}
 use Rattle.c_line.proofs.LineLemmas.{of_ended}
 use Rattle.c_line.proofs.reading.read_bytes.Goals as goal

@@ -1,9 +1,9 @@
 use Rattle.std.proofs.Common.{◌≡◌, Err}
 use Rattle.std.proofs.lemmas.Result.{IfErr-weaker}
-use Rattle.store_words.proofs.ResultLemmas.{on_ok}
-use Rattle.ds_words.specs.Command.{ReadsCommand}
-use Rattle.ds_words.specs.Later.{ReadsLater}
-use Rattle.ds_words.specs.declared.command.ScriptCommand.TheVariants.{Offer}
+use Rattle.store_answers.proofs.ResultLemmas.{on_ok}
+use Rattle.script_commands.specs.Command.{ReadsCommand}
+use Rattle.script_commands.specs.Later.{ReadsLater}
+use Rattle.script_commands.specs.declared.command.ScriptCommand.TheVariants.{Offer}
 use Rattle.ds_script.proofs.LineLemmas.{read_behind, offered_item, event_behind, unread_behind, unread_fault, keeps}
 use Rattle.ds_script.proofs.fast.fast_offer.Goals as goal
 

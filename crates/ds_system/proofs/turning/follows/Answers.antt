@@ -1,7 +1,7 @@
 use Rattle.std.proofs.Common.{◌≡◌, Option, Some, None, sym, subst}
 use Rattle.std.specs.List.{slice_get}
 use Rattle.std.specs.Option.{option_copied, option_map}
-use Rattle.ds_serve.specs.Following.{HasFollowed}
+use Rattle.rs_to_store.specs.Following.{HasFollowed}
 use Rattle.ds_submap.specs.Map.{SubMapRecord}
 use Rattle.ds_replica.specs.World.{map_held}
 use Rattle.ds_world.specs.World.{map_state}

@@ -2,7 +2,7 @@ use Rattle.std.proofs.Common.{List, Option, Some, None, refl, subst}
 use Rattle.driver_tables.specs.declared.moves.Move.{Move}
 use Rattle.driver_tables.specs.declared.fault.TableFault.{TableFault}
 use Rattle.ds_replica.specs.declared.event.Holder.TheVariants.{Map}
-use Rattle.ds_serve.specs.Following.{HasFollowed}
+use Rattle.rs_to_store.specs.Following.{HasFollowed}
 use Rattle.ds_world.specs.World.{held_in}
 use Rattle.ds_system.proofs.turning.servers_follow.Goals as goal
 

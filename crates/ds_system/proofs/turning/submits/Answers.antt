@@ -1,7 +1,7 @@
 use Rattle.std.proofs.Common.{Option, subst}
 use Rattle.driver_tables.specs.declared.fault.TableFault.{TableFault}
 use Rattle.ds_replica.specs.declared.event.Holder.TheVariants.{Map}
-use Rattle.ds_serve.specs.Following.{HasFollowed}
+use Rattle.rs_to_store.specs.Following.{HasFollowed}
 use Rattle.ds_world.specs.World.{held_in}
 use Rattle.ds_system.proofs.TurnLemmas.{submit_ended, submit_answered}
 use Rattle.ds_system.proofs.turning.submits.Goals as goal

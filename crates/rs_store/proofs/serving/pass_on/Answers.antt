@@ -5,7 +5,7 @@ use Rattle.ds_machine.specs.declared.reply.Reply.{Reply}
 use Rattle.std.specs.Prelude.{Option}
 use Rattle.rs_core.specs.declared.action.Action.{Action}
 use Rattle.rs_store.specs.Serving.{TurnsFor}
-use Rattle.ds_serve.proofs.ListLemmas.{less_taken, next_taken}
+use Rattle.rs_to_store.proofs.ListLemmas.{less_taken, next_taken}
 use Rattle.rs_store.proofs.ServeLemmas.{turns_long, turns_more}
 use Rattle.rs_store.proofs.serving.pass_on.Goals as goal
 

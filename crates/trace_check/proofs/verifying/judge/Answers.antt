@@ -1,5 +1,5 @@
 use Rattle.std.proofs.Common.{[], refl, subst, sym}
-use Rattle.trace_words.specs.Verdict.{IsVerdict}
+use Rattle.trace_model.specs.Verdict.{IsVerdict}
 use Rattle.trace_walk.specs.Steps.{first_spot}
 use Rattle.trace_walk.proofs.BeginLemmas.{known_then, said_for}
 use Rattle.trace_check.proofs.verifying.judge.Goals as goal

@@ -1,7 +1,7 @@
 use Rattle.std.proofs.Common.{List, ℕ, Option, IfNone, refl, sym, subst, arith}
-use Rattle.trace_words.specs.declared.header.Header.{Header}
-use Rattle.trace_words.specs.declared.verdict.Verdict.TheVariants.{Legal}
-use Rattle.trace_words.specs.Verdict.{IsVerdict}
+use Rattle.trace_model.specs.declared.header.Header.{Header}
+use Rattle.trace_model.specs.declared.verdict.Verdict.TheVariants.{Legal}
+use Rattle.trace_model.specs.Verdict.{IsVerdict}
 use Rattle.trace_walk.specs.declared.passed.Passed.{Passed}
 use Rattle.trace_walk.specs.Steps.{EndsThere, GoesPast}
 use Rattle.trace_walk.specs.Walking.{Spot, Walks, spot_behind}

@@ -1,5 +1,5 @@
 use Rattle.std.proofs.Common.{◌∙◌, [], ℕ, List, Bool, Result, inl, inr, refl, sym, subst}
-use Rattle.ds_lines.specs.Lines.{EndsLine, with_newline}
+use Rattle.line_io.specs.Lines.{EndsLine, with_newline}
 use Rattle.trace_record.specs.declared.fault.RecordFault.{RecordFault}
 use Rattle.trace_record.specs.Asking.{IsRingLine}
 use Rattle.trace_record.specs.Causes.{ReadsLead}

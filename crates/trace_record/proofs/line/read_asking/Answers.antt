@@ -1,5 +1,5 @@
 use Rattle.std.proofs.Common.{sym, subst, arith}
-use Rattle.ds_lines.specs.Lines.{EndsLine}
+use Rattle.line_io.specs.Lines.{EndsLine}
 use Rattle.trace_record.proofs.AskingLemmas.{ends_asked}
 use Rattle.trace_record.proofs.line.read_asking.Goals as goal
 

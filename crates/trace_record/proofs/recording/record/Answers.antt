@@ -1,7 +1,7 @@
 use Rattle.std.proofs.Common.{refl, sym, subst}
 use Rattle.std.proofs.lemmas.Result.{IfOk-weaker, IfErr-weaker}
-use Rattle.ds_lines.specs.Reading.{LinesContent}
-use Rattle.ds_lines.specs.Streams.{CallsLead}
+use Rattle.line_io.specs.Reading.{LinesContent}
+use Rattle.line_io.specs.Streams.{CallsLead}
 use Rattle.trace_walk.proofs.BeginLemmas.{at_start}
 use Rattle.trace_record.specs.Reading.{IsReady}
 use Rattle.trace_record.specs.declared.fault.RecordFault.TheVariants.{NoRoom}

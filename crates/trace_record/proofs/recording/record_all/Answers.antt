@@ -1,6 +1,6 @@
 use Rattle.std.proofs.Common.{List, ℕ, subst}
 use Rattle.std.specs.Io.KnownBytes.{Appends}
-use Rattle.ds_lines.specs.Transfer.{WritesPart}
+use Rattle.line_io.specs.Transfer.{WritesPart}
 use Rattle.trace_record.specs.declared.fault.RecordFault.TheVariants.{WriteFault}
 use Rattle.trace_record.specs.Record.{header_of}
 use Rattle.trace_record.specs.Running.{WritesRest}

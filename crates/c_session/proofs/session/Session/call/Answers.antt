@@ -1,4 +1,4 @@
-use Rattle.c_words.specs.Asked.{request_text}
+use Rattle.c_values.specs.Asked.{request_text}
 use Rattle.c_session.proofs.CalledLemmas.{called}
 use Rattle.c_session.proofs.session.Session.call.Goals as goal
 

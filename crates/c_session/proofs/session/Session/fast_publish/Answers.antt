@@ -1,7 +1,7 @@
 use Rattle.std.proofs.Common.{inl, inr, subst}
 use Rattle.ds_machine.specs.declared.command.Command.{Command}
-use Rattle.c_words.specs.Request.{publish_command}
-use Rattle.store_words.specs.declared.wording.Wording.TheVariants.{AsMerge}
+use Rattle.c_values.specs.Request.{publish_command}
+use Rattle.store_answers.specs.declared.wording.Wording.TheVariants.{AsMerge}
 use Rattle.c_session.specs.Called.{Tells}
 use Rattle.c_session.proofs.CalledLemmas.{stands_for_publish, stands_for_no_publish, publish_has_text}
 use Rattle.c_session.proofs.session.Session.fast_publish.Goals as goal

@@ -1,8 +1,8 @@
 use Rattle.std.proofs.Common.{Option, OnOk, subst}
 use Rattle.ds_submap.specs.Map.{SubMapRecord}
-use Rattle.store_words.proofs.ResultLemmas.{on_ok}
-use Rattle.ds_answers.specs.Tables.{map_items, AnswersSubmit}
-use Rattle.ds_answers.specs.Waiting.{AppendsLed}
+use Rattle.store_answers.proofs.ResultLemmas.{on_ok}
+use Rattle.script_services.specs.Tables.{map_items, AnswersSubmit}
+use Rattle.script_services.specs.Waiting.{AppendsLed}
 use Rattle.ds_script.specs.Session.{SessionContent}
 use Rattle.ds_script.specs.Answer.{AppendsByServers, items_of_map}
 use Rattle.ds_script.proofs.ServerLemmas.{session_of, led}

@@ -1,8 +1,8 @@
 use Rattle.std.proofs.Common.{◌≡◌, ◌≢◌, ℕ, true, false, [], ap, sym, subst, ◌∙◌, inr, refl, rules}
 use Rattle.std.proofs.lemmas.Result.{err_from_is_err_and}
 use Rattle.std.proofs.lemmas.List.Elements.{All-nil}
-use Rattle.ds_lines.specs.Lines.{IsUnbroken}
-use Rattle.ds_lines.specs.Streams.{CallsLead}
+use Rattle.line_io.specs.Lines.{IsUnbroken}
+use Rattle.line_io.specs.Streams.{CallsLead}
 use Rattle.ds_script.specs.Taking.{reached, written}
 use Rattle.ds_script.specs.declared.fault.ReplayFault.{ReplayFault}
 use Rattle.ds_script.proofs.ProgressLemmas.{where_known}

@@ -1,6 +1,6 @@
 use Rattle.std.proofs.Common.{◌≡◌, ◌-◌}
-use Rattle.ds_lines.specs.Lines.{IsUnbroken}
-use Rattle.ds_lines.specs.Streams.{CallsLead}
+use Rattle.line_io.specs.Lines.{IsUnbroken}
+use Rattle.line_io.specs.Streams.{CallsLead}
 use Rattle.ds_script.specs.Taking.{reached, written, KeepsWriter}
 use Rattle.ds_script.proofs.EndLemmas.{Come}
 use Rattle.ds_script.proofs.taking.Replay.run.Given as goal

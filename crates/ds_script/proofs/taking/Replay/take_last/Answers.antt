@@ -1,6 +1,6 @@
 use Rattle.std.proofs.Common.{refl, inr}
 use Rattle.std.proofs.lemmas.Result.{err_from_is_err_and}
-use Rattle.ds_lines.specs.Lines.{unended}
+use Rattle.line_io.specs.Lines.{unended}
 use Rattle.ds_script.specs.Progress.{Reached}
 use Rattle.ds_script.specs.Taking.{reached}
 use Rattle.ds_script.proofs.ProgressLemmas.{takes_written, takes_behind}

@@ -1,5 +1,5 @@
 use Rattle.std.proofs.Common.{◌≡◌, ◌∷◌, ◌∙◌, [], List, ℕ, refl, sym, subst, inl, arith, rules}
-use Rattle.ds_lines.specs.Lines.{EndsLine, unended}
+use Rattle.line_io.specs.Lines.{EndsLine, unended}
 use Rattle.ds_script.specs.Progress.{Reached, TakesLines}
 use Rattle.ds_script.specs.Taking.{reached}
 use Rattle.ds_script.proofs.ProgressLemmas.{takes_none, where_both}

@@ -1,7 +1,7 @@
 use Rattle.std.proofs.Common.{◌≡◌, ◌∙◌, [], List, ℕ, refl, sym, ap, subst, arith, append-nil}
 use Rattle.std.proofs.lemmas.Result.{err_from_is_err_and}
-use Rattle.ds_lines.specs.Lines.{EndsLine, IsUnbroken}
-use Rattle.ds_lines.specs.Reading.{LinesContent}
+use Rattle.line_io.specs.Lines.{EndsLine, IsUnbroken}
+use Rattle.line_io.specs.Reading.{LinesContent}
 use Rattle.ds_script.specs.Progress.{Reached}
 use Rattle.ds_script.specs.Taking.{reached, written}
 use Rattle.ds_script.proofs.ProgressLemmas.{takes_none, where_both}

@@ -8,10 +8,10 @@ use Rattle.ds_replica.specs.declared.event.Event.TheVariants.{Ask}
 use Rattle.ds_replica.specs.declared.outcome.Outcome.TheVariants as results
 use Rattle.ds_replica.specs.Happens.{gives_items}
 use Rattle.ds_world.specs.Run.{EventLeads}
-use Rattle.ds_serve.specs.Asked.{asking_for}
-use Rattle.ds_services.specs.declared.outcome.SystemFault.TheVariants as refusals
-use Rattle.ds_services.specs.declared.outcome.SystemOutcome.TheVariants.{Replied, Refused}
-use Rattle.ds_services.specs.Drawing.{judged, numbers_left}
+use Rattle.rs_to_store.specs.Asked.{asking_for}
+use Rattle.system_model.specs.declared.outcome.SystemFault.TheVariants as refusals
+use Rattle.system_model.specs.declared.outcome.SystemOutcome.TheVariants.{Replied, Refused}
+use Rattle.system_model.specs.Drawing.{judged, numbers_left}
 use Rattle.ds_system.specs.Stands.{SystemRecord, system_of, SystemEventLeads}
 use Rattle.ds_system.specs.Effects.{instance_at, write_event}
 use Rattle.ds_system.proofs.ServeLemmas.{asking_plain}

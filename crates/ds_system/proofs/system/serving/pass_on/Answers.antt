@@ -9,10 +9,10 @@ use Rattle.ds_machine.specs.declared.reply.Reply.{Reply}
 use Rattle.rs_core.specs.declared.action.Action.{Action}
 use Rattle.rs_core.specs.Action.{IsActionInPlace}
 use Rattle.rs_core.specs.Run.{offers, offer_of}
-use Rattle.ds_serve.specs.Asked.{command_of, commands}
+use Rattle.rs_to_store.specs.Asked.{command_of, commands}
 use Rattle.ds_system.specs.Effects.{AllAsked}
 use Rattle.ds_system.proofs.ServeLemmas.{asked_more, asked_none, few_of, taken_by, all_at}
-use Rattle.ds_serve.proofs.ListLemmas.{less_taken}
+use Rattle.rs_to_store.proofs.ListLemmas.{less_taken}
 use Rattle.ds_system.proofs.system.serving.pass_on.Goals as goal
 
 pub note-requires-clause-room : goal.note-requires-clause-room

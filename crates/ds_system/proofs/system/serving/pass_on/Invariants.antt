@@ -1,6 +1,6 @@
 use Rattle.std.proofs.Common.{◌≡◌, ◌++◌, take, vec_capacity}
 use Rattle.rs_core.specs.Run.{offers}
-use Rattle.ds_serve.specs.Asked.{commands}
+use Rattle.rs_to_store.specs.Asked.{commands}
 use Rattle.ds_system.specs.Effects.{AllAsked}
 use Rattle.ds_system.proofs.system.serving.pass_on.Given as goal
 

@@ -1,7 +1,7 @@
 use Rattle.std.proofs.Common.{sym, subst}
 use Rattle.std.proofs.lemmas.Result.{on_ok_weaker, IfErr-weaker}
-use Rattle.ds_lines.specs.Reading.{LinesContent}
-use Rattle.ds_lines.specs.Streams.{CallsLead}
+use Rattle.line_io.specs.Reading.{LinesContent}
+use Rattle.line_io.specs.Streams.{CallsLead}
 use Rattle.trace_record.proofs.CauseLemmas.{room_cause, unread_cause}
 use Rattle.trace_record.proofs.StepLemmas.{both_of, entry_adds, entry_lacks, entry_unanswered, entry_unread, handed_on, keeps_on, lines_of}
 use Rattle.trace_record.proofs.recorder.Recorder.entry.Goals as goal

@@ -1,4 +1,4 @@
-use Rattle.ds_lines.specs.Pulling.{LeadsOn}
+use Rattle.line_io.specs.Pulling.{LeadsOn}
 use Rattle.trace_record.specs.Steps.{AddsItems}
 use Rattle.trace_record.proofs.recorder.Recorder.items.Given as goal
 

@@ -1,5 +1,5 @@
 use Rattle.std.proofs.Common.{sym, subst}
-use Rattle.trace_words.specs.Head.{HasNoHead}
+use Rattle.trace_model.specs.Head.{HasNoHead}
 use Rattle.trace_walk.specs.Walking.{IsFault}
 use Rattle.trace_walk.proofs.HeadLemmas.{head_wrong, head_long, ends_there}
 use Rattle.trace_walk.proofs.walk.Walk.head.Goals as goal

@@ -1,0 +1,80 @@
+//! Reading what a request asks for.
+
+ghost use Rattle.std.specs.Prelude.{◌≡◌, IfOk, OnErr, IsTrue};
+ghost use Rattle.std.specs.Option.{option_map};
+ghost use Rattle.ds_machine.specs.declared.command.Command.TheVariants.{Retrieve, NameOf, Check};
+ghost use Rattle.c_values.specs.Request.{command_of, key_of, caller_of};
+ghost use Rattle.c_values.specs.Asked.{has_text, ReadsRequest};
+
+use crate::lines::read_items;
+use crate::parts::{caller_of, delete, key_of, sweep};
+use crate::request::Request;
+use crate::texts::{page, publish, since, snapshot, subscribe};
+use ds_machine::Command;
+use ds_names::NoRoom;
+use std::alloc::Global;
+
+fn retrieve(request: &Request) -> Option<Command>
+    ensures { result ≡ option_map Retrieve (key_of request.now) }
+{
+    let key = key_of(request)?;
+    Some(Command::Retrieve { key })
+}
+
+fn name_of(request: &Request) -> Option<Command>
+    ensures { result ≡ option_map NameOf (caller_of request.now) }
+{
+    let endpoint = caller_of(request)?;
+    Some(Command::NameOf { endpoint })
+}
+
+// The command of a request, but a Merge.
+#[tactic(auto, unfolding(crate::specs::Request::command_of))]
+fn command(alloc: Global, request: &Request, text: &[u8]) -> Result<Option<Command>, NoRoom>
+    ensures read { IfOk result (λ command. command ≡ command_of request.now text.now) }
+    ensures room { OnErr result (IsTrue (has_text request.now)) }
+{
+    match request.command {
+        0 => publish(alloc, request, text),
+        1 => Ok(delete(request)),
+        2 => Ok(sweep(request)),
+        3 => Ok(retrieve(request)),
+        4 => Ok(name_of(request)),
+        5 => subscribe(alloc, request, text),
+        6 => Ok(Some(Command::Check {
+            sub: request.sub,
+            max: request.max,
+        })),
+        7 => since(alloc, request, text),
+        8 => snapshot(alloc, request, text),
+        9 => page(alloc, request, text),
+        _ => Ok(None),
+    }
+}
+
+// The Merge of the items whose lines the text is.
+fn merge(alloc: Global, request: &Request, text: &[u8]) -> Result<Option<Command>, NoRoom>
+    requires { request.now.command ≡ 10 }
+    ensures { ReadsRequest request.now text.now result }
+{
+    match read_items(alloc, text) {
+        Ok(Some(items)) => Ok(Some(Command::Merge { items })),
+        Ok(None) => Ok(None),
+        Err(NoRoom) => Err(NoRoom),
+    }
+}
+
+/// The command that a request with this text asks for. `None` where no command has such parts, and NoRoom where memory is wanting
+/// for its text.
+pub fn read_request(
+    alloc: Global,
+    request: &Request,
+    text: &[u8],
+) -> Result<Option<Command>, NoRoom>
+    ensures { ReadsRequest request.now text.now result }
+{
+    if request.command == 10 {
+        return merge(alloc, request, text);
+    }
+    command(alloc, request, text)
+}

@@ -1,0 +1,237 @@
+//! The parts of a request that take memory, and the commands of them.
+
+ghost use Rattle.std.specs.Prelude.{◌≡◌, [], MatchOption, IfOk};
+ghost use Rattle.std.specs.Option.{option_map};
+ghost use Rattle.ds_machine.specs.declared.command.Command.TheVariants.{Snapshot};
+ghost use Rattle.c_values.specs.Asked.{request_text};
+ghost use Rattle.c_values.specs.Request.{string_at, memory_at, valued, query_at, scope_of};
+ghost use Rattle.c_values.specs.Request.{publish_of, publish_command, subscribe_of, since_of_request, page_of_request};
+
+use crate::parts::{behind, caller_of, endpoint, key_of, version};
+use crate::request::Request;
+use ds_entry::{Blob, BlobFault, Text, TextFault, Value};
+use ds_feed::Cursor;
+use ds_machine::{Command, Scope};
+use ds_names::{Endpoint, Key, Kind, Kinds, NoRoom, Version};
+use ds_pattern::{PatternText, Query};
+use std::alloc::Global;
+
+/// The text of a request. `None` where it isn't within the texts.
+#[tactic(auto, unfolding(crate::specs::Asked::text_in))]
+pub fn text_of<'a>(texts: &'a [u8], request: &Request) -> Option<&'a [u8]>
+    ensures { let text = request_text request.now texts.now in MatchOption result (text ≡ None) (λ t. text ≡ Some t.now) }
+{
+    let behind = texts.get(request.text_at as usize..)?;
+    behind.get(..request.text_length as usize)
+}
+
+#[tactic(auto, unfolding(crate::specs::Request::string_at))]
+fn string(alloc: Global, text: &[u8]) -> Result<Option<Value>, NoRoom>
+    ensures { IfOk result (λ value. value ≡ string_at text.now) }
+{
+    match Text::read(alloc, text) {
+        Ok(text) => Ok(Some(Value::Str(text))),
+        Err(TextFault::NoRoom) => Err(NoRoom),
+        Err(_) => Ok(None),
+    }
+}
+
+#[tactic(auto, unfolding(crate::specs::Request::memory_at))]
+fn memory(alloc: Global, bytes: &[u8]) -> Result<Option<Value>, NoRoom>
+    ensures { IfOk result (λ value. value ≡ memory_at bytes.now) }
+{
+    match Blob::read(alloc, bytes) {
+        Ok(blob) => Ok(Some(Value::Mem(blob))),
+        Err(BlobFault::NoRoom) => Err(NoRoom),
+        Err(_) => Ok(None),
+    }
+}
+
+fn value(alloc: Global, request: &Request, text: &[u8], kind: Kind) -> Result<Option<Value>, NoRoom>
+    ensures { IfOk result (λ value. value ≡ valued request.now text.now kind) }
+{
+    match kind {
+        Kind::Label => Ok(label(request)),
+        Kind::U32 => Ok(Some(Value::U32(request.value))),
+        Kind::Str => string(alloc, text),
+        Kind::Mem => memory(alloc, text),
+    }
+}
+
+fn label(request: &Request) -> Option<Value>
+    ensures { result ≡ valued request.now [] Kind.Label }
+{
+    let endpoint = endpoint(request.value, request.value_slot)?;
+    Some(Value::Label(endpoint))
+}
+
+/// What a Publish asks for, in parts.
+#[derive(Drop)]
+pub struct Publication {
+    pub caller: Endpoint,
+    pub key: Key,
+    pub version: Version,
+    pub value: Value,
+    pub overwrite: bool,
+}
+
+impl Publication {
+    /// The command of these parts.
+    #[inline(always)]
+    pub fn command(self) -> Command
+        ensures { result ≡ publish_command self }
+    {
+        let Publication {
+            caller,
+            key,
+            version,
+            value,
+            overwrite,
+        } = self;
+        Command::Publish {
+            caller,
+            key,
+            version,
+            value,
+            overwrite,
+        }
+    }
+}
+
+/// What a request with this text asks to publish.
+#[inline(always)]
+#[tactic(auto, unfolding(crate::specs::Request::publish_of))]
+pub fn read_publication(
+    alloc: Global,
+    request: &Request,
+    text: &[u8],
+) -> Result<Option<Publication>, NoRoom>
+    ensures { IfOk result (λ asked. option_map publish_command asked ≡ publish_of request.now text.now) }
+{
+    let Some(key) = key_of(request) else {
+        return Ok(None);
+    };
+    let Some(caller) = caller_of(request) else {
+        return Ok(None);
+    };
+    let Some(version) = version(request) else {
+        return Ok(None);
+    };
+    let Some(value) = value(alloc, request, text, key.kind)? else {
+        return Ok(None);
+    };
+    Ok(Some(Publication {
+        caller,
+        key,
+        version,
+        value,
+        overwrite: request.overwrite != 0,
+    }))
+}
+
+pub(crate) fn publish(
+    alloc: Global,
+    request: &Request,
+    text: &[u8],
+) -> Result<Option<Command>, NoRoom>
+    ensures { IfOk result (λ command. command ≡ publish_of request.now text.now) }
+{
+    match read_publication(alloc, request, text)? {
+        Some(asked) => Ok(Some(asked.command())),
+        None => Ok(None),
+    }
+}
+
+#[tactic(auto, unfolding(crate::specs::Request::query_at))]
+fn query(alloc: Global, bits: u8, text: &[u8]) -> Result<Option<Query>, NoRoom>
+    ensures { IfOk result (λ query. query ≡ query_at bits text.now) }
+{
+    let Some(kinds) = Kinds::of(bits) else {
+        return Ok(None);
+    };
+    let text = PatternText::of(alloc, text)?;
+    Ok(Some(Query { text, kinds }))
+}
+
+#[tactic(auto, unfolding(crate::specs::Request::scope_of))]
+fn scope(alloc: Global, request: &Request, text: &[u8]) -> Result<Option<Scope>, NoRoom>
+    ensures { IfOk result (λ scope. scope ≡ scope_of request.now text.now) }
+{
+    if request.under == 0 {
+        return Ok(Some(Scope::All));
+    }
+    match query(alloc, request.kinds, text)? {
+        Some(query) => Ok(Some(Scope::Under(query))),
+        None => Ok(None),
+    }
+}
+
+#[tactic(auto, unfolding(crate::specs::Request::subscribe_of))]
+pub(crate) fn subscribe(
+    alloc: Global,
+    request: &Request,
+    text: &[u8],
+) -> Result<Option<Command>, NoRoom>
+    ensures { IfOk result (λ command. command ≡ subscribe_of request.now text.now) }
+{
+    let Some(query) = query(alloc, request.kinds, text)? else {
+        return Ok(None);
+    };
+    Ok(Some(Command::Subscribe {
+        sub: request.sub,
+        query,
+        initial: request.initial != 0,
+        overwrite: request.overwrite != 0,
+    }))
+}
+
+#[tactic(auto, unfolding(crate::specs::Request::since_of_request))]
+pub(crate) fn since(
+    alloc: Global,
+    request: &Request,
+    text: &[u8],
+) -> Result<Option<Command>, NoRoom>
+    ensures { IfOk result (λ command. command ≡ since_of_request request.now text.now) }
+{
+    let Some(scope) = scope(alloc, request, text)? else {
+        return Ok(None);
+    };
+    Ok(Some(Command::Since {
+        scope,
+        cursor: Cursor {
+            incarnation: request.incarnation,
+            position: request.position,
+        },
+        max: request.max,
+    }))
+}
+
+pub(crate) fn snapshot(
+    alloc: Global,
+    request: &Request,
+    text: &[u8],
+) -> Result<Option<Command>, NoRoom>
+    ensures { IfOk result (λ command. command ≡ option_map Snapshot (scope_of request.now text.now)) }
+{
+    let Some(scope) = scope(alloc, request, text)? else {
+        return Ok(None);
+    };
+    Ok(Some(Command::Snapshot { scope }))
+}
+
+#[tactic(auto, unfolding(crate::specs::Request::page_of_request))]
+pub(crate) fn page(alloc: Global, request: &Request, text: &[u8]) -> Result<Option<Command>, NoRoom>
+    ensures { IfOk result (λ command. command ≡ page_of_request request.now text.now) }
+{
+    let Some(after) = behind(request) else {
+        return Ok(None);
+    };
+    let Some(scope) = scope(alloc, request, text)? else {
+        return Ok(None);
+    };
+    Ok(Some(Command::Page {
+        scope,
+        after,
+        max: request.max,
+    }))
+}

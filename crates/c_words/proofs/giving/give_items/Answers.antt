@@ -1,5 +1,0 @@
-use Rattle.c_words.proofs.GivingLemmas.{given_behind}
-use Rattle.c_words.proofs.giving.give_items.Goals as goal
-
-pub returns : goal.returns
-returns c = given_behind c.args.items.now c.args.first c.args.room.now c.give_lines.new.room c.give_lines.result c.give_lines.ensures

@@ -1,9 +1,0 @@
-use Rattle.std.proofs.Common.{◌≡◌, ◌++◌, length, take}
-use Rattle.ds_answers.specs.Tables.{all_in, move_lines}
-use Rattle.ds_answers.proofs.moves.append_rounds.Given as goal
-
-abbrev pub invariant-loop-round : goal.invariant-loop-round
-invariant-loop-round l = record {
-  lines : l.output.items ≡ l.initial.output.items ++ move_lines (all_in (take l.round-index l.round-items));
-  count : l.count ≡ length (all_in (take l.round-index l.round-items));
-}

@@ -1,5 +1,0 @@
-use Rattle.ds_services.proofs.WrongLemmas.{wrong_turns as the_law}
-use Rattle.ds_services.proofs.laws.wrong_turns_are_refused.Goals as goal
-
-pub returns : goal.returns
-returns c = the_law

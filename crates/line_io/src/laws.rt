@@ -1,0 +1,8 @@
+//! Laws of lines, over definitions alone.
+
+ghost use Rattle.line_io.specs.Lines.{InputsHaveLines};
+
+/// Every input has lines.
+pub fn inputs_have_lines()
+    ensures { InputsHaveLines }
+{}

@@ -1,0 +1,75 @@
+//! Lines of at most 4096 bytes, one after the other.
+
+ghost use Rattle.std.specs.Prelude.{◌≡◌, ◌≤◌, length};
+ghost use Rattle.line_io.specs.Lines.{IsUnbroken};
+ghost use Rattle.line_io.specs.Pulling.{left, Pulls, PulledBy, IsJudged, ComesToEnd};
+
+use crate::lines::Lines;
+use crate::streams::Source;
+use crate::transfer::Filled;
+
+/// The most bytes of a line, its newline not counted.
+pub const LONGEST_LINE: usize = 4096;
+
+/// What came of going to the next line.
+#[derive(Clone, Copy, Debug, PartialEq, Eq)]
+pub enum Pulled {
+    /// It is gone to.
+    Line,
+    /// It is above 4096 bytes.
+    Long,
+    /// There is none.
+    End,
+    /// The reader failed, or was read 2^32 times.
+    ReadFault,
+    /// There is no room for it.
+    NoRoom,
+}
+
+impl Lines {
+    /// Goes to the next line, and reads until its end is there, or until it is too long. The last one may have no newline.
+    pub fn pull<R: Source>(&mut self, reader: &mut R) -> Pulled
+        ensures pulls { Pulls result (left self.old (R.remaining reader.old)) (left self.new (R.remaining reader.new)) self.old self.new }
+        ensures told { PulledBy R.Source result reader.old reader.new self.old.reads self.new.reads }
+    {
+        while !self.next() {
+            if self.front().len() > LONGEST_LINE {
+                return Pulled::Long;
+            }
+            if !self.may_read() {
+                return Pulled::ReadFault;
+            }
+            match self.read(reader) {
+                Filled::More | Filled::Interrupted => {}
+                Filled::End => return self.ended(),
+                Filled::Failed => return Pulled::ReadFault,
+                Filled::NoRoom => return Pulled::NoRoom,
+            }
+        }
+        self.judged()
+    }
+
+    // The line that it is at may be too long.
+    fn judged(&self) -> Pulled
+        ensures { IsJudged result self.now.line }
+    {
+        if self.line().len() > LONGEST_LINE + 1 {
+            Pulled::Long
+        } else {
+            Pulled::Line
+        }
+    }
+
+    // There is no more to read: what waits is the last line.
+    fn ended(&mut self) -> Pulled
+        requires { IsUnbroken self.old.rest }
+        ensures ends { ComesToEnd result self.old self.new }
+        ensures reads { self.new.reads ≡ self.old.reads }
+    {
+        match self.last() {
+            Ok(true) => Pulled::Line,
+            Ok(false) => Pulled::End,
+            Err(_) => Pulled::NoRoom,
+        }
+    }
+}

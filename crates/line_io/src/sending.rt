@@ -1,0 +1,42 @@
+//! Writing what waits.
+
+ghost use Rattle.std.specs.Prelude.{◌≡◌, [], OnOk, OnErr};
+ghost use Rattle.std.specs.Io.KnownBytes.{Appends};
+ghost use Rattle.line_io.specs.Streams.{HasFailedWrite};
+ghost use Rattle.line_io.specs.Transfer.{WritesPart, SendsFront};
+
+use crate::streams::Sink;
+use crate::transfer::{WriteFailed, write_out};
+
+/// What waits for the next read is written earlier once that are so many bytes.
+const FULL: usize = 65536;
+
+/// Writes what waits, where that are 65536 bytes or more.
+pub fn send_full<W: Sink>(writer: &mut W, output: &mut Vec<u8>) -> Result<(), WriteFailed>
+    ensures ok { OnOk result (SendsFront (W.contents writer.old) (W.contents writer.new) output.old.items output.new.items) }
+    ensures err { OnErr result (WritesPart (W.contents writer.old) (W.contents writer.new) output.old.items) }
+    ensures cause { OnErr result (HasFailedWrite W.writes W.fails writer.new) }
+{
+    if output.len() < FULL {
+        return Ok(());
+    }
+    match send(writer, output) {
+        Ok(()) => Ok(()),
+        Err(failed) => Err(failed),
+    }
+}
+
+/// Writes what waits. Where the writer fails it has got a front of it.
+pub fn send<W: Sink>(writer: &mut W, output: &mut Vec<u8>) -> Result<(), WriteFailed>
+    ensures ok { OnOk result (Appends (W.contents writer.old) (W.contents writer.new) output.old.items × (output.new.items ≡ [])) }
+    ensures err { OnErr result (WritesPart (W.contents writer.old) (W.contents writer.new) output.old.items) }
+    ensures cause { OnErr result (HasFailedWrite W.writes W.fails writer.new) }
+{
+    match write_out(writer, output.as_slice()) {
+        Ok(()) => {
+            output.clear();
+            Ok(())
+        }
+        Err(failed) => Err(failed),
+    }
+}

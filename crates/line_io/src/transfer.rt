@@ -1,0 +1,99 @@
+//! Bytes from a reader and to a writer.
+
+ghost use Rattle.std.specs.Prelude.{◌≡◌, ◌≤◌, ◌<◌, ◌+◌, [], IfOk, OnOk, OnErr, length, drop, vec_len};
+ghost use Rattle.std.specs.Io.KnownBytes.{Appends};
+ghost use Rattle.line_io.specs.Streams.{HasFailedWrite};
+ghost use Rattle.line_io.specs.Transfer.{Fills, FillsBy, WritesFront, WritesPart};
+
+use crate::missed::Missed;
+use crate::streams::{Sink, Source};
+
+/// What became of one read.
+#[derive(Clone, Copy, Debug, PartialEq, Eq)]
+pub enum Filled {
+    /// Some bytes came.
+    More,
+    /// The reader has no more.
+    End,
+    /// A signal came in the way. Nothing was read, and the next read may give more.
+    Interrupted,
+    /// The reader failed.
+    Failed,
+    /// Bytes came that there is no room for.
+    NoRoom,
+}
+
+/// Reads once, and puts what came behind the bytes that wait.
+pub(crate) fn fill<R: Source>(reader: &mut R, chunk: &mut [u8], pending: &mut Vec<u8>) -> Filled
+    requires { 0 < length chunk.old }
+    ensures fills { Fills result (R.remaining reader.old) (R.remaining reader.new) pending.old.items pending.new.items }
+    ensures told { FillsBy R.reads R.fails result reader.old reader.new }
+    ensures most { vec_len pending.new ≤ vec_len pending.old + length chunk.old }
+    ensures chunk { length chunk.new ≡ length chunk.old }
+{
+    match reader.read(chunk) {
+        Ok(0) => Filled::End,
+        Ok(count) => match pending.extend_from_slice(&chunk[..count]) {
+            Ok(()) => Filled::More,
+            Err(_) => Filled::NoRoom,
+        },
+        Err(Missed::Interrupted) => Filled::Interrupted,
+        Err(Missed::Failed) => Filled::Failed,
+    }
+}
+
+/// The writer failed, or took no bytes.
+#[derive(Clone, Copy, Debug, PartialEq, Eq)]
+pub struct WriteFailed;
+
+/// Writes all of the text. Where the writer fails it has got a front of it.
+pub fn write_out<W: Sink>(writer: &mut W, text: &[u8]) -> Result<(), WriteFailed>
+    ensures ok { OnOk result (Appends (W.contents writer.old) (W.contents writer.new) text.now) }
+    ensures err { OnErr result (WritesPart (W.contents writer.old) (W.contents writer.new) text.now) }
+    ensures cause { OnErr result (HasFailedWrite W.writes W.fails writer.new) }
+{
+    let mut rest = text;
+    for _turn in 0..u64::MAX {
+        if rest.is_empty() {
+            return Ok(());
+        }
+        match write_once(writer, rest) {
+            Ok(count) => rest = behind(rest, count),
+            Err(failed) => return Err(failed),
+        }
+    }
+    Err(WriteFailed)
+}
+
+// Writes once, and gives the number of bytes that were taken: 0 where a signal came in the way.
+fn write_once<W: Sink>(writer: &mut W, text: &[u8]) -> Result<usize, WriteFailed>
+    ensures ok { IfOk result (λ count. WritesFront (W.contents writer.old) (W.contents writer.new) count text.now) }
+    ensures err { OnErr result (Appends (W.contents writer.old) (W.contents writer.new) []) }
+    ensures led { OnOk result (W.writes writer.old writer.new) }
+    ensures fails { OnErr result (W.fails writer.old writer.new) }
+{
+    match writer.write(text) {
+        Ok(0) => Err(WriteFailed),
+        Ok(count) => Ok(count),
+        Err(Missed::Interrupted) => Ok(0),
+        Err(Missed::Failed) => Err(WriteFailed),
+    }
+}
+
+// What comes behind the first `count` bytes.
+fn behind(text: &[u8], count: usize) -> &[u8]
+    requires { count ≤ length text.now }
+    ensures { result.now ≡ drop count text.now }
+{
+    &text[count..]
+}
+
+/// Leaves out the first `count` bytes.
+pub(crate) fn drop_front(bytes: &mut Vec<u8>, count: usize)
+    requires { count ≤ vec_len bytes.old }
+    ensures { bytes.new.items ≡ drop count bytes.old.items }
+{
+    let left = bytes.len() - count;
+    bytes.copy_within(count.., 0);
+    bytes.truncate(left);
+}

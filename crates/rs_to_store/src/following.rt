@@ -1,0 +1,43 @@
+//! A driver table follows a map.
+
+ghost use Rattle.ds_held.specs.Held.{held_items};
+ghost use Rattle.rs_to_store.specs.Following.{HasFollowed};
+
+use crate::news::told;
+use driver_tables::{Drivers, Moves, TableFault};
+use ds_submap::SubMap;
+
+/// A server's table takes what a map tells of its labels, in the order in which its units were assigned. The moves of each label
+/// that it is told something of are a round, and come behind the rounds before. It gives what ended that, if anything did.
+///
+/// A label of which the map holds no change is passed over, and so is a tombstone of an epoch below the newest generation that
+/// the table knows of the label, and a state that is an OldEndpoint. Any other tombstone says that there is no driver now.
+/// NoRoom ends it at a label that has a round, and what was followed is kept: the rounds before it stand, and the table has taken
+/// them.
+pub fn follow<T: Drivers>(
+    table: &mut T,
+    map: &SubMap,
+    rounds: &mut Vec<Moves>,
+) -> Option<TableFault>
+    ensures { HasFollowed (held_items map.now.held) (T.kept table.old) (T.kept table.new) rounds.old.items rounds.new.items result }
+{
+    for index in 0..table.unit_count() {
+        let Some(label) = table.label_at(index) else {
+            return None;
+        };
+        let Some(state) = told(map, &label, table.newest(&label)) else {
+            continue;
+        };
+        if table.is_old(&label, &state) {
+            continue;
+        }
+        if rounds.reserve(1).is_err() {
+            return Some(TableFault::NoRoom);
+        }
+        match table.changed(&label, state) {
+            Ok(moves) => rounds.push_reserved(moves),
+            Err(fault) => return Some(fault),
+        }
+    }
+    None
+}

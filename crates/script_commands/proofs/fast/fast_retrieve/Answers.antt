@@ -1,0 +1,27 @@
+use Rattle.std.proofs.Common.{Err, Ok}
+use Rattle.script_commands.specs.Fast.{retrieve_read}
+use Rattle.script_commands.specs.declared.word.Word.TheVariants as words
+use Rattle.script_commands.proofs.FrontLemmas.{begins, front_later, reads_front}
+use Rattle.script_commands.proofs.fast.fast_retrieve.Goals as goal
+
+pub fault_behind_word-requires-clause-stop : goal.fault_behind_word-requires-clause-stop
+fault_behind_word-requires-clause-stop c =
+    let front = begins words.Retrieve c.args.line.now c.split_at.result.1.now c.requires.retrieve c.split_at.ensures.back in
+    (words.Retrieve, c.split_at.result.1.now, front, c.in-Err.ensures)
+
+pub returns-in-Ok-clause-first : goal.returns-in-Ok-clause-first
+returns-in-Ok-clause-first c =
+    let front = begins words.Retrieve c.args.line.now c.split_at.result.1.now c.requires.retrieve c.split_at.ensures.back in
+    reads_front words.Retrieve c.args.line.now c.split_at.result.1.now _ c.requires.line front c.in-Ok.ensures
+
+pub returns-in-Ok-clause-later : goal.returns-in-Ok-clause-later
+returns-in-Ok-clause-later c =
+    let front = begins words.Retrieve c.args.line.now c.split_at.result.1.now c.requires.retrieve c.split_at.ensures.back in
+    front_later words.Retrieve c.args.line.now c.split_at.result.1.now (retrieve_read (Ok c.in-Ok.key)) (λ same. absurd (cc)) front
+    (reads_front words.Retrieve c.args.line.now c.split_at.result.1.now _ c.requires.line front c.in-Ok.ensures)
+
+pub returns-in-Err-clause-later : goal.returns-in-Err-clause-later
+returns-in-Err-clause-later c =
+    let front = begins words.Retrieve c.args.line.now c.split_at.result.1.now c.requires.retrieve c.split_at.ensures.back in
+    front_later words.Retrieve c.args.line.now c.split_at.result.1.now (Err c.fault_behind_word.result) (λ same. absurd (cc)) front
+    c.fault_behind_word.ensures

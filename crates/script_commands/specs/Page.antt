@@ -1,0 +1,35 @@
+-- Where a page begins, and how many changes it has, as lines write it.
+use Rattle.std.specs.Prelude.{ℕ, ◌<◌, ◌^◌, List, [], ◌∷◌, ◌++◌, codes, Option, None, Some}
+use Rattle.std.specs.Fmt.{decimal}
+use Rattle.ds_names.specs.Name.{IsName}
+use Rattle.ds_names.specs.declared.key.Key.{Key}
+use Rattle.ds_line.specs.Part.{Part, part, Name, Number}
+use Rattle.ds_line.specs.Spelling.{space}
+use Rattle.ds_line.specs.Piece.{Piece}
+use Rattle.script_commands.specs.Key.{key_parts}
+
+-- `-` for no key
+abbrev pub no_key : List ℕ
+no_key = codes "-"
+
+-- the key that a page begins behind, or `-` for none, which ends like a name
+abbrev pub after_parts : Option Key → List Part
+after_parts None = part Name no_key ∷ []
+after_parts (Some key) = key_parts key
+
+-- the key, if there is one, can be written
+abbrev pub IsAfter : Option Key → Type 0
+IsAfter None = Unit {0}
+IsAfter (Some key) = IsName key.name
+
+-- behind which key the page begins, and how many changes it has at most
+abbrev pub range_parts : Option Key → ℕ → List Part
+range_parts after max = after_parts after ++ space ∷ part Number (decimal max) ∷ []
+
+-- a range of a page
+abbrev pub a_range : Piece
+a_range = record {
+  Of = Option Key × ℕ;
+  Can = λ (x : Option Key × ℕ). IsAfter x.0 × (x.1 < 2 ^ 32);
+  parts = λ (x : Option Key × ℕ). space ∷ range_parts x.0 x.1;
+}

@@ -1,0 +1,97 @@
+//! Queries as lines write them: a pattern in quotes, and the mask of the kinds.
+
+#![tactic(auto, unfolding(crate::specs::Reads::ReadsOr))]
+
+ghost use Rattle.std.specs.Prelude.{◌≡◌, ◌≢◌, ◌++◌, ℕ, List, Err, IfOk, IfErr, IfSome, IfNone};
+ghost use Rattle.ds_line.specs.Spelling.{escaped, escaped_byte, quoted};
+ghost use Rattle.line_io.specs.Lines.{IsUnbroken};
+ghost use Rattle.script_commands.specs.Pieces.{a_pattern};
+ghost use Rattle.script_commands.specs.Query.{IsWrittenText, unescaped, written_query};
+ghost use Rattle.script_commands.specs.Reads.{Reads, FindsPattern};
+
+use crate::pieces::Rest;
+use ds_line::{Expected, PartFault, stop_at};
+use ds_names::{Kinds, NoRoom, read_byte};
+use ds_pattern::{PatternText, Query};
+use std::alloc::Global;
+
+impl<'a> Rest<'a> {
+    /// Reads a pattern in quotes, and gives what is written between them: only where the whole line is read does the
+    /// pattern take memory.
+    pub fn pattern(&mut self) -> Result<&'a [u8], PartFault>
+        ensures found { IfOk result (λ text. FindsPattern text.now self.old.bytes.now self.new.bytes.now) }
+        ensures stop { IfErr result (λ stop. Reads a_pattern self.old.bytes.now (Err stop) self.new.bytes.now) }
+    {
+        self.byte(b' ', Expected::Space)?;
+        self.expected = Expected::Pattern;
+        let Some((text, rest)) = quoted_at(self.bytes) else {
+            return Err(stop_at(self.bytes));
+        };
+        self.bytes = rest;
+        Ok(text)
+    }
+}
+
+/// The query of a pattern that is written so between its quotes, and of some kinds. NoRoom: out of memory for the
+/// pattern.
+pub(crate) fn query_of(alloc: Global, written: &[u8], kinds: Kinds) -> Result<Query, NoRoom>
+    requires { IsWrittenText written.now }
+    ensures { IfOk result (λ query. written_query written.now kinds ≡ query) }
+{
+    let text = unescape(alloc, written)?;
+    Ok(Query { text, kinds })
+}
+
+// Reads one byte of a text as it stands in quotes: `\"` is a quote and `\\` a backslash, and each other byte but the
+// newline stands for itself.
+fn written_byte_at(bytes: &[u8]) -> Option<(u8, &[u8])>
+    ensures found { IfSome result (λ r. bytes.now ≡ escaped_byte r.0 ++ r.1.now) }
+    ensures valid { IfSome result (λ r. r.0 ≢ 10) }
+    ensures none { IfNone result ((b : ℕ) (rest : List ℕ) → b ≢ 10 → bytes.now ≢ escaped_byte b ++ rest) }
+{
+    let (first, rest) = bytes.split_first()?;
+    if *first == b'\\' {
+        let (second, rest) = rest.split_first()?;
+        if *second == b'"' || *second == b'\\' {
+            Some((*second, rest))
+        } else {
+            None
+        }
+    } else if *first != b'"' && *first != b'\n' {
+        Some((*first, rest))
+    } else {
+        None
+    }
+}
+
+// Reads the text in quotes at the front, and gives what is written between the quotes with what comes behind them.
+// `None` where no text without a newline is written there.
+pub(crate) fn quoted_at(bytes: &[u8]) -> Option<(&[u8], &[u8])>
+    ensures found { IfSome result (λ r. (text : List ℕ) × IsUnbroken text × (r.0.now ≡ escaped text)
+        × (bytes.now ≡ quoted text ++ r.1.now)) }
+    ensures none { IfNone result ((text rest : List ℕ) → IsUnbroken text → bytes.now ≢ quoted text ++ rest) }
+{
+    let written = read_byte(bytes, b'"')?;
+    let mut rest = written;
+    while let Some((_, behind)) = written_byte_at(rest) {
+        rest = behind;
+    }
+    let Some(behind) = read_byte(rest, b'"') else {
+        return None;
+    };
+    Some((&written[..written.len() - rest.len()], behind))
+}
+
+// The text that is written so.
+fn unescape(alloc: Global, written: &[u8]) -> Result<PatternText, NoRoom>
+    requires { IsWrittenText written.now }
+    ensures { IfOk result (λ text. unescaped written.now ≡ text) }
+{
+    let mut text = Vec::new(alloc);
+    let mut rest = written;
+    while let Some((byte, behind)) = written_byte_at(rest) {
+        text.push(byte)?;
+        rest = behind;
+    }
+    PatternText::of(alloc, &text)
+}

@@ -1,0 +1,42 @@
+-- What is put behind the answers that wait.
+use Rattle.std.specs.Prelude.{◌≡◌, ℕ, ◌⊎◌, List, ◌++◌, length, Option, Result}
+use Rattle.rs_core.specs.declared.action.Action.{Action}
+use Rattle.rs_core.specs.declared.event.Event as services
+use Rattle.rs_core.specs.declared.fault.RsFault.{RsFault}
+use Rattle.ds_machine.specs.declared.command.Command.{Command}
+use Rattle.ds_replica.specs.declared.event.Event.{Event}
+use Rattle.ds_replica.specs.declared.event.Side.{Side}
+use Rattle.ds_replica.specs.declared.outcome.Outcome.{Outcome}
+use Rattle.ds_world.specs.World.{WorldRecord}
+use Rattle.store_answers.specs.Reply.{refused_noroom}
+use Rattle.script_services.specs.Servers.{Servers, ServersRecord, ServersLead}
+pub use Rattle.service_answers.specs.Appending.{AppendsSome}
+use Rattle.script_services.specs.Services.{AsksIfAny, TellsActions, AnswersService}
+
+-- the answer of what so leads from servers to servers is
+abbrev pub AppendsLed : (Servers → List ℕ → Servers → Type 0) → (before after : List ℕ) → (old new : ServersRecord) → Type 0
+AppendsLed R before after old new = (out : List ℕ) × (after ≡ before ++ out) × ServersLead (λ s t. R s out t) old new
+
+-- for want of memory a line is refused, and nothing changes
+abbrev pub AreServersRefused : ServersRecord → List ℕ → ServersRecord → Type 0
+AreServersRefused old out new = (new ≡ old) × (out ≡ refused_noroom)
+
+-- that answer is, or that there is no memory for it
+abbrev pub AppendsLedOrRefuses : (Servers → List ℕ → Servers → Type 0) → (before after : List ℕ) → (old new : ServersRecord) → Type 0
+AppendsLedOrRefuses R before after old new =
+    (out : List ℕ) × (after ≡ before ++ out) × (ServersLead (λ s t. R s out t) old new ⊎ AreServersRefused old out new)
+
+-- what RS answers an event is
+abbrev pub AppendsService : services.Event → ℕ → Side → (before after : List ℕ) → (old : ServersRecord) → (from : WorldRecord) → (new : ServersRecord) → (to : WorldRecord) → Type 0
+AppendsService event tick side before after old from new to =
+    (out : List ℕ) × (after ≡ before ++ out) × AnswersService event tick side old from out new to
+
+-- what is told of RS's actions is, or why it does nothing
+abbrev pub AppendsTold : Side → Result (List Action) RsFault → (before after : List ℕ) → (old new : WorldRecord) → Type 0
+AppendsTold side answer before after old new =
+    (out : List ℕ) × (events : List (Event × Outcome)) × (after ≡ before ++ out) × TellsActions side answer old out events new
+
+-- what a store replies is, if it is asked
+abbrev pub AppendsAsked : Side → Option Command → (before after : List ℕ) → (old new : WorldRecord) → Type 0
+AppendsAsked side command before after old new =
+    (out : List ℕ) × (events : List (Event × Outcome)) × (after ≡ before ++ out) × AsksIfAny side command old out events new

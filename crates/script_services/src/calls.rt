@@ -1,0 +1,72 @@
+//! The answers to `assign` and `reply`.
+
+ghost use Rattle.std.specs.Prelude.{◌≡◌, ◌++◌, OnOk, OnErr};
+ghost use Rattle.driver_tables.specs.Run.{no_moves, one_move};
+ghost use Rattle.script_services.specs.Tables.{assign_text, answer_text, AnswersAssign, AnswersReply};
+ghost use Rattle.script_services.specs.Waiting.{AppendsLed};
+
+use crate::servers::Servers;
+use driver_tables::{Move, TableFault};
+use ds_names::{Endpoint, Name, NoRoom};
+use script_commands::{Device, Server};
+use service_answers::{append_assigned, append_move, append_table_fault};
+
+impl Servers {
+    /// Assigns a device to the driver with a label, and puts `assigned` behind the answers that wait, or why it isn't.
+    pub fn assign(
+        &mut self,
+        device: Device,
+        label: &Name,
+        output: &mut Vec<u8>,
+    ) -> Result<(), NoRoom>
+        ensures answered { OnOk result (AppendsLed (AnswersAssign device label.now) output.old.items output.new.items self.old self.new) }
+        ensures unanswered { OnErr result (output.new.items ≡ output.old.items) }
+    {
+        match device {
+            Device::File { major, class } => {
+                append_assignment(self.file.assign(major, class, label), output)
+            }
+            Device::Net { port } => append_assignment(self.net.assign(port, label), output),
+        }
+    }
+
+    /// Gives a server's table a driver's reply to a request, and puts the move that it makes behind the answers that wait, or why it
+    /// makes none.
+    pub fn reply(
+        &mut self,
+        server: Server,
+        endpoint: Endpoint,
+        id: u64,
+        output: &mut Vec<u8>,
+    ) -> Result<(), NoRoom>
+        ensures answered { OnOk result (AppendsLed (AnswersReply server endpoint id) output.old.items output.new.items self.old self.new) }
+        ensures unanswered { OnErr result (output.new.items ≡ output.old.items) }
+    {
+        match server {
+            Server::File => append_answer(self.file.reply(endpoint, id), output),
+            Server::Net => append_answer(self.net.reply(endpoint, id), output),
+        }
+    }
+}
+
+// Appends that a device was assigned, or why it wasn't.
+fn append_assignment(assigned: Result<(), TableFault>, output: &mut Vec<u8>) -> Result<(), NoRoom>
+    ensures written { OnOk result (output.new.items ≡ output.old.items ++ assign_text (no_moves assigned)) }
+    ensures unchanged { OnErr result (output.new.items ≡ output.old.items) }
+{
+    match assigned {
+        Ok(()) => append_assigned(output),
+        Err(fault) => append_table_fault(output, fault),
+    }
+}
+
+// Appends the move that a reply makes, or why it makes none.
+fn append_answer(replied: Result<Move, TableFault>, output: &mut Vec<u8>) -> Result<(), NoRoom>
+    ensures written { OnOk result (output.new.items ≡ output.old.items ++ answer_text (one_move replied)) }
+    ensures unchanged { OnErr result (output.new.items ≡ output.old.items) }
+{
+    match replied {
+        Ok(step) => append_move(output, step),
+        Err(fault) => append_table_fault(output, fault),
+    }
+}

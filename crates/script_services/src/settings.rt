@@ -1,0 +1,44 @@
+//! The answer to `settings`.
+
+ghost use Rattle.std.specs.Prelude.{◌≡◌, OnOk, OnErr};
+ghost use Rattle.script_services.specs.Services.{AnswersSettings};
+ghost use Rattle.script_services.specs.Waiting.{AppendsLedOrRefuses};
+
+use crate::servers::Servers;
+use ds_names::NoRoom;
+use rs_core::Rs;
+use rs_settings::read;
+use service_answers::{append_exists, append_settings, append_settings_fault};
+use std::alloc::Global;
+use store_answers::append_noroom;
+
+/// The generation of the first start.
+const FIRST: u32 = 1;
+
+impl Servers {
+    /// Reads a settings text, and begins RS with it, whose services are all down then: how many services and slots there are is put
+    /// behind the answers that wait, or why the text is refused. Behind accepted settings no text is looked at.
+    ///
+    /// A text for which there is no memory is refused by name, and changes nothing. `Err` says that there was no room for the answer
+    /// itself, and none of it stands then.
+    pub fn accept(&mut self, alloc: Global, text: &[u8], output: &mut Vec<u8>) -> Result<(), NoRoom>
+        ensures answered { OnOk result (AppendsLedOrRefuses (AnswersSettings text.now)
+            output.old.items output.new.items self.old self.new) }
+        ensures unanswered { OnErr result (output.new.items ≡ output.old.items) }
+    {
+        if self.services.is_some() {
+            return append_exists(output);
+        }
+        let settings = match read(alloc, text) {
+            Ok(settings) => settings,
+            Err(fault) => return append_settings_fault(output, fault.cause),
+        };
+        let (services, slots) = (settings.services().len(), settings.slots());
+        let Ok(rs) = Rs::new(alloc, settings, FIRST) else {
+            return append_noroom(output);
+        };
+        append_settings(output, services, slots)?;
+        self.services = Some(rs);
+        Ok(())
+    }
+}

@@ -1,0 +1,33 @@
+-- Which events a system refuses, and why, each by the first cause that stands against it.
+use Rattle.std.specs.Prelude.{◌≡◌, ◌≤◌, ◌<◌, true, length, Option, Some, None, Result, Err, IsOk}
+use Rattle.ds_entry.specs.declared.body.Body.TheVariants as bodies
+use Rattle.rs_core.specs.declared.fault.RsFault.{RsFault}
+use Rattle.rs_core.specs.declared.fault.RsFault.TheVariants as faults
+use Rattle.rs_core.specs.Judging.{refusal}
+use Rattle.system_model.specs.declared.event.SystemEvent.{SystemEvent}
+use Rattle.system_model.specs.declared.event.SystemEvent.TheVariants.{Service, Put, Remove, Again, World}
+use Rattle.system_model.specs.declared.outcome.SystemFault.{SystemFault}
+use Rattle.system_model.specs.declared.outcome.SystemFault.TheVariants as refusals
+use Rattle.system_model.specs.System.{System}
+use Rattle.system_model.specs.Drawing.{Instance, judged}
+use Rattle.system_model.specs.Steps.{is_barred}
+
+-- what RS refuses it by, or want of memory where nothing stands
+abbrev pub IsServiceFault : Option RsFault → RsFault → Type 0
+IsServiceFault stands faults.NoRoom = stands ≡ None
+IsServiceFault stands fault = stands ≡ Some fault
+
+-- what stands against a service's change, or want of memory where nothing does
+abbrev pub IsWriteFault : Result Instance SystemFault → SystemFault → Type 0
+IsWriteFault judgement refusals.NoRoom = IsOk judgement
+IsWriteFault judgement fault = judgement ≡ Err fault
+
+-- the event is refused by this fault: others none refuses, and nothing refuses a Follow, a Submit or an Answered as a whole
+abbrev pub IsSystemRefused : System → SystemEvent → SystemFault → Type 0
+IsSystemRefused s (Service event tick side) (refusals.Service fault) = IsServiceFault (refusal s.rs event tick) fault
+IsSystemRefused s (Put label key value side) fault = IsWriteFault (judged s.rs s.numberers label key (bodies.Put value)) fault
+IsSystemRefused s (Remove label key side) fault = IsWriteFault (judged s.rs s.numberers label key bodies.Gone) fault
+IsSystemRefused s (Again k side) refusals.NoMessage = length s.made ≤ k
+IsSystemRefused s (Again k side) refusals.NoRoom = k < length s.made
+IsSystemRefused s (World event) refusals.NotAllowed = is_barred event ≡ true
+IsSystemRefused s event fault = ⊥

@@ -1,0 +1,73 @@
+-- Wrong ways of a driver table to follow its map, for the law to refuse.
+use Rattle.std.specs.Prelude.{ℕ, List, [], ◌∷◌, map, Option, Some, None}
+use Rattle.ds_names.specs.Endpoint.{EndpointRecord, endpoint_of}
+use Rattle.ds_entry.specs.declared.item.Item.{Item}
+use Rattle.ds_entry.specs.declared.item.Item.TheVariants.{Change as Changed}
+use Rattle.rs_core.specs.Action.{label_put, label_gone}
+use Rattle.driver_tables.specs.declared.moves.Move.{Move}
+use Rattle.driver_tables.specs.declared.moves.Move.TheVariants.{Send}
+use Rattle.driver_tables.specs.declared.device.Class.TheVariants.{Block}
+use Rattle.driver_tables.specs.DriverTable.{DriverTable, empty_table}
+use Rattle.system_model.specs.Turn.{TableTurn}
+use Rattle.system_model.specs.Sending.{FollowsRightly}
+
+-- a label, and two endpoints that it had, one after the other
+abbrev pub disk : List ℕ
+disk = 100 ∷ []
+
+abbrev pub old : EndpointRecord
+old = endpoint_of 1 16
+
+abbrev pub young : EndpointRecord
+young = endpoint_of 2 16
+
+-- what a map holds that has the label live, and gone
+abbrev pub lives_at : EndpointRecord → List Item
+lives_at e = Changed (label_put disk e) ∷ []
+
+abbrev pub gone_since : ℕ → List Item
+gone_since g = Changed (label_gone disk g) ∷ []
+
+-- a table with a block unit of the label and a request to it, after these states of the label
+abbrev pub disk_table : List (Option EndpointRecord) → DriverTable
+disk_table states = record empty_table {
+  units = (3, record { class = Block; label = disk }) ∷ [];
+  states = map (λ (e : Option EndpointRecord). record { label = disk; endpoint = e }) states;
+  requests = record { id = 7; unit = 3 } ∷ [];
+}
+
+-- a turn of a table in which its map is followed so, to the end, and no request comes
+abbrev pub plain_turn : DriverTable → List (List Move) → DriverTable → TableTurn
+plain_turn before rounds after = record { before = before; rounds = rounds; stop = None; followed = after; own = None; after = after }
+
+-- a turn of a table that doesn't follow its map, in which a request has this move
+abbrev pub request_turn : DriverTable → Move → TableTurn
+request_turn t m = record (plain_turn t [] t) { own = Some m }
+
+-- it does nothing, though its map has the label
+abbrev pub DoesNothing : Type 0
+DoesNothing = FollowsRightly (lives_at young) (plain_turn (disk_table []) [] (disk_table [])) []
+
+-- it sends again to the endpoint that it had, where its map has a younger one
+abbrev pub SendsToOld : Type 0
+SendsToOld = FollowsRightly (lives_at young) (plain_turn (disk_table (Some old ∷ [])) ((Send 7 old ∷ []) ∷ []) (disk_table (Some old ∷ []))) []
+
+-- it sends a request there, without a look at its map
+abbrev pub SubmitsUnseen : Type 0
+SubmitsUnseen = FollowsRightly (lives_at young) (request_turn (disk_table (Some old ∷ [])) (Send 7 old)) []
+
+-- it takes what another map has, which is older
+abbrev pub FollowsAnotherMap : Type 0
+FollowsAnotherMap = FollowsRightly (lives_at young) (plain_turn (disk_table []) ((Send 7 old ∷ []) ∷ []) (disk_table (Some old ∷ []))) []
+
+-- it takes an old tombstone for the end of the endpoint
+abbrev pub EndsByOldTombstone : Type 0
+EndsByOldTombstone = FollowsRightly (gone_since 1) (plain_turn (disk_table (Some young ∷ [])) ([] ∷ []) (disk_table (Some young ∷ None ∷ []))) []
+
+-- it sends to what its map has, as one that was cleared and filled anew has it, though it sent to a younger one before
+abbrev pub GoesBack : Type 0
+GoesBack = FollowsRightly (lives_at old) (plain_turn (disk_table (Some young ∷ [])) ((Send 7 old ∷ []) ∷ []) (disk_table (Some young ∷ Some old ∷ []))) (record { label = disk; endpoint = young } ∷ [])
+
+-- none of them is right
+abbrev pub WrongTurns : Type 0
+WrongTurns = (¬ DoesNothing) × (¬ SendsToOld) × (¬ SubmitsUnseen) × (¬ FollowsAnotherMap) × (¬ EndsByOldTombstone) × (¬ GoesBack)

@@ -1,0 +1,92 @@
+//! What comes of an event of a system.
+
+ghost use Rattle.std.specs.Prelude.{◌≡◌, IfOk, OnErr};
+ghost use Rattle.system_model.specs.Copying.{CopyTakesRoom};
+
+use crate::replies::Replies;
+use crate::rounds::Rounds;
+use driver_tables::{Move, TableFault};
+use ds_machine::Reply;
+use ds_names::NoRoom;
+use ds_replica::Outcome;
+use rs_core::{Actions, RsFault};
+use std::alloc::Global;
+use thiserror::Error;
+
+/// What came of an event of a system. Of this project.
+#[derive(Drop)]
+pub enum SystemOutcome {
+    /// RS did this, and the store replied so to each change that RS offered and to each sweep.
+    Acted {
+        actions: Actions,
+        replies: Replies,
+    },
+    /// The store replied.
+    Replied(Reply),
+    /// What the servers did: the moves of each label that was followed, the own move of the request or of the reply, and what
+    /// ended the event, if anything did.
+    Moved {
+        rounds: Rounds,
+        own: Option<Move>,
+        fault: Option<TableFault>,
+    },
+    /// What came of the world's event.
+    Happened(Outcome),
+    /// The event was refused, and nothing changed.
+    Refused(SystemFault),
+}
+
+impl SystemOutcome {
+    /// The same outcome again. The copy of a refusal, and of lists of nothing, takes no memory.
+    pub fn copy(&self, alloc: Global) -> Result<SystemOutcome, NoRoom>
+        ensures same { IfOk result (λ copy. copy ≡ self.now) }
+        ensures room { OnErr result (CopyTakesRoom self.now) }
+    {
+        match self {
+            SystemOutcome::Acted { actions, replies } => Ok(SystemOutcome::Acted {
+                actions: actions.copy(alloc)?,
+                replies: replies.copy(alloc)?,
+            }),
+            SystemOutcome::Replied(reply) => Ok(SystemOutcome::Replied(reply.copy(alloc)?)),
+            SystemOutcome::Moved { rounds, own, fault } => Ok(SystemOutcome::Moved {
+                rounds: rounds.copy(alloc)?,
+                own: *own,
+                fault: *fault,
+            }),
+            SystemOutcome::Happened(outcome) => Ok(SystemOutcome::Happened(outcome.copy(alloc)?)),
+            SystemOutcome::Refused(fault) => Ok(SystemOutcome::Refused(*fault)),
+        }
+    }
+}
+
+/// Why a system refuses an event, in the order in which the causes of one event are judged. Nothing changed.
+#[derive(Clone, Copy, Debug, PartialEq, Eq, Error)]
+pub enum SystemFault {
+    /// RS refuses it, for want of memory too.
+    #[error("{0}")]
+    Service(RsFault),
+    /// No service of the settings has the label.
+    #[error("no service has the label")]
+    UnknownLabel,
+    /// The service doesn't declare that it publishes the name, or the key is a label's.
+    #[error("the service doesn't publish this")]
+    NotDeclared,
+    /// The service doesn't run.
+    #[error("the service isn't up")]
+    NotUp,
+    /// The value isn't of the key's kind.
+    #[error("the value isn't of this kind")]
+    BadKind,
+    /// The instance has drawn all its numbers.
+    #[error("all sequence numbers are spent")]
+    SeqSpent,
+    /// No such change was made.
+    #[error("there is no such change")]
+    NoMessage,
+    /// Only RS and the services bring something in.
+    #[error("only RS and the services may bring something in")]
+    NotAllowed,
+    /// Memory is wanting.
+    #[error("out of memory")]
+    NoRoom,
+}

@@ -1,0 +1,72 @@
+-- A reply can be told by its first line, and so it has one text.
+use Rattle.std.specs.Prelude.{◌≡◌, ℕ, ◌<◌, ◌^◌, List, ◌++◌, Some, is_some}
+use Rattle.ds_held.specs.Limits.{LimitsRecord}
+use Rattle.line_io.specs.Lines.{EndsLine}
+use Rattle.ds_machine.specs.Reached.{IsReached}
+use Rattle.ds_machine.specs.State.{State}
+use Rattle.ds_machine.specs.Within.{IsWithin}
+use Rattle.ds_machine.specs.declared.command.Command.{Command}
+use Rattle.ds_machine.specs.declared.reply.Reply.{Reply}
+use Rattle.ds_replica.specs.CaughtUp.{AreItems}
+use Rattle.store_answers.specs.Reply.{reply_lines}
+use Rattle.ds_machine.specs.Given.{shown_by, done_by}
+use Rattle.store_answers.specs.declared.wording.Wording.TheVariants.{AsOffer, AsMerge}
+use Rattle.ds_machine.specs.OneStep.{room_wanted}
+use Rattle.ds_machine.specs.Taken.{HasNoFloor}
+use Rattle.trace_model.specs.declared.asked.Asked.{Asked}
+use Rattle.trace_model.specs.declared.header.Format.{Format}
+use Rattle.trace_model.specs.declared.header.Format.TheVariants.{One, Two}
+use Rattle.trace_model.specs.Legal.{StepOf}
+use Rattle.trace_model.specs.Text.{MayAsk, command_asked, worded_as}
+
+-- the two texts begin with one line
+pub record HaveOneFirst (a b : List ℕ) : Type 0 where
+  pub line : List ℕ
+  pub ends : EndsLine line
+  pub left : List ℕ
+  pub right : List ℕ
+  pub a_is : a ≡ line ++ left
+  pub b_is : b ≡ line ++ right
+
+-- what a reply of a store is: it gives items, and its counts are small
+pub record IsSpelt (reply : Reply) : Type 0 where
+  pub items : AreItems (shown_by reply)
+  pub few : done_by reply < 2 ^ 64
+
+-- The first line of a reply tells where memory was wanted. An offer's tells only whether it was.
+abbrev pub FirstLinesTell : Type 0
+FirstLinesTell = (limits : LimitsRecord) (reply other : Reply) → IsSpelt reply → IsSpelt other → HaveOneFirst (reply_lines AsMerge reply limits) (reply_lines AsMerge other limits) → room_wanted reply ≡ room_wanted other
+
+abbrev pub OfferLinesTell : Type 0
+OfferLinesTell = (limits : LimitsRecord) (reply other : Reply) → IsSpelt reply → IsSpelt other → HaveOneFirst (reply_lines AsOffer reply limits) (reply_lines AsOffer other limits) → is_some (room_wanted reply) ≡ is_some (room_wanted other)
+
+-- ---- steps of a trace
+
+-- in format 1 no floor is ever accepted
+abbrev pub KeepsFloors : Format → State → Type 0
+KeepsFloors One s = HasNoFloor s
+KeepsFloors Two s = Unit {0}
+
+-- A state that a trace leads to: it is one that the machine comes to, within its limits, and all that was accepted are items of the
+-- format.
+pub record IsTraced (format : Format) (s : State) : Type 0 where
+  pub reached : IsReached s
+  pub items : AreItems s.feed.accepted
+  pub floors : KeepsFloors format s
+  pub within : IsWithin s
+  pub incarnation : s.feed.incarnation < 2 ^ 64
+
+-- Two steps from one such state by what one entry asks: where the first lines of their replies are one, the replies have one text,
+-- and one state is left.
+abbrev pub ReplyIsOne : Type 0
+ReplyIsOne =
+    (format : Format) (limits : LimitsRecord) (pass : ℕ) (asked : Asked) (command : Command) (s t u : State) (reply other : Reply) →
+    IsTraced format s → MayAsk format pass asked → command_asked asked ≡ Some command → StepOf format s command reply t → StepOf format s command other u →
+    HaveOneFirst (reply_lines (worded_as asked) reply limits) (reply_lines (worded_as asked) other limits) →
+    (reply_lines (worded_as asked) reply limits ≡ reply_lines (worded_as asked) other limits) × (t ≡ u)
+
+-- What an entry asks leads from such a state to such a state.
+abbrev pub TracedStays : Type 0
+TracedStays =
+    (format : Format) (pass : ℕ) (asked : Asked) (command : Command) (s t : State) (reply : Reply) →
+    IsTraced format s → MayAsk format pass asked → command_asked asked ≡ Some command → StepOf format s command reply t → IsTraced format t

@@ -1,0 +1,35 @@
+//! What a reply line says before the store is asked: want of memory, which a legal trace may have at any time.
+
+ghost use Rattle.std.specs.Prelude.{◌≡◌, ◌≢◌, ◌≤◌, ◌↔◌, ◌∷◌, ℕ, IfSome, IfNone, IsTrue};
+ghost use Rattle.trace_model.specs.Noroom.{noroom_line, stopped_line};
+
+use crate::number::number_at;
+
+/// Whether the line refuses the command for want of memory.
+pub fn is_noroom(line: &[u8]) -> bool
+    ensures { IsTrue result ↔ (line.now ≡ noroom_line) }
+{
+    line == b"< refused noroom\n".as_slice()
+}
+
+/// How many items are done where the line stops a Merge for want of memory.
+pub fn stopped_at(line: &[u8]) -> Option<u64>
+    ensures found { IfSome result (λ done. (done ≤ 255) × (line.now ≡ stopped_line done)) }
+    ensures none { IfNone result ((done : ℕ) → done ≤ 255 → line.now ≢ stopped_line done) }
+{
+    if !line.starts_with(b"< stopped ") {
+        return None;
+    }
+    let (done, rest) = number_at(&line[10..], 255, b' ')?;
+    if rest != b"noroom\n".as_slice() {
+        return None;
+    }
+    Some(done)
+}
+
+/// Whether the line is `< ` and then this one. Both come with their newlines.
+pub fn is_marked(line: &[u8], said: &[u8]) -> bool
+    ensures { IsTrue result ↔ (line.now ≡ 60 ∷ 32 ∷ said.now) }
+{
+    line.starts_with(b"< ") && &line[2..] == said
+}
