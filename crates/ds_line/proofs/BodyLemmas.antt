@@ -1,4 +1,4 @@
--- The parts of a change from its mark on: each is missing where it has to stand, or is read there.
+-- The parts of a change from its mark on: each is missing where it is expected, or is read there.
 use Rattle.std.proofs.Common.{◌≡◌, ◌≢◌, ℕ, ◌^◌, ◌<◌, ◌≤◌, List, [], ◌∷◌, ◌++◌, length, get_or, drop, Result, Ok, Err, refl, sym, ap, subst, ◌∙◌, arith}
 use Rattle.std.specs.Char.{is_ascii_digit}
 use Rattle.ds_names.specs.Endpoint.{EndpointRecord, IsEndpoint, endpoint_text}
@@ -113,7 +113,7 @@ value_text (values.U32 n) is = (n, omega (arith, is), refl)
 value_text (values.Str t) is = (t, refl)
 value_text (values.Mem b) is = hex_run b is.each
 
--- what the parts up to the value tell
+-- What the parts up to the value determine.
 pub put_known : (key : Key) (owner : List ℕ) (version : Version) (c : ChangeRecord) (more : List Part) → version.epoch ≤ 2097151 → version.seq < 2 ^ 32 → IsChange c → change_parts c ≡ up_to_value key owner version ++ more
     → (v : Value) × IsChange (change_of key owner version (Put v)) × (value_part v ∷ newline ∷ [] ≡ more)
 put_known key owner version c more most fits is eq =
@@ -126,7 +126,7 @@ value_comes key owner version v is_put c more is eq =
     let k = put_known key owner version c more is_put.epoch is_put.seq is eq in
     subst (Begun (value_part v).class) k.2 (class_one k.0 v (k.1.kind ∙ sym is_put.kind), value_text k.0 k.1.body)
 
--- no value of a put stands here
+-- No value of a put is here.
 abbrev pub NoValue : Key → List ℕ → Version → List ℕ → Type 0
 NoValue key owner version bytes = (v : Value) (after : List ℕ) → IsChange (change_of key owner version (Put v)) → ¬ Begins (run_of (value_part v).class) bytes (value_part v).text after
 
@@ -174,7 +174,7 @@ end_comes key owner version v is_put c more is eq =
     let k = put_known key owner version c (value_part v ∷ more) is_put.epoch is_put.seq is eq in
     subst (Begun Byte) (ap (drop 1) k.2) (refl, refl)
 
--- the value is read, and behind it the newline is missing
+-- The value is read, and the newline after it is missing.
 pub put_end_missing : (key : Key) (owner : List ℕ) (version : Version) (v : Value) (bytes r : List ℕ) (stop : PartFault) → IsChange (change_of key owner version (Put v)) → Begins (run_of (value_part v).class) bytes (value_part v).text r → stop ≡ BadPart (length r)
     → ((rest : List ℕ) → r ≢ 10 ∷ rest) → ReadsChange (up_to_value key owner version) bytes (Err stop)
 put_end_missing key owner version v bytes r stop is_put begins at none =
@@ -188,7 +188,7 @@ put_end_missing key owner version v bytes r stop is_put begins at none =
 put_completes : (key : Key) (owner : List ℕ) (version : Version) (v : Value) (r rest : List ℕ) → IsChange (change_of key owner version (Put v)) → r ≡ 10 ∷ rest → Completes (behind_value key owner version v) (change_of key owner version (Put v)) r rest
 put_completes key owner version v r rest is_put end = record { change = is_put; further = newline ∷ []; split = refl; text = end }
 
--- the value is read, and the line ends behind it
+-- The value is read, and the line ends after it.
 pub put_whole : (key : Key) (owner : List ℕ) (version : Version) (v : Value) (bytes r rest : List ℕ) → IsChange (change_of key owner version (Put v)) → Begins (run_of (value_part v).class) bytes (value_part v).text r → r ≡ 10 ∷ rest
     → ReadsChange (up_to_value key owner version) bytes (Ok (change_of key owner version (Put v), length rest))
 put_whole key owner version v bytes r rest is_put begins end =

@@ -1,4 +1,4 @@
--- What labels and the other kinds ask of a change's parts: which parts some change has.
+-- What labels and the other kinds require of a change's parts: which parts some change has.
 use Rattle.std.proofs.Common.{◌≡◌, ◌≢◌, ℕ, ◌^◌, ◌<◌, ◌≤◌, ◌⊎◌, inl, inr, List, [], refl, sym, subst, ◌∙◌, arith}
 use Rattle.std.proofs.lemmas.Bool.{cases_eq}
 use Rattle.ds_names.specs.Name.{is_name_byte, IsName, rs_name}

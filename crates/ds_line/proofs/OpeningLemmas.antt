@@ -1,4 +1,4 @@
--- The parts of a change before its mark: each is missing where it has to stand, or is read there.
+-- The parts of a change before its mark: each is missing where it is expected, or is read there.
 use Rattle.std.proofs.Common.{◌≡◌, ◌≢◌, ℕ, ◌^◌, ◌<◌, ◌≤◌, List, [], ◌∷◌, ◌++◌, length, get_or, drop, true, Result, Err, refl, sym, ap, subst, ◌∙◌, arith}
 use Rattle.std.specs.Char.{is_ascii_digit, is_ascii_alphanumeric}
 use Rattle.std.specs.Fmt.{decimal}
@@ -61,11 +61,11 @@ word_one Mem Mem e = refl
 pub key_is : (k l : Key) → k.name ≡ l.name → k.kind ≡ l.kind → k ≡ l
 key_is k l name kind = ap (λ (n : List ℕ). record { name = n; kind = k.kind }) name ∙ ap (λ (x : Kind). record { name = l.name; kind = x }) kind
 
--- the parts up to the kind tell the key
+-- The parts up to the kind determine the key.
 pub key_known : (key : Key) (c : ChangeRecord) (more : List Part) → change_parts c ≡ up_to_kind key ++ more → c.key ≡ key
 key_known key c more eq = key_is c.key key (ap (text_at 0) eq) (word_one c.key.kind key.kind (ap (text_at 2) eq))
 
--- those up to the epoch tell the owner, too
+-- The parts up to the epoch determine the owner, too.
 pub owner_known : (key : Key) (owner : List ℕ) (c : ChangeRecord) (more : List Part) → change_parts c ≡ up_to_epoch key owner ++ more → (c.key ≡ key) × (c.owner ≡ owner)
 owner_known key owner c more eq = (key_is c.key key (ap (text_at 0) eq) (word_one c.key.kind key.kind (ap (text_at 2) eq)), ap (text_at 4) eq)
 
@@ -282,7 +282,7 @@ mark_space_missing key owner bytes version stop has at none =
 pub mark_space_then : (key : Key) (owner bytes r : List ℕ) (version : Version) (result : Result (ChangeRecord × ℕ) PartFault) → bytes ≡ 32 ∷ r → ReadsChange (up_to_mark key owner version) r result → ReadsChange (behind_seq key owner version) bytes result
 mark_space_then key owner bytes r version result is k = read_on (behind_seq key owner version) space bytes r result refl (mark_space_comes key owner version) (byte_begins 32 bytes r is) k
 
--- the parts up to the mark tell all but the body
+-- The parts up to the mark determine all but the body.
 pub version_known : (key : Key) (owner : List ℕ) (version : Version) (c : ChangeRecord) (more : List Part) → version.epoch ≤ 2097151 → version.seq < 2 ^ 32 → IsChange c → change_parts c ≡ up_to_mark key owner version ++ more
     → IsChange (change_of key owner version c.body) × (drop 10 (change_parts c) ≡ more)
 version_known key owner version c more most fits is eq =

@@ -12,7 +12,7 @@ use Rattle.ds_line.proofs.TextLemmas.{block_more}
 
 -- ---- the numbers of digits
 
--- two functions have one value below n
+-- Two functions are equal below n.
 abbrev same : (ℕ → ℕ) → (ℕ → ℕ) → ℕ → Bool
 same f g zero = true
 same f g (suc n) = (f n == g n) && same f g n
@@ -46,7 +46,7 @@ high_digit n ge lt =
     let e : n - 10 + 10 ≡ n = omega (arith, ge) in
     ap (λ (m : ℕ). slice_index lower_digits m) (sym e) ∙ high_at (n - 10) (omega (arith, ge, lt)) ∙ omega (arith, ge)
 
--- the first n numbers are those of the digits, where no other byte was met, which the flag says
+-- The first n numbers are those of the digits, unless the flag says that another byte was met.
 pub record IsJudged (digits numbers : List ℕ) (alone : Bool) (n : ℕ) : Type 0 where
   pub are : alone ≡ true → AreNumbersOf digits n numbers
   pub whole : length numbers ≡ 32

@@ -13,7 +13,7 @@ most_floors = 64
 abbrev pub longest_pattern : ℕ
 longest_pattern = 128
 
--- The sequence number that callers don't use: it is a sweep's.
+-- The last sequence number, which no caller uses.
 abbrev pub last_seq : ℕ
 last_seq = 4294967295
 

@@ -9,7 +9,7 @@ pub const MOST_ITEMS: usize = 256;
 /// The most floors that are held.
 pub const MOST_FLOORS: usize = 64;
 
-/// The sequence number that callers don't use: it is a sweep's.
+/// The last sequence number, which no caller uses.
 pub const LAST_SEQ: u32 = u32::MAX;
 
 /// The greatest position, and the greatest stamp.
