@@ -1,4 +1,4 @@
--- What is held where a change or a floor comes to the place that was found for it, and was judged to be taken.
+-- The holding after a change or a floor was judged to be taken and put at the place found for it.
 use Rattle.std.proofs.Common.{◌≡◌, ℕ, List, [], ◌∷◌, ◌++◌, length, get_or, Bool, None, Result, Ok, Err, sym, ap, ◌∙◌, subst}
 use Rattle.std.proofs.lemmas.Cmp.{nat_list_cmp_total}
 use Rattle.std.proofs.lemmas.Map.Lookups.{exact_bytes}
@@ -21,7 +21,7 @@ use Rattle.ds_held.proofs.PlaceLemmas.{get_none}
 use Rattle.ds_held.proofs.FloorLemmas.{floors_are}
 use Rattle.ds_held.proofs.KeptLemmas.{changes_are, change_none, held_answer, new_answer, merged_after, merged_kept, raised_after, raised_kept, raised_joins}
 
--- a place that was found is one of the list
+-- A place that was found is one of the list.
 place_within : {K X : Type 0} (R : K → K → Ordering) (key : X → K) (xs : List X) (sought : K) (place : Result ℕ ℕ) → IsPlaceOf R key xs sought place → IsPlaceIn place (length xs)
 place_within R key xs sought (Ok i) p = p.0
 place_within R key xs sought (Err i) p = p.0

@@ -1,4 +1,4 @@
--- Entries in the order of their keys, and the items made of them.
+-- Entries in the order of their keys, and the items built from them.
 use Rattle.std.proofs.Common.{◌≡◌, List, [], ◌∷◌, ◌++◌, map, true, false, cond, Some, refl, sym, ap, ◌∙◌, subst, inl, inr, ◌⊎◌}
 use Rattle.std.proofs.lemmas.Option.{same_Some}
 use Rattle.std.specs.declared.cmp.Ordering.{Ordering}
@@ -46,7 +46,7 @@ sorted_append cmp (x ∷ xs) ys s t f = (
   sorted_append cmp xs ys s.1 t (λ a b h k. f a b (inr h) k),
 )
 
--- a key that ties with one above another doesn't tie with that other
+-- A key that compares equal to one above another doesn't compare equal to that other.
 pub unlike : {K : Type 0} (R : K → K → Ordering) (total : IsTotalOrder R) (x q y : K) → eq_by_cmp R q y ≡ true → T (is_lt (R x y)) → eq_by_cmp R q x ≡ false
 unlike R total x q y tied less =
     elim (R q x) as (λ r. R q x ≡ r → is_eq r ≡ false) [

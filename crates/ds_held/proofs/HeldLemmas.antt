@@ -22,7 +22,7 @@ use Rattle.ds_held.specs.Held.{Holding, held_items, held_changes, held_for, floo
 use Rattle.ds_held.proofs.EntryLemmas.{In-append, In-left, In-right, In-map, In-from_map, In-from_find, find-from_In, sorted_items, sorted_append, map_twice}
 use Rattle.std.proofs.lemmas.Map.Entries.{length-values_of}
 
--- an item stands where it is looked for
+-- An item is where it is looked for.
 abbrev pub IsHeld : Holding → Item → Type 0
 IsHeld h (Changed c) = held_for h c.key ≡ Some c
 IsHeld h (Floored f) = floor_for h f.owner ≡ Some f.generation

@@ -1,4 +1,4 @@
--- Items that come one after the other: what they leave is the join of what was held and of them.
+-- Items that arrive in order: they leave the join of what was held and of them.
 use Rattle.std.proofs.Common.{◌≡◌, ℕ, zero, suc, ◌+◌, ◌<◌, ◌≤◌, List, [], ◌∷◌, ◌++◌, map, length, get_or, take, Some, Result, Ok, Err, append_assoc, refl, sym, ap, ◌∙◌, subst, inl, inr, arith}
 use Rattle.std.proofs.lemmas.Option.{same_Some}
 use Rattle.std.proofs.lemmas.List.{take_all, length-map}
@@ -47,7 +47,7 @@ one_later : (old : Holding) (items : List Item) (m new : Holding) (i : Item) (r 
 one_later old [] m new i r w a e = (r, subst (λ (h : Holding). ItemAnswer h i (Ok r)) w a, e ∙ ap (λ (h : Holding). after_item h i (Ok r)) w)
 one_later old (j ∷ items) m new i r w a e = (w.0, w.1, one_later (after_item old j (Ok w.0)) items m new i r w.2 a e)
 
--- first the ones, and then the others
+-- First these, then the others.
 merged_both : (old : Holding) (xs ys : List Item) (m new : Holding) → AreMerged old xs m → AreMerged m ys new → AreMerged old (xs ++ ys) new
 merged_both old [] ys m new v w = subst (λ (h : Holding). AreMerged h ys new) v w
 merged_both old (x ∷ xs) ys m new v w = (v.0, v.1, merged_both (after_item old x (Ok v.0)) xs ys m new v.2 w)
@@ -60,7 +60,7 @@ one_more (suc n) (y ∷ ys) x e =
     let later = one_more n ys x e in
     (omega (arith, later.0), ap (λ l. y ∷ l) later.1)
 
--- the item at which a walk of a list stands
+-- The item that a walk of a list has reached.
 next_of : {X : Type 0} (f : X → Item) (xs : List X) (i : ℕ) (x : X) → i < length xs → x ≡ get_or xs i x → slice_get (map f xs) i ≡ Some (f x)
 next_of f [] i x w e = absurd (omega (arith, w))
 next_of f (y ∷ ys) zero x w e = ap (λ z. Some (f z)) (sym e)

@@ -1,4 +1,4 @@
--- The place of a key in a list whose keys rise, and what a write there does to the map that the list is seen as.
+-- The place of a key in a list in key order, and what a write there does to the map that the list stands for.
 use Rattle.std.proofs.Common.{◌≡◌, ℕ, zero, suc, ◌<◌, List, [], ◌∷◌, length, get_or, map, filter, true, false, cond, Bool, ◌&&◌, Some, None, Result, Ok, Err, refl, sym, ap, ◌∙◌, subst, arith}
 use Rattle.std.specs.declared.cmp.Ordering.{Ordering}
 use Rattle.std.specs.declared.cmp.Ordering.TheVariants.{Less, Equal, Greater}
@@ -15,7 +15,7 @@ pair : (a b : Bool) → T a → T b → T (a && b)
 pair true b h k = k
 pair false b h k = absurd h
 
--- each element stands in a row under its key
+-- Each element is in a row under its key.
 module _ {K V X : Type 0} (R : K → K → Ordering) (total : IsTotalOrder R) (exact : (a b : K) → R a b ≡ Equal → a ≡ b) (row : X → K × V) where
   abbrev rows : List X → List (K × V)
   rows xs = map {B = K × V} row xs

@@ -1,4 +1,4 @@
--- What a look at an index of a list gives.
+-- Reading an index of a list.
 use Rattle.std.proofs.Common.{◌≡◌, ℕ, ◌-◌, ◌<◌, ◌≤◌, List, ◌++◌, length, get_or, map, Option, Some, None, Bor, refl, sym, ap, ◌∙◌, arith}
 use Rattle.std.proofs.lemmas.Option.{slice_get-get_or, slice_get_past, slice_get_read, slice_get-map}
 use Rattle.std.proofs.lemmas.List.{length-map}

@@ -39,7 +39,7 @@ returns-in-Ok-Taken-clause-sound c =
     let taken = subst (λ (m : Merge). RaiseAnswer (holding_of c.self.inside.floors.items c.self.inside.changes.items c.self.inside.limits) c.args.floor (Ok m)) c.in-Ok-Taken.field-0-is c.in-Ok-Taken.ensures.answer in
     (raised_over c.self.inside.floors.items c.self.inside.changes.items c.self.inside.limits c.self.invariant c.args.self.now c.self.view_is c.args.floor w.0 w.1 taken c.raise.new.floors.items c.drop_void.new.changes.items raised c.drop_void.ensures).still.sound
 
--- the same answer, as the holding is seen
+-- The same answer, in terms of the holding.
 answered : (old h : Holding) → old ≡ h → (f : Floor) (r : Result Merge JoinFault) → RaiseAnswer old f r → RaiseAnswer h f r
 answered old h is f r a = subst (λ (g : Holding). RaiseAnswer g f r) is a
 
