@@ -31,7 +31,7 @@ use Rattle.ds_names.proofs.Tests.{none_from, both}
 find_first : (e : Key × ChangeRecord) (es : List (Key × ChangeRecord)) → find key_cmp e.0 (e ∷ es) ≡ Some e.1
 find_first e es = ap (λ r. cond (is_eq r) (Some e.1) (find key_cmp e.0 es)) (tied_itself keys_total e.0)
 
--- a key that is found behind the first isn't the first's
+-- A key that is found after the first isn't the first's.
 found_behind : (x q : Key) (v : ChangeRecord) (es : List (Key × ChangeRecord)) → T (below_all key_cmp x es) → find key_cmp q es ≡ Some v → eq_by_cmp key_cmp q x ≡ false
 found_behind x q v [] b h = absurd (cc)
 found_behind x q v (e ∷ es) b h =

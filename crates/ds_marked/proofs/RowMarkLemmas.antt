@@ -1,4 +1,4 @@
--- A list of marks beside a list whose keys rise: what is found under a key, and what a write at a place does.
+-- A list of marks beside a list in key order: what is found under a key, and what a write at a place does.
 use Rattle.std.proofs.Common.{◌≡◌, ℕ, zero, suc, ◌<◌, ◌≤◌, List, [], ◌∷◌, length, set, map, cond, true, false, Some, None, is_some, Result, Ok, Err, refl, sym, ap, ◌∙◌, subst, arith, length-set}
 use Rattle.std.proofs.lemmas.Option.{same_Some, get_or_from_slice_get}
 use Rattle.std.proofs.lemmas.List.Edits.{length-insert}
@@ -37,7 +37,7 @@ set_past [] i x w = refl
 set_past (y ∷ ys) zero x w = absurd (omega (arith, w))
 set_past (y ∷ ys) (suc i) x w = ap (λ l. y ∷ l) (set_past ys i x (omega (arith, w)))
 
--- each element stands in a row under its key, and may have a mark
+-- Each element is in a row under its key, and may have a mark.
 module _ {K V X : Type 0} (R : K → K → Ordering) (total : IsTotalOrder R) (exact : (a b : K) → R a b ≡ Equal → a ≡ b) (row : X → K × V) where
   abbrev rows : List X → List (K × V)
   rows xs = map {B = K × V} row xs
