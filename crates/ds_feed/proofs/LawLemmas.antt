@@ -1,4 +1,4 @@
--- A prefix is the shortest front, and prefixes join.
+-- A prefix is the shortest one, and prefixes join.
 use Rattle.std.proofs.Common.{◌≡◌, ℕ, zero, suc, ◌<◌, ◌+◌, Bool, true, false, cond, List, [], ◌∷◌, ◌++◌, length, take, drop, filter, refl, sym, ap, ◌∙◌, arith, inl, inr, ◌⊎◌}
 use Rattle.ds_entry.specs.declared.item.Item.{Item}
 use Rattle.ds_feed.specs.Since.{prefix}
