@@ -23,7 +23,7 @@ use Rattle.ds_entry.specs.Under.{under}
 
 -- ---- what is new
 
--- the lists before and behind an element
+-- The lists before and after an element.
 split_by : (xs : List Item) (x : Item) → Contains xs x → (front : List Item) × (back : List Item) × (xs ≡ front ++ x ∷ back)
 split_by [] x h = absurd (Contains-nil x h)
 split_by (y ∷ ys) x h = at (Contains-cons y ys x h) (split_by ys x)
@@ -56,7 +56,7 @@ early_too early b f since i j all new later front h k e = at (Contains-append_ca
         let t : true ≡ false = sym e ∙ new (later.grown.0 ++ s.0) s.1 i j place before in
         absurd (cc)
 
--- of two lists put together, one of which ends with one more, an element's place is the last or before it
+-- In two joined lists, one of which ends with one more, an element's index is the last one or before it.
 last_or_before : (xs front back : List Item) (x i : Item) → xs ++ x ∷ [] ≡ front ++ i ∷ back → ((i ≡ x) × (front ≡ xs)) ⊎ ((rest : List Item) × (xs ≡ front ++ i ∷ rest))
 last_or_before [] [] back x i e = let h : x ≡ i = cc in inl (sym h, refl)
 last_or_before [] (y ∷ []) back x i e = cc
@@ -96,7 +96,7 @@ one_by_one_is_new = record { none = none_is_new; one_more = new_after; one_befor
 
 -- ---- checks
 
--- what a check gives was held
+-- What a check returns was held.
 given_held : (early f : Feed) (query : Key → Bool) (shown : List Item) (t : CheckTurn) → IsCheckTurn early f query shown t → IsPartOf t.items t.held
 given_held early f query shown t s i h =
     let k = Contains-from_take t.max (unseen_by query shown t.held) i (subst (λ (l : List Item). Contains l i) s.given h) in
@@ -110,7 +110,7 @@ all_given xs ys max e l = e ∙ take_all max ys (few max ys (subst (λ (zs : Lis
     few (suc n) [] l = omega arith
     few (suc n) (z ∷ zs) l = let k = few n zs (omega arith) in omega arith
 
--- a check that gave fewer than it was asked for stands for all that is under the query, but what a shown item covers
+-- A check that returned fewer than it was asked for stands for everything under the query that no shown item covers.
 last_stands : (early f : Feed) (query : Key → Bool) (shown : List Item) (t : CheckTurn) → IsCheckTurn early f query shown t → length t.items < t.max → (i : Item) → Contains t.feed.accepted i → passes query i ≡ true →
     Contains (stood_for (given t.known t.items)) i ⊎ ((e : Item) × Contains shown e × (covers e i ≡ true))
 last_stands early f query shown t s l i h q = let d = s.top.greatest i h in by_test d.0 d.1 d.2 (list_any (λ j. covers j d.0) shown) refl
@@ -124,7 +124,7 @@ last_stands early f query shown t s l i h q = let d = s.top.greatest i h in by_t
         let here : Contains t.items d = subst (λ (xs : List Item). Contains xs d) (sym (all_given t.items (unseen_by query shown t.held) t.max s.given l)) there in
         inl (given_stands t.known t.items i d here (s.knows i h) c)
 
--- checks up to such a one do so together
+-- Checks up to such a one do so together.
 module _ (early f : Feed) (since : List Item) (all : f.accepted ≡ early.accepted ++ since) (new : AreNew early.accepted since) (query : Key → Bool) where
   checks_stand : (shown : List Item) (turns : List CheckTurn) (last : CheckTurn) → AreChecks early f query shown (turns ++ last ∷ []) → length last.items < last.max → (i : Item) → Contains f.accepted i → Contains last.feed.accepted i → passes query i ≡ true →
       Contains (stood_for (check_items (turns ++ last ∷ []))) i ⊎ ((e : Item) × Contains shown e × (covers e i ≡ true))

@@ -27,7 +27,7 @@ use Rattle.ds_convergence.proofs.Samples.{record_of, a1, a1', a2, b1, c1, floor1
 use Rattle.ds_entry.specs.Left.{is_put, value_in}
 use Rattle.ds_entry.specs.declared.body.Body.{Body}
 
--- lists that a test tells apart aren't one
+-- Lists that a test distinguishes aren't equal.
 differ : (test : Item → Bool) (xs ys : List Item) → list_any test xs ≡ true → list_any test ys ≡ false → xs ≡ ys → ⊥
 differ test xs ys e n h = let t : true ≡ false = sym e ∙ (ap (list_any test) h ∙ n) in cc
 

@@ -1,4 +1,4 @@
--- What the journal gives, one reply after the other, is whole.
+-- What the journal returns, reply by reply, is whole.
 use Rattle.std.proofs.Common.{◌≡◌, ℕ, ◌+◌, ◌-◌, ◌≤◌, ◌==◌, min, not, Bool, true, false, cond, List, [], ◌∷◌, ◌++◌, take, drop, length, Some, None, refl, sym, ap, ◌∙◌, subst, inl, inr, ◌⊎◌, append-nil, arith}
 use Rattle.std.specs.Prelude.{nat_lt}
 use Rattle.std.specs.List.{Contains, filter}
@@ -29,11 +29,11 @@ use Rattle.ds_convergence.proofs.WholeLemmas.{before_part, before_later, front_s
 
 -- ---- fronts
 
--- all that took effect did so before the next position
+-- Everything that took effect did so before the next position.
 pub all_before : (f : Feed) → before f (position f) ≡ f.accepted
 all_before f = take_all (position f - f.first) f.accepted (omega arith)
 
--- a feed's earlier time is what took effect before the position that it had
+-- A feed at an earlier time is what took effect before its position then.
 pub front_is : (f late : Feed) → IsFront f late → before late (position f) ≡ f.accepted
 front_is f late g = before_later f late (position f) g (omega arith) ∙ all_before f
 
@@ -45,7 +45,7 @@ front_part f g late a b l i h =
 
 -- ---- one reply
 
--- a cursor that the journal answers stands within what took effect
+-- A cursor that the journal answers is within what took effect.
 record IsReached (f : Feed) (p : ℕ) : Type 0 where
   low : f.first ≤ p
   high : p ≤ position f
@@ -62,7 +62,7 @@ reached f at e = by_tests (at.incarnation == f.incarnation) (nat_lt (position f)
         let low : position f ≤ at.position + min f.ring (length f.accepted) = ltb-false (at.position + min f.ring (length f.accepted)) (position f) b in
         record { low = omega arith; high = high }
 
--- what took effect before the cursor that is given did so before the one asked from, or is in the piece
+-- What took effect before the returned cursor did so before the requested one, or is in the piece.
 split_at : (n m : ℕ) (xs : List Item) (i : Item) → Contains (take (n + m) xs) i → Contains (take n xs) i ⊎ Contains (take m (drop n xs)) i
 split_at n m xs i h =
     elim (Contains-append_cases (take n (take (n + m) xs)) (drop n (take (n + m) xs)) i (subst (λ (l : List Item). Contains l i) (sym (take-append-drop n (take (n + m) xs))) h)) [
@@ -73,7 +73,7 @@ split_at n m xs i h =
 piece_is : (f : Feed) (test : Item → Bool) (at : Cursor) (max : ℕ) → piece f test at max ≡ take (length (piece f test at max)) (from f at.position)
 piece_is f test at max = (prefix_is_shortest test max (from f at.position)).front
 
--- the cursor that is given isn't behind what took effect, nor before the one asked from
+-- The returned cursor isn't past what took effect, nor before the requested one.
 given_within : (f : Feed) (test : Item → Bool) (at : Cursor) (max : ℕ) (since : Since) → IsGiven f test at max since → (since.cursor.position ≤ position f) × (at.position ≤ since.cursor.position)
 given_within f test at max since g =
     let r = reached f at g.reached in
@@ -85,7 +85,7 @@ given_within f test at max since g =
     let m : length (from f at.position) ≡ length f.accepted - (at.position - f.first) = length-drop (at.position - f.first) f.accepted in
     (omega arith, omega arith)
 
--- a reply of fewer items than were asked for has all that is left
+-- A reply with fewer items than were asked for has everything that is left.
 pub fewer_reach_the_end : FewerReachTheEnd
 fewer_reach_the_end f test at max since g few = by_piece (prefix_is_shortest test max (from f at.position)).full_or_all
   where
@@ -121,14 +121,14 @@ given_splits f test at max since g i q h =
         let c : since.cursor.position ≡ at.position + length (piece f test at max) = ap (λ (s : Since). s.cursor.position) g.given in
         omega arith
 
--- what is given took effect
+-- What is returned took effect.
 pub given_accepted : (f : Feed) (test : Item → Bool) (at : Cursor) (max : ℕ) (since : Since) → IsGiven f test at max since → IsPartOf since.items f.accepted
 given_accepted f test at max since g i h =
     let k = Contains-from_filter test (piece f test at max) i (subst (λ (l : List Item). Contains l i) (ap (λ (s : Since). s.items) g.given) h) in
     let there : Contains (take (length (piece f test at max)) (from f at.position)) i = subst (λ (l : List Item). Contains l i) (piece_is f test at max) k.0 in
     Contains-from_drop (at.position - f.first) f.accepted i (Contains-from_take (length (piece f test at max)) (from f at.position) i there)
 
--- ---- one reply after the other
+-- ---- reply by reply
 
 -- the item took effect by an earlier time than the cursor's, or is the other one
 abbrev pub IsEarly : Feed → Cursor → Item → Item → Type 0

@@ -1,4 +1,4 @@
--- How pages grow, turn by turn, up to the last one.
+-- How pages grow, one by one, up to the last one.
 use Rattle.std.proofs.Common.{◌≡◌, ℕ, ◌≤◌, Bool, true, false, List, [], ◌∷◌, ◌++◌, map, take, Option, Some, None, refl, ap, sym, ◌∙◌, subst, append_assoc, append-nil}
 use Rattle.std.specs.Prelude.{MatchBool}
 use Rattle.std.specs.Option.{unwrap_or}
@@ -125,7 +125,7 @@ last_more : (turns : List PageTurn) (at : Cursor) (t : PageTurn) → last_cursor
 last_more [] at t = refl
 last_more (u ∷ us) at t = last_more us u.page.cursor t
 
--- the first page of all, and those behind it
+-- The first page of all, and those after it.
 record FirstOf (turns : List PageTurn) (t : PageTurn) : Type 0 where
   first : PageTurn
   pages : List PageTurn

@@ -37,7 +37,7 @@ use Rattle.ds_convergence.proofs.JournalLemmas.{front_is, front_part, journal_co
 
 -- ---- behind a key
 
--- what comes behind the first n changes of a list in order comes behind the last key of these
+-- What comes after the first n changes of an ordered list comes after the last key of these.
 drop_behind : (after : Option Key) (xs : List Item) (n : ℕ) (d : ChangeRecord) → IsStrictlySortedBy item_cmp xs → ((i : Item) → In i xs → is_behind_key after i ≡ true) → In (Changed d) (drop n xs) → is_behind_key (last_key after (take n xs)) (Changed d) ≡ true
 unfolding IsStrictlySortedBy
 drop_behind after [] zero d s f h = absurd h
@@ -55,13 +55,13 @@ drop_behind after (Changed x ∷ xs) (suc n) d s f h = drop_behind (Some x.key) 
     below (y ∷ ys) i a (inr k) = below ys i a.1 k
 drop_behind after (Floored x ∷ xs) (suc n) d s f h = drop_behind after xs n d s.1 (λ i k. f i (inr k)) h
 
--- floors give no key
+-- Floors have no key.
 floors_give_none : (after : Option Key) (xs ys : List Item) → last_key after (floors_of xs ++ ys) ≡ last_key after ys
 floors_give_none after [] ys = refl
 floors_give_none after (Changed c ∷ xs) ys = floors_give_none after xs ys
 floors_give_none after (Floored f ∷ xs) ys = floors_give_none after xs ys
 
--- the other change of the key is behind the same keys
+-- The other change of the key is after the same keys.
 same_behind : (after : Option Key) (c d : ChangeRecord) → d.key ≡ c.key → is_behind_key after (Changed c) ≡ true → is_behind_key after (Changed d) ≡ true
 same_behind None c d e h = refl
 same_behind (Some a) c d e h = subst (λ (k : Key). is_lt (key_cmp a k) ≡ true) (sym e) h
@@ -206,7 +206,7 @@ module _ (f : Feed) (scope : Key → Bool) where
       over (Changed d) k e more =
           on_or_behind d e (on_page f scope after t w.0 d k (covers-query scope (Changed d) (Changed c) e q) (same_behind after c d (sym (covers-key d c e)) r)) more
 
--- no page's cursor is behind the store's position
+-- No page's cursor is past the store's position.
 front_within : (f late : Feed) → IsFront f late → position f ≤ position late
 front_within f late g =
     let e : length late.accepted ≡ length f.accepted + length g.grown.0 = ap length g.grown.1 ∙ length-append f.accepted g.grown.0 in

@@ -40,15 +40,15 @@ b1 = change U32 98 1 Gone
 abbrev pub c1 : Item
 c1 = change U32 99 1 Gone
 
--- a label, which no floor makes void
+-- A label, which no floor voids.
 abbrev pub l1 : Item
 l1 = change Label 97 1 Gone
 
--- the floor that makes numbers of `o` in epoch 1 void
+-- The floor that voids numbers of `o` in epoch 1.
 abbrev pub floor1 : Item
 floor1 = Floored (record { owner = 111 ∷ []; generation = 1 })
 
--- a store that accepted just these, from position 0 on
+-- A store that accepted exactly these, from position 0 on.
 abbrev pub feed_of : List Item → Feed
 feed_of accepted = record { accepted = accepted; first = 0; ring = 8; incarnation = 0 }
 
@@ -61,7 +61,7 @@ none key = false
 abbrev pub key_of : Kind → ℕ → Key
 key_of kind name = record { name = name ∷ []; kind = kind }
 
--- an item isn't among those that a test tells from it
+-- An item isn't among those that a test distinguishes from it.
 pub not_among : (test : Item → Bool) (items : List Item) (i : Item) → test i ≡ true → list_any test items ≡ false → Contains items i → ⊥
 not_among test items i e n h = let differ : true ≡ false = sym e ∙ none_pass test items i n h in cc
 

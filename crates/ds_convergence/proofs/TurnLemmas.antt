@@ -1,4 +1,4 @@
--- How checks and replies of the journal grow, turn by turn.
+-- How checks and replies of the journal grow, one by one.
 use Rattle.std.proofs.Common.{◌≡◌, Bool, List, [], ◌∷◌, ◌++◌, map, take, refl, ap, sym, ◌∙◌, subst, append_assoc, append-nil}
 use Rattle.std.specs.List.{Contains}
 use Rattle.std.proofs.lemmas.List.{map-append}
