@@ -146,7 +146,7 @@ module _ (early f : Feed) (since : List Item) (all : f.accepted ≡ early.accept
   last_front shown [] last s = s.0.front
   last_front shown (t ∷ ts) last s = last_front (shown ++ t.items) ts last s.1
 
-  -- what is under the query and took effect before the last check, the checks stand for, or a shown item covers it
+  -- The checks stand for what is under the query and took effect before the last check, or a shown item covers it.
   all_stand : (shown : List Item) (turns : List CheckTurn) (last : CheckTurn) → AreChecks early f query shown (turns ++ last ∷ []) → length last.items < last.max → (i : Item) → Contains (under query (before f (position last.feed))) i →
       Contains (stood_for (check_items (turns ++ last ∷ []))) i ⊎ ((e : Item) × Contains shown e × (covers e i ≡ true))
   all_stand shown turns last s l i h =

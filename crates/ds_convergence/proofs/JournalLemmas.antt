@@ -138,7 +138,7 @@ module _ (f : Feed) (scope : Key → Bool) where
   turn_ends : (at : Cursor) (t : SinceTurn) → IsSinceTurn f scope at t → (t.since.cursor.position ≤ position t.feed) × (at.position ≤ t.since.cursor.position)
   turn_ends at t s = given_within t.feed (passes scope) at t.max t.since s.given
 
-  -- a store knew, when it gave an item, what is early for it
+  -- A store that returned an item knew what is early for it.
   knew : (at : Cursor) (t : SinceTurn) (d c : Item) → IsSinceTurn f scope at t → IsEarly f at d c → Contains t.since.items d → Contains t.known c
   knew at t d c s (inl e) h =
       let ends = turn_ends at t s in
@@ -152,8 +152,8 @@ module _ (f : Feed) (scope : Key → Bool) where
   still_early at t d c s (inl e) = let on : at.position ≤ t.since.cursor.position = (turn_ends at t s).1 in let low : position e.0 ≤ at.position = e.2 in inl (e.0, e.1, omega arith, e.3)
   still_early at t d c s (inr e) = inr e
 
-  -- what took effect before the last cursor did so before the first one, or the replies stand for it, and for each early item
-  -- that it covers
+  -- An item that took effect before the last cursor did so before the first one, or the replies stand for each early
+  -- item that it covers.
   pub journal_covers : (at : Cursor) (ts : List SinceTurn) (d c : Item) → AreSince f scope at ts → passes scope d ≡ true → covers d c ≡ true → IsEarly f at d c → Contains (before f (cursor_after at ts).position) d →
       Contains (before f at.position) d ⊎ Contains (stood_for (since_items ts)) c
   journal_covers at [] d c s q e early h = inl h

@@ -128,7 +128,7 @@ module _ (known held : List Item) (name : List ℕ) (t : IsTop held known) (vali
       let rule : IsLabelChange c = subst (λ (k : Key). KeepsRule k.kind c) e change.rule in
       rule.body
 
-  -- a held change of the label isn't older than what is known of it
+  -- A held change of the label isn't older than what is known.
   not_older : (c : ChangeRecord) → Contains held (Changed c) → c.key ≡ label_key name → (d : ChangeRecord) → Contains known (Changed d) → d.key ≡ label_key name → (d.version.epoch < c.version.epoch) ⊎ ((d.version.epoch ≡ c.version.epoch) × (d.version.seq ≤ c.version.seq))
   not_older c h e d k q = at_most-means d.version c.version ((no_older_label known held d t k (ap (λ (l : Key). l.kind) q)).each c h (e ∙ sym q))
 

@@ -69,7 +69,7 @@ last_page f scope after p (u ∷ us) t h k l e = (
       (last_page f scope (last_key after u.page.items) u.page.cursor.position us t h.3 k l e),
 )
 
--- ---- what they gave was accepted
+-- ---- what they returned was accepted
 page_among : (f : Feed) (scope : Key → Bool) (after : Option Key) (t : PageTurn) → IsPageTurn f scope after t → IsPartOf t.page.items f.accepted
 page_among f scope after t h =
     let left = still_to_come (passes scope) after t.held in

@@ -35,7 +35,7 @@ use Rattle.ds_convergence.proofs.SentLemmas.{Contains-from_under, kept, given_st
 use Rattle.ds_convergence.proofs.WholeLemmas.{before_part}
 use Rattle.ds_convergence.proofs.JournalLemmas.{front_is, front_part, journal_covers, journal_stands}
 
--- ---- behind a key
+-- ---- after a key
 
 -- What comes after the first n changes of an ordered list comes after the last key of these.
 drop_behind : (after : Option Key) (xs : List Item) (n : ℕ) (d : ChangeRecord) → IsStrictlySortedBy item_cmp xs → ((i : Item) → In i xs → is_behind_key after i ≡ true) → In (Changed d) (drop n xs) → is_behind_key (last_key after (take n xs)) (Changed d) ≡ true
@@ -105,7 +105,7 @@ module _ (f : Feed) (scope : Key → Bool) (after : Option Key) (t : PageTurn) (
   taken : (i : Item) → Contains (take t.max changes) i → Contains t.page.items i
   taken i h = subst (λ (l : List Item). Contains l i) (sym items_are) (Contains-append_right (floors_of rest) (take t.max changes) i h)
 
-  -- a held change is on the page, or behind its last key where further pages follow
+  -- A held change is on the page, or after its last key if more pages follow.
   pub on_page : (d : ChangeRecord) → Contains t.held (Changed d) → passes scope (Changed d) ≡ true → is_behind_key after (Changed d) ≡ true → Contains t.page.items (Changed d) ⊎ ((t.page.last ≡ false) × (is_behind_key (last_key after t.page.items) (Changed d) ≡ true))
   on_page d h p b =
       by_place (Contains-append_cases (take t.max changes) (drop t.max changes) (Changed d)
@@ -146,11 +146,11 @@ abbrev IsFloored : Feed → ℕ → Item → Type 0
 IsFloored f p i = (g : Floor) × Contains (before f p) (Floored g) × (covers (Floored g) i ≡ true)
 
 module _ (f : Feed) (scope : Key → Bool) where
-  -- what comes behind a page, by its last key, if it isn't the last one
+  -- What comes after a page, by its last key, if it isn't the last one.
   abbrev Follow : PageTurn → Option Key → List PageTurn → Type 0
   Follow t after ts = MatchBool t.page.last (ts ≡ []) (ArePages f scope after t.page.cursor.position ts)
 
-  -- no page's cursor is behind the last one's
+  -- No page's cursor is past the last one's.
   rises : (t : PageTurn) (after : Option Key) (ts : List PageTurn) → Follow t after ts → t.page.cursor.position ≤ (last_cursor t.page.cursor ts).position
   rises t after [] w = omega arith
   rises t after (u ∷ us) w = by_last t.page.last w (rises u (last_key after u.page.items) us)
@@ -162,7 +162,7 @@ module _ (f : Feed) (scope : Key → Bool) where
           let rest : u.page.cursor.position ≤ (last_cursor u.page.cursor us).position = more w.2 in
           omega arith
 
-  -- the pages behind a key stand for each change behind it that took effect before them, or a floor came that covers it
+  -- The pages after a key stand for each change after it that took effect before them, unless a floor covers it by then.
   pages_stand : (after : Option Key) (p : ℕ) (at : Cursor) (ts : List PageTurn) → ArePages f scope after p ts → (b : Feed) (c : ChangeRecord) → IsFront b f → position b ≤ p → Contains b.accepted (Changed c) →
       passes scope (Changed c) ≡ true → is_behind_key after (Changed c) ≡ true → Contains (stood_for (page_items ts)) (Changed c) ⊎ IsFloored f (last_cursor at ts).position (Changed c)
   pages_stand after p at [] w b c front early h q r = absurd w
@@ -247,7 +247,7 @@ pages_are_whole f scope other query first pages turns keep keep_other w s bound 
     first_stands : (j : Item) → Contains (stood_for (given first.known first.page.items)) j → Contains (stood_for (page_items (first ∷ pages) ++ since_items turns)) j
     first_stands j l = stood_left (page_items (first ∷ pages)) (since_items turns) j (stood_left (given first.known first.page.items) (page_items pages) j l)
 
-    -- a floor that came by the last page is on the first page or in the journal
+    -- A floor that took effect by the last page is on the first page or in the journal.
     floored : (c : ChangeRecord) → Contains first.feed.accepted (Changed c) → IsFloored f (last_cursor first.page.cursor pages).position (Changed c) → Contains (stood_for (page_items (first ∷ pages) ++ since_items turns)) (Changed c)
     floored c l g =
         let in_time : Contains (before f to.position) (Floored g.0) = before_part f (last_cursor from pages).position to.position bound (Floored g.0) g.1 in

@@ -57,7 +57,7 @@ has_rest j f at i k l e =
     let p = k.position in
     ap (drop i) k.items ∙ (drop-drop i (length f.accepted - f.ring) f.accepted ∙ ap (λ (m : ℕ). drop m f.accepted) (omega arith))
 
--- ---- what is given
+-- ---- what is read
 
 -- Nothing is returned if no more is wanted.
 pub nothing_wanted : (test : Item → Bool) (max : ℕ) (items : List Item) → max ≤ 0 → prefix test max items ≡ []

@@ -76,7 +76,7 @@ contains_at [] n x e = cc
 contains_at (y ∷ ys) zero x e = let h : y ≡ x = cc in subst (λ (z : Item). Contains (y ∷ ys) z) h (Contains-head y ys)
 contains_at (y ∷ ys) (suc n) x e = Contains-tail y ys x (contains_at ys n x e)
 
--- ---- what is behind a key
+-- ---- what is after a key
 
 not_behind_itself : (k : Key) → is_lt (key_cmp k k) ≡ false
 not_behind_itself k = rw (tied_itself keys_total k) refl
@@ -88,7 +88,7 @@ before (Changed d) c e =
     rw h refl
 before (Floored f) c e = refl
 
--- an item after a change is behind its key
+-- An item after a change is after its key.
 after_it : (c : ChangeRecord) (x : Item) → item_cmp (Changed c) x ≡ Less → is_behind_key (Some c.key) x ≡ true
 after_it c (Changed d) e = ap is_lt e
 after_it c (Floored f) e = cc

@@ -30,7 +30,7 @@ module _ (fs : List Floor) (xs : List ChangeRecord) (lim : LimitsRecord) (kept :
   abbrev held : Holding
   held = holding_of fs xs lim
 
-  -- what a change leaves at its place, or want of memory for it
+  -- What a change leaves at its place, or that memory runs out for it.
   pub record IsPutIn {U E : Type 0} (h : Holding) (c : ChangeRecord) (place : Result ℕ ℕ) (r : Result U E) (ys : List ChangeRecord) : Type 0 where
     pub still : AreKept fs ys lim
     pub after : OnOk r (holding_of fs ys lim ≡ after_merge h c (Ok Taken))

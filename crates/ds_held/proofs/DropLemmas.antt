@@ -148,7 +148,7 @@ module _ {M : Type 0} (f : Floor) where
   dropping_starts (c ∷ cs) [] = record { others = []; is = refl; here = refl; gap = refl }
   dropping_starts (c ∷ cs) (m ∷ ms) = record { others = []; is = refl; here = refl; gap = refl }
 
-  -- what wasn't looked at stands where it stood
+  -- What wasn't visited is where it was.
   pub still : (cs : List ChangeRecord) (ms now : List M) (left i : ℕ) → Dropping cs ms now left i → slice_get now i ≡ slice_get ms i
   still cs ms now left i d =
       let front = marks_left f (take i cs) (take i ms) in

@@ -52,7 +52,7 @@ module _ (h : Holding) where
     own_entry : (e : Key × ChangeRecord) → In e (entries h.changes) → e.1.key ≡ e.0
     own_entry e k = sound.own e.0 e.1 (change_at e k)
 
-    -- what is held stands at its own key
+    -- A held change is at its own key.
     held_at : (c : ChangeRecord) → In c (held_changes h) → held_for h c.key ≡ Some c
     held_at c k =
         let r = In-from_map (λ (e : Key × ChangeRecord). e.1) (entries h.changes) c k in
@@ -102,7 +102,7 @@ module _ (h : Holding) where
             let same : voids (floor_of c.owner f.generation) c ≡ voids f c = ap (λ (n : List ℕ). voids (floor_of n f.generation) c) o in
             sym e ∙ sym same ∙ not_below f.generation at
 
-    -- a set is held where all that is held is of it, and covers it
+    -- What is held is the top of a set if it is part of the set and covers it.
     pub held_is_top : (set : List Item) → IsPartOf (held_items h) set → CoversAll (held_items h) set → IsTop (held_items h) set
     held_is_top set a g = record { in_order = held_in_order; among = a; greatest = g; none_void = held_none_void }
 

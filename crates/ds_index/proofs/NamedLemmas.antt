@@ -96,13 +96,13 @@ stands_at b xs ys i s h e p = place_is b xs i s (In-from_Contains b xs h) (subst
 pub stands_within : (b : Named) (xs ys : List Named) (i n : ℕ) → IsStrictlySortedBy named_cmp xs → Contains xs b → ys ≡ xs → IsLabelPlace b ys i → n ≡ length xs → i < n
 stands_within b xs ys i n s h e p long = subst (λ m. i < m) (sym long) (slice_get_within xs i b (stands_at b xs ys i s h e p))
 
--- ---- what the labels beside an index tell of all others
+-- ---- what the labels beside an index say of all others
 -- the one at the index passes
 abbrev pub passes_nth : (Named → Bool) → List Named → ℕ → Bool
 passes_nth test xs i = option_map_or test (slice_get xs i) false
 
 module _ (test : Named → Bool) (xs : List Named) (parted : IsPartitionedBy test xs) where
-  -- where one passes, it stands in the list
+  -- An element that passes is in the list.
   passes_within : (i : ℕ) → passes_nth test xs i ≡ true → i < length xs
   passes_within i b = by_found (slice_get xs i) refl b
     where
@@ -137,6 +137,7 @@ module _ (test : Named → Bool) (xs : List Named) (parted : IsPartitionedBy tes
   pub point_bound : (i j : ℕ) → j + 1 ≡ i → passes_nth test xs j ≡ true → i ≤ length xs
   point_bound i j e low = let w = passes_within j low in omega (arith, w, e)
 
+-- ---- a label between those beside an index
 -- How the label compares with the one at the index.
 abbrev pub behind_nth : Named → List Named → ℕ → Bool
 behind_nth p xs i = passes_nth (is_label_behind p) xs i
@@ -295,6 +296,7 @@ module _ (xs : List Named) (i : ℕ) (b a : Named) (s : IsStrictlySortedBy named
       (let rest = In-from_removed xs i b a s e (In-from_Contains a (remove xs i) h) in
       rest.1 (lone (Contains-from_In a xs rest.0)))))
 
+-- ---- the first of an endpoint
 -- Where an endpoint's labels begin after a label, they begin after all before that one.
 begins_down : (e : EndpointRecord) (x y : Named) → named_cmp x y ≡ Less → begins_behind e y ≡ true → begins_behind e x ≡ true
 begins_down e x y l u = by_order (holder_cmp x.endpoint y.endpoint) refl l

@@ -100,7 +100,7 @@ pub change_texts : (c : ChangeRecord) → IsChange c → AllTexts (change_parts 
 change_texts c is =
     (is.name.allowed, (refl, (word_is_word c.key.kind, (refl, (is.owner.allowed, (refl, ((c.version.epoch, omega (arith, is.epoch), refl), (refl, ((c.version.seq, omega (arith, is.seq), refl), (refl, body_texts c.body is.body))))))))))
 
--- ---- the parts give the change
+-- ---- the parts determine the change
 
 texts_one : (a b : List ℕ) → quoted a ≡ quoted b → a ≡ b
 texts_one a b text = (quoted_one a b [] [] (ap (λ (x : List ℕ). x ++ []) text)).0

@@ -56,7 +56,7 @@ no_change_line c bytes more rest is mark = λ eq. (let h = line_stands c bytes r
 floor_there : (f : Floor) (k : ℕ) (bytes after : List ℕ) → Stand (suc k) (floor_parts f) bytes after → (more : List ℕ) × (bytes ≡ 33 ∷ more)
 floor_there f k bytes after h = (h.0, h.1.parts)
 
--- ---- what is spelled out stands there
+-- ---- what is spelled is there
 
 pub floor_stands : (f : Floor) (rest : List ℕ) → AllStand (floor_parts f) rest
 floor_stands f rest =
@@ -144,7 +144,7 @@ items_leave_one (Floored f) (Changed d) (suc k) bytes r s is_f is_d a b = let t 
 pub one_item_place : (bytes : List ℕ) (p q : ℕ) → IsFaultPlace IsItem item_parts bytes p → IsFaultPlace IsItem item_parts bytes q → p ≡ q
 one_item_place = one_place_by IsItem item_parts items_leave_one
 
--- ---- lines stand apart
+-- ---- lines differ
 
 floor_one : (f g : Floor) → IsFloor f → IsFloor g → floor_parts f ≡ floor_parts g → f ≡ g
 floor_one f g is_f is_g eq =

@@ -24,7 +24,7 @@ stand_length (suc count) (p ∷ parts) bytes rest h = omega (arith, stand_length
 pub rest_fits : (bytes rest : List ℕ) → ChangeStops [] bytes rest → length rest ≤ length bytes
 rest_fits bytes rest s = stand_length s.count s.further bytes rest s.front
 
--- ---- what is spelled out stands there
+-- ---- what is spelled is there
 
 -- The spelling of the parts, and the rest after it.
 abbrev pub spelled : List Part → List ℕ → List ℕ

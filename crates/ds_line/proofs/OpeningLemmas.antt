@@ -23,7 +23,7 @@ use Rattle.ds_line.proofs.PartLemmas.{part_one, byte_begins}
 use Rattle.ds_line.proofs.ReadLemmas.{Begun, Comes, missing, read_on}
 use Rattle.ds_line.proofs.LabelLemmas.{rs_is_name, version_of}
 
--- ---- what the known parts tell
+-- ---- what the known parts determine
 
 -- the text of the part at an index
 abbrev pub text_at : ℕ → List Part → List ℕ
@@ -38,7 +38,7 @@ word_is_word Mem = refl
 abbrev kind_at_letter : List ℕ → ℕ
 kind_at_letter word = get_or word 0 0
 
--- the word of a kind is no other kind's
+-- Two kinds with one word are equal.
 pub word_one : (j k : Kind) → kind_word j ≡ kind_word k → j ≡ k
 word_one Label Label e = refl
 word_one Label U32 e = absurd (omega (arith, ap kind_at_letter e))

@@ -10,7 +10,7 @@ use Rattle.ds_line.specs.declared.part_fault.PartFault.TheVariants.{BadPart, NoR
 use Rattle.ds_line.proofs.PartLemmas.{byte_begins}
 use Rattle.ds_line.proofs.ApartLemmas.{AllTexts, Alike, same_parts}
 
--- ---- parts that stand in a row
+-- ---- consecutive parts
 
 pub stand_wider : (k : ℕ) (xs ys : List Part) (bytes rest : List ℕ) → Stand k xs bytes rest → Stand k (xs ++ ys) bytes rest
 stand_wider zero xs ys bytes rest h = h

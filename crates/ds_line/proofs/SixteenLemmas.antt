@@ -124,7 +124,7 @@ written_all digits block rest bytes done len is =
 pub written_each : (digits block : List ℕ) → IsWritten digits block 16 → IsBytes block
 written_each digits block done = subst IsBytes (take_whole block 16 done.whole) done.each
 
--- ---- sixteen bytes behind others
+-- ---- sixteen bytes after others
 
 bytes_both : (xs ys : List ℕ) → IsBytes xs → IsBytes ys → IsBytes (xs ++ ys)
 bytes_both [] ys h k = k
@@ -237,7 +237,7 @@ out_more blob block sixteen digits n begun le limit is spelled =
       whole = ap length joined ∙ length-append (front ++ digits) (drop k block) ∙ omega (arith, both, length-drop k block, begun.whole, le, limit, long);
     }
 
--- a blob in two pieces, behind a list and between two texts
+-- The hex of a blob in two parts, after a list and between two texts.
 pub out_joined : (old before after blob block digits : List ℕ) (n : ℕ) → take (2 * n) block ≡ encode_lower (take n blob) → digits ≡ encode_lower (drop n blob)
     → old ++ (before ++ (take (2 * n) block ++ (digits ++ (after ++ [])))) ≡ old ++ (before ++ (encode_lower blob ++ after))
 out_joined old before after blob block digits n is_front is_rest =

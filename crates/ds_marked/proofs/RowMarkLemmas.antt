@@ -16,7 +16,7 @@ use Rattle.ds_held.proofs.PlaceLemmas.{later, rest_place, rest_gap, before_gap, 
 use Rattle.ds_marked.specs.Beside.{marked_rows}
 use Rattle.ds_names.proofs.Tests.{both}
 
--- ---- what stands at an index
+-- ---- the element at an index
 pub within_from : {X : Type 0} (xs : List X) (i : ℕ) (x : X) → slice_get xs i ≡ Some x → i < length xs
 within_from [] i x e = absurd (cc)
 within_from (y ∷ ys) zero x e = omega arith
@@ -48,7 +48,7 @@ module _ {K V X : Type 0} (R : K → K → Ordering) (total : IsTotalOrder R) (e
   abbrev Place : List X → K → Result ℕ ℕ → Type 0
   Place xs sought place = IsPlaceOf R (λ (x : X). (row x).0) xs sought place
 
-  -- an element stands at the place of its key
+  -- An element is at the place of its key.
   pub place_from_get : (xs : List X) (i : ℕ) (x : X) → slice_get xs i ≡ Some x → Place xs (row x).0 (Ok i)
   place_from_get xs i x e = (within_from xs i x e, λ d. subst (λ (y : X). R (row y).0 (row x).0 ≡ Equal) (sym (get_or_from_slice_get xs i x d e)) (tied_itself total (row x).0))
 

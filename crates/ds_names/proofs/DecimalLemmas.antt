@@ -36,7 +36,7 @@ step run b bs true is h e =
     rw (n, is, h) (refl, e)
 step run b bs false is h e = (refl, is)
 
--- the run at the front, and what comes after it
+-- The run at the front, and the rest after it.
 pub run_parts : (run : ℕ → Bool) (bs : List ℕ) → (list_all run (take (prefix_len run bs) bs) ≡ true) × Ends run (drop (prefix_len run bs) bs)
 run_parts run [] = (refl, tt)
 run_parts run (b ∷ bs) =

@@ -136,7 +136,7 @@ word_more xs ys n lt len_x len_y small_x small_y =
     ∙ ap (λ (r : List ℕ). ordering_then (nat_cmp (from_be_bytes w64 (take 8 (drop (8 * n) xs))) (from_be_bytes w64 (take 8 (drop (8 * n) ys)))) (slice_cmp nat_cmp r (drop 8 (drop (8 * n) ys)))) (sym (behind xs))
     ∙ ap (λ (s : List ℕ). ordering_then (nat_cmp (from_be_bytes w64 (take 8 (drop (8 * n) xs))) (from_be_bytes w64 (take 8 (drop (8 * n) ys)))) (slice_cmp nat_cmp (drop (8 * (n + 1)) xs) s)) (sym (behind ys))
 
--- ---- zeros behind names
+-- ---- zeros after names
 
 zeros_same : (n : ℕ) → slice_cmp nat_cmp (replicate n 0) (replicate n 0) ≡ Equal
 zeros_same zero = refl

@@ -43,6 +43,7 @@ rows_behind names r rs h = record {
   whole = omega (arith, h.whole, h.there.0, length-drop (row_length r) names, sum_by-cons row_length r rs);
 }
 
+-- ---- one row more
 -- Bytes after a change's names aren't looked at.
 named_front : (names more : List ℕ) (place : Names) (kind : Kind) (version : Version) (body : Body) → names_length place ≤ length names → named (names ++ more) place kind version body ≡ named names place kind version body
 named_front names more place kind version body l =

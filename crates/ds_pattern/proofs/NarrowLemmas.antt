@@ -230,7 +230,7 @@ range_left new old i r inside read high same c small = rw (take_next old i r ins
 pub all_taken : (new old : List Range) (i : ℕ) → length old ≤ i → SameAscii new (take i old) → SameAscii new old
 all_taken new old i past same c small = same c small ∙ ap (λ rs. in_ranges rs c) (take_all i old past)
 
--- all members are those of ranges from which all of Unicode can be told
+-- A class of exactly these ranges has the same members of ASCII.
 pub ascii_of_all : (r : Result Class AllocError) (taken old : List Range) → SameAscii taken old → IfOk r (λ new. HasExactly new.ranges.items (in_ranges taken)) → IfOk r (λ new. SameAscii new.ranges.items old)
 ascii_of_all (Ok new) taken old same h = λ c small. h c (omega (arith, small)) ∙ same c small
 ascii_of_all (Err e) taken old same h = tt

@@ -91,7 +91,7 @@ module _ (q : Query) (old : Holding) (items : List Item) (new : Holding) where
     limits = limits_stay old (under (is_under q) (take stop.done items)) s.front.answers new s.front.answered;
   }
 
-  -- floors among what was held or came stand
+  -- Floors stand, whether they were held or arrived.
   floors_stand : (came : List Item) → IsTop (held_items new) (held_items old ++ under (is_under q) came) → EachFloorStands (held_items old ++ came) (held_items new)
   floors_stand came top f k =
       record {

@@ -80,6 +80,7 @@ taken_push q old mid new items i n (Some r) t h =
     stale Known = omega (arith, t.stale, one_more is_stale t.all.answers Known)
     stale Stale = omega (arith, t.stale, one_more is_stale t.all.answers Stale)
 
+-- ---- a take on its way
 -- The first `i` items were taken, and no more were taken or stale than are done.
 pub record Taking (q : Query) (old : Holding) (items : List Item) (i : ℕ) (mid : Holding) (n : Count) : Type 0 where
   pub counted_so : AreCounted q old (take i items) mid n
