@@ -22,8 +22,8 @@ pub record CheckTurn : Type 0 where
   pub max : ℕ
   pub items : List Item
 
--- The check returned the first unseen items, after `shown` had been shown, of the store that was `early` before and
--- is `f` now.
+-- Whether the check returned the first unseen items of the store, which was `early` before and is `f` now, after
+-- `shown` had been shown.
 pub record IsCheckTurn (early f : Feed) (query : Key → Bool) (shown : List Item) (t : CheckTurn) : Type 0 where
   pub later : IsFront early t.feed
   pub front : IsFront t.feed f

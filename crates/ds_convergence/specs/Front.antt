@@ -4,8 +4,8 @@ use Rattle.ds_entry.specs.declared.item.Item.{Item}
 use Rattle.ds_feed.specs.declared.cursor.Cursor.{Cursor}
 use Rattle.ds_feed.specs.Feed.{Feed, position}
 
--- The first feed is the other one at an earlier time, or now: it has the same incarnation, and what took effect since
--- comes after what had.
+-- Whether the first feed is the other one at an earlier time, or now: it has the same incarnation, and what took
+-- effect since comes after what had.
 pub record IsFront (early late : Feed) : Type 0 where
   pub incarnation : late.incarnation ≡ early.incarnation
   pub first : late.first ≡ early.first

@@ -18,13 +18,13 @@ pub record SinceTurn : Type 0 where
   pub max : ℕ
   pub since : Since
 
--- The request was from this cursor on, to the store that is `f` now.
+-- Whether the request was from this cursor on, to the store that is `f` now.
 pub record IsSinceTurn (f : Feed) (scope : Key → Bool) (at : Cursor) (t : SinceTurn) : Type 0 where
   pub front : IsFront t.feed f
   pub knows : IsPartOf t.feed.accepted t.known
   pub given : IsGiven t.feed (passes scope) at t.max t.since
 
--- Each request was from the cursor that the one before returned.
+-- Whether each request was from the cursor that the one before returned.
 abbrev pub AreSince : Feed → (Key → Bool) → Cursor → List SinceTurn → Type 0
 AreSince f scope at [] = Unit {0}
 AreSince f scope at (t ∷ ts) = IsSinceTurn f scope at t × AreSince f scope t.since.cursor ts

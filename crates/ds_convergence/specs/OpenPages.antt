@@ -5,7 +5,8 @@ use Rattle.ds_feed.specs.declared.cursor.Cursor.{Cursor}
 use Rattle.ds_feed.specs.Feed.{Feed}
 use Rattle.ds_convergence.specs.Paged.{PageTurn, IsPageTurn, last_key}
 
--- Each page was requested after the last key returned, no earlier than the one before, and none was the last page.
+-- Whether each page was requested after the last key returned, no earlier than the one before, and none was the last
+-- page.
 abbrev pub AreOpenPages : Feed → (Key → Bool) → Option Key → ℕ → List PageTurn → Type 0
 AreOpenPages f scope after p [] = Unit {0}
 AreOpenPages f scope after p (t ∷ ts) = IsPageTurn f scope after t × (p ≤ t.page.cursor.position) × (t.page.last ≡ false) × AreOpenPages f scope (last_key after t.page.items) t.page.cursor.position ts

@@ -20,7 +20,7 @@ pub record PageTurn : Type 0 where
   pub max : ℕ
   pub page : Page
 
--- The page was requested after this key, of the store that is `f` now.
+-- Whether the page was requested after this key, of the store that is `f` now.
 pub record IsPageTurn (f : Feed) (scope : Key → Bool) (after : Option Key) (t : PageTurn) : Type 0 where
   pub front : IsFront t.feed f
   pub knows : IsPartOf t.feed.accepted t.known
@@ -33,7 +33,7 @@ last_key after [] = after
 last_key after (Changed c ∷ items) = last_key (Some c.key) items
 last_key after (Floored f ∷ items) = last_key after items
 
--- Each page was requested after the last key returned, no earlier than the one before, up to the last page.
+-- Whether each page was requested after the last key returned, no earlier than the one before, up to the last page.
 abbrev pub ArePages : Feed → (Key → Bool) → Option Key → ℕ → List PageTurn → Type 0
 ArePages f scope after p [] = ⊥
 ArePages f scope after p (t ∷ ts) =

@@ -12,7 +12,7 @@ pub record Sent : Type 0 where
   pub item : Item
   pub stands_for : List Item
 
--- The item alone is the top of what it stands for.
+-- Whether the item alone is the top of what it stands for.
 abbrev pub IsSent : Sent → Type 0
 IsSent s = IsTop (s.item ∷ []) s.stands_for
 

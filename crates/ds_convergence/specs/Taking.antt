@@ -15,16 +15,16 @@ items_of sent = map (λ s. s.item) sent
 abbrev pub sent_under : (Key → Bool) → List Sent → List Sent
 sent_under query sent = filter (λ s. passes query s.item) sent
 
--- A holder that merges items then holds the top of everything that it knew and that they stand for.
+-- A law: a holder that merges items then holds the top of everything that it knew and that they stand for.
 abbrev pub HolderTakes : Type 0
 HolderTakes =
     (known held new : List Item) (more : List Sent) → ((s : Sent) → Contains more s → IsSent s) → IsTop held known → IsTop new (held ++ items_of more) → IsTop new (known ++ stood_for more)
 
--- A new map has taken nothing.
+-- A law: a new map has taken nothing.
 abbrev pub NewMapIsMap : Type 0
 NewMapIsMap = (query : Key → Bool) → MapHolds query [] []
 
--- A map that merges those of the items that are under its query has taken all of them.
+-- A law: a map that merges those of the items that are under its query has taken all of them.
 abbrev pub MapsTake : Type 0
 MapsTake =
     (query : Key → Bool) (items more : List Sent) (held new : List Item) → ((s : Sent) → Contains more s → IsSent s) → MapHolds query items held →

@@ -66,19 +66,19 @@ pub record PagesGrow : Type 0 where
       ArePages f scope after p (map (page_knowing known) turns)
   pub items_known : (known : List Item) (turns : List PageTurn) → page_items (map (page_knowing known) turns) ≡ given known (paged turns)
 
--- A reply of the journal with fewer items than were asked for reaches the store's position.
+-- A law: a reply of the journal with fewer items than were asked for reaches the store's position.
 abbrev pub FewerReachTheEnd : Type 0
 FewerReachTheEnd =
     (f : Feed) (test : Item → Bool) (at : Cursor) (max : ℕ) (since : Since) → IsGiven f test at max since → length since.items < max → since.cursor.position ≡ position f
 
--- The items of all checks, returned by a store that knows what it accepted since, are whole up to the last check if
--- that one returned fewer than it was asked for.
+-- A law: the items of all checks, returned by a store that knows what it accepted since, are whole up to the last
+-- check if that one returned fewer than it was asked for.
 abbrev pub CheckedIsWhole : Type 0
 CheckedIsWhole =
     (early f : Feed) (query : Key → Bool) (since : List Item) (turns : List CheckTurn) (last : CheckTurn) → f.accepted ≡ early.accepted ++ since → AreNew early.accepted since →
     AreChecks early f query [] turns → IsCheckTurn early f query (checked turns) last → length last.items < last.max → IsWhole f query (given f.accepted (checked turns ++ last.items)) (position last.feed)
 
--- So are the items of the pages so far, of the last page, and of the journal from the first page's cursor on.
+-- A law: so are the items of the pages so far, of the last page, and of the journal from the first page's cursor on.
 abbrev pub PagedIsWhole : Type 0
 PagedIsWhole =
     (f : Feed) (scope other query : Key → Bool) (pages : List PageTurn) (last : PageTurn) (turns : List SinceTurn) → KeepsQuery scope query → KeepsQuery other query →

@@ -11,6 +11,7 @@ use Rattle.ds_entry.specs.Under.{under}
 abbrev pub before : Feed → ℕ → List Item
 before f r = take (r - f.first) f.accepted
 
--- The items are whole up to the position: they stand for everything under the query that took effect below it.
+-- Whether the items are whole up to the position: they stand for everything under the query that took effect below
+-- it.
 abbrev pub IsWhole : Feed → (Key → Bool) → List Sent → ℕ → Type 0
 IsWhole f query items r = IsPartOf (under query (before f r)) (stood_for items)

@@ -30,22 +30,28 @@ pub fn whole_laws()
     ensures feeds { FeedsGrow }
 {}
 
-/// The law of pages: all pages, together with what the journal returns from the first page's cursor on, are whole up
-/// to the journal's cursor, whatever took effect between the pages.
+/// The law of pages.
+///
+/// All pages, together with what the journal returns from the first page's cursor on, are whole up to the journal's
+/// cursor, whatever took effect between the pages.
 pub fn page_laws()
     ensures pages { PagesAreWhole }
 {}
 
-/// The laws of taking items: a holder that merges items knows from then on all that they stand for; a map knows what
-/// those under its query stand for.
+/// The laws of taking items.
+///
+/// A holder that merges items knows from then on all that they stand for. A map knows what those under its query
+/// stand for.
 pub fn taking_laws()
     ensures holder { HolderTakes }
     ensures new_map { NewMapIsMap }
     ensures map { MapsTake }
 {}
 
-/// The laws of catching up: a map that took everything that a store accepted, and nothing that isn't covered by what
-/// the store holds, holds exactly what the store holds under its query. If it took more, it holds at least that.
+/// The laws of catching up.
+///
+/// A map that took everything that a store accepted, and nothing that isn't covered by what the store holds, holds
+/// exactly what the store holds under its query. If it took more, it holds at least that.
 pub fn catch_up_laws()
     ensures exact { HoldsTheStores }
     ensures alike { HoldsAlike }
@@ -58,8 +64,10 @@ pub fn catch_up_laws()
     ensures pages { FollowsFromPages }
 {}
 
-/// The laws of agreement: holders that know the same under a query hold the same under it, and the join of what two
-/// hold is the top of everything that either knows.
+/// The laws of agreement.
+///
+/// Holders that know the same under a query hold the same under it. The join of what two hold is the top of
+/// everything that either knows.
 pub fn agreement_laws()
     ensures equal { HoldersAgree }
     ensures query { TopUnderQuery }
@@ -68,18 +76,21 @@ pub fn agreement_laws()
     ensures more { MoreIsHeld }
 {}
 
-/// The laws of no older generation: for a known change that isn't void, nothing older is held. Labels are never void.
-/// The held label has the endpoint of the greatest known generation, or none if that one is gone.
+/// The laws of no older generation.
+///
+/// For a known change that isn't void, nothing older is held. Labels are never void. The held label has the endpoint
+/// of the greatest known generation, or none if that one is gone.
 pub fn label_laws()
     ensures older { NothingOlderIsHeld }
     ensures older_label { NoOlderLabelIsHeld }
     ensures newest { LabelsAreNewest }
 {}
 
-/// The laws of checks: what the checks of a subscription returned, if nothing counted as shown at first, is whole up
-/// to a check that returned fewer items than it was asked for. If what had taken effect counted as shown, it is so
-/// together with items that were whole by then. Both need that each item, when it took effect meanwhile, was covered
-/// by nothing before it.
+/// The laws of checks.
+///
+/// If nothing counted as shown at first, the items of a subscription's checks are whole up to a check that returned
+/// fewer than it was asked for. If what had taken effect counted as shown, they are so together with items that were
+/// whole by then. Both need that each item, when it took effect meanwhile, was covered by nothing before it.
 pub fn check_laws()
     ensures checks { ChecksAreWhole }
     ensures later { ChecksGoOn }

@@ -31,36 +31,36 @@ kind_of (values.U32 n) = U32
 kind_of (values.Str t) = Str
 kind_of (values.Mem b) = Mem
 
--- The value of a put is of the key's kind.
+-- Whether the value of a put is of the key's kind.
 abbrev pub IsOfKind : Kind → Body → Type 0
 IsOfKind kind (Put value) = kind_of value ≡ kind
 IsOfKind kind Gone = Unit {0}
 
--- Whether the value of a put is of the key's kind.
+-- Like `IsOfKind`, as a test.
 abbrev pub is_of_kind : Kind → Body → Bool
 is_of_kind kind (Put value) = kind_place (kind_of value) == kind_place kind
 is_of_kind kind Gone = true
 
--- The value is one that its reader accepts.
+-- Whether the value is one that its reader accepts.
 abbrev pub IsValue : Value → Type 0
 IsValue (values.Label e) = IsEndpoint e
 IsValue (values.U32 n) = n < 2 ^ 32
 IsValue (values.Str t) = IsText t
 IsValue (values.Mem b) = IsBlob b
 
--- The value of a put is one that its reader accepts.
+-- Whether the value of a put is one that its reader accepts.
 abbrev pub IsBody : Body → Type 0
 IsBody (Put value) = IsValue value
 IsBody Gone = Unit {0}
 
--- The value is kept in place, so a copy allocates nothing.
+-- Whether the value is kept in place, so that a copy allocates nothing.
 abbrev pub IsInPlace : Value → Type 0
 IsInPlace (values.Label e) = Unit {0}
 IsInPlace (values.U32 n) = Unit {0}
 IsInPlace (values.Str t) = ⊥
 IsInPlace (values.Mem b) = ⊥
 
--- The value of a put, if any, is kept in place.
+-- Whether the value of a put, if any, is kept in place.
 abbrev pub IsBodyInPlace : Body → Type 0
 IsBodyInPlace (Put value) = IsInPlace value
 IsBodyInPlace Gone = Unit {0}
@@ -73,7 +73,7 @@ IsLabelBody version (Put (values.Str t)) = ⊥
 IsLabelBody version (Put (values.Mem b)) = ⊥
 IsLabelBody version Gone = version.seq ≡ 1
 
--- Whether the body keeps the rule of labels.
+-- Like `IsLabelBody`, as a test.
 abbrev pub is_label_body : Version → Body → Bool
 is_label_body version (Put (values.Label e)) = version.seq == 0 && version.epoch == e.generation
 is_label_body version (Put _) = false
@@ -98,7 +98,7 @@ KeepsRule U32 c = IsBelowSweeps c.version c.body
 KeepsRule Str c = IsBelowSweeps c.version c.body
 KeepsRule Mem c = IsBelowSweeps c.version c.body
 
--- Each part is in its range, and the parts fit together.
+-- Whether each part is in its range and the parts fit together.
 pub record IsChange (c : ChangeRecord) : Type 0 where
   pub name : IsName c.key.name
   pub owner : IsName c.owner

@@ -5,7 +5,7 @@ use Rattle.ds_entry.specs.declared.change.EntryFault.{EntryFault}
 use Rattle.ds_entry.specs.declared.change.EntryFault.TheVariants.{BadKind, BadLabel, BadVersion}
 use Rattle.ds_entry.specs.Change.{ChangeRecord, IsOfKind, IsLabelChange, IsBelowSweeps}
 
--- The fault is the first that applies to the parts.
+-- Whether the fault is the first that applies to the parts.
 abbrev pub IsEntryFault : EntryFault → ChangeRecord → Type 0
 IsEntryFault BadKind c = ¬ IsOfKind c.key.kind c.body
 IsEntryFault BadLabel c = IsOfKind c.key.kind c.body × (c.key.kind ≡ Label) × (¬ IsLabelChange c)

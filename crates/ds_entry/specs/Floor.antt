@@ -7,7 +7,7 @@ use Rattle.ds_entry.specs.declared.floor.Floor.{Floor}
 abbrev pub floor_of : List ℕ → ℕ → Floor
 floor_of owner generation = record { owner = owner; generation = generation }
 
--- Both parts are in their ranges.
+-- Whether both parts are in their ranges.
 pub record IsFloor (f : Floor) : Type 0 where
   pub owner : IsName f.owner
   pub generation : f.generation ≤ 2097151

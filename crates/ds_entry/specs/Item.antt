@@ -10,12 +10,12 @@ use Rattle.ds_entry.specs.Floor.{IsFloor}
 use Rattle.ds_entry.specs.declared.item.Item.{Item}
 use Rattle.ds_entry.specs.declared.item.Item.TheVariants.{Change as Changed, Floor as Floored}
 
--- The parts of the change, or of the floor, are in their ranges and fit together.
+-- Whether the parts of the change, or of the floor, are in their ranges and fit together.
 abbrev pub IsItem : Item → Type 0
 IsItem (Changed c) = IsChange c
 IsItem (Floored f) = IsFloor f
 
--- The item is kept in place, so a copy allocates nothing.
+-- Whether the item is kept in place, so that a copy allocates nothing.
 abbrev pub IsItemInPlace : Item → Type 0
 IsItemInPlace (Changed c) = IsBodyInPlace c.body
 IsItemInPlace (Floored f) = Unit {0}

@@ -20,7 +20,8 @@ covers (Floored f) (Floored g) = eq_by_cmp name_cmp g.owner f.owner && nat_le g.
 abbrev pub covered_by : Item → List Item → List Item
 covered_by i items = filter (covers i) items
 
--- Of the changes among the items: equal key and version mean equal change, and equal key means equal owner.
+-- Whether the changes among the items don't contradict each other: equal key and version mean equal change, and equal
+-- key means equal owner.
 pub record AreSingleNumbered (items : List Item) : Type 0 where
   pub one_change : (c d : ChangeRecord) → Contains items (Changed c) → Contains items (Changed d) → c.key ≡ d.key → c.version ≡ d.version → c ≡ d
   pub one_owner : (c d : ChangeRecord) → Contains items (Changed c) → Contains items (Changed d) → c.key ≡ d.key → c.owner ≡ d.owner

@@ -7,13 +7,13 @@ use Rattle.ds_entry.specs.declared.text.TextFault.TheVariants as text
 use Rattle.ds_entry.specs.declared.blob.BlobFault.{BlobFault}
 use Rattle.ds_entry.specs.declared.blob.BlobFault.TheVariants as blob
 
--- The fault is the first that applies to the bytes as a text; out of memory applies only to a text.
+-- Whether the fault is the first that applies to the bytes as a text; out of memory applies only to a text.
 abbrev pub IsTextFault : TextFault → List ℕ → Type 0
 IsTextFault text.TooLong bytes = 256 < length bytes
 IsTextFault text.BadText bytes = (length bytes ≤ 256) × (¬ IsTrue (list_all is_text_byte bytes))
 IsTextFault text.NoRoom bytes = IsText bytes
 
--- The fault is the first that applies to the bytes as a blob; out of memory applies only to a blob.
+-- Whether the fault is the first that applies to the bytes as a blob; out of memory applies only to a blob.
 abbrev pub IsBlobFault : BlobFault → List ℕ → Type 0
 IsBlobFault blob.TooLong bytes = 1024 < length bytes
 IsBlobFault blob.NoRoom bytes = IsBlob bytes

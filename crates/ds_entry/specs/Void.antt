@@ -23,6 +23,6 @@ voids_it c (Floored f) = voids f c
 abbrev pub is_void : List Item → ChangeRecord → Bool
 is_void items c = list_any (voids_it c) items
 
--- No floor among the items voids a change among them.
+-- Whether no floor among the items voids a change among them.
 abbrev pub NoneVoid : List Item → Type 0
 NoneVoid items = (f : Floor) (c : ChangeRecord) → Contains items (Floored f) → Contains items (Changed c) → voids f c ≡ false

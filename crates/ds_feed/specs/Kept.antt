@@ -22,7 +22,7 @@ pub record Kept : Type 0 where
 abbrev pub last_items : ℕ → List Item → List Item
 last_items n items = drop (length items - n) items
 
--- The journal is that of this feed.
+-- Whether the journal is that of this feed.
 pub record Keeps (j : Kept) (f : Feed) : Type 0 where
   pub items : j.items ≡ last_items f.ring f.accepted
   pub first : j.first ≡ f.first
@@ -30,7 +30,7 @@ pub record Keeps (j : Kept) (f : Feed) : Type 0 where
   pub ring : j.ring ≡ f.ring
   pub incarnation : j.incarnation ≡ f.incarnation
 
--- A ring keeps 1 to 4096 items.
+-- Whether a ring is allowed: it keeps 1 to 4096 items.
 pub record IsRing (ring : ℕ) : Type 0 where
   pub some : 0 < ring
   pub limit : ring ≤ 4096
@@ -52,6 +52,6 @@ IsJournalFault BadRing first ring = ¬ IsRing ring
 IsJournalFault BadFirst first ring = IsRing ring × (last_place < first)
 IsJournalFault NoRoom first ring = IsRing ring × (first ≤ last_place)
 
--- The cursor has no fault, and the items from it on are those kept from this index on.
+-- Whether the cursor has no fault, and the items from it on are those kept from this index on.
 abbrev pub IsStart : Kept → Feed → Cursor → ℕ → Type 0
 IsStart j f at i = (fault_at f at ≡ None) × (drop i j.items ≡ from f at.position)

@@ -24,7 +24,7 @@ is_behind_key (Some after) (Floored f) = false
 abbrev pub snapshot_of : (Item → Bool) → List Item → Cursor → Snapshot
 snapshot_of test held cursor = record { items = filter test held; cursor = cursor }
 
--- What a page after the key and all further ones are to return.
+-- The items that a page after the key and all further ones are to return.
 abbrev pub still_to_come : (Item → Bool) → Option Key → List Item → List Item
 still_to_come test after held = filter (is_behind_key after) (filter test held)
 

@@ -36,12 +36,12 @@ beyond at n = record { incarnation = at.incarnation; position = at.position + n 
 abbrev pub since_of : Feed → (Item → Bool) → Cursor → ℕ → Since
 since_of f test at max = record { items = filter test (piece f test at max); cursor = beyond at (length (piece f test at max)) }
 
--- The cursor has no fault, and this is the answer.
+-- Whether the cursor has no fault, and this is the answer.
 pub record IsGiven (f : Feed) (test : Item → Bool) (at : Cursor) (max : ℕ) (since : Since) : Type 0 where
   pub reached : fault_at f at ≡ None
   pub given : since ≡ since_of f test at max
 
--- The fault is the first that applies, or memory ran out and none applies.
+-- Whether the fault is the first that applies, or memory ran out and none applies.
 abbrev pub IsSinceRefused : Feed → Cursor → SinceFault → Type 0
 IsSinceRefused f at NoRoom = fault_at f at ≡ None
 IsSinceRefused f at fault = fault_at f at ≡ Some fault

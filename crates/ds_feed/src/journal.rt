@@ -145,8 +145,10 @@ impl Journal {
         self.first
     }
 
-    /// Returns the first `max` items from the cursor on, or all. OldCursor if the cursor is of another incarnation,
-    /// then Ahead if it is past the position of the next item, then Behind if the ring doesn't reach back to it.
+    /// Returns the first `max` items from the cursor on, or all.
+    ///
+    /// OldCursor if the cursor is of another incarnation. Ahead if it is past the position of the next item. Behind
+    /// if the ring doesn't reach back to it. NoRoom comes last.
     pub fn since(&self, alloc: Global, cursor: Cursor, max: u32) -> Result<Since, SinceFault>
         ensures given { (f : Feed) → Keeps self.now f → IfOk result (IsGiven f (passes all_keys) cursor max) }
         ensures items { (f : Feed) → Keeps self.now f → IfOk result (λ since. since.items ≡ take max (from f cursor.position)) }

@@ -19,17 +19,17 @@ abbrev pub after_item : Holding → Item → Result Merge JoinFault → Holding
 after_item old (Changed c) answer = after_merge old c answer
 after_item old (Floored f) answer = after_raise old f answer
 
--- The item, which is borrowed, is refused by this fault.
+-- Whether the item, which is borrowed, is refused by this fault.
 abbrev pub IsItemRefused : Holding → Item → JoinFault → Type 0
 IsItemRefused held (Changed c) fault = IsMergeRefused held c fault
 IsItemRefused held (Floored f) fault = RaiseAnswer held f (Err fault)
 
--- The items are merged in order, none is refused, and `new` is the holding after the last one.
+-- Whether the items are merged in order, none is refused, and `new` is the holding after the last one.
 abbrev pub AreMerged : Holding → List Item → Holding → Type 0
 AreMerged old [] new = new ≡ old
 AreMerged old (i ∷ items) new = (answer : Merge) × ItemAnswer old i (Ok answer) × AreMerged (after_item old i (Ok answer)) items new
 
--- The first `done` of the items are merged, and the next one is refused.
+-- Whether the first `done` of the items are merged, and the next one is refused.
 pub record IsJoinStopped (old : Holding) (items : List Item) (new : Holding) (stop : Stop) : Type 0 where
   pub merged : AreMerged old (take stop.done items) new
   pub refused : (next : Item) × (slice_get items stop.done ≡ Some next) × IsItemRefused new next stop.fault

@@ -49,11 +49,11 @@ changes_map changes = from_entries (by_key changes)
 abbrev pub holding_of : List Floor → List ChangeRecord → LimitsRecord → Holding
 holding_of floors changes limits = record { floors = floors_map floors; changes = changes_map changes; limits = limits }
 
--- The floors are in the order of their owners' names.
+-- Whether the floors are in the order of their owners' names.
 abbrev pub AreOwnersRising : List Floor → Type 0
 AreOwnersRising floors = T (is_sorted name_cmp (by_owner floors))
 
--- The changes are in the order of their keys.
+-- Whether the changes are in the order of their keys.
 abbrev pub AreKeysRising : List ChangeRecord → Type 0
 AreKeysRising changes = T (is_sorted key_cmp (by_key changes))
 
@@ -80,11 +80,11 @@ IsPlace changes key place = IsPlaceOf key_cmp (λ (c : ChangeRecord). c.key) cha
 abbrev pub IsFloorPlace : List Floor → List ℕ → Result ℕ ℕ → Type 0
 IsFloorPlace floors owner place = IsPlaceOf name_cmp (λ (f : Floor). f.owner) floors owner place
 
--- The place is of an element of a list of this length, or of one to insert.
+-- Whether the place is of an element of a list of this length, or of one to insert.
 abbrev pub IsPlaceIn : Result ℕ ℕ → ℕ → Type 0
 IsPlaceIn place len = MatchResult place (λ i. i < len) (λ i. i ≤ len)
 
--- The place is of an element to insert.
+-- Whether the place is of an element to insert.
 abbrev pub IsGap : Result ℕ ℕ → Type 0
 IsGap place = MatchResult place (λ i. ⊥) (λ i. ⊤)
 
@@ -125,6 +125,6 @@ FloorAnswer floors f answer = AnswersFloor (get (floors_map floors) f.owner) (le
 abbrev pub AreFloorsAfter : List Floor → Floor → Result Merge JoinFault → List Floor → Type 0
 AreFloorsAfter old f answer new = (place : Result ℕ ℕ) × IsFloorPlace old f.owner place × (new ≡ list_after old (put_at old place f) answer)
 
--- What is found at the place of a key is what is held for the key.
+-- Whether what is found at the place of a key is what is held for the key.
 abbrev pub IsHeldAt : Holding → Result ℕ ℕ → Option ChangeRecord → Type 0
 IsHeldAt h place found = (key : Key) → IsPlace (held_changes h) key place → found ≡ held_for h key

@@ -17,7 +17,7 @@ smaller = limits_of 64 1024
 abbrev pub larger : LimitsRecord
 larger = limits_of 128 4096
 
--- There are no other limits.
+-- Whether the limits are one of the two; there are no others.
 abbrev pub IsLimits : LimitsRecord → Type 0
 IsLimits l = (l ≡ smaller) ⊎ (l ≡ larger)
 

@@ -8,14 +8,14 @@ use Rattle.ds_held.specs.Held.{Holding, held_for, floor_for}
 use Rattle.ds_held.specs.Merge.{MergeAnswer, IsMergeRefused}
 use Rattle.ds_held.specs.Raise.{RaiseAnswer}
 
--- The merge of a change into a held key is never refused as NoRoom.
+-- A law: the merge of a change into a held key is never refused as NoRoom.
 abbrev pub HeldKeyNeedsNoRoom : Type 0
 HeldKeyNeedsNoRoom = (old : Holding) (h c : ChangeRecord) → held_for old c.key ≡ Some h → ¬ MergeAnswer old c (Err NoRoom)
 
--- Nor is the merge of a borrowed change whose body is kept in place.
+-- A law: nor is the merge of a borrowed change whose body is kept in place.
 abbrev pub CopyInPlaceNeedsNoRoom : Type 0
 CopyInPlaceNeedsNoRoom = (old : Holding) (h c : ChangeRecord) → held_for old c.key ≡ Some h → IsBodyInPlace c.body → ¬ IsMergeRefused old c NoRoom
 
--- The floor of an owner who has one is never refused.
+-- A law: the floor of an owner who has one is never refused.
 abbrev pub HeldOwnerIsNotRefused : Type 0
 HeldOwnerIsNotRefused = (old : Holding) (g : ℕ) (f : Floor) (fault : JoinFault) → floor_for old f.owner ≡ Some g → ¬ RaiseAnswer old f (Err fault)

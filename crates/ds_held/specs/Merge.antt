@@ -10,7 +10,7 @@ use Rattle.ds_join.specs.declared.merge.JoinFault.{JoinFault}
 use Rattle.ds_join.specs.declared.merge.JoinFault.TheVariants.{NotOwner, Clash, Full, NoRoom}
 use Rattle.ds_held.specs.Held.{Holding, held_for, held_count, is_void_at}
 
--- The answer where nothing is held for the key or owner, `count` of them are held, and `most` may be.
+-- The answer where nothing is held for the key or owner, and `count` of at most `most` are held.
 abbrev pub AnswersNew : ℕ → ℕ → Result Merge JoinFault → Type 0
 AnswersNew count most (Ok Taken) = count < most
 AnswersNew count most (Ok Known) = ⊥
@@ -30,7 +30,8 @@ AnswersOwn h c (Err (Clash v)) = (h.version ≡ c.version) × (h.body ≢ c.body
 AnswersOwn h c (Err Full) = ⊥
 AnswersOwn h c (Err NoRoom) = ⊥
 
--- A void change is Stale, whatever else applies; any other gets the answer that P describes.
+-- The answer to a change that is void or isn't. A void one is Stale, whatever else applies; P describes the answer to
+-- any other.
 abbrev pub UnlessVoid : Bool → Type 0 → Result Merge JoinFault → Type 0
 UnlessVoid true P answer = answer ≡ Ok Stale
 UnlessVoid false P answer = P
@@ -55,11 +56,11 @@ after_merge old c (Ok Known) = old
 after_merge old c (Ok Stale) = old
 after_merge old c (Err fault) = old
 
--- Copying the change takes memory: its key isn't held, or its body isn't kept in place.
+-- Whether copying the change takes memory: its key isn't held, or its body isn't kept in place.
 abbrev pub ChangeTakesMemory : Holding → ChangeRecord → Type 0
 ChangeTakesMemory held c = (held_for held c.key ≡ None) ⊎ (¬ IsBodyInPlace c.body)
 
--- The borrowed change is refused by this fault: NoRoom only if it would be taken and takes memory.
+-- Whether the borrowed change is refused by this fault: NoRoom only if it would be taken and takes memory.
 abbrev pub IsMergeRefused : Holding → ChangeRecord → JoinFault → Type 0
 IsMergeRefused held c NotOwner = MergeAnswer held c (Err NotOwner)
 IsMergeRefused held c (Clash v) = MergeAnswer held c (Err (Clash v))

@@ -36,8 +36,8 @@ mod merging;
 /// What a holder keeps: of each owner the greatest floor, and of each key the change with the greatest version that
 /// isn't void, tombstones included. It has at most 64 floors, and as many keys as its limits allow.
 ///
-/// While a floor of an owner is held, nothing that the owner published in generations up to it is held but labels,
-/// and no call brings it back. So what a dropped tombstone had deleted stays deleted.
+/// While a floor of an owner is held, nothing from the owner's generations up to it is held but labels, and no call
+/// brings it back. So what a dropped tombstone had deleted stays deleted.
 #[derive(Drop)]
 pub struct Held {
     floors: Vec<Floor>,

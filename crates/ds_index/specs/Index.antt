@@ -12,18 +12,18 @@ pub record Listing : Type 0 where
 abbrev pub listing : List Named → ℕ → Listing
 listing names room = record { names = names; room = room }
 
--- The list has one more label, and is otherwise the same.
+-- Whether the list has one more label, and is otherwise the same.
 pub record IsAdded (old new : List Named) (p : Named) : Type 0 where
   pub keeps : (q : Named) → Contains old q → Contains new q
   pub here : Contains new p
   pub only : (q : Named) → Contains new q → (q ≡ p) ⊎ Contains old q
 
--- The list has `after` in place of `before`, and is otherwise the same.
+-- Whether the list has `after` in place of `before`, and is otherwise the same.
 pub record IsReplaced (old new : List Named) (before after : Named) : Type 0 where
   pub keeps : (q : Named) → Contains old q → q ≢ before → Contains new q
   pub here : Contains new after
   pub only : (q : Named) → Contains new q → (q ≡ after) ⊎ (Contains old q × (q ≢ before))
 
--- `before` was removed at its place, and `after` inserted at its own.
+-- Whether `before` was removed at its place, and `after` inserted at its own.
 abbrev pub IsMovedLabel : List Named → List Named → Named → Named → Type 0
 IsMovedLabel old new before after = (place : ℕ) × (slice_get old place ≡ Some before) × (new ≡ inserted_label after (remove old place))

@@ -16,7 +16,7 @@ endpoint_left c = endpoint_in c.body
 abbrev pub holder_for : FinMap key_cmp ChangeRecord → List ℕ → Option (Option EndpointRecord)
 holder_for changes name = option_map endpoint_left (get changes (label_key name))
 
--- Exactly the held labels are listed, each with its present endpoint.
+-- Whether exactly the held labels are listed, each with its present endpoint.
 pub record IsIndexed (changes : FinMap key_cmp ChangeRecord) (names : List Named) : Type 0 where
   pub listed : (p : Named) → holder_for changes p.name ≡ Some p.endpoint → Contains names p
   pub held : (p : Named) → Contains names p → holder_for changes p.name ≡ Some p.endpoint

@@ -54,7 +54,7 @@ IsBegin e names place = IsPartitionPoint (λ q. begins_behind e q ≡ true) (λ 
 abbrev pub IsLabelPlace : Named → List Named → ℕ → Type 0
 IsLabelPlace p names place = IsPartitionPoint (λ q. is_label_behind p q ≡ true) (λ q. is_label_behind p q ≡ false) names place
 
--- The label may replace the one at the index: its place is there or one further.
+-- Whether the label may replace the one at the index: its place is there or one further.
 abbrev pub IsNearLabel : Named → List Named → ℕ → Type 0
 IsNearLabel p names index = (place : ℕ) × IsLabelPlace p names place × (index ≤ place) × (place ≤ index + 1)
 

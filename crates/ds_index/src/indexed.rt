@@ -101,8 +101,8 @@ impl<M: Drop> Indexed<M> {
         put_indexed(&mut self.marked, &mut self.index, place, change, mark)
     }
 
-    /// Puts a floor that is to be taken, and its mark, at their place, as [`Marked::raise_at`] does, and returns how
-    /// many puts it dropped. It drops no label.
+    /// Puts a floor that is to be taken, and its mark, at their place, as [`Marked::raise_at`] does. Returns how many
+    /// puts it dropped. It drops no label.
     pub fn raise_at(
         &mut self,
         place: Result<usize, usize>,

@@ -17,7 +17,7 @@ counted n (Some Stale) = record { done = n.done + 1; taken = n.taken; stale = n.
 counted n (Some Known) = record { done = n.done + 1; taken = n.taken; stale = n.stale }
 counted n None = record { done = n.done + 1; taken = n.taken; stale = n.stale }
 
--- No more items are taken, or stale, than are done, and the counters have room for one more.
+-- Whether no more items are taken, or stale, than are done, and the counters have room for one more.
 pub record CanCountOne (n : Count) : Type 0 where
   pub taken : n.taken ≤ n.done
   pub stale : n.stale ≤ n.done

@@ -4,7 +4,7 @@ use Rattle.ds_entry.specs.ItemCovers.{AreSingleNumbered}
 use Rattle.ds_entry.specs.declared.item.Item.{Item}
 use Rattle.ds_join.specs.ItemTop.{IsTop, CoversAll}
 
--- The top of all that is in either.
+-- Whether `joined` is the top of all that is in either.
 abbrev pub IsJoin : List Item → List Item → List Item → Type 0
 IsJoin joined xs ys = IsTop joined (xs ++ ys)
 
@@ -14,11 +14,11 @@ JoinIsCommutative = (xs ys joined : List Item) → IsJoin joined xs ys → IsJoi
 abbrev pub JoinIsAssociative : Type 0
 JoinIsAssociative = (xs ys zs left right joined : List Item) → AreSingleNumbered (xs ++ (ys ++ zs)) → IsJoin left xs ys → IsJoin right ys zs → IsJoin joined left zs → IsJoin joined xs right
 
--- The join of a top with itself is that top.
+-- A law: the join of a top with itself is that top.
 abbrev pub JoinIsIdempotent : Type 0
 JoinIsIdempotent = (xs : List Item) → IsTop xs xs → IsJoin xs xs xs
 
--- It covers everything that either side holds, and whatever does so covers it.
+-- Whether `joined` covers everything that either side holds, and whatever does so covers it.
 pub record IsLeastAbove (joined xs ys : List Item) : Type 0 where
   pub left : CoversAll joined xs
   pub right : CoversAll joined ys

@@ -10,16 +10,16 @@ use Rattle.ds_entry.specs.Void.{is_void, NoneVoid}
 use Rattle.ds_entry.specs.declared.item.Item.{Item}
 use Rattle.ds_entry.specs.declared.item.Item.TheVariants.{Change as Changed, Floor as Floored}
 
--- Each item of the first list is in the second.
+-- Whether each item of the first list is in the second.
 abbrev pub IsPartOf : List Item → List Item → Type 0
 IsPartOf part whole = (i : Item) → Contains part i → Contains whole i
 
--- Each of the items is covered by one that is in `held`.
+-- Whether each of the items is covered by one that is in `held`.
 abbrev pub CoversAll : List Item → List Item → Type 0
 CoversAll held items = (i : Item) → Contains items i → (j : Item) × Contains held j × (covers j i ≡ true)
 
--- The greatest floor of each owner, in the order of their names, and then of each key the greatest version among the
--- changes that aren't void, tombstones included, in the order of the keys.
+-- Whether `held` is the top of the set: the greatest floor of each owner, in the order of their names, and then of
+-- each key the greatest version among the changes that aren't void, tombstones included, in the order of the keys.
 pub record IsTop (held set : List Item) : Type 0 where
   pub in_order : IsStrictlySortedBy item_cmp held
   pub among : IsPartOf held set
@@ -40,12 +40,12 @@ held_after held i = if list_any (λ j. covers j i) held then held else inserted 
 abbrev pub tops : List Item → List Item
 tops items = fold held_after [] items
 
--- A change that isn't void has the owner of every other change of its key among the items that isn't void; floors
--- always fit.
+-- Whether the item fits the others: a change that isn't void has the owner of every other change of its key that
+-- isn't void. Floors always fit.
 abbrev pub FitsOwners : List Item → Item → Type 0
 FitsOwners items (Floored f) = Unit {0}
 FitsOwners items (Changed c) = (d : ChangeRecord) → Contains items (Changed d) → is_void items c ≡ false → is_void items d ≡ false → c.key ≡ d.key → c.owner ≡ d.owner
 
--- Each item of the list fits those before it. So a key that was dropped may get another owner.
+-- Whether each item of the list fits those before it. So a key that was dropped may get another owner.
 abbrev pub HasOneOwnerInTurn : List Item → Type 0
 HasOneOwnerInTurn items = (front back : List Item) (i : Item) → items ≡ front ++ i ∷ back → FitsOwners front i

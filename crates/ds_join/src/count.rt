@@ -11,8 +11,8 @@ use crate::merge::{JoinFault, Merge, Stop};
 pub struct Count {
     /// How many items are done, including those that were skipped.
     pub done: usize,
-    /// How many took effect: changes of keys for which nothing or a smaller version was held, and floors above their
-    /// owners' held ones.
+    /// How many took effect: changes of keys for which nothing or a smaller version was held, and floors of owners with
+    /// none or a lower one.
     pub taken: usize,
     /// How many were stale: a greater version was held, or a floor that voids the change, or a higher floor of the
     /// same owner.

@@ -36,8 +36,8 @@ pub enum JoinFault {
     NoRoom,
 }
 
-/// Where a join stopped: `done` of the other's items were merged, floors in the order of their owners' names and then
-/// changes in the order of their keys, and the next one was refused.
+/// Where a join stopped: `done` of the other's items were merged, and the next one was refused. Floors come first, in
+/// the order of their owners' names, then changes in the order of their keys.
 #[derive(Clone, Copy, Debug, PartialEq, Eq, Error)]
 #[error("stopped after {done} items: {fault}")]
 pub struct Stop {

@@ -7,41 +7,42 @@ use Rattle.ds_line.specs.Spelling.{change_parts, spelling}
 use Rattle.ds_line.specs.declared.fault.LineFault.{LineFault}
 use Rattle.ds_line.specs.declared.fault.LineFault.TheVariants.{BadLine, NoRoom}
 
--- The bytes begin with the first `count` of the parts, in order, and no part is followed by a byte that would make it
--- longer. The rest comes after them.
+-- Whether the bytes begin with the first `count` of the parts, in order, followed by the rest, and no part is
+-- followed by a byte that would make it longer.
 abbrev pub Stand : ℕ → List Part → List ℕ → List ℕ → Type 0
 Stand zero parts bytes rest = bytes ≡ rest
 Stand (suc count) [] bytes rest = ⊥
 Stand (suc count) (p ∷ parts) bytes rest = (after : List ℕ) × Begins (run_of p.class) bytes p.text after × Stand count parts after rest
 
--- Some member's first `count` parts are at the front of the bytes.
+-- Whether some member's first `count` parts are at the front of the bytes.
 pub record CanRead {T : Type 0} (IsMember : T → Type 0) (parts : T → List Part) (count : ℕ) (bytes rest : List ℕ) : Type 0 where
   pub member : T
   pub is : IsMember member
   pub front : Stand count (parts member) bytes rest
 
--- The most parts that can be read end where the rest begins.
+-- Whether the most parts that can be read end where the rest begins.
 pub record StopsAt {T : Type 0} (IsMember : T → Type 0) (parts : T → List Part) (bytes rest : List ℕ) : Type 0 where
   pub count : ℕ
   pub read : CanRead IsMember parts count bytes rest
   pub most : (after : List ℕ) → ¬ CanRead IsMember parts (suc count) bytes after
 
--- The first part that can't be read begins at the place.
+-- Whether the first part that can't be read begins at the place.
 pub record IsFaultPlace {T : Type 0} (IsMember : T → Type 0) (parts : T → List Part) (bytes : List ℕ) (place : ℕ) : Type 0 where
   pub rest : List ℕ
   pub stops : StopsAt IsMember parts bytes rest
   pub begins : place + length rest ≡ length bytes
 
--- The bytes don't begin with a change's line.
+-- Whether the bytes don't begin with a change's line.
 abbrev pub HasNoLine : List ℕ → Type 0
 HasNoLine bytes = (c : ChangeRecord) (rest : List ℕ) → IsChange c → bytes ≢ spelling c ++ rest
 
--- The bytes don't begin with a change's line, and the first part of a change that can't be read begins at the place.
+-- Whether the bytes don't begin with a change's line, and the first part of a change that can't be read begins at the
+-- place.
 pub record IsLineFault (bytes : List ℕ) (place : ℕ) : Type 0 where
   pub none : HasNoLine bytes
   pub first : IsFaultPlace IsChange change_parts bytes place
 
--- The bytes begin with the whole line of a put whose value takes memory: a text or a blob.
+-- Whether the bytes begin with the whole line of a put whose value takes memory: a text or a blob.
 pub record LineTakesRoom (bytes : List ℕ) : Type 0 where
   pub change : ChangeRecord
   pub rest : List ℕ

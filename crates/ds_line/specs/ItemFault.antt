@@ -7,11 +7,12 @@ use Rattle.ds_line.specs.ItemSpelling.{item_parts, item_spelling}
 use Rattle.ds_line.specs.declared.fault.LineFault.{LineFault}
 use Rattle.ds_line.specs.declared.fault.LineFault.TheVariants.{BadLine, NoRoom}
 
--- The bytes don't begin with an item's line.
+-- Whether the bytes don't begin with an item's line.
 abbrev pub HasNoItem : List ℕ → Type 0
 HasNoItem bytes = (i : Item) (rest : List ℕ) → IsItem i → bytes ≢ item_spelling i ++ rest
 
--- The bytes don't begin with an item's line, and the first part of an item that can't be read begins at the place.
+-- Whether the bytes don't begin with an item's line, and the first part of an item that can't be read begins at the
+-- place.
 pub record IsItemFault (bytes : List ℕ) (place : ℕ) : Type 0 where
   pub none : HasNoItem bytes
   pub first : IsFaultPlace IsItem item_parts bytes place

@@ -15,7 +15,7 @@ pub record Piece : Type 1 where
   pub Can : Of → Type 0
   pub parts : Of → List Part
 
--- All parts of the thing are at the front, and the rest comes after them.
+-- Whether all parts of the thing are at the front, and the rest comes after them.
 pub record Found (p : Piece) (thing : p.Of) (bytes rest : List ℕ) : Type 0 where
   pub can : p.Can thing
   pub front : Stand (length (p.parts thing)) (p.parts thing) bytes rest
@@ -35,7 +35,7 @@ abbrev pub StopsIn : Piece → PartFault → List ℕ → Type 0
 StopsIn p (BadPart left) bytes = (rest : List ℕ) × Breaks p bytes rest × (length rest ≡ left)
 StopsIn p NoRoom bytes = (thing : p.Of) × (rest : List ℕ) × Found p thing bytes rest
 
--- A value of the kind.
+-- Whether the value is valid and of the kind.
 pub record IsValueOf (kind : Kind) (value : Value) : Type 0 where
   pub valid : IsValue value
   pub of : kind_of value ≡ kind

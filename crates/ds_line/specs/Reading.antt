@@ -33,23 +33,23 @@ up_to_mark key owner version =
 abbrev pub up_to_value : Key → List ℕ → Version → List Part
 up_to_value key owner version = up_to_mark key owner version ++ byte 61 ∷ space ∷ []
 
--- Some change has the key, the owner and the version.
+-- Whether some change has the key, the owner and the version.
 abbrev pub HasBody : Key → List ℕ → Version → Type 0
 HasBody key owner version = (body : Body) × IsChange (change_of key owner version body)
 
--- Some put has the key, the owner and the version.
+-- Whether some put has the key, the owner and the version.
 abbrev pub HasValue : Key → List ℕ → Version → Type 0
 HasValue key owner version = (value : Value) × IsChange (change_of key owner version (Put value))
 
--- Some change has the key, the owner and the epoch.
+-- Whether some change has the key, the owner and the epoch.
 abbrev pub HasSeq : Key → List ℕ → ℕ → Type 0
 HasSeq key owner epoch = (seq : ℕ) × HasBody key owner (record { epoch = epoch; seq = seq })
 
--- Some change has the key and the owner.
+-- Whether some change has the key and the owner.
 abbrev pub HasVersion : Key → List ℕ → Type 0
 HasVersion key owner = (version : Version) × HasBody key owner version
 
--- Some change has the key.
+-- Whether some change has the key.
 abbrev pub HasOwner : Key → Type 0
 HasOwner key = (owner : List ℕ) × HasVersion key owner
 
@@ -69,14 +69,14 @@ pub record StopsBehind {T : Type 0} (IsMember : T → Type 0) (parts : T → Lis
 abbrev pub ChangeStops : List Part → List ℕ → List ℕ → Type 0
 ChangeStops known bytes rest = StopsBehind IsChange change_parts known bytes rest
 
--- The further parts of the change are at the front, and the rest comes after them.
+-- Whether the further parts of the change are at the front, and the rest comes after them.
 pub record Completes (known : List Part) (c : ChangeRecord) (bytes rest : List ℕ) : Type 0 where
   pub change : IsChange c
   pub further : List Part
   pub split : change_parts c ≡ known ++ further
   pub text : bytes ≡ texts further ++ rest
 
--- The further parts of a put whose value takes memory are at the front.
+-- Whether the further parts of a put whose value takes memory are at the front.
 pub record CompletesInRoom (known : List Part) (bytes : List ℕ) : Type 0 where
   pub put : ChangeRecord
   pub rest : List ℕ
@@ -102,7 +102,8 @@ ReadsInto known bytes (Ok left) (Some (Floored f)) = ⊥
 ReadsInto known bytes (Ok left) None = ⊥
 ReadsInto known bytes (Err stop) placed = ReadsChange known bytes (Err stop)
 
--- The bytes begin with a change's line of this length, and the change is stored; or the fault says why they don't.
+-- The answer: the bytes begin with a change's line of this length, and the change is stored; or the fault says why
+-- they don't.
 abbrev pub ReadsChangeLine : List ℕ → Result ℕ LineFault → Option Item → Type 0
 ReadsChangeLine bytes (Ok len) (Some (Changed c)) = IsChange c × (take len bytes ≡ spelling c) × (len ≡ length (spelling c))
 ReadsChangeLine bytes (Ok len) (Some (Floored f)) = ⊥

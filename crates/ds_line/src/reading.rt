@@ -80,8 +80,8 @@ pub(crate) fn change_into(
 }
 
 // Each reader below returns how many bytes are left after the change's line, or from the first part that can't be
-// read on. What it read of the change is in `slot`, or in the body that it returns. Names are read where the key and
-// the owner are kept, and the change is built in `slot` from there, so each name is copied once.
+// read on. What it read of the change is in `slot`, or in the body that it returns. Each name is copied once: it is
+// read where the key and the owner are kept, and the change is built in `slot` from there.
 
 // Reads a change from its name on.
 fn change_at(

@@ -32,7 +32,7 @@ fn text_byte_at(bytes: &[u8]) -> Option<(u8, &[u8])>
     }
 }
 
-/// Reads the quoted text at the front into the block, and returns its length and the rest after the closing quote.
+/// Reads the quoted text at the front into the block. Returns its length, and the rest after the closing quote.
 /// `None` if the bytes don't begin with a quoted text of at most 256 bytes.
 pub fn quoted_at<'a>(bytes: &'a [u8], block: &mut [u8; 256]) -> Option<(usize, &'a [u8])>
     ensures found { IfSome result (λ r. Begins (run_of Quoted) bytes.now (quoted (take r.0 block.new)) r.1.now) }
@@ -60,8 +60,8 @@ pub fn quoted_at<'a>(bytes: &'a [u8], block: &mut [u8; 256]) -> Option<(usize, &
     Some((256, rest))
 }
 
-// Reads bytes from groups of 32 hex digits at the front into the block, and returns their count and the rest after
-// the last whole group.
+// Reads groups of 32 hex digits at the front into the block. Returns the count of bytes, and the rest after the last
+// whole group.
 fn sixteens_at<'a>(bytes: &'a [u8], block: &mut [u8; 1024]) -> (usize, &'a [u8])
     ensures found { bytes.now ≡ encode_lower (take result.0 block.new) ++ result.1.now }
     ensures each { IsBytes (take result.0 block.new) }
@@ -79,8 +79,8 @@ fn sixteens_at<'a>(bytes: &'a [u8], block: &mut [u8; 1024]) -> (usize, &'a [u8])
     (1024, rest)
 }
 
-/// Reads the hex of a blob at the front into the block, and returns the blob's length and the rest after the longest
-/// run of hex digits. `None` if that run isn't a blob's: it is odd, or above 2048 digits.
+/// Reads the hex of a blob at the front into the block. Returns the blob's length, and the rest after the longest run
+/// of hex digits. `None` if that run isn't a blob's: it is odd, or above 2048 digits.
 pub fn hex_at<'a>(bytes: &'a [u8], block: &mut [u8; 1024]) -> Option<(usize, &'a [u8])>
     ensures found { IfSome result (λ r. Begins (run_of Hex) bytes.now (encode_lower (take r.0 block.new)) r.1.now) }
     ensures fits { IfSome result (λ r. r.0 ≤ 1024) }

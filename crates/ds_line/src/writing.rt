@@ -215,8 +215,8 @@ fn append_blob(buffer: &mut Vec<u8>, before: &[u8], blob: &[u8], after: &[u8]) -
     }
 }
 
-// Writes the hex of a blob to the front of the block, 16 bytes at a time, and returns how many of its bytes are
-// written. Fewer than 16 are left.
+// Writes the hex of a blob to the front of the block, 16 bytes at a time. Returns how many bytes of the blob are
+// written; fewer than 16 are left.
 fn write_sixteens(blob: &[u8], block: &mut [u8; 2048]) -> usize
     requires { length blob.now ≤ 1024 }
     ensures written { take (2 * result) block.new ≡ encode_lower (take result blob.now) }

@@ -44,11 +44,11 @@ module _ {M : Type 0} where
   abbrev pub marked_by : Holding → List M → List M → MarkedHolding M
   marked_by held marks floor_marks = record { held = held; marks = marks_of held marks; floor_marks = floor_marks_of held floor_marks }
 
-  -- There is one mark for each held change.
+  -- Whether there is one mark for each held change.
   pub record IsBeside (held : Holding) (marks : List M) : Type 0 where
     pub sound : IsSound held
     pub each : length marks ≡ length (held_changes held)
 
-  -- There is one mark for each held floor.
+  -- Whether there is one mark for each held floor.
   abbrev pub IsBesideFloors : Holding → List M → Type 0
   IsBesideFloors held marks = length marks ≡ length (held_floors held)

@@ -28,17 +28,17 @@ module _ {M : Type 0} where
   abbrev pub nothing_marked : LimitsRecord → MarkedHolding M
   nothing_marked limits = record { held = nothing_held limits; marks = empty; floor_marks = empty }
 
-  -- Exactly the held keys have marks, and exactly the owners whose floors are held.
+  -- Whether exactly the held keys have marks, and exactly the owners whose floors are held.
   pub record HasMarks (h : MarkedHolding M) : Type 0 where
     pub keys : (key : Key) → is_some (mark_for h key) ≡ is_some (held_for h.held key)
     pub owners : (owner : List ℕ) → is_some (floor_mark_for h owner) ≡ is_some (floor_for h.held owner)
 
-  -- The list is that of the changes' marks, in the order of the keys.
+  -- Whether the list is that of the changes' marks, in the order of the keys.
   pub record AreMarks (h : MarkedHolding M) (marks : List M) : Type 0 where
     pub each : length marks ≡ length (held_changes h.held)
     pub own : (k : ℕ) (c : ChangeRecord) → slice_get (held_changes h.held) k ≡ Some c → slice_get marks k ≡ mark_for h c.key
 
-  -- The list is that of the floors' marks, in the order of the owners' names.
+  -- Whether the list is that of the floors' marks, in the order of the owners' names.
   pub record AreFloorMarks (h : MarkedHolding M) (marks : List M) : Type 0 where
     pub each : length marks ≡ length (held_floors h.held)
     pub own : (k : ℕ) (f : Floor) → slice_get (held_floors h.held) k ≡ Some f → slice_get marks k ≡ floor_mark_for h f.owner
@@ -61,6 +61,6 @@ module _ {M : Type 0} where
   abbrev pub floor_remarked_at : MarkedHolding M → ℕ → M → FinMap name_cmp M
   floor_remarked_at h index mark = floor_remarked h.floor_marks (slice_get (held_floors h.held) index) mark
 
-  -- What is found at the place of a key is the key's mark.
+  -- Whether what is found at the place of a key is the key's mark.
   abbrev pub IsMarkAt : MarkedHolding M → Result ℕ ℕ → Option M → Type 0
   IsMarkAt h place found = (key : Key) → IsPlace (held_changes h.held) key place → found ≡ mark_for h key

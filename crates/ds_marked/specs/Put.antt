@@ -15,8 +15,8 @@ module _ {M : Type 0} where
     pub marks : new.marks ≡ insert old.marks c.key mark
     pub floor_marks : new.floor_marks ≡ old.floor_marks
 
-  -- The state after a raised floor: it is its owner's, with the mark beside it; what it voids is dropped with its
-  -- marks; and all else is unchanged.
+  -- The state after a raised floor: the floor is its owner's, with the mark beside it; what it voids is dropped with
+  -- its marks; and all else is unchanged.
   pub record IsRaisedMarked (old : MarkedHolding M) (f : Floor) (mark : M) (new : MarkedHolding M) : Type 0 where
     pub held : new.held ≡ after_raise old.held f (Ok Taken)
     pub marks : new.marks ≡ at_kept_keys f old.held.changes old.marks

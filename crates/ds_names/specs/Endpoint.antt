@@ -21,7 +21,7 @@ is_same_endpoint d e = d.generation == e.generation && d.slot == e.slot
 abbrev pub is_rs : EndpointRecord → Bool
 is_rs e = is_same_endpoint e (endpoint_of 0 2)
 
--- Both numbers are in their ranges.
+-- Whether both numbers are in their ranges.
 pub record IsEndpoint (e : EndpointRecord) : Type 0 where
   pub generation : e.generation ≤ 2097151
   pub slot : e.slot ≤ 1023
@@ -30,6 +30,6 @@ pub record IsEndpoint (e : EndpointRecord) : Type 0 where
 abbrev pub endpoint_text : EndpointRecord → List ℕ
 endpoint_text e = decimal e.generation ++ 47 ∷ decimal e.slot
 
--- The bytes don't begin with the text of an endpoint whose slot is the longest run of digits.
+-- Whether the bytes don't begin with the text of an endpoint whose slot is the longest run of digits.
 abbrev pub NoEndpointBegins : List ℕ → Type 0
 NoEndpointBegins bytes = (e : EndpointRecord) (rest : List ℕ) → IsEndpoint e → ¬ Begins is_ascii_digit bytes (endpoint_text e) rest

@@ -13,7 +13,7 @@ name_in_block n = take n.len n.block
 abbrev pub filled : List ℕ → ℕ → List ℕ
 filled bytes len = take len bytes ++ replicate (64 - len) 0
 
--- The block keeps a name, padded with zeros.
+-- Whether the block keeps a name, padded with zeros.
 pub record KeepsName (n : Inside) : Type 0 where
   pub whole : length n.block ≡ 64
   pub fits : n.len ≤ 64

@@ -14,7 +14,7 @@ owner_in bytes n = take n.owner (drop n.owner_from bytes)
 abbrev pub names_length : Names → ℕ
 names_length n = max n.name (n.owner_from + n.owner)
 
--- The names of the change are appended to the bytes, where `place` finds them.
+-- Whether the names of the change are appended to the bytes, where `place` finds them.
 pub record AddsNames (change : ChangeRecord) (place : Names) (old new : List ℕ) : Type 0 where
   pub names : List ℕ
   pub added : new ≡ old ++ names

@@ -40,7 +40,7 @@ row_item names (rows.U32 place version number) = Changed (named names place kind
 row_item names (rows.Gone place version kind) = Changed (named names place kind version bodies.Gone)
 row_item names (rows.Floor owner generation) = Floored (floor_of (take owner names) generation)
 
--- The row is the item's, and its names are appended to the bytes.
+-- Whether the row is the item's, and its names are appended to the bytes.
 pub record AddsRow (item : Item) (row : Row) (old new : List ℕ) : Type 0 where
   pub names : List ℕ
   pub added : new ≡ old ++ names

@@ -8,9 +8,8 @@ ghost use Rattle.ds_packed.specs.Names.{names_length, key_name_in, owner_in, Add
 use ds_entry::Change;
 use ds_names::Name;
 
-/// The lengths of the key's name and of its owner's, which are at the front of the bytes, and where the owner's
-/// begins. A key's name mostly begins with its owner's, which then isn't kept twice; otherwise it comes after the
-/// key's.
+/// Where a change's names are: the key's at the front, and the owner's from an index on. A key's name mostly begins
+/// with its owner's, which then isn't kept twice; otherwise the owner's comes after it.
 #[derive(Clone, Copy)]
 pub(crate) struct Names {
     name: u8,

@@ -13,12 +13,12 @@ use Rattle.ds_pattern.specs.Under.{anchored, is_printable, is_regex}
 unfoldable pub is_pattern : List ℕ → Bool
 is_pattern p = is_printable p && is_regex p && is_regex (anchored p)
 
--- A pattern of at most 128 bytes.
+-- Whether the text is a pattern of at most 128 bytes.
 pub record IsPattern (p : List ℕ) : Type 0 where
   pub limit : length p ≤ 128
   pub accepted : IsTrue (is_pattern p)
 
--- The fault is the first that applies to the text. Out of memory implies nothing about what `regex` accepts.
+-- Whether the fault is the first that applies to the text. Out of memory implies nothing about what `regex` accepts.
 abbrev pub IsPatternFault : PatternFault → List ℕ → Type 0
 IsPatternFault TooLong p = 128 < length p
 IsPatternFault BadPattern p = (length p ≤ 128) × IsFalse (is_pattern p)
@@ -34,7 +34,7 @@ IsSyntaxFault TooLong text = ⊥
 IsSyntaxFault BadPattern text = IsFalse (is_regex text)
 IsSyntaxFault NoRoom text = ⊤
 
--- `regex` reads the text as this tree, with its default options.
+-- Whether `regex` reads the text as this tree, with its default options.
 pub record IsReadAs (text : List ℕ) (tree : Hir) : Type 0 where
   pub names : Names
   pub reads : Reads default_config text tree names

@@ -46,6 +46,6 @@ is_printable = list_all is_printable_byte
 unfoldable pub is_regex : List ℕ → Bool
 is_regex text = is_read_as (read default_config text) (λ re. nat_le re.depth default_config.nest_limit)
 
--- The automaton finds a match in exactly the names that P matches whole.
+-- Whether the automaton finds a match in exactly the names that P matches whole.
 unfoldable pub FindsWhole : Nfa → List ℕ → Type 0
 FindsWhole nfa p = (name : List ℕ) → IsName name → is_some (first_match nfa name (length name) 0 (length name)) ≡ matches_whole p name

@@ -77,8 +77,8 @@ pub const LONGEST_PATTERN: usize = 128;
 /// that leads from one state to another. A table exceeds it by at most 24 bytes. `bench/README.md` has measurements.
 pub const SIZE_LIMIT: usize = 12 << 10;
 
-/// A pattern over names: at most 128 bytes of printable ASCII that `regex` accepts, alone and within `^(?:` and `)$`,
-/// with the compiled automaton, whose table is within the limit.
+/// A pattern over names: at most 128 bytes of printable ASCII that `regex` accepts, alone and within `^(?:` and `)$`.
+/// It keeps the compiled automaton, whose table is within the limit.
 #[derive(Drop)]
 pub struct Pattern {
     text: String,

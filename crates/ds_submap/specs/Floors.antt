@@ -5,10 +5,10 @@ use Rattle.ds_entry.specs.declared.item.Item.{Item}
 use Rattle.ds_entry.specs.declared.item.Item.TheVariants.{Floor as Floored}
 use Rattle.ds_join.specs.FloorStands.{IsDropped, FloorStands}
 
--- Each floor among what arrived stands.
+-- Whether each floor among what arrived stands.
 abbrev pub EachFloorStands : List Item → List Item → Type 0
 EachFloorStands came held = (f : Floor) → Contains came (Floored f) → FloorStands held f
 
--- No held floor voids any of the items.
+-- Whether no held floor voids any of the items.
 abbrev pub AreSwept : List Item → List Item → Type 0
 AreSwept held items = (f : Floor) → Contains held (Floored f) → IsDropped items f

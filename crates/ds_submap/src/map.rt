@@ -24,11 +24,11 @@ use ds_pattern::{Filter, PatternFault, Query};
 use std::alloc::Global;
 use std::marker::Model;
 
-/// What a subscriber keeps: its query, and of what arrived under it the greatest floor of each owner and the greatest
-/// version of each key, for up to 4096 keys and 64 floors.
+/// What a subscriber keeps: its query, and of everything under it the greatest floor of each owner and the greatest
+/// version of each key, for up to 64 floors and 4096 keys.
 ///
-/// While a floor of an owner is held, none of the owner's entries is from a generation up to the floor's, labels
-/// aside. No take brings one, however late it arrives, until the map is cleared.
+/// While a floor of an owner is held, no entry from the owner's generations up to it is held, labels aside. No take
+/// brings one, however late it arrives, until the map is cleared.
 #[derive(Drop)]
 pub struct SubMap {
     filter: Filter,
@@ -69,8 +69,10 @@ impl SubMap {
     /// Takes items in order: raises each floor, merges each change under its query, and skips the others.
     ///
     /// It stops at the first item that is refused, and keeps what it took before. Known, stale and skipped items
-    /// count as done. It allocates buffers to match names at the first change of a kind that the query names, and
-    /// copies a change only to take it.
+    /// count as done.
+    ///
+    /// The first change of a kind that the query names allocates buffers to match names. A change is copied only to
+    /// be taken.
     pub fn take(&mut self, alloc: Global, items: &Items) -> Result<Count, Stop>
         ensures joined { JoinsUnder self.old.query self.old.held (done_items result items.now) self.new.held }
         ensures counted { IfOk result (AreCounted self.old.query self.old.held items.now self.new.held) }

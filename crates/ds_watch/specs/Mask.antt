@@ -25,6 +25,6 @@ either _ _ = []
 abbrev pub padded : List Bool → List Bool
 padded some = some ++ replicate (128 - length some) false
 
--- Padding keeps the number.
+-- A law: padding keeps the number.
 abbrev pub PaddingKeepsNumber : Type 0
 PaddingKeepsNumber = (some : List Bool) → mask (padded some) ≡ mask some

@@ -1,4 +1,4 @@
--- The number of a mask's flags is the mask.
+-- A mask's flags determine its number.
 use Rattle.std.specs.Prelude.{◌≡◌, ℕ, ◌+◌, ◌*◌, ◌/◌, ◌%◌, ◌^◌, ◌<◌, ◌==◌, Bool, true, false, cond, List, [], ◌∷◌, length, refl}
 use Rattle.std.proofs.Common.{suc, zero, get_or, ap, ◌∙◌, arith}
 use Rattle.std.proofs.Math.Nat.{pow-suc}

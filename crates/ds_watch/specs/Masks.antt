@@ -2,7 +2,7 @@
 use Rattle.std.specs.Prelude.{ℕ, Bool, ◌&&◌, false, List, slice_set}
 use Rattle.ds_watch.specs.declared.masks.Masks.{Masks}
 
--- The masks of what just took effect: all to whom it is owed are still to be shown it.
+-- The masks of what just took effect: it is still to be shown to all to which it is owed.
 abbrev pub fresh : List Bool → Masks
 fresh under = record { under = under; unseen = under }
 

@@ -2,7 +2,7 @@
 use Rattle.std.specs.Prelude.{◌≡◌, ◌≢◌, ℕ, suc, ◌<◌, List, [], ◌∷◌, ◌++◌, length, take}
 use Rattle.std.specs.List.{All, flat_map}
 
--- No newline is in it.
+-- Whether the line has no newline.
 abbrev pub IsUnbroken : List ℕ → Type 0
 IsUnbroken line = All (λ (b : ℕ). b ≢ 10) line
 
@@ -10,13 +10,13 @@ IsUnbroken line = All (λ (b : ℕ). b ≢ 10) line
 abbrev pub with_newline : List ℕ → List ℕ
 with_newline line = line ++ 10 ∷ []
 
--- The bytes end with their only newline.
+-- Whether the bytes end with their only newline.
 pub record EndsLine (bytes : List ℕ) : Type 0 where
   pub front : List ℕ
   pub parts : bytes ≡ with_newline front
   pub none : IsUnbroken front
 
--- The first newline of the text has this index.
+-- Whether the first newline of the text has this index.
 pub record BreaksAt (text : List ℕ) (n : ℕ) : Type 0 where
   pub within : n < length text
   pub line : IsUnbroken (take n text)
@@ -31,7 +31,7 @@ abbrev pub unended : List ℕ → List (List ℕ)
 unended [] = []
 unended (b ∷ bs) = (b ∷ bs) ∷ []
 
--- The input consists of these lines; the newline of the last one may be missing.
+-- Whether the input consists of these lines; the newline of the last one may be missing.
 pub record HasLines (input : List ℕ) (lines : List (List ℕ)) : Type 0 where
   pub front : List (List ℕ)
   pub last : List ℕ
@@ -40,6 +40,6 @@ pub record HasLines (input : List ℕ) (lines : List (List ℕ)) : Type 0 where
   pub unbroken_last : IsUnbroken last
   pub all : lines ≡ front ++ unended last
 
--- Every input has lines.
+-- A law: every input has lines.
 abbrev pub InputsHaveLines : Type 0
 InputsHaveLines = (input : List ℕ) → (lines : List (List ℕ)) × HasLines input lines

@@ -12,12 +12,12 @@ use Rattle.line_io.specs.declared.pull.Pulled.TheVariants.{Line, Long, End, Read
 abbrev pub left : LinesContent → Option (List ℕ) → Option (List ℕ)
 left lines remaining = prepend_known lines.rest remaining
 
--- The line is next in the input; or the input that is left isn't empty and is the line without its newline.
+-- Whether the line is next in the input, or is all that is left of it, and not empty, with a newline appended.
 abbrev pub ComesNext : List ℕ → (from to : Option (List ℕ)) → Type 0
 ComesNext line from to =
     Consumes from to line ⊎ ((last : List ℕ) × (0 < length last) × (line ≡ with_newline last) × Consumes from to last × IsAtEnd to)
 
--- The input continues with these bytes.
+-- Whether the input continues with these bytes.
 abbrev pub StandsFirst : List ℕ → Option (List ℕ) → Type 0
 StandsFirst front from = (behind : Option (List ℕ)) × Consumes from behind front
 
@@ -31,20 +31,21 @@ Pulls End from to old new = IsAtEnd from × (new.count ≡ old.count)
 Pulls ReadFault from to old new = Consumes from to [] × (new.count ≡ old.count)
 Pulls NoRoom from to old new = Unit {0}
 
--- If `made` calls led to the first state, `calls` lead to the second.
+-- Whether `calls` calls lead to the second state if `made` led to the first.
 abbrev pub LeadsOn : {S : Type 0} → (S → S → Type 0) → (made calls : ℕ) → (old new : S) → Type 0
 LeadsOn {S} leads made calls old new = (first : S) → CallsLead leads made first old → CallsLead leads calls first new
 
--- The reads of the move, of which `reads` led to the last state: the last one failed, or none did.
+-- The outcome, in terms of the reads from the first state on: the last one failed, or `reads` were made and none
+-- failed.
 abbrev pub PullsBy : {R : Type 0} → Reader R → Pulled → (first new : R) → ℕ → Type 0
 PullsBy r ReadFault first new reads = HasFailedRead r.reads r.fails first new
 PullsBy r _ first new reads = CallsLead r.reads reads first new
 
--- The same for any state at which reading began.
+-- `PullsBy` for any state from which `made` reads led to the old one.
 abbrev pub PulledBy : {R : Type 0} → Reader R → Pulled → (old new : R) → (made reads : ℕ) → Type 0
 PulledBy {R} r result old new made reads = (first : R) → CallsLead r.reads made first old → PullsBy r result first new reads
 
--- The outcome matches the line's length.
+-- Whether the outcome matches the line's length.
 abbrev pub IsJudged : Pulled → List ℕ → Type 0
 IsJudged Line line = length line ≤ 4097
 IsJudged Long line = 4097 < length line

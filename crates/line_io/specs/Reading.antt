@@ -25,14 +25,14 @@ pub record AreLinesKept (chunk have start end count read : ℕ) : Type 0 where
   pub few : count + have ≤ read * 65536 + end
   pub reads : read ≤ 2 ^ 32
 
--- The next line becomes the current one; it was read before.
+-- The step to the next line, which was read already.
 pub record GoesToNext (old new : LinesContent) : Type 0 where
   pub ends : EndsLine new.line
   pub split : old.rest ≡ new.line ++ new.rest
   pub count : new.count ≡ suc old.count
   pub reads : new.reads ≡ old.reads
 
--- The last line becomes the current one, with the newline that was missing.
+-- The step to the last line, to which the missing newline is appended.
 pub record GoesToLast (old new : LinesContent) : Type 0 where
   pub ends : EndsLine new.line
   pub line : new.line ≡ with_newline old.rest

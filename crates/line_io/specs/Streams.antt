@@ -15,16 +15,16 @@ TellsWrite writes fails (Ok count) old new = (count ≢ 0 → writes old new) ×
 TellsWrite writes fails (Err Interrupted) old new = writes old new
 TellsWrite writes fails (Err Failed) old new = fails old new
 
--- The second state is `n` calls after the first.
+-- Whether `n` calls lead from the first state to the second.
 abbrev pub CallsLead : {S : Type 0} → (S → S → Type 0) → ℕ → S → S → Type 0
 CallsLead calls zero old new = new ≡ old
 CallsLead {S} calls (suc n) old new = (mid : S) × CallsLead calls n old mid × calls mid new
 
--- The state is the result of such a call.
+-- Whether the state is the result of such a call.
 abbrev pub IsLeft : {S : Type 0} → (S → S → Type 0) → S → Type 0
 IsLeft {S} calls now = (before : S) × calls before now
 
--- The second state is `n` calls and a last one of another sort after the first.
+-- Whether `n` calls, and then a last one of another sort, lead from the first state to the second.
 abbrev pub IsLastBehind : {S : Type 0} → (calls last : S → S → Type 0) → ℕ → S → S → Type 0
 IsLastBehind {S} calls last n old new = (mid : S) × CallsLead calls n old mid × last mid new
 

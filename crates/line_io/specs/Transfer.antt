@@ -13,19 +13,19 @@ Fills Interrupted from to before after = Consumes from to [] × (after ≡ befor
 Fills Failed from to before after = Consumes from to [] × (after ≡ before)
 Fills NoRoom from to before after = (bytes : List ℕ) × Consumes from to bytes × (after ≡ before)
 
--- The outcome, as one of the reader's: `Failed` if it failed.
+-- The outcome, in terms of the reader: `Failed` if its read failed.
 abbrev pub FillsBy : {R : Type 0} → (reads fails : R → R → Type 0) → Filled → (old new : R) → Type 0
 FillsBy reads fails Failed old new = fails old new
 FillsBy reads fails _ old new = reads old new
 
--- A prefix of the text was written.
+-- Whether a prefix of the text was written.
 abbrev pub WritesPart : Option (List ℕ) → Option (List ℕ) → List ℕ → Type 0
 WritesPart had has text = (sent left : List ℕ) × (text ≡ sent ++ left) × Appends had has sent
 
--- The first `count` bytes of the text were written.
+-- Whether the first `count` bytes of the text were written.
 abbrev pub WritesFront : Option (List ℕ) → Option (List ℕ) → ℕ → List ℕ → Type 0
 WritesFront had has count text = (count ≤ length text) × Appends had has (take count text)
 
--- A prefix of the buffer was written, and the rest is still in it.
+-- Whether a prefix of the buffer was written, and the rest is still in it.
 abbrev pub SendsFront : Option (List ℕ) → Option (List ℕ) → (before after : List ℕ) → Type 0
 SendsFront had has before after = (sent : List ℕ) × (before ≡ sent ++ after) × Appends had has sent
