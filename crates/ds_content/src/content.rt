@@ -39,7 +39,7 @@ pub use showing::Shown;
 /// Everything that a store keeps: what it holds, the journal, and its subscriptions.
 ///
 /// It stands for a state of the store's machine, which keeps every item that took effect. Its calls don't judge: their
-/// preconditions say that no cause stands.
+/// preconditions say that no cause applies.
 #[derive(Drop)]
 pub struct Content {
     alloc: Global,

@@ -38,7 +38,7 @@ request_of a = record { caller = a.caller; key = a.key; version = a.version; ove
 abbrev pub cause_by_need : Need → Bool → Option Cause
 cause_by_need need is_live = cond (is_live && not (over_live need)) (Some (Refused Exists)) (cond (not is_live && not (over_none need)) (Some (Refused NotFound)) None)
 
--- Whether a cause stands against what a caller of this name asks for.
+-- Whether a cause applies to what a caller of this name asks for.
 abbrev pub causes_against : Standing → Option (List ℕ) → Asked → Body → Cause → Bool
 causes_against t caller a body = against_asked (machine_standing t) caller (request_of a) body
 

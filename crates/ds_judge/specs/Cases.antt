@@ -21,7 +21,7 @@ machine_check x some stamp = record { places = x.places; taken = is_some x.last;
 abbrev pub refusal_of_case : CheckCase → Bool → ℕ → Option Refusal
 refusal_of_case x some stamp = first_refusal (machine.against_check (machine_check x some stamp))
 
--- The refusal to show something, if one stands.
+-- The refusal to show something, if one applies.
 abbrev pub refusal_of_showing : Bool → ℕ → Option Refusal
 refusal_of_showing some stamp = cond (some && nat_le last_place stamp) (Some Worn) None
 

@@ -1,4 +1,4 @@
--- When a store may report that it is out of memory: only where memory is taken, and after every cause that stands.
+-- When a store may report that it is out of memory: only where memory is taken, and after every cause that applies.
 use Rattle.std.specs.Prelude.{◌≡◌, ◌≢◌, ◌⊎◌, ℕ, Bool, true, List, [], ◌∷◌, Option, Some, None, is_some, slice_get, take}
 use Rattle.std.specs.List.{find}
 use Rattle.ds_names.specs.declared.kind.Kind.{Kind}
@@ -34,12 +34,12 @@ use Rattle.ds_machine.specs.declared.reply.Reply.TheVariants.{MergeStopped, Refu
 abbrev pub before_patterns : List Refusal
 before_patterns = BadSub ∷ TooMany ∷ TooLong ∷ []
 
--- The scope has a pattern, and no refusal judged before it stands.
+-- The scope has a pattern, and no refusal judged before it applies.
 abbrev pub ReadsPattern : Scope → (Refusal → Bool) → Type 0
 ReadsPattern All stands = ⊥
 ReadsPattern (Under query) stands = find stands before_patterns ≡ None
 
--- A command with a scope may be refused for lack of memory: no refusal stands, or none judged before the scope's
+-- A command with a scope may be refused for lack of memory: no refusal applies, or none judged before the scope's
 -- pattern.
 abbrev pub MayLackFor : Scope → (Refusal → Bool) → Type 0
 MayLackFor All stands = first_refusal stands ≡ None
@@ -58,15 +58,15 @@ abbrev pub MergeTakesMemory : State → Item → Type 0
 MergeTakesMemory s (Changed c) = (held_at (held s) c.key ≡ None) ⊎ (¬ IsBodyInPlace c.body)
 MergeTakesMemory s (Floored f) = floor_at (held s) f.owner ≡ None
 
--- What the caller asks for takes effect, since no cause stands against it, and takes memory.
+-- What the caller asks for takes effect, since no cause applies to it, and takes memory.
 abbrev pub MayLackAsked : State → AskedChange → Body → Type 0
 MayLackAsked s a body = (cause_against s a body ≡ None) × MergeTakesMemory s (Changed (asked_in s a body))
 
--- The item of another holder takes effect, since no cause stands against it, and takes memory.
+-- The item of another holder takes effect, since no cause applies to it, and takes memory.
 abbrev pub MayLackItem : State → Item → Type 0
 MayLackItem s i = (cause_of s i ≡ None) × MergeTakesMemory s i
 
--- The command may be refused for lack of memory: no cause stands, or none judged before its pattern, and it takes
+-- The command may be refused for lack of memory: no cause applies, or none judged before its pattern, and it takes
 -- memory. A Merge is never refused so; it stops at an item.
 abbrev pub MayLackRoom : State → Command → Type 0
 MayLackRoom s (Publish caller key version value overwrite) = MayLackAsked s (published caller key version overwrite) (Put value)
@@ -110,6 +110,6 @@ OutcomesAreLast = (s : State) (command : Command) → IsLast s command (outcome 
 abbrev pub PatternMayLackRoom : Type 0
 PatternMayLackRoom = (scope : Scope) (stands : Refusal → Bool) → ReadsPattern scope stands → MayLackFor scope stands
 
--- A law: a command that no refusal stands against may be out of memory for what it returns.
+-- A law: a command that no refusal applies to may be out of memory for what it returns.
 abbrev pub BehindMayLackRoom : Type 0
 BehindMayLackRoom = (scope : Scope) (stands : Refusal → Bool) → first_refusal stands ≡ None → MayLackFor scope stands

@@ -1,4 +1,4 @@
--- What becomes of an item of a Merge that a cause stands against.
+-- What becomes of an item of a Merge that a cause applies to.
 use Rattle.std.specs.Prelude.{◌+◌, Result, Ok, Err, Some, None}
 use Rattle.ds_entry.specs.declared.item.Item.{Item}
 use Rattle.ds_join.specs.declared.merge.Merge.{Merge}

@@ -14,7 +14,7 @@ use Rattle.ds_machine.specs.declared.command.Scope.{Scope}
 use Rattle.ds_machine.specs.declared.refusal.Refusal.{Refusal}
 use Rattle.ds_machine.specs.declared.refusal.Refusal.TheVariants.{TooLong, BadPattern, OldCursor, Ahead, Behind, NoRoom}
 
--- The refusal stands, or it is NoRoom because memory ran out.
+-- The refusal applies, or it is NoRoom because memory ran out.
 abbrev pub IsRefusedFor : Option Refusal → Refusal → Type 0
 IsRefusedFor stands refusal = (refusal ≡ NoRoom) ⊎ (stands ≡ Some refusal)
 

@@ -1,4 +1,4 @@
-//! The reply if a cause stands against a command.
+//! The reply if a cause applies to a command.
 
 ghost use Rattle.std.specs.Prelude.{◌≡◌, Some};
 ghost use Rattle.ds_entry.specs.declared.item.Item.{Item};
@@ -9,7 +9,7 @@ ghost use Rattle.ds_judge.specs.Passed.{passed_as, item_passed};
 use ds_join::Merge;
 use ds_machine::{Cause, Refusal, Reply};
 
-/// Returns the reply if a cause stands against a Publish or a Delete: Known for a repeat, else Refused by the cause.
+/// Returns the reply if a cause applies to a Publish or a Delete: Known for a repeat, else Refused by the cause.
 pub fn answer_to(cause: Cause) -> Reply
     ensures { result ≡ answer_for cause }
 {
@@ -19,8 +19,8 @@ pub fn answer_to(cause: Cause) -> Reply
     }
 }
 
-/// Returns the reply if a cause stands against a Sweep: Swept with nothing changed for a floor not above the held one,
-/// else Refused by the cause.
+/// Returns the reply if a cause applies to a Sweep: Swept with nothing changed for a floor not above the held one, else
+/// Refused by the cause.
 pub fn sweep_answer(cause: Cause) -> Reply
     ensures { result ≡ sweep_answer cause }
 {
@@ -30,8 +30,8 @@ pub fn sweep_answer(cause: Cause) -> Reply
     }
 }
 
-/// Returns what becomes of an item of a Merge that a cause stands against: Known and Stale are passed over, any other
-/// cause stops the Merge.
+/// Returns what becomes of an item of a Merge that a cause applies to: Known and Stale are passed over, any other cause
+/// stops the Merge.
 pub fn passed_as(cause: Cause) -> Result<Merge, Refusal>
     ensures value { result ≡ passed_as cause }
     ensures course { (k : Course) (i : Item) → item_judged k i (Some cause) ≡ item_passed k i result }

@@ -87,8 +87,8 @@ fn owner_of(caller: &Option<Name>) -> Name
     owner
 }
 
-/// Returns the change asked for, owned by the caller. The precondition follows from judging that no cause stands
-/// against it, so nothing is judged twice.
+/// Returns the change asked for, owned by the caller. The precondition follows from judging that no cause applies to
+/// it, so nothing is judged twice.
 pub fn change_asked(asked: &Asked, body: Body, caller: Option<Name>) -> Change
     requires { IsChange (change_asked caller (request_of asked.now) body) }
     ensures { result ≡ change_asked caller (request_of asked.now) body }

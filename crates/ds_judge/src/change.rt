@@ -43,7 +43,7 @@ pub(crate) fn cause_by_version(
     }
 }
 
-// Returns the first cause by the limits: no room for another key, or no position left.
+// Returns the first cause by the limits: all keys used, or no position left.
 pub(crate) fn cause_by_room(standing: &Standing<'_>) -> Option<Cause>
     ensures { result ≡ cause_by_room (machine_standing standing.now) }
 {

@@ -8,7 +8,7 @@ pub fn want_of_room_is_no_cause()
     ensures refusals { NoRoomIsNoRefusal }
 {}
 
-/// A law: a command with a scope may be out of memory when its pattern is read, and when no cause stands.
+/// A law: a command with a scope may be out of memory when its pattern is read, and when no cause applies.
 pub fn scopes_may_lack_room()
     ensures pattern { PatternMayLackRoom }
     ensures behind { BehindMayLackRoom }

@@ -1,5 +1,5 @@
-//! The judge of a store's commands: it returns the first cause that stands against a command, in the one order, or
-//! none. It is pure: the store passes what it holds for the key or the owner, what its limits leave, and its position.
+//! The judge of a store's commands: it returns the first cause that applies to a command, in the one order, or none. It
+//! is pure: the store passes what it holds for the key or the owner, what its limits leave, and its position.
 //!
 //! From MINIX 3's data store (DS; Herder and others, DSN 2007): each entry has an owner, only RS publishes labels, and
 //! a live entry is overwritten only with the overwrite flag. Of this project: versions, floors, cursors and the order

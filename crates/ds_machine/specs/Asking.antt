@@ -1,4 +1,4 @@
--- What stands against a Publish, a Delete and a Sweep.
+-- The causes against a Publish, a Delete and a Sweep.
 use Rattle.std.specs.Prelude.{ℕ, Bool, true, false, not, ◌&&◌, ◌==◌, nat_le, List, Option, Some, None, is_some, is_none, cond}
 use Rattle.std.specs.Option.{unwrap_or}
 use Rattle.ds_names.specs.declared.key.Key.{Key}
@@ -60,7 +60,7 @@ change_asked caller a body = change_of a.key (unwrap_or caller rs_name) a.versio
 abbrev pub is_live : Option ChangeRecord → Bool
 is_live held = on_held held (λ h. is_some (value_of h))
 
--- Whether the cause stands against a Publish or a Delete. `caller` is the caller's name.
+-- Whether the cause applies to a Publish or a Delete. `caller` is the caller's name.
 abbrev pub against_asked : Standing → Option (List ℕ) → AskedChange → Body → Cause → Bool
 against_asked t caller a body (Refused BadKind) = not (is_of_kind a.key.kind body)
 against_asked t caller a body (Refused BadLabel) = is_label a.key.kind && not (is_label_change a body)
@@ -80,7 +80,7 @@ cause_against s a body = first_cause (Some a.version) (against_asked (standing_o
 
 -- ---- a Sweep
 
--- Whether the cause stands against a Sweep: NotAllowed unless the caller is RS, then the causes against the floor.
+-- Whether the cause applies to a Sweep: NotAllowed unless the caller is RS, then the causes against the floor.
 abbrev pub against_sweep : FloorStanding → EndpointRecord → Floor → Cause → Bool
 against_sweep t caller f (Refused NotAllowed) = not (is_rs caller)
 against_sweep t caller f cause = against_floor t f cause

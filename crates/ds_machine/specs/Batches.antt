@@ -1,4 +1,4 @@
--- Merges in which no cause stands against any item at its turn, done at once or in parts.
+-- Merges in which no cause applies to any item at its turn, done at once or in parts.
 use Rattle.std.specs.Prelude.{◌≡◌, ℕ, ◌+◌, ◌≤◌, List, [], ◌∷◌, ◌++◌, length, map, Contains, None}
 use Rattle.std.specs.Int.Bits.{bit_or}
 use Rattle.ds_entry.specs.Change.{ChangeRecord}
@@ -14,7 +14,7 @@ use Rattle.ds_machine.specs.declared.command.Command.TheVariants.{Merge}
 use Rattle.ds_machine.specs.declared.reply.Reply.TheVariants.{Merged}
 use Rattle.ds_machine.specs.Taken.{HasNoFloor, TakesHeld, KeysApart, all_taken}
 
--- No cause stands against any of the items once those before it took effect.
+-- No cause applies to any of the items once those before it took effect.
 abbrev pub AreFree : State → List Item → Type 0
 AreFree s [] = Unit {0}
 AreFree s (i ∷ items) = (cause_of s i ≡ None) × AreFree (takes_effect s (i ∷ [])) items

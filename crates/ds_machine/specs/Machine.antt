@@ -36,12 +36,12 @@ use Rattle.ds_entry.specs.Left.{value_of}
 
 -- ---- a Publish or a Delete
 
--- The reply if a cause stands against a Publish or a Delete: Known for a repeat, else a refusal.
+-- The reply if a cause applies to a Publish or a Delete: Known for a repeat, else a refusal.
 abbrev pub answer_for : Cause → Reply
 answer_for causes.Known = Known
 answer_for (causes.Refused refusal) = Refused refusal
 
--- The reply and state of a Publish or a Delete. The change takes effect unless a cause stands against it.
+-- The reply and state of a Publish or a Delete. The change takes effect unless a cause applies to it.
 abbrev pub asking : State → AskedChange → Body → Reply × State
 asking s a body =
     option_map_or (λ cause. (answer_for cause, s)) (cause_against s a body)
@@ -49,14 +49,13 @@ asking s a body =
 
 -- ---- a Sweep
 
--- The reply if a cause stands against a Sweep: a floor not above the held one changes nothing; any other cause refuses.
+-- The reply if a cause applies to a Sweep: a floor not above the held one changes nothing; any other cause refuses.
 abbrev pub sweep_answer : Cause → Reply
 sweep_answer causes.Known = Swept 0 0
 sweep_answer (causes.Refused refusals.Stale) = Swept 0 0
 sweep_answer (causes.Refused refusal) = Refused refusal
 
--- The reply and state of a Sweep. The floor is raised unless a cause stands against it, and is owed to every
--- subscription.
+-- The reply and state of a Sweep. The floor is raised unless a cause applies to it, and is owed to every subscription.
 abbrev pub sweeping : State → EndpointRecord → Floor → Reply × State
 sweeping s caller f =
     option_map_or (λ cause. (sweep_answer cause, s)) (sweep_cause s caller f)

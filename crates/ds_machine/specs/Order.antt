@@ -1,4 +1,4 @@
--- The one order in which everything that can stand against a command is judged.
+-- The one order in which all causes against a command are judged.
 use Rattle.std.specs.Prelude.{Bool, List, [], ◌∷◌, ◌++◌, Option, Some, None, map}
 use Rattle.std.specs.List.{find}
 use Rattle.ds_names.specs.declared.version.Version.{Version}
@@ -25,10 +25,10 @@ by_version v = Refused NotOwner ∷ (clashes v ++ Refused Stale ∷ Known ∷ []
 abbrev pub by_room : List Refusal
 by_room = Exists ∷ NotFound ∷ OldCursor ∷ Ahead ∷ Behind ∷ Full ∷ Worn ∷ []
 
--- The first cause that stands against a command with a change of this version, or with a floor.
+-- The first cause that applies to a command with a change of this version, or with a floor.
 abbrev pub first_cause : Option Version → (Cause → Bool) → Option Cause
 first_cause v stands = find stands (map Refused by_command ++ by_version v ++ map Refused by_room)
 
--- The first refusal that stands against a command that has neither.
+-- The first refusal that applies to a command that has neither.
 abbrev pub first_refusal : (Refusal → Bool) → Option Refusal
 first_refusal stands = find stands (by_command ++ by_room)

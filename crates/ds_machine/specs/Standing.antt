@@ -1,4 +1,4 @@
--- What stands against a change or a floor that is to take effect.
+-- The causes against a change or a floor that is to take effect.
 use Rattle.std.specs.Prelude.{◌≡◌, ℕ, ◌<◌, Bool, true, false, not, ◌&&◌, ◌||◌, ◌==◌, nat_le, nat_lt, length, Option, Some, None, is_none}
 use Rattle.std.specs.declared.cmp.Ordering.TheVariants.{Less}
 use Rattle.std.specs.Ordering.{is_eq, is_gt}
@@ -54,8 +54,8 @@ abbrev pub on_held : Option ChangeRecord → (ChangeRecord → Bool) → Bool
 on_held None test = false
 on_held (Some h) test = test h
 
--- Whether the cause stands against the change: another owner, the same version with another body, a greater version or
--- a floor, a repeat, no room for another key, or no position left.
+-- Whether the cause applies to the change: another owner, the same version with another body, a greater version or a
+-- floor, a repeat, all keys used, or no position left.
 abbrev pub against_change : Standing → ChangeRecord → Cause → Bool
 against_change t c (Refused NotOwner) = on_held t.held (λ h. not (is_same_name h.owner c.owner))
 against_change t c (Refused (Clash v)) = on_held t.held (λ h. is_eq (version_cmp h.version c.version) && not (is_same_body h.body c.body))
@@ -74,8 +74,8 @@ abbrev pub HasRoom : Option ChangeRecord → ℕ → ℕ → ChangeRecord → Ty
 HasRoom None count most c = count < most
 HasRoom (Some h) count most c = TakesPlace h c
 
--- Nothing stands against the change: its key has room or its held change yields, no floor makes it void, and a position
--- is left.
+-- No cause applies to the change: its key has room or its held change yields, no floor makes it void, and a position is
+-- left.
 pub record IsFree (t : Standing) (c : ChangeRecord) : Type 0 where
   pub room : HasRoom t.held t.count t.most c
   pub valid : t.void ≡ false
@@ -97,8 +97,8 @@ abbrev pub on_floor : Option Floor → (ℕ → Bool) → Bool
 on_floor None test = false
 on_floor (Some g) test = test g.generation
 
--- Whether the cause stands against the floor: a greater one of its owner, an equal one, no room for another, or no
--- position left.
+-- Whether the cause applies to the floor: a greater one of its owner, an equal one, all floors used, or no position
+-- left.
 abbrev pub against_floor : FloorStanding → Floor → Cause → Bool
 against_floor t f (Refused Stale) = on_floor t.held (λ g. nat_lt f.generation g)
 against_floor t f Known = on_floor t.held (λ g. g == f.generation)
@@ -111,7 +111,7 @@ abbrev pub HasFloorRoom : Option Floor → ℕ → Floor → Type 0
 HasFloorRoom None count f = count < most_floors
 HasFloorRoom (Some g) count f = g.generation < f.generation
 
--- Nothing stands against the floor: it has room, and a position is left.
+-- No cause applies to the floor: it has room, and a position is left.
 pub record IsFloorFree (t : FloorStanding) (f : Floor) : Type 0 where
   pub room : HasFloorRoom t.held t.count f
   pub left : t.position < last_place

@@ -33,8 +33,8 @@ pub fn limits_are_kept()
 {}
 
 /// A law: a step either makes some of its command's items take effect, each of them news when its turn comes, or writes
-/// the subscription that its command names. So the accepted list only grows; limits, incarnation, first position and ring
-/// never change. Everything learnt is held, or an item that covers it is; everything held was learnt.
+/// the subscription that its command names. So the accepted list only grows; limits, incarnation, first position and
+/// ring never change. Everything learnt is held, or an item that covers it is; everything held was learnt.
 pub fn steps_have_effects()
     ensures effect { StepHasEffect }
     ensures goes_on { StepsGoOn }
@@ -46,7 +46,7 @@ pub fn steps_have_effects()
 {}
 
 /// A law: a subscription is unchanged by every step or run without a Subscribe or a Check of it. If it differs, its
-/// stamp is above every stamp taken so far. A Subscribe stores its query, with nothing shown under INITIAL; a Check
+/// stamp is above every stamp taken before. A Subscribe stores its query, with nothing shown under INITIAL; a Check
 /// adds the items that it returns to those shown. Neither lets an item take effect.
 pub fn subscriptions_are_kept()
     ensures step { StepKeepsSubscription }
@@ -121,8 +121,8 @@ pub fn places_are_taken()
     ensures taken { PlacesAreTaken }
 {}
 
-/// A law: if no cause stands against any of the items when its turn comes, a Merge takes all of them, at once or in
-/// parts. What is owed for the parts is what is owed for the whole.
+/// A law: if no cause applies to any of the items when its turn comes, a Merge takes all of them, at once or in parts.
+/// What is owed for the parts is what is owed for the whole.
 pub fn free_items_are_taken()
     ensures taken { FreeAreTaken }
     ensures parts { FreeInParts }

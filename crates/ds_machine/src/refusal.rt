@@ -1,4 +1,4 @@
-//! Why a command is refused, and what else can stand against a change.
+//! Why a command is refused, and the other cause against a change: a repeat.
 
 ghost use Rattle.std.specs.Prelude.{◌≡◌};
 ghost use Rattle.ds_machine.specs.Stopped.{refusal_of_join};
@@ -93,7 +93,7 @@ impl Refusal {
     }
 }
 
-/// What stands against a change, a floor or an item: it is already held, or it is refused.
+/// A cause against a change, a floor or an item: it is already held, or it is refused.
 #[derive(Clone, Copy)]
 pub enum Cause {
     Known,

@@ -90,7 +90,7 @@ StopsChecks s t sub reading _ = Unit {0}
 
 -- ---- a reader by the journal
 
--- A reply of the journal with as many items as it was asked for.
+-- A reply of the journal with as many items as the Since asked for.
 pub record IsFullSince (max : ℕ) (t : SinceTurn) : Type 0 where
   pub asked : t.max ≡ max
   pub full : max ≤ length t.since.items

@@ -21,8 +21,8 @@ use std::alloc::Global;
 ///
 /// Errors: `Refused` if the store refused the Subscribe or the next Check, by this cause; `Unfinished` if the allowed
 /// number of Checks, each full, wasn't enough; `Overtaken` if a Check reported another stamp than the one that the
-/// reader had left; `NoRoom` if memory for the items ran out; `Worn` if no command can be sent any more. After an
-/// error, the store has still advanced by the reader's commands and those of others.
+/// reader had left; `NoRoom` if memory ran out, before the first command or for the items; `Worn` if no command can be
+/// sent any more. After an error, the store has still advanced by the reader's commands and those of others.
 pub fn read_by_checks<A: Asks>(
     alloc: Global,
     asked: &mut A,

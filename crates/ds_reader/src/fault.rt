@@ -10,7 +10,7 @@ pub enum ReadFault {
     /// The store refused a command; as Behind if its journal no longer reaches back to the first page.
     #[error("the store refused a question")]
     Refused(Refusal),
-    /// The reader is out of memory for the items.
+    /// The reader is out of memory.
     #[error("out of memory")]
     NoRoom,
     /// The allowed number of commands wasn't enough.

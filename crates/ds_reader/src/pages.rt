@@ -51,9 +51,9 @@ fn catch_up<A: Asks>(
 /// The store gets these Pages and Sinces, and nothing else.
 ///
 /// Errors: `Refused` if the store refused the next Page or Since, by this cause; `Unfinished` if the allowed number of
-/// Pages had no last one, or that of Sinces were all full; `NoRoom` if memory for the items ran out; `Worn` if no
-/// command can be sent any more. After an error, the store has still advanced by the commands of others. No page is
-/// older than the call.
+/// Pages had no last one, or that of Sinces were all full; `NoRoom` if memory ran out, for the next command or for the
+/// items; `Worn` if no command can be sent any more. After an error, the store has still advanced by the commands of
+/// others. No page is older than the call.
 pub fn read_by_pages<A: Asks>(
     alloc: Global,
     asked: &mut A,

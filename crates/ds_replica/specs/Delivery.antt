@@ -62,7 +62,7 @@ pub record StoreTakes (s : State) (items : List Item) (tally : Tally) (new : Sta
   pub merged : GroupsAreMerged s groups tally new
 
 -- What is held justifies the fault against the item. A change: another owner of its key, another body at its version,
--- or no room. A floor: only no room.
+-- or a limit (of keys or memory). A floor: only a limit.
 abbrev pub StandsAgainst : List Item → Item → Refusal → Type 0
 StandsAgainst held (Changed c) NotOwner = (h : ChangeRecord) × Contains held (Changed h) × (h.key ≡ c.key) × (h.owner ≢ c.owner)
 StandsAgainst held (Changed c) (Clash v) = (h : ChangeRecord) × Contains held (Changed h) × (h.key ≡ c.key) × (h.version ≡ c.version) × (h.body ≢ c.body) × (v ≡ c.version)

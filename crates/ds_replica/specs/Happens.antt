@@ -62,7 +62,7 @@ count_of count items = unwrap_or count (length items)
 abbrev pub delivery_fault : World → Holder → Option ℕ → List Item → Option EventFault
 delivery_fault w holder count items = cond (not (is_there w holder)) (Some NoMap) (cond (nat_lt (length items) (count_of count items)) (Some TooMany) None)
 
--- The first fault that stands against the event.
+-- The first fault that applies to the event.
 abbrev pub event_fault : World → Event → Option EventFault
 event_fault w (Ask side command) = ask_fault w command
 event_fault w (NewMap query) = map_fault w query
@@ -167,7 +167,7 @@ Does w (RestartStore side incarnation) outcome new = Restarts w side incarnation
 
 -- ---- events
 
--- The event has this outcome: a refused one changes nothing, and no fault stands against any other.
+-- The event has this outcome: a refused one changes nothing, and no fault applies to any other.
 abbrev pub Happens : World → Event → Outcome → World → Type 0
 Happens w event (Refused fault) new = IsEventRefused w event fault × (new ≡ w)
 Happens w event outcome new = (event_fault w event ≡ None) × Does w event outcome new

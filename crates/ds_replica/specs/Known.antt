@@ -64,7 +64,7 @@ known_at account (Map j) = map_known (slice_get account.maps j)
 
 -- ---- a store
 
--- The state after one more item: it takes effect unless a cause stands against it.
+-- The state after one more item: it takes effect unless a cause applies to it.
 abbrev pub took_one : State → Item → State
 took_one s i = option_map_or (λ cause. s) (cause_of s i) (takes_effect s (i ∷ []))
 

@@ -74,10 +74,10 @@ pub fn floors_stand()
     ensures events { FloorsStandInWorlds }
 {}
 
-/// A law: worked rows. In some, two replicas come to know and hold the same, and a map has all of a store and names its
-/// label. In others, one condition of the laws is missing and the conclusion fails: the replicas don't know the same,
-/// the map wasn't given everything or was given more, or what a replica or map was given contradicts itself. In the
-/// last, a key returns with another owner, so that everything brought is exact but not single-numbered.
+/// A law: worked rows. In some, two replicas end up knowing and holding the same, and a map has all of a store and
+/// names its label. In others, one condition of the laws is missing and the conclusion fails: the replicas don't know
+/// the same, the map wasn't given everything or was given more, or what a replica or map was given contradicts itself.
+/// In the last, a key returns with another owner, so that everything brought is exact but not single-numbered.
 pub fn rows_happen()
     ensures converge { ReplicasConverge }
     ensures differ { ReplicasDiffer }

@@ -7,7 +7,7 @@ use Rattle.ds_machine.specs.declared.refusal.Refusal.{Refusal}
 use Rattle.ds_machine.specs.declared.refusal.Refusal.TheVariants.{BadRing, BadFirst, NoRoom}
 use Rattle.ds_names.specs.Limits.{last_place}
 
--- The refusal is the first that stands: the ring's, then the first position's, and NoRoom only if neither stands.
+-- The refusal is the first that applies: the ring's, then the first position's, and NoRoom only if neither applies.
 abbrev pub IsOpenRefusal : Refusal → ℕ → ℕ → Type 0
 IsOpenRefusal BadRing first ring = ¬ IsRing ring
 IsOpenRefusal BadFirst first ring = IsRing ring × (last_place < first)

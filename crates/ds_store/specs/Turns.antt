@@ -14,7 +14,7 @@ use Rattle.ds_content.specs.Stands.{ContentStands, InEachState}
 use Rattle.ds_store.specs.Steps.{ContentSteps}
 
 -- A step of the store's machine in which lack of memory is reported only where memory is taken, after every cause that
--- stands.
+-- applies.
 pub record Answered (s : State) (command : Command) (reply : Reply) (t : State) : Type 0 where
   pub step : Step s command reply t
   pub last : IsLast s command reply

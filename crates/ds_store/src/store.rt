@@ -107,10 +107,10 @@ impl Store {
 
     /// Answers a command, by one step of the store's machine.
     ///
-    /// A command is refused for the first cause that stands against it, in the order of [`Refusal`]'s variants; a
-    /// repeat is `Known`, judged after `Stale`. Out-of-memory is reported after every other refusal. Exception: a
-    /// pattern, in a Subscribe or a scope, is compiled when its turn comes. A refused command changes nothing; a
-    /// stopped Merge keeps the items that it did. NameOf, and Retrieve of a label or a number, take no memory.
+    /// A command is refused for the first cause that applies to it, in the order of [`Refusal`]'s variants; a repeat is
+    /// `Known`, judged after `Stale`. Out-of-memory is reported after every other refusal. Exception: a pattern, in a
+    /// Subscribe or a scope, is compiled when its turn comes. A refused command changes nothing; a stopped Merge keeps
+    /// the items that it did. NameOf, and Retrieve of a label or a number, take no memory.
     pub fn apply(&mut self, command: Command) -> Reply
         ensures step { ContentSteps self.old (λ s t. Step s command result t) self.new }
         ensures in_place { TakesNoMemory command → result ≢ Reply.Refused Refusal.NoRoom }

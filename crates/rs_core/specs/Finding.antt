@@ -35,6 +35,6 @@ abbrev pub first_sought : Sought → ℕ → List Service → List State → Opt
 first_sought what i (service ∷ services) (state ∷ states) = if is_sought what service state then Some i else first_sought what (i + 1) services states
 first_sought what i _ _ = None
 
--- The index of the first matching service.
+-- The index of RS's first matching service.
 abbrev pub service_place : RsRecord → Sought → Option ℕ
 service_place s what = first_sought what 0 s.settings.services s.states

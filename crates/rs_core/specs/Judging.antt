@@ -1,4 +1,4 @@
--- What stands against an event, in the one order of refusals.
+-- The faults against an event, in the one order of refusals.
 use Rattle.std.specs.Prelude.{ℕ, ◌^◌, Bool, true, false, not, ◌&&◌, nat_le, nat_lt, List, [], ◌∷◌, Option, Some, None, Result, Ok, Err, if◌then◌else◌}
 use Rattle.std.specs.List.{find}
 use Rattle.rs_core.specs.declared.event.Event.{Event}
@@ -66,7 +66,7 @@ names_old _ = false
 abbrev pub is_full : RsRecord → Bool
 is_full s = nat_le s.settings.slots (up_count s.states)
 
--- Whether the fault stands against the event.
+-- Whether the fault applies to the event.
 abbrev pub against : RsRecord → Event → ℕ → RsFault → Bool
 against s event tick TickBack = nat_lt tick s.tick
 against s event tick Worn = nat_lt (2 ^ 62) tick
@@ -86,6 +86,6 @@ lack_for s deed =
     else if takes_slot deed && is_full s then Some NoSlot
     else None
 
--- The first fault, in the order, that stands against the event.
+-- The first fault, in the order, that applies to the event.
 abbrev pub refusal : RsRecord → Event → ℕ → Option RsFault
 refusal s event tick = find (against s event tick) order

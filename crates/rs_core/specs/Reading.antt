@@ -56,7 +56,7 @@ abbrev pub given_up_in : RsRecord → Result (Option Plan) RsFault → Option �
 given_up_in s (Ok (Some p)) = if gives_up p.deed (service_at s p.place) (state_at s p.place) then Some p.place else None
 given_up_in s _ = None
 
--- The index of the service that RS gives up at the event, if no fault stands against the event.
+-- The index of the service that RS gives up at the event, if no fault applies to the event.
 abbrev pub given_up : RsRecord → Event → ℕ → Option ℕ
 given_up s event tick = given_up_in s (asked s event tick)
 

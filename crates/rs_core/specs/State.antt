@@ -35,7 +35,7 @@ rs_code settings state =
 abbrev pub state_at : RsRecord → ℕ → State
 state_at s i = slice_index_or s.states i Down
 
--- A stand-in for a service past the end.
+-- A placeholder for a service past the end.
 abbrev pub no_service : Service
 no_service = record { label = []; class = Server; unit = None; period = 0; limit = 0; publishes = [] }
 

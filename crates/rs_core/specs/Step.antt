@@ -1,4 +1,4 @@
--- One step of the restart machine: an event that no fault stands against.
+-- One step of the restart machine: an event that no fault applies to.
 use Rattle.std.specs.Prelude.{◌≡◌, ℕ, List, [], Option, Some, None, Ok, slice_set}
 use Rattle.rs_core.specs.declared.action.Action.{Action}
 use Rattle.rs_core.specs.declared.event.Event.{Event}
@@ -31,6 +31,6 @@ abbrev pub IsCarriedOut : RsRecord → ℕ → Option Plan → List Action → R
 IsCarriedOut s tick None actions t = IsIdle s tick actions t
 IsCarriedOut s tick (Some p) actions t = IsDone s tick p actions t
 
--- No fault stands against the event, and what it calls for is done.
+-- No fault applies to the event, and what it calls for is done.
 abbrev pub RsStep : RsRecord → Event → ℕ → List Action → RsRecord → Type 0
 RsStep s event tick actions t = (p : Option Plan) × (refusal s event tick ≡ None) × (asked s event tick ≡ Ok p) × IsCarriedOut s tick p actions t

@@ -1,4 +1,4 @@
-//! What stands against an event or a deed.
+//! Faults against an event or a deed.
 
 ghost use Rattle.std.specs.Prelude.{◌≡◌};
 ghost use Rattle.rs_core.specs.Judging.{has_actions, is_bad_cause, takes_generation, takes_slot};

@@ -56,8 +56,8 @@ impl Model for Rs {
 
 impl Rs {
     /// Returns RS before any event: every service is down. `next` is the generation of the first start, and the first
-    /// slot is 16. Refuses as OutOfRange unless `next` is 1 to 2097152, then as NoRoom, which needs at least one
-    /// service.
+    /// slot is 16. Refuses as OutOfRange unless `next` is 1 to 2097152, then as NoRoom. RS without services takes no
+    /// memory.
     pub fn new(alloc: Global, settings: Settings, next: u32) -> Result<Rs, NewFault>
         ensures value { IfOk result (λ rs. rs ≡ rs_of settings (replicate (length settings.services) State.Down) 0 next (new_slots 16)) }
         ensures range { IsErrOf result NewFault.OutOfRange ↔ (next < 1 ⊎ 2097152 < next) }
@@ -139,8 +139,8 @@ impl Rs {
         self.place(Sought::Label(*label))
     }
 
-    /// Returns the first fault that stands against an event at a tick. `event` is refused by it; without one, only by
-    /// lack of memory.
+    /// Returns the first fault that applies to an event at a tick. `event` is refused by it; without one, only by lack
+    /// of memory.
     pub fn refusal(&self, event: &Event, tick: u64) -> Option<RsFault>
         ensures { result ≡ refusal self.now event.now tick }
     {

@@ -8,7 +8,7 @@ use crate::names::Names;
 use ds_names::{Key, Kind, Name, NoRoom};
 use std::alloc::Global;
 
-/// What RS is told about a service.
+/// A service of RS's settings.
 #[derive(Debug, Drop)]
 pub struct Service {
     /// The service's name, never `rs`.

@@ -26,7 +26,7 @@ use std::marker::Model;
 use toml::value::Array;
 use toml::{Table, Value};
 
-/// What RS is told: how many process slots it may use, 1 to 1008, and at most 64 services.
+/// Settings of RS: how many process slots it may use, 1 to 1008, and at most 64 services.
 ///
 /// No two services have the same label, major number or port, and no name is published twice.
 #[derive(Debug, Drop)]

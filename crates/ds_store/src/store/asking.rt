@@ -65,7 +65,7 @@ impl Store {
         cause_of_asked(&standing, *caller, asked, body)
     }
 
-    // Answers a Publish or a Delete: the change takes effect unless a cause stands against it.
+    // Answers a Publish or a Delete: the change takes effect unless a cause applies to it.
     #[inline(always)]
     pub(super) fn ask(&mut self, asked: &Asked, body: Body) -> Reply
         ensures step { ContentSteps self.old (λ s t. Answers s (asking s (request_of asked.now) body) result t) self.new }

@@ -1,4 +1,4 @@
-//! What an event calls for, and what stands against it.
+//! What an event calls for, and the faults against it.
 
 ghost use Rattle.std.specs.Prelude.{◌≡◌, ◌<◌, ◌≤◌, ◌^◌, length, None, Some, Ok, IfOk, IfErr, IfSome, OnOk};
 ghost use Rattle.rs_core.specs.Table.{on_label};
@@ -87,7 +87,7 @@ impl Rs {
         None
     }
 
-    // Returns what the event calls for, unless a fault stands against it.
+    // Returns what the event calls for, unless a fault applies to it.
     pub(crate) fn judge(&self, event: &Event, tick: u64) -> Result<Option<Plan>, RsFault>
         ensures refused { IfErr result (λ fault. refusal self.now event.now tick ≡ Some fault) }
         ensures allowed { OnOk result (refusal self.now event.now tick ≡ None) }

@@ -1,4 +1,4 @@
-//! Doing what an event calls for, once no fault stands against it.
+//! Doing what an event calls for, once no fault applies to it.
 
 ghost use Rattle.std.specs.Prelude.{◌≡◌, ◌<◌, ◌≤◌, ◌+◌, ◌^◌, ◌∷◌, [], true, false, length, None, IfOk, OnOk, OnErr};
 ghost use Rattle.rs_core.specs.Action.{start_actions, stop_actions};

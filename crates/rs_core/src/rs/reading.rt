@@ -19,7 +19,7 @@ use rs_settings::Service;
 const LAST_TICK: u64 = 4611686018427387904;
 
 impl Rs {
-    /// Returns whether an event at a tick has actions, if no fault stands against it. `event` takes memory only then.
+    /// Returns whether an event at a tick has actions, if no fault applies to it. `event` takes memory only then.
     pub fn acts(&self, event: &Event, tick: u64) -> bool
         ensures { result ≡ asks has_actions (asked self.now event.now tick) }
     {
@@ -29,8 +29,8 @@ impl Rs {
         }
     }
 
-    /// Returns the index of the service that RS gives up at the event, if no fault stands against the event: its
-    /// instance fails once more than its limit. No action reports it.
+    /// Returns the index of the service that RS gives up at the event, if no fault applies to the event: its instance
+    /// fails once more than its limit. No action reports it.
     pub fn gives_up(&self, event: &Event, tick: u64) -> Option<usize>
         ensures value { result ≡ given_up self.now event.now tick }
         ensures within { IfSome result (λ i. i < length self.now.states) }
@@ -46,10 +46,10 @@ impl Rs {
         if gives_up { Some(plan.place) } else { None }
     }
 
-    /// Returns the first tick, not below the last event's, at which a tick has actions, or `None` if no tick has any
-    /// until another event.
+    /// Returns the first tick, not below the last event's, at which a `Tick` has actions, or `None` if no `Tick` has
+    /// any until another event.
     ///
-    /// From that tick on every tick has actions until one is handled; no earlier tick does.
+    /// From that tick on, every `Tick` has actions until one is handled. No earlier one does.
     pub fn due(&self) -> Option<u64>
         ensures first { (tick : ℕ) → self.now.tick ≤ tick → tick ≤ 2 ^ 62 → is_some (due self.now tick) ≡ is_from result tick }
         ensures range { IfSome result (λ first. (self.now.tick ≤ first) × (first ≤ 2 ^ 62)) }
