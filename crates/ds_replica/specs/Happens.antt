@@ -31,7 +31,7 @@ most_maps = 64
 abbrev pub most_messages : ℕ
 most_messages = 65536
 
--- ---- what stands against an event
+-- ---- the faults against an event
 
 -- Whether the store's reply to the command is kept as a message.
 abbrev pub gives_items : Command → Bool
