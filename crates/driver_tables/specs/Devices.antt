@@ -1,4 +1,4 @@
--- What private functions read and change of the devices.
+-- The devices, as private functions read and change them.
 use Rattle.std.specs.Prelude.{if◌then◌else◌, ℕ, Bool, List, Option, Some, None}
 use Rattle.ds_names.specs.Endpoint.{EndpointRecord}
 use Rattle.driver_tables.specs.declared.moves.Move.{Move}
@@ -7,11 +7,11 @@ use Rattle.driver_tables.specs.Label.{newer}
 use Rattle.driver_tables.specs.Changed.{network_start}
 use Rattle.ds_names.specs.Name.{is_same_name}
 
--- the unit is the label's
+-- whether the unit has the label
 abbrev pub is_of_label : List ℕ → ℕ × Device → Bool
 is_of_label label u = is_same_name label u.1.label
 
--- what a unit tells of its label: the endpoint now and the greatest generation
+-- the label's endpoint now and its greatest generation, as a unit has them
 abbrev pub status_of : Option (ℕ × Device) → Option EndpointRecord × Option ℕ
 status_of None = (None, None)
 status_of (Some u) = (u.1.endpoint, u.1.newest)

@@ -1,4 +1,4 @@
--- What moves leave in the lists of sends and answers.
+-- The sends and answers of moves.
 use Rattle.std.specs.Prelude.{ℕ, List, [], ◌∷◌, ◌++◌}
 use Rattle.std.specs.List.{flat_map}
 use Rattle.ds_names.specs.Endpoint.{EndpointRecord}

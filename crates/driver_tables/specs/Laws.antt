@@ -1,4 +1,4 @@
--- What holds over every run of calls of a table that began empty.
+-- The laws of every run of calls on a table that began empty.
 use Rattle.std.specs.Prelude.{◌≡◌, ◌≤◌, ℕ, ◌==◌, Bool, true, false, List, [], ◌∷◌, length, Some, Ok, ◌⊎◌}
 use Rattle.std.specs.List.{find, list_any, flat_map, AllByRecursion}
 use Rattle.ds_names.specs.Endpoint.{EndpointRecord}
@@ -13,7 +13,7 @@ use Rattle.driver_tables.specs.Doing.{sends_of, answered_by}
 use Rattle.driver_tables.specs.Run.{Call, Entry, TableStep, TableRun, all_moves_in, requests_in}
 use Rattle.driver_tables.specs.Run.{Reply}
 
--- a table's requests, sends and answers are what the calls were answered
+-- the table's requests, sends and answers are those of the calls' answers
 abbrev pub ListsTell : Type 0
 ListsTell = (entries : List Entry) (t : DriverTable) → TableRun empty_table entries t →
     (t.requests ≡ requests_in entries) × (t.sends ≡ flat_map sends_of (all_moves_in entries)) × (t.answers ≡ flat_map answered_by (all_moves_in entries))
@@ -22,17 +22,17 @@ ListsTell = (entries : List Entry) (t : DriverTable) → TableRun empty_table en
 abbrev pub AnswersOnce : Type 0
 AnswersOnce = (entries : List Entry) (t : DriverTable) → TableRun empty_table entries t → (id : ℕ) → length (values_of id t.answers) ≤ 1
 
--- the move answers the id with Done
+-- whether the move answers the id with Done
 abbrev pub is_done : ℕ → Move → Bool
 is_done id (Answer i Done) = i == id
 is_done id _ = false
 
--- Done is answered for a reply alone, of the endpoint that the request was last sent to
+-- only a reply of the endpoint that the request was last sent to answers Done
 abbrev pub DoneByItsDriver : Type 0
 DoneByItsDriver = (entries : List Entry) (t u : DriverTable) (call : Call) (moves : List Move) (id : ℕ) → TableRun empty_table entries t → TableStep t call (Ok moves) u → list_any (is_done id) moves ≡ true →
     (endpoint : EndpointRecord) × (call ≡ Reply endpoint id) × (last_sent t.sends id ≡ Some endpoint)
 
--- the unit's driver has the endpoint now, and no greater generation of its label was seen
+-- the unit's driver has the endpoint now, and its label had no greater generation
 pub record IsLiving (t : DriverTable) (unit : ℕ) (endpoint : EndpointRecord) : Type 0 where
   pub driver : Driver
   pub found : driver_of t.units unit ≡ Some driver
@@ -52,7 +52,8 @@ NoneToOlder = (entries : List Entry) (t u : DriverTable) (call : Call) (moves : 
 abbrev pub NewestRises : Type 0
 NewestRises = (t u : DriverTable) (entries : List Entry) (label : List ℕ) (g : ℕ) → TableRun t entries u → newest t.states label ≡ Some g → (h : ℕ) × (newest u.states label ≡ Some h) × (g ≤ h)
 
--- a request was answered Done and no more; or it has no answer, and was last sent to the driver's endpoint now, if there is one
+-- the request was answered Done once; or it has no answer, and was last sent to the driver's endpoint now, if there is
+-- one
 abbrev pub IsRequestKept : DriverTable → Request → Driver → Type 0
 IsRequestKept t r d = (values_of r.id t.answers ≡ Done ∷ []) ⊎ ((values_of r.id t.answers ≡ []) × ((endpoint : EndpointRecord) → endpoint_now t.states d.label ≡ Some endpoint → last_sent t.sends r.id ≡ Some endpoint))
 
