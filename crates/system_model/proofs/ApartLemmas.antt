@@ -62,8 +62,8 @@ assigned_labels (u ∷ units) t label h = by (assigned_labels units (assigning t
     by (inl i) = one (is_some (driver_of t.units u.0)) i
     by (inr v) = inr (v.0, inr v.1, v.2)
 
--- ---- the service that a unit is of
--- a service of the label, in a network's class or not
+-- ---- the service of a unit
+-- a service of the label, of the network class or not
 record IsServiceOf (services : List Service) (label : List ℕ) (network : Bool) : Type 0 where
   service : Service
   there : Contains services service
