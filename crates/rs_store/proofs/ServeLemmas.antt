@@ -1,4 +1,4 @@
--- The store's turns for RS's actions, one after another.
+-- The store's turns for RS's actions, in sequence.
 use Rattle.std.proofs.Common.{◌≡◌, suc, List, [], ◌∷◌, ◌++◌, length, Option, Some, refl, sym, ap, subst, ◌∙◌}
 use Rattle.ds_content.specs.Content.{ContentRecord}
 use Rattle.ds_machine.specs.declared.reply.Reply.{Reply}
@@ -6,7 +6,7 @@ use Rattle.rs_to_store.specs.Asked.{command_of}
 use Rattle.rs_core.specs.declared.action.Action.{Action}
 use Rattle.rs_store.specs.Serving.{TurnFor, TurnsFor}
 
--- one more action after them
+-- one more action
 pub turns_more : (acts : List Action) (rs : List (Option Reply)) (a b c : ContentRecord) (x : Action) (r : Option Reply)
     → TurnsFor a acts rs b → TurnFor b (command_of x) r c → TurnsFor a (acts ++ x ∷ []) (rs ++ r ∷ []) c
 turns_more [] [] a b c x r none one = (c, subst (λ (s : ContentRecord). TurnFor s (command_of x) r c) none one, refl)
