@@ -1,4 +1,4 @@
--- Words for passes and notes.
+-- Terms for passes and notes.
 use Rattle.std.specs.Prelude.{ℕ, List, Option}
 use Rattle.atomic_table.specs.Seated.{TableId}
 use Rattle.history.specs.declared.entry.Entry.{Entry}
@@ -28,7 +28,7 @@ module _ {M C R : Type 0} {G : Ghosts (View M C R)} where
   abbrev pub number : Pass M C R G → ℕ
   number p = number_of p.seat.me.0.passes
 
-  -- the calls that it made
+  -- its calls
   abbrev pub calls : Pass M C R G → List (Entry C R)
   calls p = calls_of p.seat.me.0.passes
 
@@ -36,7 +36,7 @@ module _ {M C R : Type 0} {G : Ghosts (View M C R)} where
   abbrev pub history : Pass M C R G → List (Entry C R)
   history p = p.seat.me.0.seen
 
-  -- its posts and its takes
+  -- its posts and takes
   abbrev pub notices : Pass M C R G → List Notice
   notices p = notices_of p.seat.me.0.passes
 
@@ -44,7 +44,7 @@ module _ {M C R : Type 0} {G : Ghosts (View M C R)} where
   abbrev pub order : Pass M C R G → List Notice
   order p = p.seat.me.0.notices
 
-  -- the history, and the order of all notices, that the pass had seen when it made the note
+  -- the history and the order of notices that the pass had seen when it made the note
   abbrev pub told_by : Note M C R G → List (Entry C R)
   told_by n = n.seat.me.0.seen
 
@@ -58,7 +58,7 @@ module _ {M C R : Type 0} {G : Ghosts (View M C R)} where
   abbrev pub first_place : Pass M C R G → ℕ
   first_place p = p.seat.me.0.first
 
-  -- how many notes it made, and how many it learnt
+  -- the numbers of notes that it made and learnt
   abbrev pub notes_made : Pass M C R G → ℕ
   notes_made p = p.made
 

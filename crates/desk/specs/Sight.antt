@@ -1,4 +1,4 @@
--- What a pass or a note says of its view.
+-- What the structs of passes and notes need of a view.
 use Rattle.std.specs.Prelude.{◌≡◌, ℕ, ◌*◌, ◌<◌, ◌^◌, ◌==◌, Bool, true, not, ◌&&◌, length, is_some}
 use Rattle.desk_rule.specs.declared.view.View.{View}
 use Rattle.desk_rule.specs.Kinds.{Looks}
@@ -6,11 +6,11 @@ use Rattle.desk_rule.specs.Notices.{raised_by, taken_by}
 use Rattle.desk_rule.specs.Seat.{HoldsTurn, SeatOf}
 
 module _ {M C R : Type 0} where
-  -- one pass, between its calls
+  -- whether the view is that of one pass between its calls
   abbrev pub rests_of : View M C R → Bool
   rests_of v = not v.holding && ((length v.passes == 1) && is_some v.opening)
 
-  -- a note
+  -- whether the view is that of a note
   abbrev pub listens_of : View M C R → Bool
   listens_of v = not v.holding && (length v.passes == 0)
 
@@ -20,7 +20,7 @@ module _ {M C R : Type 0} where
   abbrev pub taken_of : View M C R → ℕ → ℕ → ℕ
   taken_of v = taken_by v.passes
 
-  -- the seat of one pass between its calls, with nothing of the table out
+  -- the seat is that of one pass between its calls, with nothing of the table out
   abbrev pub Rests : SeatOf M C R → Type 0
   Rests p = (length p.me.1 ≡ 0) × (rests_of p.me.0 ≡ true)
 

@@ -1,4 +1,4 @@
--- What a pass counts: a row for each bit, eight for each server.
+-- The counts of a pass: a row for each bit, eight to a server.
 use Rattle.std.specs.Prelude.{◌≡◌, ℕ, ◌+◌, ◌-◌, ◌*◌, ◌^◌, ◌<◌, ◌≤◌, ◌==◌, true, List, ◌++◌, length, if◌then◌else◌, slice_index, is_some}
 use Rattle.std.specs.List.{AllByRecursion}
 use Rattle.std.specs.Int.{bit_at}
@@ -13,11 +13,11 @@ use Rattle.desk_rule.specs.Passes.{calls_of, notices_of, number_of}
 abbrev pub row_at : List ℕ → ℕ → ℕ → ℕ
 row_at rows s b = slice_index rows (8 * s + b)
 
--- each row is what f says of its server and bit
+-- each row is f of its server and bit
 abbrev pub Tallies : List ℕ → (ℕ → ℕ → ℕ) → Type 0
 Tallies rows f = (s b : ℕ) → s < 16 → b < 8 → row_at rows s b ≡ f s b
 
--- the rows, with these bits of one server counted
+-- the rows after these bits of one server are counted
 abbrev pub Counts : List ℕ → ℕ → ℕ → List ℕ → Type 0
 Counts old server bits new = (s b : ℕ) → s < 16 → b < 8 → row_at new s b ≡ row_at old s b + (if s == server then bit_at bits b else 0)
 
@@ -34,7 +34,7 @@ pub record CanPost {M C R : Type 0} (v : View M C R) : Type 0 where
   pub found : IsOrder v.notices
   pub own : OwnNotices v.notices v.passes
 
--- w is v after the call that ends what it has seen posted to the servers below count what is owed, and nothing else
+-- w is v after it posted what its last call owes to the servers below `count`, and nothing else
 pub record Posts {M C R : Type 0} (v w : View M C R) (count owed : ℕ) : Type 0 where
   pub opening : w.opening ≡ v.opening
   pub first : w.first ≡ v.first
