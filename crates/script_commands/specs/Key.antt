@@ -1,4 +1,4 @@
--- Keys and versions as lines write them.
+-- Keys and versions in a line.
 use Rattle.std.specs.Prelude.{List, [], ◌∷◌}
 use Rattle.std.specs.Fmt.{decimal}
 use Rattle.ds_names.specs.declared.key.Key.{Key}

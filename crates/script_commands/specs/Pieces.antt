@@ -1,4 +1,5 @@
--- What the readers of a command's pieces find. Each piece begins with the byte that parts it from the one before it.
+-- The pieces of a command's line, as their readers find them. Each begins with the byte that separates it from the
+-- piece before.
 use Rattle.std.specs.Prelude.{ℕ, ◌<◌, ◌≤◌, ◌^◌, Bool, true, false, List, [], ◌∷◌, codes}
 use Rattle.std.specs.Fmt.{decimal}
 use Rattle.ds_names.specs.Name.{IsName}
@@ -15,12 +16,12 @@ use Rattle.ds_line.specs.Piece.{Piece, Found, IsValueOf}
 use Rattle.line_io.specs.Lines.{IsUnbroken}
 use Rattle.script_commands.specs.Key.{key_parts, version_parts}
 
--- `over` with overwrite, else `new`
+-- `over` if the value overwrites, else `new`
 abbrev pub mode_word : Bool → List ℕ
 mode_word true = codes "over"
 mode_word false = codes "new"
 
--- `first` for a subscription that is shown what is held already, else `later`
+-- `first` for a subscription that is shown what is already held, else `later`
 abbrev pub initial_word : Bool → List ℕ
 initial_word true = codes "first"
 initial_word false = codes "later"
@@ -86,7 +87,7 @@ a_pattern = record { Of = List ℕ; Can = IsUnbroken; parts = λ (text : List �
 abbrev pub a_value : Kind → Piece
 a_value kind = record { Of = Value; Can = IsValueOf kind; parts = λ (value : Value). space ∷ body_parts (Put value) }
 
--- `=`, a value of the kind that takes memory, and the newline stand there
+-- a value of the kind that takes memory comes next, with its `=` and the newline
 abbrev pub ValueWantsRoom : Kind → List ℕ → Type 0
 ValueWantsRoom kind bytes = (value : Value) × (rest : List ℕ) × Found (a_value kind) value bytes rest × ¬ IsInPlace value
 

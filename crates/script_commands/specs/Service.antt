@@ -1,4 +1,4 @@
--- The words of lines to services and driver tables: what RS is asked, the servers, the classes of devices, and devices.
+-- The words of lines for RS and driver tables: requests, servers, classes of devices, and devices.
 use Rattle.std.specs.Prelude.{ℕ, ◌≤◌, List, [], ◌∷◌, codes, map}
 use Rattle.std.specs.Fmt.{decimal}
 use Rattle.driver_tables.specs.declared.file_table.FileClass.{FileClass}
@@ -40,6 +40,6 @@ abbrev pub IsDevice : Device → Type 0
 IsDevice (devices.File major class) = major ≤ 255
 IsDevice (devices.Net port) = port ≤ 255
 
--- Each byte of a text that goes on to the end of its line is a part of its own: whatever it is, it can be read.
+-- one part for each byte of a text that extends to the end of its line: any byte can be read
 abbrev pub text_parts : List ℕ → List Part
 text_parts text = map byte text

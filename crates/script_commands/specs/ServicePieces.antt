@@ -1,4 +1,4 @@
--- What the readers of the pieces of lines to services and driver tables find.
+-- The pieces of lines for RS and driver tables, as their readers find them.
 use Rattle.std.specs.Prelude.{ℕ, ◌≤◌, List, [], ◌∷◌, ◌++◌}
 use Rattle.std.specs.Fmt.{decimal}
 use Rattle.driver_tables.specs.declared.file_table.FileClass.{FileClass}
@@ -15,7 +15,7 @@ use Rattle.script_commands.specs.declared.service.Server.{Server}
 abbrev pub a_text : Piece
 a_text = record { Of = List ℕ; Can = IsUnbroken; parts = λ (text : List ℕ). space ∷ (text_parts text ++ newline ∷ []) }
 
--- what RS is asked for a service
+-- a request for a service
 abbrev pub a_request : Piece
 a_request = record {
   Of = Request;
@@ -43,6 +43,6 @@ a_class = record {
 abbrev pub a_unit : Piece
 a_unit = record { Of = ℕ; Can = λ (n : ℕ). n ≤ 255; parts = λ (n : ℕ). space ∷ part Number (decimal n) ∷ [] }
 
--- what a driver drives
+-- a device
 abbrev pub a_device : Piece
 a_device = record { Of = Device; Can = IsDevice; parts = λ (device : Device). space ∷ device_parts device }

@@ -1,4 +1,4 @@
-//! What the lines of each command have behind their word.
+//! The rest of a line, after each command's word.
 
 #![tactic(auto, unfolding(crate::specs::Row::TakesRow))]
 
@@ -45,7 +45,7 @@ pub(crate) fn offer_at(alloc: Global, rest: &mut Rest) -> Result<ScriptCommand, 
     }
 }
 
-/// Reads what follows `offer` into its caller's place.
+/// Reads what follows `offer`, and writes the item to `slot`.
 #[inline(always)]
 pub(crate) fn item_at(
     alloc: Global,
@@ -88,7 +88,7 @@ pub(crate) fn publish_at(alloc: Global, rest: &mut Rest) -> Result<ScriptCommand
     }))
 }
 
-/// Reads what follows `publish`, and gives its parts by themselves.
+/// Reads what follows `publish`, and returns its parts.
 #[inline(always)]
 pub(crate) fn publication_at(alloc: Global, rest: &mut Rest) -> Result<Publication, PartFault>
     ensures { TakesRow words.Publish rest.old.bytes.now (publish_read result) }
@@ -145,7 +145,7 @@ pub(crate) fn retrieve_at(rest: &mut Rest) -> Result<ScriptCommand, PartFault>
     Ok(ScriptCommand::Store(Command::Retrieve { key }))
 }
 
-/// Reads what follows `retrieve`, and gives its key by itself.
+/// Reads what follows `retrieve`, and returns its key.
 #[inline(always)]
 pub(crate) fn retrieved_at(rest: &mut Rest) -> Result<Key, PartFault>
     ensures { TakesRow words.Retrieve rest.old.bytes.now (retrieve_read result) }

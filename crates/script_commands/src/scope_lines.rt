@@ -1,4 +1,4 @@
-//! What the lines that have a scope have behind their word.
+//! The rest of a line with a scope, after its word.
 
 #![tactic(auto, unfolding(crate::specs::Row::TakesRow))]
 

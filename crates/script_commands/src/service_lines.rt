@@ -1,4 +1,4 @@
-//! What the lines to RS have behind their word.
+//! The rest of a line for RS, after its word.
 
 #![tactic(auto, unfolding(crate::specs::Row::TakesRow))]
 

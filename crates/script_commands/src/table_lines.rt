@@ -1,4 +1,4 @@
-//! What the lines to driver tables have behind their word.
+//! The rest of a line for driver tables, after its word.
 
 #![tactic(auto, unfolding(crate::specs::Row::TakesRow))]
 

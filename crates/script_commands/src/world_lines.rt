@@ -1,4 +1,4 @@
-//! What the lines of a world have behind their word.
+//! The rest of a line of a world, after its word.
 
 #![tactic(auto, unfolding(crate::specs::Row::TakesRow))]
 
