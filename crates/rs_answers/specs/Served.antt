@@ -22,13 +22,13 @@ reply_lines_if (Some (Some reply)) = reply_lines AsMerge reply larger
 reply_lines_if (Some None) = []
 reply_lines_if None = []
 
--- each action's line, and below it the store's reply
+-- each action's line, followed by the store's reply
 abbrev pub acted_lines : List Action → List (Option Reply) → List ℕ
 acted_lines [] replies = []
 acted_lines (action ∷ actions) [] = action_line action ++ acted_lines actions []
 acted_lines (action ∷ actions) (reply ∷ replies) = action_line action ++ (reply_lines_if (Some reply) ++ acted_lines actions replies)
 
--- these lines, and then the count of the actions
+-- these lines, and then the number of actions
 abbrev pub all_acted_lines : List Action → List (Option Reply) → List ℕ
 all_acted_lines actions replies = acted_lines actions replies ++ action_count_line (length actions)
 
@@ -37,11 +37,11 @@ abbrev pub start_fault_line : NewFault → List ℕ
 start_fault_line new_faults.OutOfRange = settings_fault_line causes.OutOfRange
 start_fault_line new_faults.NoRoom = settings_fault_line causes.NoRoom
 
--- a client's command in RS's name is refused, in the words of the store's refusal
+-- the refusal of a client's command in RS's name, in the words of the store's refusal
 abbrev pub not_allowed_lines : List ℕ
 not_allowed_lines = reply_lines AsMerge (store_replies.Refused refusals.NotAllowed) larger
 
--- the lines of a reply. That a service was given up has no line
+-- the lines of a reply; a service that was given up has no line
 abbrev pub served_lines : Wording → RsReply → List ℕ
 served_lines wording (Replied reply) = reply_lines wording reply larger
 served_lines wording NotAllowed = not_allowed_lines

@@ -1,4 +1,4 @@
--- How a line ends that names a process.
+-- The end of a line that names a process.
 use Rattle.std.specs.Prelude.{ℕ, List, [], ◌∷◌}
 use Rattle.ds_names.specs.Endpoint.{EndpointRecord, endpoint_text}
 use Rattle.ds_line.specs.Part.{part, texts, Endpoint}

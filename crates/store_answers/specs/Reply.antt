@@ -1,4 +1,4 @@
--- The lines that answer a command, by the reply that a store gives to it.
+-- The lines of a store's reply.
 use Rattle.std.specs.Prelude.{ℕ, ◌/◌, ◌==◌, if◌then◌else◌, Bool, true, false, List, [], ◌∷◌, ◌++◌, length, codes}
 use Rattle.std.specs.List.{flat_map}
 use Rattle.std.specs.Fmt.{decimal}
@@ -51,12 +51,12 @@ refusal_word refusals.BadFirst = codes "badfirst"
 abbrev pub clashing : Version → List ℕ
 clashing version = 32 ∷ (decimal version.epoch ++ 46 ∷ decimal version.seq)
 
--- behind its word a clash has the version of both changes
+-- what follows the word: a clash has the version of both changes
 abbrev pub refusal_rest : Refusal → List ℕ
 refusal_rest (refusals.Clash version) = clashing version
 refusal_rest _ = []
 
--- the word, and what is behind it
+-- the word, and what follows it
 abbrev pub refusal_words : Refusal → List ℕ
 refusal_words refusal = refusal_word refusal ++ refusal_rest refusal
 
@@ -64,17 +64,17 @@ refusal_words refusal = refusal_word refusal ++ refusal_rest refusal
 abbrev pub refused : Refusal → List ℕ
 refused refusal = codes "refused " ++ refusal_words refusal
 
--- what became of a Merge, by how many items are done, took effect and were stale
+-- the outcome of a Merge, by the numbers of items done, taken and stale
 abbrev pub merged : Wording → ℕ → ℕ → ℕ → List ℕ
 merged AsOffer done taken stale = if taken == 0 then (if stale == 0 then codes "known" else codes "stale") else codes "taken"
 merged AsMerge done taken stale = codes "merged " ++ (decimal done ++ 32 ∷ (decimal taken ++ 32 ∷ decimal stale))
 
--- why a Merge stopped behind so many items
+-- the stop of a Merge after `done` items
 abbrev pub stopped : Wording → ℕ → Refusal → List ℕ
 stopped AsOffer done fault = refused fault
 stopped AsMerge done fault = codes "stopped " ++ (decimal done ++ 32 ∷ refusal_words fault)
 
--- how many items were shown, and the stamps before and after
+-- the count of items shown, and the stamps before and after
 abbrev pub checked_text : ℕ → ℕ → ℕ → List ℕ
 checked_text count before after = codes "checked " ++ (decimal count ++ 32 ∷ (decimal before ++ 32 ∷ decimal after))
 
@@ -82,24 +82,24 @@ checked_text count before after = codes "checked " ++ (decimal count ++ 32 ∷ (
 abbrev pub cursor_text : Cursor → List ℕ
 cursor_text cursor = decimal cursor.incarnation ++ 32 ∷ decimal cursor.position
 
--- how many items are given, and the cursor behind what was looked at
+-- the count of items, and the cursor after what was looked at
 abbrev pub since_text : Since → List ℕ
 since_text since = codes "since " ++ (decimal (length since.items) ++ 32 ∷ cursor_text since.cursor)
 
--- how many items are held, and the cursor from which the journal goes on
+-- the count of items, and the cursor from which the journal continues
 abbrev pub snapped : Snapshot → List ℕ
 snapped snapshot = codes "snapshot " ++ (decimal (length snapshot.items) ++ 32 ∷ cursor_text snapshot.cursor)
 
--- whether it is the last page
+-- the word for whether a page is the last one
 abbrev pub page_mark : Bool → List ℕ
 page_mark true = codes " last "
 page_mark false = codes " more "
 
--- how many items are on the page, whether it is the last one, and the cursor at its time
+-- the count of items, whether the page is the last one, and its cursor
 abbrev pub page_text : Page → List ℕ
 page_text page = codes "page " ++ (decimal (length page.items) ++ (page_mark page.last ++ cursor_text page.cursor))
 
--- what the reply says
+-- the words of a reply
 abbrev pub reply_words : Wording → Reply → List ℕ
 reply_words wording (Changed owed) = codes "taken"
 reply_words wording Known = codes "known"
@@ -119,14 +119,14 @@ reply_words wording (Refused fault) = refused fault
 abbrev pub mask_hex : LimitsRecord → ℕ → List ℕ
 mask_hex limits mask = encode_lower (bytes_high_first (limits.subs / 8) mask)
 
--- a line for what is owed, unless nothing is
+-- the line of what is owed; none if nothing is
 abbrev pub owed_line : LimitsRecord → ℕ → List ℕ
 owed_line limits mask = if mask == 0 then [] else with_newline (codes "owed " ++ mask_hex limits mask)
 
--- the lines of the reply: those of the items that it gives, its words, and what is owed
+-- the lines of a reply: those of its items, its words, and what is owed
 abbrev pub reply_lines : Wording → Reply → LimitsRecord → List ℕ
 reply_lines wording reply limits = flat_map item_spelling (shown_by reply) ++ (with_newline (reply_words wording reply) ++ owed_line limits (owed_by reply))
 
--- the answer for want of memory
+-- the answer if memory runs out
 abbrev pub refused_noroom : List ℕ
 refused_noroom = with_newline (codes "refused noroom")
