@@ -19,8 +19,8 @@ impl Servers {
     /// Reads a settings text, and begins RS with it; all of its services are down. Appends the numbers of services and
     /// slots, or the text's refusal. Once settings are accepted, later texts are refused unread.
     ///
-    /// A text that can't be allocated is answered `refused noroom`, and changes nothing. `Err` means that memory ran out for
-    /// the answer itself, and none of it was appended.
+    /// A text that can't be allocated is answered `refused noroom`, and changes nothing. `Err` means that memory ran
+    /// out for the answer itself, and none of it was appended.
     pub fn accept(&mut self, alloc: Global, text: &[u8], output: &mut Vec<u8>) -> Result<(), NoRoom>
         ensures answered { OnOk result (AppendsLedOrRefuses (AnswersSettings text.now)
             output.old.items output.new.items self.old self.new) }
