@@ -14,7 +14,6 @@ module _ {S V M Q : Type 0} {G : Ghosts (Opening M)} where
   abbrev pub opened_with : DeskOf S V (Opening M) Q G → M
   opened_with d = d.table.shared.key.machine.value
 
-  -- the number of its passes
   abbrev pub pass_count : DeskOf S V (Opening M) Q G → ℕ
   pass_count d = d.table.shared.key.passes
 

@@ -24,7 +24,6 @@ module _ {M C R : Type 0} {G : Ghosts (View M C R)} where
   abbrev pub desk_of_note : Note M C R G → TableId
   desk_of_note n = n.seat.table_id
 
-  -- the number of a pass
   abbrev pub number : Pass M C R G → ℕ
   number p = number_of p.seat.me.0.passes
 
@@ -32,7 +31,6 @@ module _ {M C R : Type 0} {G : Ghosts (View M C R)} where
   abbrev pub calls : Pass M C R G → List (Entry C R)
   calls p = calls_of p.seat.me.0.passes
 
-  -- the history that it has seen
   abbrev pub history : Pass M C R G → List (Entry C R)
   history p = p.seat.me.0.seen
 

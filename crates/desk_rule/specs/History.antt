@@ -20,7 +20,6 @@ module _ {C R : Type 0} where
   abbrev pub weigh_all : (Entry C R → ℕ) → List (PassLog C R) → ℕ
   weigh_all weigh passes = total_of (λ (p : PassLog C R). total_of weigh p.calls) passes
 
-  -- the number of these passes' calls
   abbrev pub count_calls : List (PassLog C R) → ℕ
   count_calls passes = weigh_all (λ _. 1) passes
 

@@ -111,7 +111,6 @@ pub fn new_table<M: Machine>(
     }
 }
 
-// Returns the machine of a slot that has it.
 fn machine_of<M: Machine>(slot: Slot<M>) -> M
     requires { is_some slot ≡ true }
     ensures { IfSome slot (λ home. result ≡ home.machine) }
@@ -122,7 +121,6 @@ fn machine_of<M: Machine>(slot: Slot<M>) -> M
     }
 }
 
-// Returns the pending word of each server.
 fn pending_words<S>(closed: &Closed<S, Global>) -> [u64; 16]
     requires { IsFull closed.now.words × (slots_len closed.now.words ≡ 17) }
     ensures { (s : ℕ) → s < 16 → slice_index result s ≡ slice_index (slots_items closed.now.words) (s + 1) }

@@ -23,7 +23,6 @@ use Rattle.driver_tables.proofs.MoveLemmas.{values-append, endings, targets, ans
 use Rattle.driver_tables.proofs.RequestLemmas.{Follows, pending_after, served_after}
 use Rattle.driver_tables.proofs.StandsLemmas.{sent_kept}
 
--- ---- the answer
 abbrev judged : DriverTable → ℕ → Bool → Bool → Result Move TableFault × DriverTable
 judged t id there same = cond there (cond same (Ok (Answer id Done), finishes t id) (Err OldEndpoint, t)) (Err NotPending, t)
 

@@ -100,7 +100,7 @@ pending_after t answers sends ask (r ∷ requests) h = by (is_pending t.answers 
 
 -- ---- each request is still served
 
--- the move sends the request to the endpoint of afterwards, unless it answers it or nothing changed
+-- the move sends the request to the endpoint afterwards, unless it answers it or nothing changed
 abbrev pub Reaches : Option EndpointRecord → Option EndpointRecord → Option Move → Type 0
 Reaches before after m = (e : EndpointRecord) → after ≡ Some e → endings m ≡ [] → (targets m ≡ e ∷ []) ⊎ ((targets m ≡ []) × (before ≡ Some e))
 

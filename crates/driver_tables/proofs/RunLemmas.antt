@@ -89,7 +89,7 @@ reached_run t u (entry ∷ entries) run h = reached_run run.0 u entries run.2 (r
 pub reached : (t : DriverTable) (entries : List Entry) → TableRun empty_table entries t → IsTableReached t
 reached t entries run = reached_run empty_table t entries run (stands_opening [] [] refl refl).reached
 
--- ---- the lists are those of the answers
+-- ---- the lists follow from the calls and their answers
 pub record Tells (t u : DriverTable) (moves : List Move) (r : Option Request) : Type 0 where
   pub requests : u.requests ≡ t.requests ++ option_to_list r
   pub sends : u.sends ≡ t.sends ++ flat_map sends_of moves

@@ -48,7 +48,6 @@ no_device v t label s e = sym (labelled v t label s) ∙ by (find (is_of_label l
     by None e = refl
     by (Some u) e = cc
 
--- the driver of a unit
 pub driver_kept : (v : TableRecord) (t : DriverTable) (unit : ℕ) → TableStands v t → lookup (λ u. unit == u) v.devices ≡ option_map (device_of t.states) (driver_of t.units unit)
 driver_kept v t unit s = ap (λ (l : List (ℕ × Device)). lookup (λ u. unit == u) l) s.devices ∙ device_is t.states t.units unit
 

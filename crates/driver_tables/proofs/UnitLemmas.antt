@@ -71,7 +71,6 @@ noted_all states (u ∷ units) label state = cc (one, noted_all states units lab
     one : noted label state (unit_of states u) ≡ unit_of (states ++ s ∷ []) u
     one = ap (λ (d : Device). (u.0, d)) (at (is_same_name label u.1.label) ∙ (ap (λ (e : Option EndpointRecord). made e (cond (is_same_name label u.1.label) (newer (newest states u.1.label) state) (newest states u.1.label))) (sym (now_after states s u.1.label)) ∙ ap (made (endpoint_now (states ++ s ∷ []) u.1.label)) (sym (newest_after states s u.1.label))))
 
--- the starts of a label's units
 pub starts_are : (states : List LabelState) (units : List (ℕ × Driver)) (label : List ℕ) (state : Option EndpointRecord) → filter_map (start_move label state) (map (unit_of states) units) ≡ filter_map (start label state) units
 starts_are states [] label state = refl
 starts_are states (u ∷ units) label state = ap (cons_option (start label state u)) (starts_are states units label state)

@@ -7,7 +7,6 @@ use Rattle.driver_tables.specs.Label.{newer}
 use Rattle.driver_tables.specs.Changed.{network_start}
 use Rattle.ds_names.specs.Name.{is_same_name}
 
--- whether the unit has the label
 abbrev pub is_of_label : List ℕ → ℕ × Device → Bool
 is_of_label label u = is_same_name label u.1.label
 

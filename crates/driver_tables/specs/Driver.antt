@@ -19,6 +19,5 @@ net_driver label = record { class = Network; label = label }
 abbrev pub driver_of : List (ℕ × Driver) → ℕ → Option Driver
 driver_of units unit = lookup (λ u. unit == u) units
 
--- whether some unit's driver has the label
 abbrev pub has_label : List (ℕ × Driver) → List ℕ → Bool
 has_label units label = list_any (λ (u : ℕ × Driver). is_same_name label u.1.label) units

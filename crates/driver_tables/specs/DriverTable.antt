@@ -22,7 +22,6 @@ pub record DriverTable : Type 0 where
   -- each answer: an id and its ending
   pub answers : List (ℕ × Ending)
 
--- a table without units
 abbrev pub empty_table : DriverTable
 empty_table = record { units = []; states = []; requests = []; sends = []; answers = [] }
 
@@ -42,7 +41,7 @@ abbrev pub is_empty : {X : Type 0} → List X → Bool
 is_empty [] = true
 is_empty (x ∷ xs) = false
 
--- whether a request is pending, which is without an answer
+-- whether a request is pending: it has no answer
 abbrev pub is_pending : List (ℕ × Ending) → Request → Bool
 is_pending answers r = is_empty (values_of r.id answers)
 

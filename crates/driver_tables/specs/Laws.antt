@@ -13,7 +13,7 @@ use Rattle.driver_tables.specs.Doing.{sends_of, answered_by}
 use Rattle.driver_tables.specs.Run.{Call, Entry, TableStep, TableRun, all_moves_in, requests_in}
 use Rattle.driver_tables.specs.Run.{Reply}
 
--- the table's requests, sends and answers are those of the calls' answers
+-- the table's requests, sends and answers follow from the calls and their answers
 abbrev pub ListsTell : Type 0
 ListsTell = (entries : List Entry) (t : DriverTable) → TableRun empty_table entries t →
     (t.requests ≡ requests_in entries) × (t.sends ≡ flat_map sends_of (all_moves_in entries)) × (t.answers ≡ flat_map answered_by (all_moves_in entries))

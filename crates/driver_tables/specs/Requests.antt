@@ -12,7 +12,6 @@ use Rattle.driver_tables.specs.Changed.{settled}
 use Rattle.driver_tables.specs.Devices.{start_move}
 use Rattle.ds_names.specs.Name.{is_same_name}
 
--- whether the move ends its request
 abbrev pub is_ending : Move → Bool
 is_ending (Answer id ending) = true
 is_ending _ = false

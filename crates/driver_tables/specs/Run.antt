@@ -41,7 +41,6 @@ pub record TableStep (t : DriverTable) (call : Call) (answer : Result (List Move
   pub after : OnOk answer (u ≡ (table_outcome t call).1)
   pub unchanged : OnErr answer (u ≡ t)
 
--- a call with its answer
 pub record Entry : Type 0 where
   pub call : Call
   pub answer : Result (List Move) TableFault

@@ -33,14 +33,12 @@ pub struct Device {
     pub newest: Option<Generation>,
 }
 
-// Returns the device of a unit.
 pub(crate) fn device_at(devices: &IndexMap<u8, Device>, unit: u8) -> Option<Device>
     ensures { result ≡ lookup (λ u. unit == u) devices.now.entries }
 {
     devices.get(&unit).copied()
 }
 
-// Returns the unit at an index, with its device.
 fn unit_at(devices: &IndexMap<u8, Device>, i: usize) -> (u8, Device)
     requires { i < length devices.now.entries }
     ensures { slice_get devices.now.entries i ≡ Some result }

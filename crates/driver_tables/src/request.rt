@@ -39,7 +39,6 @@ pub(crate) fn submitted(class: Class, id: u64, now: &Option<Endpoint>) -> Move
     }
 }
 
-// Returns whether a move ends its request.
 pub(crate) fn is_ending(step: &Move) -> bool
     ensures { result ≡ is_ending step.now }
 {

@@ -5,7 +5,6 @@ ghost use Rattle.driver_tables.specs.Label.{newer, is_same_state, is_old};
 
 use ds_names::{Endpoint, Generation};
 
-// Returns whether two states are equal.
 pub(crate) fn is_same_state(one: &Option<Endpoint>, other: &Option<Endpoint>) -> bool
     ensures { result ≡ is_same_state one.now other.now }
 {

@@ -11,7 +11,6 @@ use Rattle.system_model.proofs.ApartLemmas.{labels_are_apart}
 use Rattle.ds_system.specs.Stands.{SystemRecord, SystemEventLeads}
 use Rattle.ds_system.specs.Since.{SystemRunLeads, SystemPast, IsRightAmong, HoldsOfPast, SystemLawsHold}
 
--- the step of a run
 abbrev Entered : System → SystemEntry → System → Type 0
 Entered s e t = SystemDoes s e.event e.outcome e.steps t
 

@@ -25,7 +25,6 @@ pub record SystemRecord : Type 0 where
 abbrev pub system_of : RsRecord → List NumbererRecord → WorldRecord → TableRecord → TableRecord → List ChangeRecord → SystemRecord
 system_of rs numberers world file net made = record { rs = rs; numberers = numberers; world = world; file = file; net = net; made = made }
 
--- what the code keeps of a server's table
 abbrev pub kept_table : SystemRecord → Table → TableRecord
 kept_table value File = value.file
 kept_table value Net = value.net

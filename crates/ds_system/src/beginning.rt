@@ -41,7 +41,6 @@ fn no_numbers(alloc: Global, count: usize) -> Result<Vec<Numberer>, NoRoom>
     Ok(numberers)
 }
 
-// Returns the query of all labels.
 fn labels(alloc: Global) -> Result<Query, NoRoom>
     ensures { IfOk result (λ query. query ≡ labels_query) }
 {
@@ -73,7 +72,6 @@ fn make_maps(alloc: Global, world: &mut World) -> Result<(), NoRoom>
     make_map(alloc, world)
 }
 
-// Returns the world with both maps.
 pub(crate) fn with_maps(alloc: Global, mut world: World) -> Result<World, NoRoom>
     ensures { IfOk result (λ w. MakesTwoMaps world w) }
 {

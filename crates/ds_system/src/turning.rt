@@ -84,7 +84,6 @@ pub(crate) fn submits<T: Drivers>(
     }
 }
 
-// Takes a driver's reply.
 pub(crate) fn replies<T: Drivers>(
     table: &mut T,
     endpoint: Endpoint,

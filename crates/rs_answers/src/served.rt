@@ -39,7 +39,7 @@ pub fn append_served(buffer: &mut Vec<u8>, wording: Wording, reply: &RsReply) ->
     }
 }
 
-// Appends the refusal of a client's command in RS's name, in the words of the store's refusal; all or nothing.
+// Appends the refusal of a client's command in RS's name, in the words of the store's refusal.
 fn append_not_allowed(buffer: &mut Vec<u8>) -> Result<(), NoRoom>
     ensures written { OnOk result (buffer.new.items ≡ buffer.old.items ++ not_allowed_lines) }
     ensures unchanged { OnErr result (buffer.new.items ≡ buffer.old.items) }
@@ -48,7 +48,7 @@ fn append_not_allowed(buffer: &mut Vec<u8>) -> Result<(), NoRoom>
     append_reply(buffer, Wording::AsMerge, &reply, Limits::larger())
 }
 
-// Appends why RS didn't begin, in the words of a refused settings text; all or nothing.
+// Appends why RS didn't begin, in the words of a refused settings text.
 fn append_start_fault(buffer: &mut Vec<u8>, fault: NewFault) -> Result<(), NoRoom>
     ensures written { OnOk result (buffer.new.items ≡ buffer.old.items ++ start_fault_line fault) }
     ensures unchanged { OnErr result (buffer.new.items ≡ buffer.old.items) }
@@ -59,7 +59,7 @@ fn append_start_fault(buffer: &mut Vec<u8>, fault: NewFault) -> Result<(), NoRoo
     }
 }
 
-// Appends the lines of actions and replies, and the number of actions; all or nothing.
+// Appends the lines of actions and replies, and the number of actions.
 fn append_acted(buffer: &mut Vec<u8>, actions: &Actions, replies: &Replies) -> Result<(), NoRoom>
     ensures written { OnOk result (buffer.new.items ≡ buffer.old.items ++ all_acted_lines actions.now replies.now) }
     ensures unchanged { OnErr result (buffer.new.items ≡ buffer.old.items) }
@@ -93,7 +93,7 @@ fn append_all_acted(
     append_action_count(buffer, actions.len())
 }
 
-// Appends the lines of the store's reply to an action, if there is one; all or nothing.
+// Appends the lines of the store's reply to an action, if there is one.
 fn append_reply_if(buffer: &mut Vec<u8>, reply: Option<&Option<Reply>>) -> Result<(), NoRoom>
     ensures written { OnOk result (buffer.new.items ≡ buffer.old.items ++ reply_lines_if (option_copied reply.entry)) }
     ensures unchanged { OnErr result (buffer.new.items ≡ buffer.old.items) }

@@ -14,7 +14,6 @@ use Rattle.driver_tables.specs.Changed.{changing}
 use Rattle.driver_tables.specs.Stands.{TableRecord, TableStands}
 use Rattle.rs_to_store.specs.News.{told}
 
--- the labels of a table's units, in order of assignment
 abbrev pub labels_of : DriverTable → List (List ℕ)
 labels_of t = map (λ (u : ℕ × Driver). u.1.label) t.units
 

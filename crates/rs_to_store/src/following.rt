@@ -7,9 +7,9 @@ use crate::news::told;
 use driver_tables::{Drivers, Moves, TableFault};
 use ds_submap::SubMap;
 
-/// Follows a map: the table takes what the map tells of its labels, in order of assignment of its units. The moves of
-/// each label that the table takes a state of are one round, appended to `rounds`. Returns what ended the follow early,
-/// if anything did.
+/// Follows a map: the table takes what the map tells of its labels, in order of assignment of its units. Each label of
+/// which it takes a state adds one round, the moves that follow, to `rounds`. Returns what ended the follow early, if
+/// anything did.
 ///
 /// Passes over a label of which the map holds no change, a tombstone whose epoch is below the newest generation that
 /// the table knows of the label, and a state that is an OldEndpoint. Any other tombstone means that the label has no

@@ -31,7 +31,6 @@ pub record IsVersion (version : Version) : Type 0 where
   pub epoch : version.epoch ≤ 2097151
   pub seq : version.seq < 2 ^ 32
 
--- an endpoint
 abbrev pub an_endpoint : Piece
 an_endpoint = record { Of = EndpointRecord; Can = IsEndpoint; parts = λ (e : EndpointRecord). space ∷ part Endpoint (endpoint_text e) ∷ [] }
 
@@ -43,7 +42,6 @@ a_mode = record { Of = Bool; Can = λ (overwrite : Bool). Unit {0}; parts = λ (
 abbrev pub an_initial : Piece
 an_initial = record { Of = Bool; Can = λ (initial : Bool). Unit {0}; parts = λ (initial : Bool). space ∷ part AWord (initial_word initial) ∷ [] }
 
--- a name
 abbrev pub a_name : Piece
 a_name = record { Of = List ℕ; Can = IsName; parts = λ (name : List ℕ). space ∷ part Name name ∷ [] }
 
@@ -51,19 +49,15 @@ a_name = record { Of = List ℕ; Can = IsName; parts = λ (name : List ℕ). spa
 abbrev pub a_kind : Piece
 a_kind = record { Of = Kind; Can = λ (kind : Kind). Unit {0}; parts = λ (kind : Kind). space ∷ part AWord (kind_word kind) ∷ [] }
 
--- a key
 abbrev pub a_key : Piece
 a_key = record { Of = Key; Can = λ (key : Key). IsName key.name; parts = λ (key : Key). space ∷ key_parts key }
 
--- a generation
 abbrev pub a_generation : Piece
 a_generation = record { Of = ℕ; Can = λ (n : ℕ). n ≤ 2097151; parts = λ (n : ℕ). space ∷ part Number (decimal n) ∷ [] }
 
--- a sequence number
 abbrev pub a_seq : Piece
 a_seq = record { Of = ℕ; Can = λ (n : ℕ). n < 2 ^ 32; parts = λ (n : ℕ). byte 46 ∷ part Number (decimal n) ∷ [] }
 
--- a version
 abbrev pub a_version : Piece
 a_version = record { Of = Version; Can = IsVersion; parts = λ (version : Version). space ∷ version_parts version }
 

@@ -22,7 +22,6 @@ abbrev pub ScopeTakesMemory : Scope → Type 0
 ScopeTakesMemory All = ⊥
 ScopeTakesMemory (Under query) = Unit {0}
 
--- a scope
 abbrev pub a_scope : Piece
 a_scope = record { Of = Scope; Can = IsScope; parts = λ (scope : Scope). space ∷ scope_parts scope }
 

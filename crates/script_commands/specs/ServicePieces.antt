@@ -15,7 +15,6 @@ use Rattle.script_commands.specs.declared.service.Server.{Server}
 abbrev pub a_text : Piece
 a_text = record { Of = List ℕ; Can = IsUnbroken; parts = λ (text : List ℕ). space ∷ (text_parts text ++ newline ∷ []) }
 
--- a request for a service
 abbrev pub a_request : Piece
 a_request = record {
   Of = Request;
@@ -23,7 +22,6 @@ a_request = record {
   parts = λ (request : Request). space ∷ part Word (request_word request) ∷ [];
 }
 
--- a server
 abbrev pub a_server : Piece
 a_server = record {
   Of = Server;
@@ -43,6 +41,5 @@ a_class = record {
 abbrev pub a_unit : Piece
 a_unit = record { Of = ℕ; Can = λ (n : ℕ). n ≤ 255; parts = λ (n : ℕ). space ∷ part Number (decimal n) ∷ [] }
 
--- a device
 abbrev pub a_device : Piece
 a_device = record { Of = Device; Can = IsDevice; parts = λ (device : Device). space ∷ device_parts device }

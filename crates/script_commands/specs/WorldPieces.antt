@@ -13,7 +13,6 @@ use Rattle.ds_replica.specs.declared.event.Holder.{Holder}
 abbrev pub a_ring : Piece
 a_ring = record { Of = ℕ; Can = λ (n : ℕ). (0 < n) × (n ≤ 4096); parts = λ (n : ℕ). space ∷ part Number (decimal n) ∷ [] }
 
--- a side
 abbrev pub a_side : Piece
 a_side = record { Of = Side; Can = λ (side : Side). Unit {0}; parts = λ (side : Side). space ∷ part Word (side_word side) ∷ [] }
 

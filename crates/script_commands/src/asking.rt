@@ -25,7 +25,6 @@ impl ScriptCommand {
     }
 }
 
-// Returns a Merge of one item.
 fn merge_of(alloc: Global, item: Item) -> Result<Command, NoRoom>
     ensures { IfOk result (λ command. command ≡ commands.Merge (item ∷ [])) }
 {

@@ -42,7 +42,6 @@ impl Rest<'_> {
         }
     }
 
-    /// Reads an endpoint.
     pub fn endpoint(&mut self, expected: Expected) -> Result<Endpoint, PartFault>
         ensures { Reads an_endpoint self.old.bytes.now result self.new.bytes.now }
     {
@@ -85,7 +84,6 @@ impl Rest<'_> {
         Ok(initial)
     }
 
-    /// Reads a name.
     #[inline(always)]
     pub fn name(&mut self, expected: Expected) -> Result<Name, PartFault>
         ensures { Reads a_name self.old.bytes.now result self.new.bytes.now }
@@ -123,7 +121,6 @@ impl Rest<'_> {
         Ok(Key { name, kind })
     }
 
-    /// Reads a generation.
     pub fn generation(&mut self, expected: Expected) -> Result<Generation, PartFault>
         ensures { Reads a_generation self.old.bytes.now result self.new.bytes.now }
     {

@@ -31,7 +31,6 @@ impl ScriptCommand {
     }
 }
 
-// Returns the event of a request for the service of a label.
 fn request_event(request: Request, label: Name) -> Event
     ensures { result ≡ request_event request label }
 {

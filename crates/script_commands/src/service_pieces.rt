@@ -33,7 +33,6 @@ impl<'a> Rest<'a> {
         Ok(text)
     }
 
-    /// Reads a request for a service.
     pub fn request(&mut self) -> Result<Request, PartFault>
         ensures { Reads a_request self.old.bytes.now result self.new.bytes.now }
     {
@@ -106,7 +105,6 @@ impl<'a> Rest<'a> {
     }
 }
 
-// Returns the request that a word names.
 fn request_of(word: &[u8]) -> Option<Request>
     ensures found { IfSome result (λ request. word.now ≡ request_word request) }
     ensures none { IfNone result ((request : Request) → word.now ≢ request_word request) }
@@ -124,7 +122,6 @@ fn request_of(word: &[u8]) -> Option<Request>
     }
 }
 
-// Returns the server that a word names.
 fn server_of(word: &[u8]) -> Option<Server>
     ensures found { IfSome result (λ server. word.now ≡ server_word server) }
     ensures none { IfNone result ((server : Server) → word.now ≢ server_word server) }
@@ -138,7 +135,6 @@ fn server_of(word: &[u8]) -> Option<Server>
     }
 }
 
-// Returns the class of major devices that a word names.
 fn class_of(word: &[u8]) -> Option<FileClass>
     ensures found { IfSome result (λ class. word.now ≡ class_word class) }
     ensures none { IfNone result ((class : FileClass) → word.now ≢ class_word class) }

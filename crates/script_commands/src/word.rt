@@ -127,7 +127,6 @@ fn all_words() -> &'static [Word]
     ]
 }
 
-// Returns the text of a word.
 fn text_of(word: Word) -> &'static [u8]
     ensures { result.now ≡ text_of word }
 {

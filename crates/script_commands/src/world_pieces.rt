@@ -79,7 +79,6 @@ impl Rest<'_> {
     }
 }
 
-// Returns the side that a word names.
 fn side_of(word: &[u8]) -> Option<Side>
     ensures found { IfSome result (λ side. word.now ≡ side_word side) }
     ensures none { IfNone result ((side : Side) → word.now ≢ side_word side) }

@@ -43,7 +43,7 @@ pub fn append_rs_fault(buffer: &mut Vec<u8>, fault: RsFault) -> Result<(), NoRoo
     append_all(buffer, &[b"refused ", word_of_fault(fault), b"\n"])
 }
 
-// Appends the line of a change for the data store; all or nothing.
+// Appends the line of a change for the data store.
 fn append_offer(buffer: &mut Vec<u8>, change: &Change) -> Result<(), NoRoom>
     ensures written { OnOk result (buffer.new.items ≡ buffer.old.items ++ offer_line change.now) }
     ensures unchanged { OnErr result (buffer.new.items ≡ buffer.old.items) }
@@ -57,7 +57,7 @@ fn append_offer(buffer: &mut Vec<u8>, change: &Change) -> Result<(), NoRoom>
     written
 }
 
-// Appends the line of a floor for the data store to raise; all or nothing.
+// Appends the line of a floor for the data store to raise.
 fn append_sweep(buffer: &mut Vec<u8>, floor: &Floor) -> Result<(), NoRoom>
     ensures written { OnOk result (buffer.new.items ≡ buffer.old.items ++ sweep_line floor.now) }
     ensures unchanged { OnErr result (buffer.new.items ≡ buffer.old.items) }
@@ -68,7 +68,6 @@ fn append_sweep(buffer: &mut Vec<u8>, floor: &Floor) -> Result<(), NoRoom>
     append_all(buffer, &[b"sweep ", owner, b" ", generation, b"\n"])
 }
 
-// Returns the word of RS's refusal of an event.
 fn word_of_fault(fault: RsFault) -> &'static [u8]
     ensures { result.now ≡ rs_fault_word fault }
 {

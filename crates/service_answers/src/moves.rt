@@ -60,7 +60,6 @@ pub fn append_table_fault(buffer: &mut Vec<u8>, fault: TableFault) -> Result<(),
     append_all(buffer, &[b"refused ", word_of_fault(fault), b"\n"])
 }
 
-// Returns the word of a request's ending.
 fn word_of_ending(ending: Ending) -> &'static [u8]
     ensures { result.now ≡ ending_word ending }
 {
@@ -70,7 +69,6 @@ fn word_of_ending(ending: Ending) -> &'static [u8]
     }
 }
 
-// Returns the word of a driver table's refusal.
 fn word_of_fault(fault: TableFault) -> &'static [u8]
     ensures { result.now ≡ table_fault_word fault }
 {

@@ -7,7 +7,7 @@ ghost use Rattle.service_answers.specs.Process.{process_end};
 use ds_line::{append_all, append_numbers};
 use ds_names::{Endpoint, NoRoom};
 
-/// Appends some texts, a process's endpoint and a newline; all or nothing.
+/// Appends some texts, a process's endpoint and a newline.
 pub(crate) fn append_process(
     buffer: &mut Vec<u8>,
     before: &[&[u8]],
@@ -25,7 +25,7 @@ pub(crate) fn append_process(
     written
 }
 
-// Appends an endpoint and a newline; all or nothing.
+// Appends an endpoint and a newline.
 fn append_endpoint(buffer: &mut Vec<u8>, endpoint: Endpoint) -> Result<(), NoRoom>
     ensures written { OnOk result (buffer.new.items ≡ buffer.old.items ++ process_end endpoint) }
     ensures unchanged { OnErr result (buffer.new.items ≡ buffer.old.items) }

@@ -34,7 +34,6 @@ pub fn append_exists(buffer: &mut Vec<u8>) -> Result<(), NoRoom>
     append_all(buffer, &[b"refused exists\n"])
 }
 
-// Returns the word of a settings text's refusal.
 fn word_of_cause(cause: SettingsCause) -> &'static [u8]
     ensures { result.now ≡ settings_cause_word cause }
 {

@@ -54,7 +54,6 @@ pub fn append_outcome(
     }
 }
 
-// Returns the word of an event's refusal.
 fn word_of_fault(fault: EventFault) -> &'static [u8]
     ensures { result.now ≡ event_fault_word fault }
 {
@@ -87,7 +86,6 @@ pub fn append_side(buffer: &mut Vec<u8>, side: Side) -> Result<(), NoRoom>
     append_all(buffer, &[b"side ", word_of_side(side), b"\n"])
 }
 
-// Returns the word of a side.
 fn word_of_side(side: Side) -> &'static [u8]
     ensures { result.now ≡ side_word side }
 {

@@ -82,7 +82,7 @@ pub fn append_noroom(buffer: &mut Vec<u8>) -> Result<(), NoRoom>
     append(buffer, b"refused noroom\n")
 }
 
-// Appends the lines of a reply, except what is owed; all or nothing.
+// Appends the lines of a reply, except what is owed.
 fn append_words(buffer: &mut Vec<u8>, wording: Wording, reply: &Reply) -> Result<(), NoRoom>
     ensures written { OnOk result (buffer.new.items
         ≡ buffer.old.items ++ (flat_map item_spelling (shown_by reply.now) ++ with_newline (reply_words wording reply.now))) }
@@ -133,7 +133,7 @@ fn offered(taken: usize, stale: usize) -> &'static [u8]
     }
 }
 
-// Appends the line that counts the items of a Merge; all or nothing.
+// Appends the line that counts the items of a Merge.
 fn append_merged(
     buffer: &mut Vec<u8>,
     done: usize,
@@ -153,7 +153,7 @@ fn append_merged(
     )
 }
 
-// Appends the line of a Merge that stopped after `done` items; all or nothing.
+// Appends the line of a Merge that stopped after `done` items.
 fn append_stopped(buffer: &mut Vec<u8>, done: usize, fault: Refusal) -> Result<(), NoRoom>
     ensures written { OnOk result (buffer.new.items ≡ buffer.old.items ++ with_newline (stopped AsMerge done fault)) }
     ensures unchanged { OnErr result (buffer.new.items ≡ buffer.old.items) }
@@ -163,7 +163,7 @@ fn append_stopped(buffer: &mut Vec<u8>, done: usize, fault: Refusal) -> Result<(
     append_refusal(buffer, &[b"stopped ", done, b" "], fault)
 }
 
-// Appends the line of a refusal; all or nothing.
+// Appends the line of a refusal.
 fn append_refused(buffer: &mut Vec<u8>, refusal: Refusal) -> Result<(), NoRoom>
     ensures written { OnOk result (buffer.new.items ≡ buffer.old.items ++ with_newline (refused refusal)) }
     ensures unchanged { OnErr result (buffer.new.items ≡ buffer.old.items) }
@@ -171,7 +171,7 @@ fn append_refused(buffer: &mut Vec<u8>, refusal: Refusal) -> Result<(), NoRoom>
     append_refusal(buffer, &[b"refused "], refusal)
 }
 
-// Appends some texts and the words of a refusal as one line; all or nothing.
+// Appends some texts and the words of a refusal as one line.
 fn append_refusal(buffer: &mut Vec<u8>, before: &[&[u8]], refusal: Refusal) -> Result<(), NoRoom>
     ensures written { OnOk result (buffer.new.items
         ≡ buffer.old.items ++ (flat_map (λ text. text.now) before.now ++ with_newline (refusal_words refusal))) }
@@ -186,7 +186,7 @@ fn append_refusal(buffer: &mut Vec<u8>, before: &[&[u8]], refusal: Refusal) -> R
     written
 }
 
-// Appends the words of a refusal and a newline; all or nothing.
+// Appends the words of a refusal and a newline.
 fn append_refusal_words(buffer: &mut Vec<u8>, refusal: Refusal) -> Result<(), NoRoom>
     ensures written { OnOk result (buffer.new.items ≡ buffer.old.items ++ with_newline (refusal_words refusal)) }
     ensures unchanged { OnErr result (buffer.new.items ≡ buffer.old.items) }
@@ -197,7 +197,7 @@ fn append_refusal_words(buffer: &mut Vec<u8>, refusal: Refusal) -> Result<(), No
     }
 }
 
-// Appends the words of a clash at a version and a newline; all or nothing.
+// Appends the words of a clash at a version and a newline.
 fn append_clash(buffer: &mut Vec<u8>, version: Version) -> Result<(), NoRoom>
     ensures written { OnOk result (buffer.new.items ≡ buffer.old.items ++ with_newline (refusal_words (Refusal.Clash version))) }
     ensures unchanged { OnErr result (buffer.new.items ≡ buffer.old.items) }
@@ -206,7 +206,6 @@ fn append_clash(buffer: &mut Vec<u8>, version: Version) -> Result<(), NoRoom>
     append_numbers(buffer, &[(b"clash ", epoch), (b".", version.seq as u64)])
 }
 
-// Returns the word of a refusal.
 fn refusal_word(refusal: Refusal) -> &'static [u8]
     ensures { result.now ≡ refusal_word refusal }
 {
@@ -236,7 +235,7 @@ fn refusal_word(refusal: Refusal) -> &'static [u8]
     }
 }
 
-// Appends the line of what is owed, if anything is; all or nothing.
+// Appends the line of what is owed, if anything is.
 fn append_owed(buffer: &mut Vec<u8>, mask: u128, limits: Limits) -> Result<(), NoRoom>
     ensures written { OnOk result (buffer.new.items ≡ buffer.old.items ++ owed_line limits mask) }
     ensures unchanged { OnErr result (buffer.new.items ≡ buffer.old.items) }
@@ -249,7 +248,7 @@ fn append_owed(buffer: &mut Vec<u8>, mask: u128, limits: Limits) -> Result<(), N
     append_mask(buffer, &mask.to_be_bytes(), 16 - count)
 }
 
-// Appends the line of a mask, from its byte `first` on; all or nothing.
+// Appends the line of a mask, from its byte `first` on.
 fn append_mask(buffer: &mut Vec<u8>, bytes: &[u8; 16], first: usize) -> Result<(), NoRoom>
     requires { first ≤ 16 }
     ensures written { OnOk result (buffer.new.items

@@ -12,7 +12,7 @@ use ds_feed::{Page, Since, Snapshot};
 use ds_line::{append_item, append_numbers};
 use ds_names::NoRoom;
 
-/// Appends the lines of a check: its items, then their count and the stamps before and after; all or nothing.
+/// Appends the lines of a check: its items, then their count and the stamps before and after.
 pub(crate) fn append_checked(
     buffer: &mut Vec<u8>,
     items: &Items,
@@ -31,7 +31,7 @@ pub(crate) fn append_checked(
     )
 }
 
-/// Appends the lines of a `since`: its items, then their count and the cursor after them; all or nothing.
+/// Appends the lines of a `since`: its items, then their count and the cursor after them.
 pub(crate) fn append_journaled(buffer: &mut Vec<u8>, since: &Since) -> Result<(), NoRoom>
     ensures written { OnOk result (buffer.new.items
         ≡ buffer.old.items ++ (flat_map item_spelling since.now.items ++ with_newline (since_text since.now))) }
@@ -48,7 +48,7 @@ pub(crate) fn append_journaled(buffer: &mut Vec<u8>, since: &Since) -> Result<()
     )
 }
 
-/// Appends the lines of a snapshot: its items, then their count and its cursor; all or nothing.
+/// Appends the lines of a snapshot: its items, then their count and its cursor.
 pub(crate) fn append_snapped(buffer: &mut Vec<u8>, snapshot: &Snapshot) -> Result<(), NoRoom>
     ensures written { OnOk result (buffer.new.items
         ≡ buffer.old.items ++ (flat_map item_spelling snapshot.now.items ++ with_newline (snapped snapshot.now))) }
@@ -65,8 +65,7 @@ pub(crate) fn append_snapped(buffer: &mut Vec<u8>, snapshot: &Snapshot) -> Resul
     )
 }
 
-/// Appends the lines of a page: its items, then their count, whether it is the last page, and its cursor; all or
-/// nothing.
+/// Appends the lines of a page: its items, then their count, whether it is the last page, and its cursor.
 pub(crate) fn append_paged(buffer: &mut Vec<u8>, page: &Page) -> Result<(), NoRoom>
     ensures written { OnOk result (buffer.new.items
         ≡ buffer.old.items ++ (flat_map item_spelling page.now.items ++ with_newline (page_text page.now))) }
@@ -90,7 +89,7 @@ fn page_mark(last: bool) -> &'static [u8]
     if last { b" last " } else { b" more " }
 }
 
-// Appends the line of each item, and a line of numbers; all or nothing.
+// Appends the line of each item, and a line of numbers.
 fn append_listed(
     buffer: &mut Vec<u8>,
     items: &Items,
@@ -109,7 +108,7 @@ fn append_listed(
     written
 }
 
-// Appends the line of each item; all or nothing.
+// Appends the line of each item.
 fn append_items(buffer: &mut Vec<u8>, items: &Items) -> Result<(), NoRoom>
     ensures written { OnOk result (buffer.new.items ≡ buffer.old.items ++ flat_map item_spelling items.now) }
     ensures unchanged { OnErr result (buffer.new.items ≡ buffer.old.items) }

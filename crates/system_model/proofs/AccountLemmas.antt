@@ -91,7 +91,6 @@ ask_made made account w new side command reply f all brings h c k = elim (event_
   | inr l ↦ (let s = asked_step account w new side command reply f h in brings s.0 reply s.1 c l)
 ]
 
--- a command that brings in nothing
 nothing_learnt : (s : State) (command : Command) (reply : Reply) (i : Item) → is_bringing command ≡ false → Contains (learnt_by s command reply) i → ⊥
 nothing_learnt s (Publish caller key version value overwrite) reply i e h = cc
 nothing_learnt s (Delete caller key version) reply i e h = cc

@@ -107,7 +107,6 @@ from_services unit_of network tells services label h = by (assigned_labels (filt
         let t = tells s.0 u.0 s.2 in
         record { service = s.0; there = Contains-from_In s.0 services s.1; label_is = t.1 ∙ u.2; class = t.0 }
 
--- two services of one label are one
 two_services : (settings : SettingsRecord) → IsSettings settings → (label : List ℕ) → IsServiceOf settings.services label false → IsServiceOf settings.services label true → ⊥
 two_services settings checked label f n = opposed (is_network n.service.class) n.class (ap (λ (z : Service). is_network z.class) (sym same) ∙ f.class)
   where

@@ -100,7 +100,6 @@ asking_learns s t caller key number Gone owner reply named (inr w) c h = absurd 
 abbrev pub BringsMade : List ChangeRecord → State → Command → Type 0
 BringsMade made s command = (t : State) (reply : Reply) → Step s command reply t → (c : ChangeRecord) → Contains (learnt_by s command reply) (Changed c) → Contains made c
 
--- RS has one name
 rs_named : (s : State) (n : List ℕ) → name_of (held s) (endpoint_of 0 2) ≡ Some n → n ≡ rs_name
 rs_named s n e = some n e
   where

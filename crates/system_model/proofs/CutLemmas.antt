@@ -32,7 +32,6 @@ module _ (held : List Item) where
     pub before : Follows held front t first None x
     pub behind : Follows held back (table_past x l) later fault u
 
-  -- one more label at the front
   one_more : (t : DriverTable) (fault : Option TableFault) (u : DriverTable) (k l : List ℕ) → CutAt (table_past t k) fault u l → CutAt t fault u l
   one_more t fault u k l c = record {
     front = k ∷ c.front;

@@ -127,7 +127,6 @@ module _ (held : List Item) (label : List ℕ) (c : ChangeRecord) (there : held_
       by (inr p) (inl s) = from_now t cut.x u p.1 (subst (λ (z : DriverTable). Went z u) s.past behind)
       by w (inr n) = from_now t (table_past held cut.x label) u (now_then n) behind
 
--- the labels of units
 abbrev labels_in : List (ℕ × Driver) → List (List ℕ)
 labels_in units = map (λ (u : ℕ × Driver). u.1.label) units
 

@@ -26,7 +26,6 @@ numberer_at numberers i = slice_index_or numberers i (numberer 0 0)
 abbrev pub numbers_of : NumbererRecord → ℕ → NumbererRecord
 numbers_of n generation = if n.generation == generation then n else numberer generation 0
 
--- the numbers left to an instance
 abbrev pub numbers_left : List NumbererRecord → Instance → NumbererRecord
 numbers_left numberers it = numbers_of (numberer_at numberers it.place) it.running.endpoint.generation
 

@@ -42,8 +42,8 @@ pub record WorldDoes (s : System) (steps : Steps) (events : WorldEvents) (t : Sy
   pub proper : AreProper events
   pub happen : HappenAll s.world events t.world
 
--- RS made a step: its label changes and sweeps went to the store of the side, in order, and the label changes count as
--- made
+-- RS made a step: its label changes and sweeps went to the store of the side, in order, and the label changes were
+-- added to `made`
 pub record Acts (s : System) (event : services.Event) (tick : ℕ) (side : Side) (actions : List Action) (replies : List Reply) (steps : Steps) (t : System) : Type 0 where
   pub step : RsStep s.rs event tick actions t.rs
   pub one_each : length replies ≡ length (commands actions)

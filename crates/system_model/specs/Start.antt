@@ -27,7 +27,6 @@ use Rattle.system_model.specs.System.{System}
 use Rattle.system_model.specs.Steps.{WorldEvents}
 use Rattle.system_model.specs.Happening.{SystemEntry, all_events}
 
--- the query of all labels
 abbrev pub labels_query : Query
 labels_query = query_of (codes ".*") 1
 

@@ -23,7 +23,6 @@ pub record Steps : Type 0 where
   pub file : Option TableTurn
   pub net : Option TableTurn
 
--- no steps
 abbrev pub no_steps : Steps
 no_steps = record { events = []; file = None; net = None }
 

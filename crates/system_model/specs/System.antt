@@ -21,7 +21,6 @@ pub record System : Type 0 where
   -- the changes that RS and the services made, in order, also those that a store refused
   pub made : List ChangeRecord
 
--- a server's table
 abbrev pub table_at : System → Table → DriverTable
 table_at s File = s.file
 table_at s Net = s.net

@@ -29,7 +29,6 @@ FollowsItems held turn = Follows held (labels_of turn.before) turn.before turn.r
 abbrev pub round_moves : TableTurn → List Move
 round_moves turn = flat_map (λ (moves : List Move). moves) turn.rounds
 
--- the move of the request, if there is one
 abbrev pub request_moves : Option Move → List Move
 request_moves None = []
 request_moves (Some m) = m ∷ []

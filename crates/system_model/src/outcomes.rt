@@ -24,7 +24,7 @@ impl Model for SystemOutcomes {
 }
 
 impl SystemOutcomes {
-    /// Takes over the outcomes of a `Vec`. It takes no memory.
+    /// Takes a `Vec` over. It takes no memory.
     pub fn of(outcomes: Vec<SystemOutcome>) -> SystemOutcomes
         ensures { result ≡ outcomes.items }
     {

@@ -24,7 +24,7 @@ impl Model for Replies {
 }
 
 impl Replies {
-    /// Takes over the replies of a `Vec`. It takes no memory.
+    /// Takes a `Vec` over. It takes no memory.
     pub fn of(replies: Vec<Reply>) -> Replies
         ensures { result ≡ replies.items }
     {

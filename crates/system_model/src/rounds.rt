@@ -33,7 +33,7 @@ impl Rounds {
         }
     }
 
-    /// Takes over the rounds of a `Vec`. It takes no memory.
+    /// Takes a `Vec` over. It takes no memory.
     pub fn of(rounds: Vec<Moves>) -> Rounds
         ensures { result ≡ rounds.items }
     {

@@ -16,7 +16,6 @@ use ds_replica::{Event, Side};
 use std::alloc::Global;
 use system_model::{SystemFault, SystemOutcome};
 
-// Returns a list of one change.
 fn alone(alloc: Global, change: &Change) -> Result<Items, NoRoom>
     ensures alone { IfOk result (λ items. items ≡ Changed change.now ∷ []) }
     ensures change { IsChange change.now }

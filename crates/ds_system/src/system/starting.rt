@@ -88,7 +88,6 @@ fn over(alloc: Global, settings: Settings, next: u32, world: World) -> Result<Sy
     over_parts(alloc, settings, next, world, parts)
 }
 
-// Turns a fault of a world's seeds into one of a system that can't begin.
 fn begin_fault(fault: SeedFault) -> BeginFault
     ensures { result ≡ begin_fault_of fault }
 {
