@@ -55,7 +55,7 @@ impl<M: Machine> Desk<M> {
         })
     }
 
-    /// Takes every pending bit of a server, and then loads how far the history goes: a call below `floor` owes each of
+    /// Takes every pending bit of a server, and then reads how far the history goes: a call below `floor` owes each of
     /// the bits. Pending are all bits that were posted to the server and not taken yet, in the one order of all
     /// notices. It takes no memory and never waits. Refuses BadServer from 16 on.
     pub fn take(&self, pass: &mut Pass<M>, server: u32) -> Result<Taken, DeskFault>

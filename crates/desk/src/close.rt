@@ -114,7 +114,7 @@ fn gather<M: Machine>(
 impl<M: Machine> Desk<M> {
     /// Closes the desk. Returns the machine after one legal history and the account of the notices. The history extends
     /// all that each pass has seen, and its entries are exactly the passes' calls. The notices have one order: each
-    /// post found what the earlier ones left, each take took it, and what the last ones left is pending.
+    /// found what the earlier ones left, and what the last ones left is pending.
     ///
     /// Refusals in order: PassesOut unless all passes are back; Noted unless as many notes were learnt as were made;
     /// NoRoom.

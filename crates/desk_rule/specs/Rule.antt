@@ -18,17 +18,17 @@ use Rattle.desk_rule.specs.History.{count_calls, total_of, weigh_all}
 use Rattle.desk_rule.specs.Notices.{IsOrder, IsOwed, notices_by, pending_after, raised_by, weigh_notices}
 use Rattle.desk_rule.specs.Passes.{AreDifferent, fresh}
 
--- the low bit of word 0, by the seat that holds the turn
+-- The low bit of word 0, by the seat that holds the turn.
 abbrev pub turn_bit : maybe.Option ℕ → ℕ
 turn_bit none = 0
 turn_bit (some j) = 1
 
 module _ {M C R : Type 0} where
-  -- the view of the first seat, at which all passes sit
+  -- The view of the first seat, at which all passes sit.
   abbrev pub opening_view : M → ℕ → ℕ → View M C R
   opening_view m first passes = record { opening = Some m; first = first; holding = false; seen = []; told = []; notices = []; told_notices = []; passes = fresh passes }
 
-  -- the view of a seat that another one took over
+  -- The view of a seat that another one took over.
   abbrev pub spent_view : View M C R
   spent_view = record { opening = None; first = 0; holding = false; seen = []; told = []; notices = []; told_notices = []; passes = [] }
 
@@ -41,13 +41,13 @@ module _ {M C R : Type 0} where
   abbrev pub notice_weight_of : (Notice → ℕ) → View M C R → ℕ
   notice_weight_of weigh v = weigh_notices weigh v.passes
 
-  -- the slot has the machine, unless a seat holds the turn
+  -- The slot has the machine, unless a seat holds the turn.
   abbrev pub IsAtHome : M → List (maybe.Option (Option (Home M C R))) → maybe.Option ℕ → Type 0
   IsAtHome m homes none = (l : Option (LastCall C R)) × (homes ≡ some (Some record { machine = m; last = l }) ∷ [])
   IsAtHome m homes (some j) = homes ≡ none ∷ []
 
--- what the rule says of seat j with the view v, by the whole history, the order of all notices, the holder of the turn
--- and the seat of each pass
+-- What the rule says of seat j with the view v, by the whole history, the order of all notices, the holder of the turn
+-- and the seat of each pass.
 pub record Seated {M C R : Type 0} (opening : M) (first : ℕ) (history : List (Entry C R)) (order : List Notice) (turn : maybe.Option ℕ) (seat_of : ℕ → ℕ) (passes j : ℕ) (v : View M C R) : Type 0 where
   pub opened : (m : M) → v.opening ≡ Some m → (m ≡ opening) × (v.first ≡ first)
   -- what it saw and was told is a prefix of the history; the holder of the turn has seen all of it
@@ -63,8 +63,8 @@ pub record Seated {M C R : Type 0} (opening : M) (first : ℕ) (history : List (
   -- no bit was raised here more often than the passes here called
   pub few : (s b : ℕ) → raised_by v.passes s b ≤ count_calls v.passes
 
--- the rule: there is one legal history and one order of all notices, and each seat knows a prefix of each; the pending
--- words are what the notices left
+-- The rule: there is one legal history and one order of all notices, and each seat knows a prefix of each; the pending
+-- words are what the notices left.
 pub record RuleHolds {M C R : Type 0} (steps : M → C → R → M → Type 0) (owes : R → ℕ) (opening : M) (first passes : ℕ) (s : State (Option (Home M C R)) (View M C R)) : Type 0 where
   pub history : List (Entry C R)
   pub order : List Notice

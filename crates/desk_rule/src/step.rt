@@ -12,7 +12,7 @@ use crate::table::{DeskSeat, DeskShared};
 use history::Machine;
 
 /// Loads word 0: twice the place of the next call, plus 1 while this or another seat holds a turn. The seat has then
-/// seen the history up to here.
+/// seen the whole history.
 pub fn look<M: Machine>(shared: &DeskShared<M>, seat: &mut DeskSeat<M>) -> u64
     requires { IsAtTable shared.now.table_id seat.old }
     ensures same { SameSeat seat.old seat.new × (seat.new.me.1 ≡ seat.old.me.1) }

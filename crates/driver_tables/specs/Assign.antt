@@ -5,10 +5,10 @@ use Rattle.driver_tables.specs.declared.fault.TableFault.TheVariants.{Assigned}
 use Rattle.driver_tables.specs.Driver.{Driver, driver_of}
 use Rattle.driver_tables.specs.DriverTable.{DriverTable}
 
--- the table with the unit appended
+-- The table with the unit appended.
 abbrev pub assigns : DriverTable → ℕ → Driver → DriverTable
 assigns t unit driver = record t { units = t.units ++ (unit, driver) ∷ [] }
 
--- the answer to an assignment, and the table after it
+-- The answer to an assignment, and the table after it.
 abbrev pub assigning : DriverTable → ℕ → Driver → Result (Unit {0}) TableFault × DriverTable
 assigning t unit driver = if is_some (driver_of t.units unit) then (Err Assigned, t) else (Ok tt, assigns t unit driver)

@@ -10,7 +10,7 @@ use Rattle.ds_names.specs.Name.{is_same_name}
 abbrev pub is_of_label : List ℕ → ℕ × Device → Bool
 is_of_label label u = is_same_name label u.1.label
 
--- the label's endpoint now and its greatest generation, as a unit has them
+-- The label's endpoint now and its greatest generation, as a unit has them.
 abbrev pub status_of : Option (ℕ × Device) → Option EndpointRecord × Option ℕ
 status_of None = (None, None)
 status_of (Some u) = (u.1.endpoint, u.1.newest)
@@ -18,7 +18,7 @@ status_of (Some u) = (u.1.endpoint, u.1.newest)
 abbrev pub device_with : Option EndpointRecord → Device → Device
 device_with state d = record { class = d.class; label = d.label; endpoint = state; newest = newer d.newest state }
 
--- the unit after a new state of the label
+-- The unit after a new state of the label.
 abbrev pub noted : List ℕ → Option EndpointRecord → ℕ × Device → ℕ × Device
 noted label state u = (u.0, if is_same_name label u.1.label then device_with state u.1 else u.1)
 

@@ -6,16 +6,16 @@ use Rattle.driver_tables.specs.declared.device.Class.{Class}
 use Rattle.driver_tables.specs.declared.device.Class.TheVariants.{Network}
 use Rattle.ds_names.specs.Name.{is_same_name}
 
--- the class of a driver, and the label under which RS starts it
+-- The class of a driver, and the label under which RS starts it.
 pub record Driver : Type 0 where
   pub class : Class
   pub label : List ℕ
 
--- the driver of a port
+-- The driver of a port.
 abbrev pub net_driver : List ℕ → Driver
 net_driver label = record { class = Network; label = label }
 
--- the driver of a unit, if the unit is assigned
+-- The driver of a unit, if the unit is assigned.
 abbrev pub driver_of : List (ℕ × Driver) → ℕ → Option Driver
 driver_of units unit = lookup (λ u. unit == u) units
 

@@ -10,7 +10,7 @@ use Rattle.driver_tables.specs.Driver.{Driver, driver_of, has_label}
 use Rattle.driver_tables.specs.Label.{endpoint_now, newest}
 use Rattle.driver_tables.specs.DriverTable.{DriverTable, Request, values_of, last_sent, is_requested}
 
--- a request is answered at most once, and one to a block driver never with Fault
+-- A request is answered at most once, and one to a block driver never with Fault.
 abbrev pub IsAnsweredBy : Class → List Ending → Type 0
 IsAnsweredBy class [] = Unit {0}
 IsAnsweredBy class (Done ∷ []) = Unit {0}
@@ -18,7 +18,7 @@ IsAnsweredBy Block (Fault ∷ []) = ⊥
 IsAnsweredBy class (Fault ∷ []) = Unit {0}
 IsAnsweredBy class (a ∷ b ∷ answers) = ⊥
 
--- a request has a driver; while pending, it was last sent to the driver's endpoint now, if there is one
+-- A request has a driver; while pending, it was last sent to the driver's endpoint now, if there is one.
 pub record IsRequestServed (t : DriverTable) (r : Request) : Type 0 where
   pub driver : Driver
   pub found : driver_of t.units r.unit ≡ Some driver

@@ -9,25 +9,25 @@ use Rattle.driver_tables.specs.Changed.{changing}
 use Rattle.driver_tables.specs.Submit.{submitting}
 use Rattle.driver_tables.specs.Requests.{is_ending}
 
--- whether the answer has moves
+-- Whether the answer has moves.
 abbrev pub HasMoves : Result (List Move) TableFault → Type 0
 HasMoves (Ok moves) = moves ≢ []
 HasMoves (Err fault) = ⊥
 
--- whether the answer leaves its request pending
+-- Whether the answer leaves its request pending.
 abbrev pub LeavesPending : Result Move TableFault → Type 0
 LeavesPending (Ok step) = is_ending step ≡ false
 LeavesPending (Err fault) = ⊥
 
--- a new state takes memory for its moves
+-- A new state takes memory for its moves.
 abbrev pub StateTakesMemory : DriverTable → List ℕ → Option EndpointRecord → Type 0
 StateTakesMemory t label state = HasMoves (changing t label state).0
 
--- a request takes memory while it is pending, and none if it is answered at once
+-- A request takes memory while it is pending, and none if it is answered at once.
 abbrev pub RequestTakesMemory : DriverTable → ℕ → ℕ → Type 0
 RequestTakesMemory t id unit = LeavesPending (submitting t id unit).0
 
--- the answer is NoRoom only if `takes` holds
+-- The answer is NoRoom only if `takes` holds.
 abbrev pub LacksOnlyWhere : {A : Type 0} → Type 0 → Result A TableFault → Type 0
 LacksOnlyWhere takes (Err NoRoom) = takes
 LacksOnlyWhere takes answer = Unit {0}

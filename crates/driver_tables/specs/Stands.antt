@@ -25,12 +25,12 @@ unit_of states u = (u.0, device_of states u.1)
 abbrev pub pending_of : List (ℕ × EndpointRecord) → Request → Pending
 pending_of sends r = record { id = r.id; unit = r.unit; sent = last_sent sends r.id }
 
--- whether the id is above the last one, if there is one
+-- Whether the id is above the last one, if there is one.
 abbrev pub is_above_last : Option ℕ → ℕ → Bool
 is_above_last None id = true
 is_above_last (Some last) id = nat_lt last id
 
--- the value is what the code keeps of the table, which began empty
+-- The value is what the code keeps of the table, which began empty.
 pub record TableStands (v : TableRecord) (t : DriverTable) : Type 0 where
   pub devices : v.devices ≡ map (unit_of t.states) t.units
   pub pending : v.pending ≡ map (pending_of t.sends) (pending t)

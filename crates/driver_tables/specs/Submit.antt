@@ -13,14 +13,14 @@ use Rattle.driver_tables.specs.Label.{endpoint_now}
 use Rattle.driver_tables.specs.DriverTable.{DriverTable, Request, is_above}
 use Rattle.driver_tables.specs.Doing.{does}
 
--- the move of a request: it is sent if there is an endpoint; otherwise a block driver's is held and another driver's
--- fails
+-- The move of a request: it is sent if there is an endpoint; otherwise a block driver's is held and another driver's
+-- fails.
 abbrev pub submitted : Class → ℕ → Option EndpointRecord → Move
 submitted class id (Some e) = Send id e
 submitted Block id None = Held id
 submitted _ id None = Answer id Fault
 
--- the move of a request to a driver
+-- The move of a request to a driver.
 abbrev pub move_of : DriverTable → Request → Driver → Move
 move_of t r d = submitted d.class r.id (endpoint_now t.states d.label)
 
@@ -31,6 +31,6 @@ abbrev pub submitting_to : DriverTable → Request → Option Driver → Result 
 submitting_to t r None = (Err NoDevice, t)
 submitting_to t r (Some d) = (Ok (move_of t r d), does (with_request t r) (move_of t r d ∷ []))
 
--- the answer to a request, and the table after it
+-- The answer to a request, and the table after it.
 abbrev pub submitting : DriverTable → ℕ → ℕ → Result Move TableFault × DriverTable
 submitting t id unit = if is_above t.requests id then submitting_to t (record { id = id; unit = unit }) (driver_of t.units unit) else (Err TwoIds, t)

@@ -21,7 +21,7 @@ pub record SystemRecord : Type 0 where
   pub net : TableRecord
   pub made : List ChangeRecord
 
--- the record of these parts
+-- The record of these parts.
 abbrev pub system_of : RsRecord → List NumbererRecord → WorldRecord → TableRecord → TableRecord → List ChangeRecord → SystemRecord
 system_of rs numberers world file net made = record { rs = rs; numberers = numberers; world = world; file = file; net = net; made = made }
 
@@ -29,12 +29,12 @@ abbrev pub kept_table : SystemRecord → Table → TableRecord
 kept_table value File = value.file
 kept_table value Net = value.net
 
--- the value with a server's table replaced
+-- The value with a server's table replaced.
 abbrev pub keeping_table : SystemRecord → Table → TableRecord → SystemRecord
 keeping_table value File t = record value { file = t }
 keeping_table value Net t = record value { net = t }
 
--- RS, the numbers and the made changes are the system's; the world and the tables stand for the system's
+-- RS, the numbers and the made changes are the system's; the world and the tables stand for the system's.
 pub record SystemStands (value : SystemRecord) (s : System) : Type 0 where
   pub rs : s.rs ≡ value.rs
   pub numberers : s.numberers ≡ value.numberers
@@ -43,6 +43,7 @@ pub record SystemStands (value : SystemRecord) (s : System) : Type 0 where
   pub net : TableStands value.net s.net
   pub made : s.made ≡ value.made
 
--- the event leads with this outcome from each system that the old value stands for to one that the new value stands for
+-- The event leads with this outcome from each system that the old value stands for to one that the new value stands
+-- for.
 abbrev pub SystemEventLeads : SystemEvent → SystemOutcome → SystemRecord → SystemRecord → Type 0
 SystemEventLeads event outcome old new = (s : System) → SystemStands old s → (t : System) × (steps : Steps) × SystemDoes s event outcome steps t × SystemStands new t

@@ -7,11 +7,11 @@ use Rattle.script_commands.specs.declared.word.Word.{Word}
 use Rattle.script_commands.specs.Row.{TakesRow}
 use Rattle.script_commands.specs.Words.{text_of}
 
--- the word is at the front of the line, with a space after it
+-- The word is at the front of the line, with a space after it.
 abbrev pub HasWord : Word → List ℕ → Type 0
 HasWord w line = (rest : List ℕ) × (line ≡ text_of w ++ 32 ∷ rest)
 
--- a word is at the front, and the reader of what follows stops so
+-- A word is at the front, and the reader of what follows stops with this fault.
 abbrev pub StopsBehindWord : List ℕ → PartFault → Type 0
 StopsBehindWord line stop =
     (w : Word) × (bytes : List ℕ) × Begins is_ascii_alphanumeric line (text_of w) bytes × TakesRow w bytes (Err stop)

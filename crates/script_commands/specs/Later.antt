@@ -5,10 +5,10 @@ use Rattle.script_commands.specs.declared.word.Word.TheVariants as words
 use Rattle.script_commands.specs.declared.command.ScriptCommand.{ScriptCommand}
 use Rattle.script_commands.specs.declared.fault.CommandFault.{CommandFault}
 
--- the command is valid, and allowed on a later line
+-- The command is valid, and allowed on a later line.
 abbrev pub IsLater : ScriptCommand → Type 0
 IsLater command = IsCommand command × (command_word command ≢ words.Ring)
 
--- the answer of the reader of a later line, newline included
+-- The answer of the reader of a later line, newline included.
 abbrev pub ReadsLater : List ℕ → Result ScriptCommand CommandFault → Type 0
 ReadsLater bytes result = ReadsAs IsLater bytes result

@@ -7,7 +7,7 @@ use Rattle.script_commands.specs.Command.{IsCommand}
 use Rattle.script_commands.specs.Event.{event_of}
 use Rattle.script_commands.specs.declared.command.ScriptCommand.{ScriptCommand}
 
--- a law: a line's event has its parts in their ranges, and its items are changes and floors that keep their rules
+-- A law: a line's event has its parts in their ranges, and its items are changes and floors that keep their rules.
 abbrev pub LinesAreProper : Type 0
 LinesAreProper =
     (command : ScriptCommand) (side : Side) (event : Event) → IsCommand command → event_of side command ≡ Some event → IsProperEvent event

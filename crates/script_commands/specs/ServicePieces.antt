@@ -11,7 +11,7 @@ use Rattle.script_commands.specs.declared.service.Device.{Device}
 use Rattle.script_commands.specs.declared.service.Request.{Request}
 use Rattle.script_commands.specs.declared.service.Server.{Server}
 
--- the rest of the line, with its newline
+-- The rest of the line, with its newline.
 abbrev pub a_text : Piece
 a_text = record { Of = List ℕ; Can = IsUnbroken; parts = λ (text : List ℕ). space ∷ (text_parts text ++ newline ∷ []) }
 
@@ -29,7 +29,7 @@ a_server = record {
   parts = λ (server : Server). space ∷ part Word (server_word server) ∷ [];
 }
 
--- the class of a file server's device
+-- The class of a file server's device.
 abbrev pub a_class : Piece
 a_class = record {
   Of = FileClass;
@@ -37,7 +37,7 @@ a_class = record {
   parts = λ (class : FileClass). space ∷ part Word (class_word class) ∷ [];
 }
 
--- a major number or a port
+-- A major number or a port.
 abbrev pub a_unit : Piece
 a_unit = record { Of = ℕ; Can = λ (n : ℕ). n ≤ 255; parts = λ (n : ℕ). space ∷ part Number (decimal n) ∷ [] }
 

@@ -4,7 +4,7 @@ use Rattle.store_answers.specs.declared.wording.Wording.TheVariants.{AsOffer, As
 use Rattle.script_commands.specs.declared.command.ScriptCommand.{ScriptCommand}
 use Rattle.script_commands.specs.declared.command.ScriptCommand.TheVariants as asked
 
--- an offer's Merge is answered by the outcome of its one item, another command's by its counts
+-- An offer's Merge is answered by the outcome of its one item, another command's by its counts.
 abbrev pub wording : ScriptCommand → Wording
 wording (asked.Offer i) = AsOffer
 wording _ = AsMerge

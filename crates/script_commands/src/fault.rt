@@ -8,7 +8,7 @@ ghost use Rattle.script_commands.specs.Front.{StopsBehindWord};
 use ds_line::{Expected, PartFault};
 use thiserror::Error;
 
-/// Why a line has no command.
+/// Why a line can't be read as a command.
 #[derive(Clone, Copy, Debug, Error)]
 pub enum CommandFault {
     /// The line isn't a command. Its first bad part begins at `place`, a byte counted from 0; `expected` is the part

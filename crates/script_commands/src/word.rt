@@ -77,7 +77,7 @@ fn common_front(line: &[u8]) -> Option<(Word, &[u8])>
     }
 }
 
-// Returns the word that is spelled so.
+// Returns the word with this text.
 fn word_of(text: &[u8]) -> Option<Word>
     ensures found { IfSome result (λ word. text.now ≡ text_of word) }
     ensures none { IfNone result ((word : Word) → text.now ≢ text_of word) }

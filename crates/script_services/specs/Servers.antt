@@ -12,40 +12,40 @@ pub record Servers : Type 0 where
   pub file : DriverTable
   pub net : DriverTable
 
--- no accepted settings, and no assigned unit
+-- No accepted settings, and no assigned unit.
 abbrev pub no_servers : Servers
 no_servers = record { services = None; file = empty_table; net = empty_table }
 
--- the table of a server
+-- The table of a server.
 abbrev pub server_table : Servers → Server → DriverTable
 server_table s File = s.file
 server_table s Net = s.net
 
--- the servers with one table replaced
+-- The servers with one table replaced.
 abbrev pub with_table : Servers → Server → DriverTable → Servers
 with_table s File t = record s { file = t }
 with_table s Net t = record s { net = t }
 
--- the servers with RS's state replaced
+-- The servers with RS's state replaced.
 abbrev pub with_rs : Servers → Option RsRecord → Servers
 with_rs s services = record s { services = services }
 
--- what the code keeps of them
+-- What the code keeps of them.
 pub record ServersRecord : Type 0 where
   pub services : Option RsRecord
   pub file : TableRecord
   pub net : TableRecord
 
--- the record of these parts
+-- The record of these parts.
 abbrev pub servers_of : Option RsRecord → TableRecord → TableRecord → ServersRecord
 servers_of services file net = record { services = services; file = file; net = net }
 
--- RS is the value's, and the value's tables stand for the tables
+-- RS is the value's, and the value's tables stand for the tables.
 pub record ServersStand (value : ServersRecord) (s : Servers) : Type 0 where
   pub services : s.services ≡ value.services
   pub file : TableStands value.file s.file
   pub net : TableStands value.net s.net
 
--- R leads from all servers that the old value stands for to servers that the new value stands for
+-- R leads from all servers that the old value stands for to servers that the new value stands for.
 abbrev pub ServersLead : (Servers → Servers → Type 0) → ServersRecord → ServersRecord → Type 0
 ServersLead R old new = (s : Servers) → ServersStand old s → (t : Servers) × R s t × ServersStand new t

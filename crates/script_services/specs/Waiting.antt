@@ -13,30 +13,30 @@ use Rattle.script_services.specs.Servers.{Servers, ServersRecord, ServersLead}
 pub use Rattle.service_answers.specs.Appending.{AppendsSome}
 use Rattle.script_services.specs.Services.{AsksIfAny, TellsActions, AnswersService}
 
--- it appends the answer `out`, where R leads with that answer from servers to servers
+-- It appends the answer `out`, where R leads with that answer from servers to servers.
 abbrev pub AppendsLed : (Servers → List ℕ → Servers → Type 0) → (before after : List ℕ) → (old new : ServersRecord) → Type 0
 AppendsLed R before after old new = (out : List ℕ) × (after ≡ before ++ out) × ServersLead (λ s t. R s out t) old new
 
--- memory ran out: the line is refused, and nothing changes
+-- Memory ran out: the line is refused, and nothing changes.
 abbrev pub AreServersRefused : ServersRecord → List ℕ → ServersRecord → Type 0
 AreServersRefused old out new = (new ≡ old) × (out ≡ refused_noroom)
 
--- it appends that answer, or the refusal for memory
+-- It appends that answer, or the refusal for memory.
 abbrev pub AppendsLedOrRefuses : (Servers → List ℕ → Servers → Type 0) → (before after : List ℕ) → (old new : ServersRecord) → Type 0
 AppendsLedOrRefuses R before after old new =
     (out : List ℕ) × (after ≡ before ++ out) × (ServersLead (λ s t. R s out t) old new ⊎ AreServersRefused old out new)
 
--- it appends RS's answer to an event
+-- It appends RS's answer to an event.
 abbrev pub AppendsService : services.Event → ℕ → Side → (before after : List ℕ) → (old : ServersRecord) → (from : WorldRecord) → (new : ServersRecord) → (to : WorldRecord) → Type 0
 AppendsService event tick side before after old from new to =
     (out : List ℕ) × (after ≡ before ++ out) × AnswersService event tick side old from out new to
 
--- it appends the answers to RS's actions, or RS's refusal
+-- It appends the answers to RS's actions, or RS's refusal.
 abbrev pub AppendsTold : Side → Result (List Action) RsFault → (before after : List ℕ) → (old new : WorldRecord) → Type 0
 AppendsTold side answer before after old new =
     (out : List ℕ) × (events : List (Event × Outcome)) × (after ≡ before ++ out) × TellsActions side answer old out events new
 
--- it appends the store's reply, if there is a command
+-- It appends the store's reply, if there is a command.
 abbrev pub AppendsAsked : Side → Option Command → (before after : List ℕ) → (old new : WorldRecord) → Type 0
 AppendsAsked side command before after old new =
     (out : List ℕ) × (events : List (Event × Outcome)) × (after ≡ before ++ out) × AsksIfAny side command old out events new

@@ -3,7 +3,7 @@ use Rattle.std.specs.Prelude.{◌≢◌, ◌⊎◌, []}
 use Rattle.system_model.specs.declared.outcome.SystemOutcome.{SystemOutcome}
 use Rattle.system_model.specs.declared.outcome.SystemOutcome.TheVariants.{Acted, Moved, Refused}
 
--- an outcome with an action, a reply or a round; and an outcome of a store or a world, which may have items or a text
+-- An outcome with an action, a reply or a round; and an outcome of a store or a world, which may have items or a text.
 abbrev pub CopyTakesRoom : SystemOutcome → Type 0
 CopyTakesRoom (Acted actions replies) = (actions ≢ []) ⊎ (replies ≢ [])
 CopyTakesRoom (Moved rounds own fault) = rounds ≢ []

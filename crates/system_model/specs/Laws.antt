@@ -31,13 +31,13 @@ use Rattle.system_model.specs.Happening.{SystemEntry, SystemRun, all_events}
 use Rattle.system_model.specs.Start.{IsNew, account_since}
 use Rattle.system_model.specs.Numbers.{NumbersAreDrawnOnce}
 
--- no delivery among these events is stopped because an item contradicts what is held
+-- No delivery among these events is stopped because an item contradicts what is held.
 abbrev pub NoneIsContradicted : WorldEvents → Type 0
 NoneIsContradicted events =
     (front back : WorldEvents) (k : ℕ) (holder : Holder) (count : Option ℕ) (done : ℕ) (fault : Refusal) (owed : ℕ) →
     front ++ (Deliver k holder count, Stopped done fault owed) ∷ back ≡ events → ¬ IsContradiction fault
 
--- a run of calls led to the table from an empty one, so all laws of driver tables over runs apply to it
+-- A run of calls led to the table from an empty one, so all laws of driver tables over runs apply to it.
 abbrev pub IsCalled : DriverTable → Type 0
 IsCalled t = (calls : List Call) × TableRun empty_table calls t
 
@@ -66,7 +66,7 @@ pub record SystemLaws (account : Account) (entries : List SystemEntry) (t : Syst
   -- both tables were reached by calls
   pub tables : (table : Table) → IsCalled (table_at t table)
 
--- these laws hold over every list of events of a new system
+-- These laws hold over every list of events of a new system.
 abbrev pub SystemsKeepLaws : Type 0
 SystemsKeepLaws =
     (settings : SettingsRecord) (a b : Seed) (next : ℕ) (s t : System) (entries : List SystemEntry) → IsNew settings a b next s → SystemRun s entries t → SystemLaws (account_since a b entries) entries t

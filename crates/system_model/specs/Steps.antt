@@ -13,7 +13,7 @@ use Rattle.system_model.specs.declared.event.Table.{Table}
 use Rattle.system_model.specs.declared.event.Table.TheVariants.{File, Net}
 use Rattle.system_model.specs.Turn.{TableTurn}
 
--- events of the world, each with its outcome
+-- Events of the world, each with its outcome.
 abbrev pub WorldEvents : Type 0
 WorldEvents = List (Event × Outcome)
 
@@ -26,31 +26,31 @@ pub record Steps : Type 0 where
 abbrev pub no_steps : Steps
 no_steps = record { events = []; file = None; net = None }
 
--- events of the world, without a turn
+-- Events of the world, without a turn.
 abbrev pub events_alone : WorldEvents → Steps
 events_alone events = record no_steps { events = events }
 
--- a turn of one table, and nothing else
+-- A turn of one table, and nothing else.
 abbrev pub turn_alone : Table → TableTurn → Steps
 turn_alone File turn = record no_steps { file = Some turn }
 turn_alone Net turn = record no_steps { net = Some turn }
 
--- the turn of a server's table, if it had one
+-- The turn of a server's table, if it had one.
 abbrev pub turn_in : Steps → Table → Option TableTurn
 turn_in steps File = steps.file
 turn_in steps Net = steps.net
 
--- each of the commands was sent to the store of the side, and had this reply
+-- Each of the commands was sent to the store of the side, and had this reply.
 abbrev pub asks_replied : Side → List Command → List Reply → WorldEvents
 asks_replied side [] replies = []
 asks_replied side (command ∷ commands) [] = []
 asks_replied side (command ∷ commands) (reply ∷ replies) = (Ask side command, Replied reply) ∷ asks_replied side commands replies
 
--- the parts of these commands are in the ranges of their types
+-- The parts of these commands are in the ranges of their types.
 abbrev pub AreProper : WorldEvents → Type 0
 AreProper events = (e : Event × Outcome) → Contains events e → IsProperEvent e.0
 
--- whether the command brings something in
+-- Whether the command brings something in.
 abbrev pub is_bringing : Command → Bool
 is_bringing (Publish caller key version value overwrite) = true
 is_bringing (Delete caller key version) = true
@@ -58,7 +58,7 @@ is_bringing (Sweep caller owner generation) = true
 is_bringing (Merge items) = true
 is_bringing _ = false
 
--- whether the event is an Ask of such a command, which only RS and the services may make
+-- Whether the event is an Ask of such a command, which only RS and the services may make.
 abbrev pub is_barred : Event → Bool
 is_barred (Ask side command) = is_bringing command
 is_barred _ = false

@@ -25,16 +25,16 @@ abbrev pub table_at : System → Table → DriverTable
 table_at s File = s.file
 table_at s Net = s.net
 
--- the system with a server's table replaced
+-- The system with a server's table replaced.
 abbrev pub system_with_table : System → Table → DriverTable → System
 system_with_table s File t = record s { file = t }
 system_with_table s Net t = record s { net = t }
 
--- the number of the map that a server follows
+-- The number of the map that a server follows.
 abbrev pub map_number : Table → ℕ
 map_number File = 0
 map_number Net = 1
 
--- the items that this map holds
+-- The items that this map holds.
 abbrev pub followed_items : System → Table → List Item
 followed_items s table = held_by s.world (Map (map_number table))

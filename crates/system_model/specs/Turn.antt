@@ -21,11 +21,11 @@ pub record TableTurn : Type 0 where
   -- the table after the turn
   pub after : DriverTable
 
--- in the turn the table follows a map that holds these items
+-- In the turn the table follows a map that holds these items.
 abbrev pub FollowsItems : List Item → TableTurn → Type 0
 FollowsItems held turn = Follows held (labels_of turn.before) turn.before turn.rounds turn.stop turn.followed
 
--- the moves of the follow, in order
+-- The moves of the follow, in order.
 abbrev pub round_moves : TableTurn → List Move
 round_moves turn = flat_map (λ (moves : List Move). moves) turn.rounds
 
@@ -33,6 +33,6 @@ abbrev pub request_moves : Option Move → List Move
 request_moves None = []
 request_moves (Some m) = m ∷ []
 
--- all moves of a turn, in order
+-- All moves of a turn, in order.
 abbrev pub turn_moves : TableTurn → List Move
 turn_moves turn = round_moves turn ++ request_moves turn.own

@@ -11,7 +11,7 @@ use Rattle.driver_tables.specs.DriverTable.{DriverTable, empty_table}
 use Rattle.system_model.specs.Turn.{TableTurn}
 use Rattle.system_model.specs.Sending.{FollowsRightly}
 
--- a label, and two endpoints that it had, the older one first
+-- A label, and two endpoints that it had, the older one first.
 abbrev pub disk : List ℕ
 disk = 100 ∷ []
 
@@ -21,14 +21,14 @@ old = endpoint_of 1 16
 abbrev pub young : EndpointRecord
 young = endpoint_of 2 16
 
--- a map that has the label live, and one that has its tombstone
+-- A map that has the label live, and one that has its tombstone.
 abbrev pub lives_at : EndpointRecord → List Item
 lives_at e = Changed (label_put disk e) ∷ []
 
 abbrev pub gone_since : ℕ → List Item
 gone_since g = Changed (label_gone disk g) ∷ []
 
--- a table with a block unit of the label and a request to it, after these states of the label
+-- A table with a block unit of the label and a request to it, after these states of the label.
 abbrev pub disk_table : List (Option EndpointRecord) → DriverTable
 disk_table states = record empty_table {
   units = (3, record { class = Block; label = disk }) ∷ [];
@@ -36,38 +36,38 @@ disk_table states = record empty_table {
   requests = record { id = 7; unit = 3 } ∷ [];
 }
 
--- a turn that follows its map so, to the end, and takes no request
+-- A turn that follows its map by these rounds, to the end, and takes no request.
 abbrev pub plain_turn : DriverTable → List (List Move) → DriverTable → TableTurn
 plain_turn before rounds after = record { before = before; rounds = rounds; stop = None; followed = after; own = None; after = after }
 
--- a turn that doesn't follow its map, in which a request has this move
+-- A turn that doesn't follow its map, in which a request has this move.
 abbrev pub request_turn : DriverTable → Move → TableTurn
 request_turn t m = record (plain_turn t [] t) { own = Some m }
 
--- the table does nothing, though its map has the label
+-- The table does nothing, though its map has the label.
 abbrev pub DoesNothing : Type 0
 DoesNothing = FollowsRightly (lives_at young) (plain_turn (disk_table []) [] (disk_table [])) []
 
--- the table sends again to the endpoint that it had, though its map has a newer one
+-- The table sends again to the endpoint that it had, though its map has a newer one.
 abbrev pub SendsToOld : Type 0
 SendsToOld = FollowsRightly (lives_at young) (plain_turn (disk_table (Some old ∷ [])) ((Send 7 old ∷ []) ∷ []) (disk_table (Some old ∷ []))) []
 
--- the table sends a request there, without following its map
+-- The table sends a request there, without following its map.
 abbrev pub SubmitsUnseen : Type 0
 SubmitsUnseen = FollowsRightly (lives_at young) (request_turn (disk_table (Some old ∷ [])) (Send 7 old)) []
 
--- the table takes the state of another, older map
+-- The table takes the state of another, older map.
 abbrev pub FollowsAnotherMap : Type 0
 FollowsAnotherMap = FollowsRightly (lives_at young) (plain_turn (disk_table []) ((Send 7 old ∷ []) ∷ []) (disk_table (Some old ∷ []))) []
 
--- the table takes an old tombstone for the end of its driver
+-- The table takes an old tombstone for the end of its driver.
 abbrev pub EndsByOldTombstone : Type 0
 EndsByOldTombstone = FollowsRightly (gone_since 1) (plain_turn (disk_table (Some young ∷ [])) ([] ∷ []) (disk_table (Some young ∷ None ∷ []))) []
 
--- the table sends to the endpoint of its map, which was cleared and filled anew, though it sent to a newer one before
+-- The table sends to the endpoint of its map, which was cleared and filled anew, though it sent to a newer one before.
 abbrev pub GoesBack : Type 0
 GoesBack = FollowsRightly (lives_at old) (plain_turn (disk_table (Some young ∷ [])) ((Send 7 old ∷ []) ∷ []) (disk_table (Some young ∷ Some old ∷ []))) (record { label = disk; endpoint = young } ∷ [])
 
--- a law: none of them is right
+-- A law: none of them is right.
 abbrev pub WrongTurns : Type 0
 WrongTurns = (¬ DoesNothing) × (¬ SendsToOld) × (¬ SubmitsUnseen) × (¬ FollowsAnotherMap) × (¬ EndsByOldTombstone) × (¬ GoesBack)
