@@ -84,8 +84,8 @@ old_at_most (Some g) now (Some e) k = (g, e, refl, refl, by (nat_lt e.generation
         same false q j = opposed false j refl
 
 -- ---- a move of the rounds
--- the map's change of its label brought it, and wasn't late; its goal is the map's endpoint, of a generation between the
--- label's newest before and after
+-- the map's change of its label brought it, and wasn't late; its goal is the map's endpoint, of a generation between
+-- the label's newest before and after
 pub record IsOfMap (held : List Item) (t u : DriverTable) (m : Move) : Type 0 where
   pub label : List ℕ
   pub about : label_of t m ≡ Some label
