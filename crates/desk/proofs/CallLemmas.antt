@@ -1,4 +1,4 @@
--- What a call and a take leave of the views, and of what a pass counts.
+-- The effects of a call and a take on views and on a pass's counts.
 use Rattle.std.proofs.Common.{◌≡◌, ℕ, ◌+◌, ◌-◌, ◌^◌, ◌<◌, ◌==◌, Bool, List, [], ◌∷◌, length, cond, refl, ap, sym, ◌∙◌, subst, arith, eq-eqb, ne_eqb}
 use Rattle.std.specs.Prelude.{is_some}
 use Rattle.std.specs.Int.{bit_at}
@@ -25,7 +25,7 @@ use Rattle.desk.specs.Sight.{TurnAt}
 use Rattle.desk.specs.Tally.{CanPost, Counts, Posts, RaisesMask, row_at, Tallies}
 use Rattle.desk.proofs.PassLemmas.{call_added, call_keeps_notices, call_number, notice_weighs, weigh_one_notices}
 
--- a post gives nothing
+-- a post takes nothing
 post_gives : (place found : ℕ) (act : Act) → IsPostAt place act → given_by found act ≡ 0
 post_gives place found (Post bits at) is = refl
 post_gives place found Take is = absurd is
@@ -102,7 +102,7 @@ module _ {M C R : Type 0} (owes : R → ℕ) where
   take_grows : (v w : View M C R) (server n : ℕ) → TakesBits owes v server n w → length v.passes ≡ 1 → (s b : ℕ) → taken_by w.passes s b ≡ taken_by v.passes s b + taken_at s b (take_of v server n)
   take_grows v w server n h one s b = ap (λ (l : List (PassLog C R)). taken_by l s b) (take_passes v w server n h) ∙ notice_weighs v.passes (take_of v server n) (taken_at s b) one
 
-  -- the rows of the server can be counted on
+  -- the server's rows have room to count
   pub take_room : (v w : View M C R) (server n : ℕ) (rows : List ℕ) → server < 16 → TakesBits owes v server n w → length v.passes ≡ 1 → Tallies rows (taken_by v.passes) → (b : ℕ) → b < 8 → row_at rows server b < 2 ^ 63
   take_room v w server n rows small h one counted b hb = let c = counted server b small hb in let g = take_grows v w server n h one server b in let f = h.few b in omega arith
 
@@ -125,7 +125,7 @@ module _ {M C R : Type 0} (owes : R → ℕ) where
       let none = take_raises_nothing (take_of v server n) s b refl in
       omega arith
 
-  -- what owes a bit that was taken is there still
+  -- the call that owes a taken bit is still there
   pub owed_later : (steps : M → C → R → M → Type 0) (v w x : View M C R) (server n found b : ℕ) (holding : Bool) → TakesBits owes v server n w → Looks steps w found holding x → bit_at n b ≡ 1 → OwedIn owes server b x.seen
   owed_later steps v w x server n found b holding h l set_bit = let k = h.owed b set_bit in
       (k.0, k.1, at_prefix w.seen x.seen k.0 k.1 l.seen (ap (λ (y : View M C R). get_elem? y.seen k.0) h.notices.is ∙ k.2), k.3)

@@ -1,4 +1,4 @@
--- Passes that are dealt one by one.
+-- Passes dealt one by one.
 use Rattle.std.proofs.Common.{◌≡◌, ℕ, zero, suc, ◌+◌, ◌-◌, ◌<◌, true, false, List, [], ◌∷◌, ◌++◌, length, drop, take, refl, ap, sym, ◌∙◌, subst, arith, append_assoc, length-append, Option, Some}
 use Rattle.std.specs.Prelude.{is_some}
 use Rattle.std.specs.List.{AllByRecursion}
@@ -19,7 +19,7 @@ use Rattle.desk.specs.Pass.{desk_of, Pass}
 use Rattle.desk.specs.Sight.{rests_of}
 use Rattle.desk.proofs.SightLemmas.{rests}
 
--- n less one more
+-- n as two more than n - 2
 pub one_back : (n : ℕ) → 1 < n → n ≡ (n - 1 - 1) + 2
 one_back n h = omega arith
 
@@ -27,7 +27,7 @@ pub next_of : (n : ℕ) → 0 < n → n ≡ suc (n - 1)
 next_of n h = omega arith
 
 module _ {M C R : Type 0} where
-  -- the view of the seat where the last n passes sit still
+  -- the view of the seat where the last n passes still sit
   pub record LeftOver (opened : M) (first n : ℕ) (v : View M C R) : Type 0 where
     pub opening : v.opening ≡ Some opened
     pub first_is : v.first ≡ first

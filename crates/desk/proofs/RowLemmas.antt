@@ -1,4 +1,4 @@
--- Rows that are added up, and the rows of the account.
+-- Sums of rows, and the rows of the account.
 use Rattle.std.proofs.Common.{◌≡◌, ℕ, zero, suc, ◌+◌, ◌*◌, ◌/◌, ◌%◌, ◌^◌, ◌≤◌, ◌<◌, ◌==◌, Bool, List, [], ◌∷◌, ◌++◌, length, set, get_or, take, refl, ap, sym, ◌∙◌, subst, arith, get_or-set_same, get_or-set_other, length-set, length-append, bit_and}
 use Rattle.std.specs.Prelude.{if◌then◌else◌, slice_index}
 use Rattle.std.specs.Int.{bit_at}
@@ -42,7 +42,7 @@ wraps_more rows more rows' f g h w t sums is s b hs hb =
     let r : row_at rows' s b ≡ (row_at rows s b + row_at more s b) % 2 ^ 64 = sums (8 * s + b) (omega arith) in
     r ∙ ((λ i. (p i + q i) % 2 ^ 64) ∙ (omega arith ∙ ap (λ n. n % 2 ^ 64) (sym e)))
 
--- rows that count what f says count it modulo 2^64 too
+-- rows that count f also count it modulo 2^64
 pub wraps_first : (rows : List ℕ) (f : ℕ → ℕ → ℕ) → Tallies rows f → ((k : ℕ) → slice_index rows k < 2 ^ 64) → Wraps rows f
 wraps_first rows f t low s b hs hb =
     let x : ℕ = row_at rows s b in let y : ℕ = f s b in
@@ -53,7 +53,7 @@ flag zero h = refl
 flag (suc zero) h = refl
 flag (suc (suc n)) h = absurd (omega arith)
 
--- the first n rows are there
+-- the first n rows are filled
 pub record FilledBelow (words raises takes : List ℕ) (n : ℕ) (rows : List Row) : Type 0 where
   pub long : length rows ≡ n
   pub each : (k : ℕ) → k < n → IsRow words raises takes rows k

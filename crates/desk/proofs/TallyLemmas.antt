@@ -7,7 +7,7 @@ use native.Mathlib.Decide.{ℕ_discrete}
 use Rattle.desk.specs.Tally.{Counts, row_at, Tallies}
 use Rattle.desk_rule.proofs.TableLemmas.{zero_at}
 
--- of one server the bits below k were counted
+-- the bits of one server below k are counted
 pub record CountsBelow (old : List ℕ) (server bits k : ℕ) (new : List ℕ) : Type 0 where
   pub long : length new ≡ length old
   pub others : (s b : ℕ) → s < 16 → b < 8 → s ≢ server → row_at new s b ≡ row_at old s b

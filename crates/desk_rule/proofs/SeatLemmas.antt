@@ -1,4 +1,4 @@
--- Splitting seats and joining them keeps the rule.
+-- Splitting and joining of seats keep the rule.
 use Rattle.std.proofs.Common.{◌≡◌, ◌≢◌, ⊎_elim, ℕ, zero, suc, ◌+◌, ◌≤◌, ◌<◌, true, false, true≢false, List, [], ◌∷◌, ◌++◌, length, set, drop, take, refl, ap, sym, ◌∙◌, subst, arith, length-append, length-set, eqb, eq-eqb, ne_eqb, cond, Option, Some, None}
 use Rattle.std.specs.List.{AllByRecursion}
 use mathlib.Core.Option as maybe
@@ -60,7 +60,7 @@ module _ {M C R : Type 0} (steps : M → C → R → M → Type 0) (owes : R →
   abbrev Owns : List (Entry C R) → List Notice → (ℕ → ℕ) → ℕ → PassLog C R → Type 0
   Owns = Own steps owes opening first passes
 
-  -- a new seat comes with a part of the view v
+  -- a new seat gets a part of the view v
   split : (s : State S V) (r : Holds s) (id : ℕ) (v left right : V) (seat_of : ℕ → ℕ) → get_elem? s.views id ≡ some v
       → Sat r.history r.order r.turn seat_of id left → Sat r.history r.order r.turn seat_of (length s.views) right → right.holding ≡ false
       → left.holding ≡ v.holding → (v.holding ≡ true → left.passes ≡ v.passes)
@@ -156,7 +156,7 @@ module _ {M C R : Type 0} (steps : M → C → R → M → Type 0) (owes : R →
   none_some : (m : M) → let t : Option M = None in t ≡ Some m → ⊥
   none_some m e = cc
 
-  -- a seat takes in another's view, which is spent
+  -- a seat takes over another's view, which is spent
   join : (s : State S V) (r : Holds s) (id : ℕ) (v : V) (other : ℕ) (w both : V) (seat_of : ℕ → ℕ) → get_elem? s.views id ≡ some v → other ≢ id → get_elem? (set s.views id both) other ≡ some w
       → Sat r.history r.order r.turn seat_of id both → w.holding ≡ false → both.holding ≡ v.holding
       → length both.passes ≡ length v.passes + length w.passes → ((weigh : Entry C R → ℕ) → weigh_all weigh both.passes ≡ weigh_all weigh v.passes + weigh_all weigh w.passes)

@@ -1,4 +1,4 @@
--- What a new state of a label leaves.
+-- A new state of a label leaves a table that stands.
 use Rattle.std.proofs.Common.{◌≡◌, ℕ, ◌==◌, nat_lt, ◌&&◌, Bool, true, false, not, cond, List, [], ◌∷◌, ◌++◌, map, Option, Some, None, Result, Ok, Err, refl, sym, ap, ◌∙◌, subst, arith, append-nil, inl, inr}
 use Rattle.std.specs.Option.{option_map, option_map_or}
 use Rattle.std.specs.List.{retain_mut, filter_map, flat_map, find, cons_option, AllByRecursion}
@@ -48,7 +48,7 @@ change_judged v t label state d old same s e o h =
     ∙ (ap (λ (x : Option EndpointRecord). judged t label state true (is_old d.newest x state) (is_same_state x state)) (sym k.1)
     ∙ (ap (λ (b : Bool). judged t label state true b (is_same_state d.endpoint state)) o ∙ ap (judged t label state true old) h)))
 
--- a state that the device finds not old isn't
+-- a state that isn't old for the device isn't old for the table
 pub not_old : (v : TableRecord) (t : DriverTable) (label : List ℕ) (state : Option EndpointRecord) (d : Device) → TableStands v t → option_map (λ (u : ℕ × Device). u.1) (find (is_of_label label) v.devices) ≡ Some d →
     is_old d.newest d.endpoint state ≡ false → is_old (newest t.states label) (endpoint_now t.states label) state ≡ false
 not_old v t label state d s e o =
@@ -157,7 +157,7 @@ all_differ [] id e = tt
 all_differ (r ∷ requests) id e = let l = or_parts (r.id == id) (is_requested requests id) e in (l.0, all_differ requests id l.1)
 
 -- ---- labels
--- a new state of a label that has a unit says nothing of one that has none
+-- a new state of a label that has a unit changes nothing for a label that has none
 labels_still : (t : DriverTable) (label : List ℕ) (state : Option EndpointRecord) → has_label t.units label ≡ true → IsTableReached t → (other : List ℕ) → has_label t.units other ≡ false →
     (endpoint_now (notes t label state).states other ≡ None) × (newest (notes t label state).states other ≡ None)
 labels_still t label state has h other none = by (is_same_name label other) refl
@@ -257,7 +257,7 @@ reached_moved t label state h has old = record {
     ask : Request → Option Move
     ask = settle t.units label state
 
--- the state that a label has already leaves all but its note as it is
+-- the state that a label has already changes nothing but the list of states
 pub same_state : (a b : Option EndpointRecord) → is_same_state a b ≡ true → a ≡ b
 same_state None None h = refl
 same_state None (Some e) h = cc
@@ -298,7 +298,7 @@ notes_is t label state =
     ap (λ (l : List (ℕ × EndpointRecord)). record (notes t label state) { sends = l; answers = t.answers ++ [] }) (append-nil t.sends)
     ∙ ap (λ (l : List (ℕ × Ending)). record (notes t label state) { answers = l }) (append-nil t.answers)
 
--- ---- what the value stands for afterwards
+-- ---- the table that the value stands for afterwards
 follow_kept : (t : DriverTable) (label : List ℕ) (state : Option EndpointRecord) (answers : List (ℕ × Ending)) (sends : List (ℕ × EndpointRecord)) (requests : List Request) → AllByRecursion (λ (r : Request). Follows t answers sends r (settle t.units label state r)) requests →
     AllByRecursion (λ (r : Request). Follows t answers sends r (settled_in (map (unit_of t.states) t.units) label state (pending_of t.sends r))) requests
 follow_kept t label state answers sends [] f = tt

@@ -1,4 +1,4 @@
--- What a reply leaves.
+-- A reply leaves a table that stands.
 use Rattle.std.proofs.Common.{◌≡◌, ℕ, ◌==◌, ◌||◌, Bool, true, false, not, cond, List, [], ◌∷◌, ◌++◌, filter, Option, Some, None, Result, Ok, Err, refl, sym, ap, ◌∙◌, append-nil, inr}
 use Rattle.std.specs.Option.{option_map}
 use Rattle.std.specs.List.{retain_mut, find, AllByRecursion}
@@ -23,7 +23,6 @@ use Rattle.driver_tables.proofs.MoveLemmas.{values-append, endings, targets, ans
 use Rattle.driver_tables.proofs.RequestLemmas.{Follows, pending_after, served_after}
 use Rattle.driver_tables.proofs.StandsLemmas.{sent_kept}
 
--- ---- the answer
 abbrev judged : DriverTable → ℕ → Bool → Bool → Result Move TableFault × DriverTable
 judged t id there same = cond there (cond same (Ok (Answer id Done), finishes t id) (Err OldEndpoint, t)) (Err NotPending, t)
 
@@ -48,8 +47,8 @@ reply_judged v t endpoint id sent same s e h =
     let k = reply_there v t id sent s e in
     ap (λ (b : Bool). judged t id b (is_same_state (last_sent t.sends id) (Some endpoint))) k.0 ∙ (ap (λ (x : Option EndpointRecord). judged t id true (is_same_state x (Some endpoint))) k.1 ∙ ap (judged t id true) h)
 
--- ---- what it leaves
--- the request that is pending has no answer
+-- ---- the table afterwards
+-- the pending request has no answer
 pub open_id : (answers : List (ℕ × Ending)) (requests : List Request) (id : ℕ) → is_requested (filter (is_pending answers) requests) id ≡ true → is_empty (values_of id answers) ≡ true
 open_id answers [] id e = cc
 open_id answers (r ∷ requests) id e = by (is_pending answers r) refl (r.id == id) refl e (open_id answers requests id)
@@ -60,7 +59,7 @@ open_id answers (r ∷ requests) id e = by (is_pending answers r) refl (r.id == 
     by true p true q e rest = ap (λ (n : ℕ). is_empty (values_of n answers)) (sym (equal_number r.id id q)) ∙ p
     by true p false q e rest = rest (sym (ap (λ (b : Bool). b || is_requested (filter (is_pending answers) requests) id) q) ∙ e)
 
--- and is among those that were accepted
+-- and is among the accepted ones
 pub asked_all : (test : Request → Bool) (requests : List Request) (id : ℕ) → is_requested (filter test requests) id ≡ true → is_requested requests id ≡ true
 asked_all test [] id e = cc
 asked_all test (r ∷ requests) id e = by (test r) (r.id == id) refl e (asked_all test requests id)

@@ -1,4 +1,4 @@
--- Runs of a table keep what holds of every table that began empty.
+-- Runs keep the invariant of tables that began empty.
 use Rattle.std.proofs.Common.{◌≡◌, ℕ, Bool, true, false, not, cond, List, [], ◌∷◌, ◌++◌, Option, Some, None, is_some, Result, Ok, Err, refl, sym, ap, ◌∙◌, subst, append-nil, append_assoc}
 use Rattle.std.specs.List.{flat_map, cons_option}
 use Rattle.std.specs.Option.{option_to_list}
@@ -44,7 +44,7 @@ replied_so t id there same = cond there (cond same (Ok (Answer id Done), finishe
 
 -- ---- what a step leaves
 
--- what isn't refused is the table's own outcome
+-- an accepted call has the table's own outcome
 pub accepted : (t u : DriverTable) (call : Call) (moves : List Move) → TableStep t call (Ok moves) u → ((table_outcome t call).0 ≡ Ok moves) × (u ≡ (table_outcome t call).1)
 accepted t u call moves s = (sym s.answer_is, s.after)
 
@@ -89,7 +89,7 @@ reached_run t u (entry ∷ entries) run h = reached_run run.0 u entries run.2 (r
 pub reached : (t : DriverTable) (entries : List Entry) → TableRun empty_table entries t → IsTableReached t
 reached t entries run = reached_run empty_table t entries run (stands_opening [] [] refl refl).reached
 
--- ---- the lists are what was answered
+-- ---- the lists follow from the calls and their answers
 pub record Tells (t u : DriverTable) (moves : List Move) (r : Option Request) : Type 0 where
   pub requests : u.requests ≡ t.requests ++ option_to_list r
   pub sends : u.sends ≡ t.sends ++ flat_map sends_of moves

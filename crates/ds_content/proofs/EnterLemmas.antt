@@ -63,7 +63,7 @@ module _ (old new : MarkedHolding Masks) (before after : Kept) (stamp : ℕ) (ws
   pub places_then : length ws ≡ old.held.limits.subs → length ws ≡ new.held.limits.subs
   places_then places = places ∙ ap (λ (l : LimitsRecord). l.subs) (sym bounds)
 
--- ---- to whom it is owed, by what is kept of the subscriptions, and by what is seen of them
+-- ---- the subscriptions that are owed it, by what is kept of them, and by what is seen of them
 module _ (h : MarkedHolding Masks) (journal : Kept) (stamp : ℕ) (ws : List (Option Watching)) (v : ContentRecord) (is : value_of h journal stamp ws ≡ v) where
   pub key_view : (key : Key) → padded (map (keys.watches key) ws) ≡ padded (owed_for key v.subscriptions)
   key_view key = ap padded (sym (key_shown key (held_items h.held) (unseen_at h) 0 ws)) ∙ ap (λ (x : ContentRecord). padded (owed_for key x.subscriptions)) is

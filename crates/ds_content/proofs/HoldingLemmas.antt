@@ -127,7 +127,7 @@ no_generation_at h sound owner place p i q =
     ap (option_map (λ (f : Floor). f.generation))
     (sym (floor_at-is h sound owner ∙ ap (option_map (floor_of owner)) (floor_missing h owner i (subst (IsFloorPlace (held_floors h) owner) q p))))
 
--- ---- what nothing stands against is to be taken
+-- ---- what no cause applies to is taken
 change_by : (o : Option ChangeRecord) (count most : ℕ) (c : ChangeRecord) → HasRoom o count most c → AnswersFor o false count most c (Ok Taken)
 change_by None count most c room = room
 change_by (Some h) count most c room = inr room

@@ -45,7 +45,7 @@ module _ (s : State) (i : Item) (r : IsReached s) (news : IsNews s.feed.accepted
   unseen_now : (q : Query) (shown : List Item) → IsPartOf shown s.feed.accepted → is_unseen q shown i ≡ passes (is_under q) i
   unseen_now q shown part = ap (λ b. passes (is_under q) i && not b) (unshown s.feed.accepted shown i news part) ∙ and_true (passes (is_under q) i)
 
-  -- the flags of what was held are as they were
+  -- the flags of what was held are unchanged
   module _ (u v : Item → List Bool) (others : (x : Item) → Contains new x → Contains (held s) x → v x ≡ u x) where
     module _ (place : ℕ) (sub : Subscription) (w : Watching) (here : get_or (v i) place false ≡ passes (is_under w.query) i) (part : IsPartOf sub.shown s.feed.accepted) (same : followed_by (held s) u place w ≡ followed_of (held s) sub) where
       query : w.query ≡ sub.query

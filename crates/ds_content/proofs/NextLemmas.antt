@@ -21,7 +21,7 @@ use Rattle.ds_content.proofs.FlagLemmas.{below_or_not, below_or_at}
 use Rattle.ds_content.proofs.HoldingLemmas.{count_floors, items_floored, floor_item_at, change_item_at}
 use Rattle.ds_content.proofs.IndexLemmas.{flag_is}
 
--- a list of so many has an element at each index below
+-- a list of n elements has one at each index below n
 there_below : {X : Type 0} (xs : List X) (k n : ℕ) → length xs ≡ n → k < n → (x : X) × (slice_get xs k ≡ Some x)
 there_below xs k n e l = elim (slice_get_cases xs k).1 [
   | inl w ↦ (w.0, w.2)

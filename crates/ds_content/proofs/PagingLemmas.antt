@@ -38,7 +38,7 @@ split (suc i) (d ∷ cs) c e =
       more.1 ∙ ap (λ (l : List ChangeRecord). c ∷ l) (ap (λ m. drop m (d ∷ cs)) (sym next)),
     )
 
--- where no more may be given, none is
+-- if no more fit, none is added
 none_given : (b : Bool) (left : ℕ) (c : ChangeRecord) → None ≡ more_after b left → given_change b left c ≡ []
 none_given false left c m = absurd (cc)
 none_given true left c m = by_left (left == 0) m
@@ -65,7 +65,7 @@ module _ (keep : Key → Bool) (cs : List ChangeRecord) (max : ℕ) (start : Lis
         )
 
     module _ (c : ChangeRecord) (found : slice_get cs seen ≡ Some c) where
-      -- the change is under the scope, and no more may be given
+      -- the change is under the scope, and no more fit
       pub paged_full : (b : Bool) → keep c.key ≡ b → None ≡ more_after b left → (items ≡ start ++ map change_item (take max (admitted keep cs))) × (nat_le (length (admitted keep cs)) max ≡ false)
       paged_full false e m = absurd (cc)
       paged_full true e m = by_left (left == 0) refl m
@@ -90,7 +90,7 @@ module _ (keep : Key → Bool) (cs : List ChangeRecord) (max : ℕ) (start : Lis
       pub paged_stops : (b : Bool) → keep c.key ≡ b → None ≡ more_after b left → (added : List Item) → added ≡ items ++ map change_item (given_change b left c) → added ≡ start ++ map change_item (take max (admitted keep cs))
       paged_stops b e m added is = is ∙ ap (λ l. items ++ map change_item l) (none_given b left c m) ∙ append-nil items ∙ (paged_full b e m).0
 
-      -- it is passed, or given
+      -- it is passed over, or added
       next_is : (b : Bool) → keep c.key ≡ b → admitted keep (take (seen + 1) cs) ≡ done ++ cond b (c ∷ []) []
       next_is b e = ap (admitted keep) (split seen cs c found).0 ∙ filter-append (λ (x : ChangeRecord). keep x.key) (take seen cs) (c ∷ []) ∙ ap (λ x. done ++ cond x (c ∷ []) []) e
 

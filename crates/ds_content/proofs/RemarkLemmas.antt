@@ -169,7 +169,7 @@ made_others : (sub k : ℕ) (u i : Bool) (o : Option Masks) → (k ≡ sub → �
 made_others sub k u i None n = refl
 made_others sub k u i (Some m) n = get_or-set_other m.unseen sub k (u && i) false n
 
--- another stamp leaves the items that are asked for
+-- another stamp leaves the items under the query
 same_watches : (i : Item) (ws : List (Option Watching)) (sub : ℕ) (w : Watching) (stamp : ℕ) → get_or ws sub None ≡ Some w → map (watches_item i) (set ws sub (Some (watching w.query stamp))) ≡ map (watches_item i) ws
 same_watches i [] zero w stamp e = refl
 same_watches i [] (suc sub) w stamp e = refl

@@ -1,4 +1,4 @@
--- The first cause by what is held for the key, and behind it what stands for want of room.
+-- The first cause by what is held for the key, and after it that of the limits.
 use Rattle.std.proofs.Common.{◌≡◌, ℕ, Bool, true, false, not, ◌&&◌, cond, List, ◌++◌, map, Option, Some, None, refl, ap, sym, ◌∙◌}
 use Rattle.std.proofs.lemmas.List.Folds.{find-append}
 use Rattle.std.specs.List.{find}

@@ -1,4 +1,4 @@
--- What the machine answers of itself wants no memory.
+-- The machine's own answers need no memory.
 use Rattle.std.proofs.Common.{◌≢◌, ℕ, List, [], ◌∷◌, length, take, Option, Some, None, refl}
 use Rattle.std.specs.Option.{option_map, option_map_or}
 use Rattle.ds_names.specs.Endpoint.{EndpointRecord}
@@ -28,7 +28,7 @@ use Rattle.ds_machine.specs.declared.reply.Reply.TheVariants as replies
 use Rattle.ds_judge.specs.Last.{IsLast, OutcomesAreLast}
 use Rattle.ds_judge.proofs.RoomLemmas.{no_cause, no_refusal, no_course}
 
--- a reply that isn't want of memory, nor a merge that was stopped for it
+-- a reply that isn't lack of memory, nor a merge that stopped for it
 refused : (s : State) (command : Command) (r : Refusal) → r ≢ refusals.NoRoom → IsLast s command (replies.Refused r)
 refused s command refusals.NoRoom n = absurd (n refl)
 refused s command refusals.BadSub n = tt
@@ -59,7 +59,7 @@ some_refusal r n e = n (cc)
 some_cause : (r : Refusal) → Some (causes.Refused r) ≢ Some (causes.Refused refusals.NoRoom) → r ≢ refusals.NoRoom
 some_cause r n e = n (cc)
 
--- the answer where a refusal may stand, and what stands else is no want of memory
+-- the answer if a refusal may apply that isn't lack of memory, and the answer otherwise isn't either
 or_refused : (s : State) (command : Command) (o : Option Refusal) → o ≢ Some refusals.NoRoom → (other : Reply × State) → IsLast s command other.0 → IsLast s command (option_map_or {U = Reply × State} (λ (r : Refusal). (replies.Refused r, s)) o other).0
 or_refused s command None n other last = last
 or_refused s command (Some r) n other last = refused s command r (some_refusal r n)

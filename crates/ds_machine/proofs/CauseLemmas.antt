@@ -41,7 +41,7 @@ change_order v = map causes.Refused by_command ++ by_version (Some v) ++ map cau
 abbrev floor_order : List Cause
 floor_order = map causes.Refused by_command ++ by_version None ++ map causes.Refused by_room
 
--- where no cause stands, none of them does
+-- without a first cause, no cause applies
 free : (v : Version) (stands : Cause → Bool) → first_cause (Some v) stands ≡ None → (cause : Cause) → Contains (change_order v) cause → stands cause ≡ false
 free v stands e cause h = missing stands (change_order v) cause e h
 

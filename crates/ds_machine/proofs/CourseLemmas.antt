@@ -71,7 +71,7 @@ item_news s (Changed c) r e =
 item_news s (Floored f) r e = news_floor s.feed.accepted r.owners f (room_above (floor_at (held s) f.owner) (length (floors_in (held s))) f (floor_is_free (floor_standing_of s f) f e).room)
 
 -- ---- a merge
--- from one point of a merge to a later one: so many items were done, all of them where nothing stopped it
+-- from one point of a merge to a later one: `count` items were done, all of them if nothing stopped it
 pub record Went (k : Course) (items : List Item) (end : Course) : Type 0 where
   pub count : ℕ
   pub done : end.done ≡ k.done + count

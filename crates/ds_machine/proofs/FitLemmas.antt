@@ -24,7 +24,7 @@ use Rattle.ds_machine.specs.declared.reply.Reply.{Reply}
 use Rattle.ds_machine.specs.declared.reply.Reply.TheVariants.{Found, Named, Merged, MergeStopped, Refused}
 
 module _ (s : State) where
-  -- a reply of its own, or what is answered to what stands against it
+  -- a reply of its own, or the answer to what applies to it
   fits_or : (P : Reply → Type 0) {X : Type 0} (o : Option X) (f : X → Reply) (reply : Reply) (new : State) → ((x : X) → P (f x)) → P reply → P (option_map_or {U = Reply × State} (λ x. (f x, s)) o (reply, new)).0
   fits_or P (Some x) f reply new each own = each x
   fits_or P None f reply new each own = own

@@ -1,4 +1,4 @@
--- What a reply gives had been accepted.
+-- What a reply shows was accepted.
 use Rattle.std.proofs.Common.{◌≡◌, ℕ, zero, suc, ◌≤◌, ◌-◌, Bool, cond, List, [], ◌∷◌, length, take, filter, Option, Some, None, ap, sym, subst, inl, inr, arith, Contains}
 use Rattle.std.specs.Option.{option_map, option_map_or}
 use Rattle.std.proofs.lemmas.List.Elements.{Contains-append_cases}

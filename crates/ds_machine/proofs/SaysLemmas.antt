@@ -49,7 +49,7 @@ unfolding is_refused
 refused_not refusal reply f e = let t : true ≡ false = ap is_refused e ∙ f in absurd (cc)
 
 module _ (s t : State) (refusal : Refusal) where
-  -- one that is answered by a reply of its own unless something stands against it
+  -- a command with a reply of its own, unless something applies to it
   stays_unless : {X : Type 0} (o : Option X) (f : X → Reply) (reply : Reply) (new : State)
       → Refused refusal ≡ (option_map_or {U = Reply × State} (λ x. (f x, s)) o (reply, new)).0 → t ≡ (option_map_or {U = Reply × State} (λ x. (f x, s)) o (reply, new)).1 → is_refused reply ≡ false → t ≡ s
   stays_unless (Some x) f reply new e q differs = q

@@ -30,7 +30,7 @@ use Rattle.ds_machine.proofs.CourseLemmas.{item_news}
 use Rattle.ds_machine.specs.Batches.{AreFree, FreeAreTaken, PlacesAreFree}
 use Rattle.ds_machine.specs.Taken.{HasNoFloor, TakesHeld, KeysApart, PlacesAreTaken}
 
--- ---- a merge in which nothing stands against an item when it comes
+-- ---- a merge in which no cause applies to any item at its turn
 
 abbrev course_of : State → ℕ → List Item → Course
 course_of s done taken = record { state = s; done = done; taken = taken; stale = 0; stop = None }
@@ -74,7 +74,7 @@ none_against t h c here place void left =
     (ap (λ (o : Option ChangeRecord). is_none o && nat_le t.most t.count) here)
     left
 
--- ---- what is held for a key stays, where nothing of the key comes
+-- ---- what is held for a key stays if no item of the key follows
 
 module _ (s t : State) (rs : IsReached s) (rt : IsReached t) (floors : HasNoFloor t) (part : IsPartOf s.feed.accepted t.feed.accepted) where
   -- what covers a change is one of its key
@@ -125,7 +125,7 @@ none_void s r floors c = by_test (is_void (held s) c) refl
 not_full : (n : ℕ) → n < last_place → nat_le last_place n ≡ false
 not_full n lt = grind (arith, nat_tests)
 
--- ---- one after the other
+-- ---- in order
 
 no_floor_more : (t : State) (c : ChangeRecord) → HasNoFloor t → HasNoFloor (takes_effect t (Changed c ∷ []))
 no_floor_more t c floors f h = elim (Contains-push_cases t.feed.accepted (Changed c) (Floored f) h) [

@@ -43,7 +43,7 @@ use Rattle.ds_machine.proofs.CountLemmas.{total, change_weight, floor_weight, ch
 use Rattle.ds_names.specs.Limits.{most_floors, last_place}
 
 -- ---- one more item takes effect
--- nothing stands against the item
+-- no cause applies to the item
 abbrev pub HasPlace : State → Item → Type 0
 HasPlace s (Changed c) = IsFree (standing_of s c) c
 HasPlace s (Floored f) = IsFloorFree (floor_standing_of s f) f

@@ -105,7 +105,7 @@ unfolding is_name_byte
 rs_is_name = record { some = omega arith; limit = omega arith; allowed = refl }
 
 -- ---- a change that a caller asks for
--- the causes that stand by the command and its caller don't
+-- the causes that need only the command and its caller don't apply
 abbrev pub IsJudged : State → AskedChange → Body → Type 0
 IsJudged s a body = (r : Refusal) → Contains by_command r → against_asked (standing_of s (asked_in s a body)) (name_of (held s) a.caller) a body (causes.Refused r) ≡ false
 

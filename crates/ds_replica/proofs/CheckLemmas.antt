@@ -45,8 +45,8 @@ use Rattle.ds_replica.proofs.SeerLemmas.{Shows, same_seer, begins_shown, side_it
 use Rattle.ds_replica.proofs.ShowLemmas.{check_none, event_shows}
 use Rattle.std.proofs.lemmas.Bool.{or_parts, and_from}
 
--- ---- checks, one after the other
--- the event is a Check of the subscription that made a message, or gave it nothing
+-- ---- checks, in order
+-- the event is a Check of the subscription that made a message, or showed it nothing
 is_check : (side : Side) (sub : ℕ) (account : Account) (event : Event) (out : Outcome) → (check_sent side sub account event out ≡ []) ⊎ ((max : ℕ) × (k : ℕ) × (event ≡ Ask side (Check sub max)) × (out ≡ Made k))
 is_check side sub account (Ask s (Check n max)) (Made k) = by_test (is_side s side) refl (eqb_tells n sub)
   where
@@ -108,7 +108,7 @@ module _ (side : Side) (sub : ℕ) (query : Query) (early f : Feed) where
     longer : (cs rs : List Sent) → (shown ++ items_of cs) ++ items_of rs ≡ shown ++ items_of (cs ++ rs)
     longer cs rs = append_assoc shown (items_of cs) (items_of rs) ∙ ap (λ (l : List Item). shown ++ l) (sym (items_append cs rs))
 
-    -- it gave the subscription nothing
+    -- it showed the subscription nothing
     by_other : (event : Event) (out : Outcome) → check_sent side sub account event out ≡ [] → Rounds (extended account event out) side sub query early f (shown ++ items_of (check_sent side sub account event out)) es → Rounds account side sub query early f shown ((event, out) ∷ es)
     by_other event out e r =
         let cs = check_sent side sub account event out in

@@ -56,7 +56,7 @@ beside f c = record { one_change = λ d e h k q v. is d h ∙ sym (is e k); one_
     is : (d : ChangeRecord) → Contains (Floored f ∷ Changed c ∷ []) (Changed d) → d ≡ c
     is d h = elim (Contains-cons (Floored f) (Changed c ∷ []) (Changed d) h) [ inl e ↦ absurd (let q : Changed d ≡ Floored f = e in cc) | inr k ↦ changed_same d c (Contains-single (Changed c) (Changed d) k) ]
 
--- of so many items that were done, and of those that were taken
+-- of items that were done, and of those that were taken
 abbrev done : ℕ → ℕ → Tally
 done count taken = record { count = counting count taken 0; owed = 0; stop = None }
 
@@ -72,7 +72,7 @@ stored s i step = record {
   merged = (AllMerged 1 1 0 0, takes_effect s (i ∷ []), step, (done 0 0, (refl, refl), refl));
 }
 
--- a store that is asked makes a step
+-- a store that gets a command makes a step
 does : (w : World) (side : Side) (command : Command) →
     let out = outcome (store_at w side) command in
     Asks w side command (ask_outcome w out.0 (items_given out.0)) (with_items (with_state w side out.1) (items_given out.0))
@@ -293,8 +293,8 @@ maps_lag query asks = lags query asks
 pub maps_lead : MapsLead
 maps_lead query asks = leads query asks
 
--- ---- two replicas that were told what contradicts itself
--- a list of two, the other way round
+-- ---- two replicas whose messages contradict each other
+-- a list of two, in the opposite order
 swapped : (x y i : Item) → Contains (x ∷ y ∷ []) i → Contains (y ∷ x ∷ []) i
 swapped x y i h = elim (Contains-cons x (y ∷ []) i h) [ inl e ↦ subst (Contains (y ∷ x ∷ [])) (sym e) (Contains-tail y (x ∷ []) x (Contains-head x [])) | inr k ↦ subst (Contains (y ∷ x ∷ [])) (sym (Contains-single y i k)) (Contains-head y (x ∷ [])) ]
 
@@ -398,7 +398,7 @@ module _ (query : Query) (asks : AsksFor query irq) where
 pub maps_clash : MapsClash
 maps_clash query asks = clashes query asks
 
--- ---- a key that comes back with another owner
+-- ---- a key that returns with another owner
 abbrev all_three : List Item
 all_three = one ∷ ended ∷ renewed ∷ []
 

@@ -38,7 +38,7 @@ use Rattle.ds_replica.proofs.SeerLemmas.{Shows, still_shows, same_items, place_k
 use Rattle.std.proofs.lemmas.Bool.{and_from}
 
 -- ---- one event
--- what isn't asked of the subscription at this side gave it nothing
+-- a command that isn't for the subscription at this side showed it nothing
 pub check_none : (side : Side) (sub : ℕ) (account : Account) (s : Side) (command : Command) (out : Outcome) → is_side s side && uses sub command ≡ false → check_sent side sub account (Ask s command) out ≡ []
 check_none side sub account s (Check n max) (Made k) e = ap (λ (b : Bool). cond b (sent_in (extended account (Ask s (Check n max)) (Made k)) k) []) e
 check_none side sub account s (Check n max) out e = refl

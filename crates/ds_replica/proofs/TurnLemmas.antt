@@ -125,8 +125,8 @@ turns_are_run old new side (x ∷ events) h e =
     let n = or_parts (empties (Store side) x) (list_any (empties (Store side)) events) e in
     ran_on (store_at old side) (store_at h.0 side) (store_at new side) (event_ran old h.0 side x.0 x.1 h.1 n.0) (turns_are_run h.0 new side events h.2 n.1)
 
--- ---- what stays
--- the store goes on, as the account has it
+-- ---- what lasts
+-- the store grows, as the account has it
 pub goes_on : (account : Account) (old new : World) (side : Side) (events : List (Event × Outcome)) → Fits account old → HappenAll old events new → Stays (Store side) events
     → GoesOn (store_of account side).state (store_of (extended_all account events) side).state
 goes_on account old new side events f h e =

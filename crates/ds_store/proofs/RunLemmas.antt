@@ -1,4 +1,4 @@
--- How a run goes on.
+-- How a run continues.
 use Rattle.std.proofs.Common.{◌≡◌, List, [], ◌∷◌, ◌++◌, length, take, refl, ap, sym, ◌∙◌, subst}
 use Rattle.std.proofs.Math.Seq.{take-append_seam}
 use Rattle.ds_machine.specs.State.{State}

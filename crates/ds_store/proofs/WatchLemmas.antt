@@ -79,16 +79,16 @@ check_refused s sub max r e =
     let result : Option Refusal → Reply × State = λ o. option_map_or (λ x. (Refused x, s)) o rest in
     record { reply_is = sym (ap (λ o. (result o).0) e); state_is = sym (ap (λ o. (result o).1) e) }
 
--- a Check against which nothing stands before showing: its subscription, whose stamp this is, and what stands against showing
+-- a Check that no refusal applies to before showing: its subscription, with this stamp, and the refusal to show
 pub record IsBegun (s : State) (sub max stamp : ℕ) : Type 0 where
   pub seer : Subscription
   pub here : subscription_at s sub ≡ Some seer
   pub stamp_is : stamp ≡ seer.stamp
   pub left : first_refusal (against_check (check_case s sub max (subscription_at s sub))) ≡ refusal_of_showing (has_unseen s seer) s.stamp
 
--- what a Check meets: so many places, and at its own a subscription with this stamp, or none
+-- what a Check meets: the number of places, and at its own a subscription with this stamp, or none
 module _ (v : ContentRecord) (s : State) (sub max places : ℕ) (last : Option ℕ) (stands : ContentStands v s) (p : places ≡ v.limits.subs) (q : last ≡ stamp_at v sub) where
-  -- what stands against it in each case is this
+  -- the refusal that applies to it in each case
   abbrev IsAgainst : (Bool → ℕ → Option Refusal) → Type 0
   IsAgainst f = (some : Bool) (stamp : ℕ) → first_refusal (against_check (check_of places (is_some last) some stamp sub max)) ≡ f some stamp
 
@@ -148,7 +148,7 @@ pub some_items : (items : List Item) → 0 < length items → are_some items ≡
 some_items [] l = absurd (omega (arith, l))
 some_items (i ∷ items) l = refl
 
--- what could not be shown for want of memory is refused for what stands, and for want of memory where nothing does
+-- what could not be shown because memory ran out is refused by what applies, or else for lack of memory
 pub check_short : (s : State) (sub max : ℕ) (o : Option Refusal) → first_refusal (against_check (check_case s sub max (subscription_at s sub))) ≡ o → Answers s (checking s sub max) (Refused (unwrap_or o refusals.NoRoom)) s
 check_short s sub max None e = inr (record { reply_is = refl; state_is = refl })
 check_short s sub max (Some r) e = inl (check_refused s sub max r e)
@@ -161,7 +161,7 @@ module _ (s : State) (sub max : ℕ) (seer : Subscription) (here : subscription_
   abbrev checked_with : Option Refusal → Reply × State
   checked_with o = option_map_or (λ r. (Refused r, s)) o (shows s sub seer (take max (unseen s seer)))
 
-  -- a Check of what nothing stands against shows the first
+  -- a Check that no refusal applies to shows the first
   pub checking_is : first_refusal (against_check (check_case s sub max (subscription_at s sub))) ≡ None → checking s sub max ≡ shows s sub seer (take max (unseen s seer))
   checking_is none =
       let at : first_refusal (against_check (check_case s sub max (Some seer))) ≡ None = ap (λ o. first_refusal (against_check (check_case s sub max o))) (sym here) ∙ none in

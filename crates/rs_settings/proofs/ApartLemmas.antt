@@ -69,7 +69,7 @@ repeats-less a b (m ∷ ms) le h = rw absent (repeats-less (a ++ m ∷ []) (b ++
     more : (n : List ℕ) → has_name (a ++ m ∷ []) n ≡ true → has_name (b ++ m ∷ []) n ≡ true
     more n t = has_name-append b (m ∷ []) n ∙ wider (has_name a n) (has_name b n) (has_name (m ∷ []) n) (le n) (sym (has_name-append a (m ∷ []) n) ∙ t)
 
--- the names of service j are new behind some names, among which are those of all services before it
+-- the names of service j are new after some names, among which are those of all services before it
 abbrev AreNew : List (List ℕ) → List Service → ℕ → Service → Type 0
 AreNew before ss j d = (b : List (List ℕ)) × (repeats (before ++ b) (get_or ss j d).publishes ≡ false) × ((i : ℕ) (n : List ℕ) → i < j → has_name (get_or ss i d).publishes n ≡ true → has_name (before ++ b) n ≡ true)
 

@@ -78,7 +78,7 @@ module _ (base seen : List (List ℕ)) (vs : List Value) (i : ℕ) (d : Value) (
       ∙ ap (λ z. has_name z n) (append_assoc base (map text_in_value (take i vs)) (text_in_value (get_or vs i d) ∷ []))
       ∙ ap (λ z. has_name (base ++ z) n) (sym (taken vs i d l))
 
--- behind the last name
+-- past the last name
 pub repeats-end : (base : List (List ℕ)) (vs : List Value) (i : ℕ) → length vs ≤ i → repeats (base ++ map text_in_value (take i vs)) (map text_in_value (drop i vs)) ≡ repeats base (map text_in_value vs) → repeats base (map text_in_value vs) ≡ false
 repeats-end base vs i past so = sym so ∙ rw (drop_all i vs past) refl
 
@@ -118,6 +118,6 @@ module _ (seen : List (List ℕ)) (ds : List Draft) (i : ℕ) (d : Draft) (l : i
       ∙ sym (has_name-append (published (take i ds)) (service_of_draft (get_or ds i d)).publishes n)
       ∙ ap (λ z. has_name z n) (sym (published-more ds i d l))
 
--- behind the last service
+-- past the last service
 pub first_repeat-end : (ds : List Draft) (i : ℕ) → length ds ≤ i → first_repeat (published (take i ds)) i (map service_of_draft (drop i ds)) ≡ first_repeat [] 0 (map service_of_draft ds) → first_repeat [] 0 (map service_of_draft ds) ≡ None
 first_repeat-end ds i past so = sym so ∙ rw (drop_all i ds past) refl

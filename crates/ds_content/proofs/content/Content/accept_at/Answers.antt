@@ -31,7 +31,7 @@ use Rattle.ds_content.proofs.content.Content.accept_at.Goals.{In_ok-put_at, Afte
 use Rattle.ds_content.specs.Standing.{standing_in}
 use Rattle.ds_machine.specs.Standing.{IsFree}
 
--- what stands before the change, read off the fields
+-- what the change meets, read from the fields
 free_in : (v : ContentRecord) (now : ContentRecord) (c : ChangeRecord) → v ≡ now → IsFree (standing_in now c) c → IsFree (standing_in v c) c
 free_in v now c is f = subst (λ (x : ContentRecord). IsFree (standing_in x c) c) (sym is) f
 
@@ -67,7 +67,7 @@ joined c =
     merged_joins c.self.inside.held.held c.put_at.new.self.held c.args.change.now (Ok Taken) c.held-held.ensures.sound
     (change_taken c.self.inside.held.held c.held-held.ensures.sound c.args.change.now (free c).room (free c).valid) (held c)
 
--- its masks came with it
+-- its masks were inserted with it
 marks : (c : In_ok-put_at) → c.put_at.new.self.marks ≡ insert c.self.inside.held.marks c.args.change.now.key (fresh c.args.owed)
 marks c = (put c).marks ∙ ap (λ (m : Masks). insert c.self.inside.held.marks c.args.change.now.key m) c.fresh.ensures
 

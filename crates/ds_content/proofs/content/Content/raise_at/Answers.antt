@@ -34,7 +34,7 @@ use Rattle.ds_content.proofs.content.Content.raise_at.Goals.{In_ok-count, After-
 use Rattle.ds_content.specs.Standing.{floor_standing_in}
 use Rattle.ds_machine.specs.Standing.{IsFloorFree}
 
--- what stands before the floor, read off the fields
+-- what the floor meets, read from the fields
 free_in : (v : ContentRecord) (now : ContentRecord) (f : Floor) → v ≡ now → IsFloorFree (floor_standing_in now f) f → IsFloorFree (floor_standing_in v f) f
 free_in v now f is free = subst (λ (x : ContentRecord). IsFloorFree (floor_standing_in x f) f) (sym is) free
 
@@ -74,7 +74,7 @@ joined c =
 marks : (c : In_ok-count) → c.raise_at.new.self.marks ≡ at_kept_keys c.args.floor c.self.inside.held.held.changes c.self.inside.held.marks
 marks c = c.in_ok-count.ensures.raised.marks
 
--- its own masks came with it
+-- its own masks were inserted with it
 floors : (c : In_ok-count) → c.raise_at.new.self.floor_marks ≡ insert c.self.inside.held.floor_marks c.args.floor.owner (fresh c.args.owed)
 floors c = c.in_ok-count.ensures.raised.floor_marks ∙ ap (λ (m : Masks). insert c.self.inside.held.floor_marks c.args.floor.owner m) c.fresh.ensures
 

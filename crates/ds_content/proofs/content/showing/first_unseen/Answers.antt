@@ -12,7 +12,7 @@ use Rattle.ds_content.proofs.OpenLemmas.{on_err}
 use Rattle.ds_content.proofs.content.showing.first_unseen.Goals as goal
 use Rattle.ds_content.proofs.content.showing.first_unseen.Goals.{After-len-changes}
 
--- what wants memory is to be shown
+-- an item that ran out of memory is one to show
 pub returns-in_err-add_copy-clause-refused : goal.returns-in_err-add_copy-clause-refused
 returns-in_err-add_copy-clause-refused c =
     let h = c.args.held.now in
