@@ -198,8 +198,8 @@ impl Held {
         copy_all(alloc, &self.floors, &self.changes)
     }
 
-    /// Merges a change: it is taken unless a held change or floor covers it. Unless it is refused, the result is the
-    /// join of what was held and the change.
+    /// Merges a change: it is taken unless a held change or floor covers it. Unless it is refused, what is held
+    /// afterwards is the join of what was held and the change.
     ///
     /// Refuses with the first [`JoinFault`] that applies, in the order of its variants, and then changes nothing. A
     /// void change is Stale: only NotOwner comes before that. A change of a held key replaces the held one and
@@ -237,8 +237,8 @@ impl Held {
         }
     }
 
-    /// Raises the floor of an owner, and drops what the floor voids, tombstones included. Unless it is refused, the
-    /// result is the join of what was held and the floor.
+    /// Raises the floor of an owner, and drops what the floor voids, tombstones included. Unless it is refused, what
+    /// is held afterwards is the join of what was held and the floor.
     ///
     /// The same floor again is Known, a lower one Stale. Full if the owner has no floor and 64 others have one. It
     /// allocates only for an owner without a floor. A refusal changes nothing.

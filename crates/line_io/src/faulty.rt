@@ -7,7 +7,7 @@ use crate::streams::{Sink, Source};
 use std::alloc::Global;
 use std::io::{self, ErrorKind, Read, Write};
 
-/// A fake reader for tests: it returns the bytes of a text, and fails at one call.
+/// A fake reader for tests: it delivers the bytes of a text, and fails at one call.
 #[derive(Drop)]
 pub struct FailRead<'a> {
     rest: &'a [u8],
@@ -17,7 +17,7 @@ pub struct FailRead<'a> {
 }
 
 impl<'a> FailRead<'a> {
-    /// Returns a reader of the text that returns at most `most` bytes a call, but at least one. Call number
+    /// Returns a reader of the text that delivers at most `most` bytes a call, but at least one. Call number
     /// `fail_at`, counted from 1, fails; with 0, none does.
     pub fn new(text: &'a [u8], fail_at: u32, most: usize) -> FailRead<'a>
         ensures text { result.rest.now ≡ text.now }

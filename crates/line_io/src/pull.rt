@@ -14,11 +14,11 @@ pub const LONGEST_LINE: usize = 4096;
 /// The outcome of a move to the next line.
 #[derive(Clone, Copy, Debug, PartialEq, Eq)]
 pub enum Pulled {
-    /// The next line is the current one.
+    /// The next line was reached.
     Line,
     /// The next line is above 4096 bytes.
     Long,
-    /// There is no more line.
+    /// No line is left.
     End,
     /// The reader failed, or was read 2^32 times.
     ReadFault,
