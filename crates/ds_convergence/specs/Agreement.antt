@@ -16,7 +16,8 @@ pub record KnowSame (query : Key → Bool) (known other : List Item) : Type 0 wh
 -- included, and so equal entries.
 abbrev pub HoldersAgree : Type 0
 HoldersAgree =
-    (query : Key → Bool) (known other held too : List Item) → IsTop held known → IsTop too other → AreSingleNumbered (under query known) → KnowSame query known other →
+    (query : Key → Bool) (known other held too : List Item) → IsTop held known → IsTop too other → AreSingleNumbered (under query known) →
+        KnowSame query known other →
     (under query held ≡ under query too) × (entries_of (under query held) ≡ entries_of (under query too))
 
 -- A law: what is held under a query is the top of what is known under it.
@@ -25,11 +26,14 @@ TopUnderQuery = (query : Key → Bool) (known held : List Item) → IsTop held k
 
 -- A law: the join of what two hold is the top of everything that either knows.
 abbrev pub JoinOfHolders : Type 0
-JoinOfHolders = (known other held too joined : List Item) → IsTop held known → IsTop too other → IsJoin joined held too → IsTop joined (known ++ other)
+JoinOfHolders =
+    (known other held too joined : List Item) → IsTop held known → IsTop too other → IsJoin joined held too → IsTop joined (known ++ other)
 
 -- A law: the join under a query is the join of what each holds under it.
 abbrev pub JoinUnderQuery : Type 0
-JoinUnderQuery = (query : Key → Bool) (held too joined : List Item) → IsJoin joined held too → IsJoin (under query joined) (under query held) (under query too)
+JoinUnderQuery =
+    (query : Key → Bool) (held too joined : List Item) → IsJoin joined held too →
+    IsJoin (under query joined) (under query held) (under query too)
 
 -- A law: a holder that knows more holds at least as much.
 abbrev pub MoreIsHeld : Type 0

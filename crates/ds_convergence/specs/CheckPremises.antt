@@ -9,11 +9,15 @@ use Rattle.ds_convergence.specs.Checked.{CheckTurn, AreChecks, check_items}
 
 pub record ChecksNeed : Type 0 where
   -- The last check returned fewer items than it was asked for.
-  pub fewer : ¬ ((early f : Feed) (query : Key → Bool) (since : List Item) (turns : List CheckTurn) (last : CheckTurn) → f.accepted ≡ early.accepted ++ since → AreNew early.accepted since →
+  pub fewer : ¬ ((early f : Feed) (query : Key → Bool) (since : List Item) (turns : List CheckTurn) (last : CheckTurn) →
+      f.accepted ≡ early.accepted ++ since → AreNew early.accepted since →
       AreChecks early f query [] (turns ++ last ∷ []) → IsWhole f query (check_items (turns ++ last ∷ [])) (position last.feed))
   -- Nothing counted as shown at first.
-  pub initial : ¬ ((early f : Feed) (query : Key → Bool) (since shown : List Item) (turns : List CheckTurn) (last : CheckTurn) → f.accepted ≡ early.accepted ++ since → AreNew early.accepted since →
-      AreChecks early f query shown (turns ++ last ∷ []) → length last.items < last.max → IsWhole f query (check_items (turns ++ last ∷ [])) (position last.feed))
+  pub initial : ¬ ((early f : Feed) (query : Key → Bool) (since shown : List Item) (turns : List CheckTurn) (last : CheckTurn) →
+      f.accepted ≡ early.accepted ++ since → AreNew early.accepted since →
+      AreChecks early f query shown (turns ++ last ∷ []) → length last.items < last.max →
+          IsWhole f query (check_items (turns ++ last ∷ [])) (position last.feed))
   -- Nothing took effect meanwhile that was covered already.
   pub new : ¬ ((early f : Feed) (query : Key → Bool) (turns : List CheckTurn) (last : CheckTurn) →
-      AreChecks early f query [] (turns ++ last ∷ []) → length last.items < last.max → IsWhole f query (check_items (turns ++ last ∷ [])) (position last.feed))
+      AreChecks early f query [] (turns ++ last ∷ []) → length last.items < last.max →
+          IsWhole f query (check_items (turns ++ last ∷ [])) (position last.feed))

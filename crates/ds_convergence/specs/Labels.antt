@@ -24,11 +24,15 @@ pub record HoldsNoOlder (held : List Item) (c : ChangeRecord) : Type 0 where
 
 -- A law: for a known change that no known floor voids, nothing older is held.
 abbrev pub NothingOlderIsHeld : Type 0
-NothingOlderIsHeld = (known held : List Item) (c : ChangeRecord) → IsTop held known → Contains known (Changed c) → is_void known c ≡ false → HoldsNoOlder held c
+NothingOlderIsHeld =
+    (known held : List Item) (c : ChangeRecord) → IsTop held known → Contains known (Changed c) → is_void known c ≡ false →
+    HoldsNoOlder held c
 
 -- A law: no floor voids a label, so for any known label nothing older is held.
 abbrev pub NoOlderLabelIsHeld : Type 0
-NoOlderLabelIsHeld = (known held : List Item) (c : ChangeRecord) → IsTop held known → Contains known (Changed c) → c.key.kind ≡ kinds.Label → HoldsNoOlder held c
+NoOlderLabelIsHeld =
+    (known held : List Item) (c : ChangeRecord) → IsTop held known → Contains known (Changed c) → c.key.kind ≡ kinds.Label →
+    HoldsNoOlder held c
 
 -- The endpoint of the name's label among what is held.
 abbrev pub label_in : List Item → List ℕ → Option EndpointRecord
@@ -57,5 +61,6 @@ IsNewest known name (Some e) = IsLive known name e
 -- A law: what is held under a query of the label has its newest generation, among everything known.
 abbrev pub LabelsAreNewest : Type 0
 LabelsAreNewest =
-    (query : Key → Bool) (known held : List Item) (name : List ℕ) → ((i : Item) → Contains known i → IsItem i) → IsTop held known → query (label_key name) ≡ true →
+    (query : Key → Bool) (known held : List Item) (name : List ℕ) → ((i : Item) → Contains known i → IsItem i) → IsTop held known →
+        query (label_key name) ≡ true →
     IsNewest known name (label_in (under query held) name)

@@ -9,7 +9,9 @@ use Rattle.ds_convergence.specs.Paged.{PageTurn, IsPageTurn, last_key}
 -- page.
 abbrev pub AreOpenPages : Feed → (Key → Bool) → Option Key → ℕ → List PageTurn → Type 0
 AreOpenPages f scope after p [] = Unit {0}
-AreOpenPages f scope after p (t ∷ ts) = IsPageTurn f scope after t × (p ≤ t.page.cursor.position) × (t.page.last ≡ false) × AreOpenPages f scope (last_key after t.page.items) t.page.cursor.position ts
+AreOpenPages f scope after p (t ∷ ts) =
+    IsPageTurn f scope after t × (p ≤ t.page.cursor.position) × (t.page.last ≡ false) ×
+    AreOpenPages f scope (last_key after t.page.items) t.page.cursor.position ts
 
 -- The key of the last change that the pages returned, or else `after`.
 abbrev pub key_after : Option Key → List PageTurn → Option Key

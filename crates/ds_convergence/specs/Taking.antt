@@ -18,7 +18,8 @@ sent_under query sent = filter (λ s. passes query s.item) sent
 -- A law: a holder that merges items then holds the top of everything that it knew and that they stand for.
 abbrev pub HolderTakes : Type 0
 HolderTakes =
-    (known held new : List Item) (more : List Sent) → ((s : Sent) → Contains more s → IsSent s) → IsTop held known → IsTop new (held ++ items_of more) → IsTop new (known ++ stood_for more)
+    (known held new : List Item) (more : List Sent) → ((s : Sent) → Contains more s → IsSent s) → IsTop held known →
+        IsTop new (held ++ items_of more) → IsTop new (known ++ stood_for more)
 
 -- A law: a new map has taken nothing.
 abbrev pub NewMapIsMap : Type 0
@@ -27,5 +28,6 @@ NewMapIsMap = (query : Key → Bool) → MapHolds query [] []
 -- A law: a map that merges those of the items that are under its query has taken all of them.
 abbrev pub MapsTake : Type 0
 MapsTake =
-    (query : Key → Bool) (items more : List Sent) (held new : List Item) → ((s : Sent) → Contains more s → IsSent s) → MapHolds query items held →
+    (query : Key → Bool) (items more : List Sent) (held new : List Item) → ((s : Sent) → Contains more s → IsSent s) →
+        MapHolds query items held →
     IsTop new (held ++ items_of (sent_under query more)) → MapHolds query (items ++ more) new

@@ -17,18 +17,24 @@ use Rattle.ds_convergence.specs.Whole.{IsWhole}
 -- The premises of a snapshot: it is of the top of what was accepted, of a store that knows all of that, under a scope
 -- that keeps the query.
 pub record SnapshotNeeds : Type 0 where
-  pub top : ¬ ((f : Feed) (known held : List Item) (scope query : Key → Bool) → IsPartOf f.accepted known → KeepsQuery scope query → IsWhole f query (given known (snapshot_of (passes scope) held (end_of f)).items) (position f))
-  pub knows : ¬ ((f : Feed) (known held : List Item) (scope query : Key → Bool) → IsTop held f.accepted → KeepsQuery scope query → IsWhole f query (given known (snapshot_of (passes scope) held (end_of f)).items) (position f))
-  pub scope : ¬ ((f : Feed) (known held : List Item) (scope query : Key → Bool) → IsTop held f.accepted → IsPartOf f.accepted known → IsWhole f query (given known (snapshot_of (passes scope) held (end_of f)).items) (position f))
+  pub top : ¬ ((f : Feed) (known held : List Item) (scope query : Key → Bool) → IsPartOf f.accepted known → KeepsQuery scope query →
+      IsWhole f query (given known (snapshot_of (passes scope) held (end_of f)).items) (position f))
+  pub knows : ¬ ((f : Feed) (known held : List Item) (scope query : Key → Bool) → IsTop held f.accepted → KeepsQuery scope query →
+      IsWhole f query (given known (snapshot_of (passes scope) held (end_of f)).items) (position f))
+  pub scope : ¬ ((f : Feed) (known held : List Item) (scope query : Key → Bool) → IsTop held f.accepted → IsPartOf f.accepted known →
+      IsWhole f query (given known (snapshot_of (passes scope) held (end_of f)).items) (position f))
 
 -- The premises of a reply of the journal: it is of a store that knows what it accepted, under such a scope, from a
 -- cursor up to which the items before are whole, and no later one.
 pub record SinceNeeds : Type 0 where
-  pub knows : ¬ ((f : Feed) (known : List Item) (scope query : Key → Bool) (items : List Sent) (at : Cursor) (max : ℕ) (since : Since) → KeepsQuery scope query → IsGiven f (passes scope) at max since →
+  pub knows : ¬ ((f : Feed) (known : List Item) (scope query : Key → Bool) (items : List Sent) (at : Cursor) (max : ℕ) (since : Since) →
+      KeepsQuery scope query → IsGiven f (passes scope) at max since →
       IsWhole f query items at.position → IsWhole f query (items ++ given known since.items) since.cursor.position)
-  pub scope : ¬ ((f : Feed) (known : List Item) (scope query : Key → Bool) (items : List Sent) (at : Cursor) (max : ℕ) (since : Since) → IsPartOf f.accepted known → IsGiven f (passes scope) at max since →
+  pub scope : ¬ ((f : Feed) (known : List Item) (scope query : Key → Bool) (items : List Sent) (at : Cursor) (max : ℕ) (since : Since) →
+      IsPartOf f.accepted known → IsGiven f (passes scope) at max since →
       IsWhole f query items at.position → IsWhole f query (items ++ given known since.items) since.cursor.position)
-  pub whole : ¬ ((f : Feed) (known : List Item) (scope query : Key → Bool) (items : List Sent) (at : Cursor) (max : ℕ) (since : Since) → IsPartOf f.accepted known → KeepsQuery scope query → IsGiven f (passes scope) at max since →
+  pub whole : ¬ ((f : Feed) (known : List Item) (scope query : Key → Bool) (items : List Sent) (at : Cursor) (max : ℕ) (since : Since) →
+      IsPartOf f.accepted known → KeepsQuery scope query → IsGiven f (passes scope) at max since →
       IsWhole f query (items ++ given known since.items) since.cursor.position)
 
 -- The limits of wholeness: it is of this incarnation, up to this position and no further, and for no wider query.
@@ -37,5 +43,7 @@ pub record WholeNeeds : Type 0 where
   pub more : ¬ ((f : Feed) (query : Key → Bool) (items more : List Sent) (r : ℕ) → IsWhole f query items r → IsWhole f query more r)
   pub earlier : ¬ ((f : Feed) (query : Key → Bool) (items : List Sent) (p r : ℕ) → IsWhole f query items r → IsWhole f query items p)
   pub narrower : ¬ ((f : Feed) (query narrow : Key → Bool) (items : List Sent) (r : ℕ) → IsWhole f query items r → IsWhole f narrow items r)
-  pub front : ¬ ((f late : Feed) (query : Key → Bool) (items : List Sent) (r : ℕ) → r ≤ position f → IsWhole f query items r → IsWhole late query items r)
-  pub reached : ¬ ((f late : Feed) (query : Key → Bool) (items : List Sent) (r : ℕ) → IsFront f late → IsWhole f query items r → IsWhole late query items r)
+  pub front : ¬ ((f late : Feed) (query : Key → Bool) (items : List Sent) (r : ℕ) → r ≤ position f → IsWhole f query items r →
+      IsWhole late query items r)
+  pub reached : ¬ ((f late : Feed) (query : Key → Bool) (items : List Sent) (r : ℕ) → IsFront f late → IsWhole f query items r →
+      IsWhole late query items r)

@@ -20,8 +20,12 @@ CoversKeepsQueries = (query : Key → Bool) (j i : Item) → covers j i ≡ true
 
 -- A law: single-numbered items that cover each other are equal.
 abbrev pub CoversIsExact : Type 0
-CoversIsExact = (items : List Item) → AreSingleNumbered items → (i j : Item) → Contains items i → Contains items j → covers j i ≡ true → covers i j ≡ true → i ≡ j
+CoversIsExact =
+    (items : List Item) → AreSingleNumbered items → (i j : Item) → Contains items i → Contains items j → covers j i ≡ true →
+    covers i j ≡ true → i ≡ j
 
 -- A law: of items in order, none of them void, none covers another.
 abbrev pub CoversNoneHeld : Type 0
-CoversNoneHeld = (held : List Item) → IsStrictlySortedBy item_cmp held → NoneVoid held → (i j : Item) → Contains held i → Contains held j → covers j i ≡ true → i ≡ j
+CoversNoneHeld =
+    (held : List Item) → IsStrictlySortedBy item_cmp held → NoneVoid held → (i j : Item) → Contains held i → Contains held j →
+    covers j i ≡ true → i ≡ j

@@ -23,5 +23,6 @@ covered_by i items = filter (covers i) items
 -- Whether the changes among the items don't contradict each other: equal key and version mean equal change, and equal
 -- key means equal owner.
 pub record AreSingleNumbered (items : List Item) : Type 0 where
-  pub one_change : (c d : ChangeRecord) → Contains items (Changed c) → Contains items (Changed d) → c.key ≡ d.key → c.version ≡ d.version → c ≡ d
+  pub one_change : (c d : ChangeRecord) → Contains items (Changed c) → Contains items (Changed d) → c.key ≡ d.key → c.version ≡ d.version →
+      c ≡ d
   pub one_owner : (c d : ChangeRecord) → Contains items (Changed c) → Contains items (Changed d) → c.key ≡ d.key → c.owner ≡ d.owner

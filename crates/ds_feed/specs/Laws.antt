@@ -22,11 +22,15 @@ PrefixIsShortest = (test : Item → Bool) (max : ℕ) (items : List Item) → Is
 
 -- A law: a request for `m` items, then for `n` after them, returns what one request for all of them returns.
 abbrev pub PrefixesJoin : Type 0
-PrefixesJoin = (test : Item → Bool) (m n : ℕ) (items : List Item) → prefix test (m + n) items ≡ prefix test m items ++ prefix test n (drop (length (prefix test m items)) items)
+PrefixesJoin =
+    (test : Item → Bool) (m n : ℕ) (items : List Item) →
+    prefix test (m + n) items ≡ prefix test m items ++ prefix test n (drop (length (prefix test m items)) items)
 
 -- A law: after the last change of a page, the pages that follow have exactly what that page left. Nothing is missing
 -- between two pages, and nothing is returned twice.
 abbrev pub PagesGoOn : Type 0
 PagesGoOn =
-    (test : Item → Bool) (after : Option Key) (max : ℕ) (held : List Item) (cursor : Cursor) (front : List Item) (c : ChangeRecord) → IsStrictlySortedBy item_cmp held →
-    (page_of test after max held cursor).items ≡ front ++ Changed c ∷ [] → still_to_come test (Some c.key) held ≡ drop max (changes_of (still_to_come test after held))
+    (test : Item → Bool) (after : Option Key) (max : ℕ) (held : List Item) (cursor : Cursor) (front : List Item) (c : ChangeRecord) →
+        IsStrictlySortedBy item_cmp held →
+    (page_of test after max held cursor).items ≡ front ++ Changed c ∷ [] →
+        still_to_come test (Some c.key) held ≡ drop max (changes_of (still_to_come test after held))

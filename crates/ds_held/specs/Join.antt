@@ -36,4 +36,6 @@ pub record IsJoinStopped (old : Holding) (items : List Item) (new : Holding) (st
 
 -- `IsJoinStopped` for these items after `before` others that were merged already.
 abbrev pub JoinStopsBehind : ℕ → Holding → List Item → Holding → Stop → Type 0
-JoinStopsBehind before old items new stop = (start : Holding) (front : List Item) → AreMerged start front old → before ≡ length front → IsJoinStopped start (front ++ items) new stop
+JoinStopsBehind before old items new stop =
+    (start : Holding) (front : List Item) → AreMerged start front old → before ≡ length front →
+    IsJoinStopped start (front ++ items) new stop

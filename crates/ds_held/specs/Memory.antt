@@ -14,8 +14,10 @@ HeldKeyNeedsNoRoom = (old : Holding) (h c : ChangeRecord) → held_for old c.key
 
 -- A law: nor is the merge of a borrowed change whose body is kept in place.
 abbrev pub CopyInPlaceNeedsNoRoom : Type 0
-CopyInPlaceNeedsNoRoom = (old : Holding) (h c : ChangeRecord) → held_for old c.key ≡ Some h → IsBodyInPlace c.body → ¬ IsMergeRefused old c NoRoom
+CopyInPlaceNeedsNoRoom =
+    (old : Holding) (h c : ChangeRecord) → held_for old c.key ≡ Some h → IsBodyInPlace c.body → ¬ IsMergeRefused old c NoRoom
 
 -- A law: the floor of an owner who has one is never refused.
 abbrev pub HeldOwnerIsNotRefused : Type 0
-HeldOwnerIsNotRefused = (old : Holding) (g : ℕ) (f : Floor) (fault : JoinFault) → floor_for old f.owner ≡ Some g → ¬ RaiseAnswer old f (Err fault)
+HeldOwnerIsNotRefused =
+    (old : Holding) (g : ℕ) (f : Floor) (fault : JoinFault) → floor_for old f.owner ≡ Some g → ¬ RaiseAnswer old f (Err fault)

@@ -38,7 +38,8 @@ UnlessVoid false P answer = P
 
 -- The answer where `h` is held for the key. Another owner is judged first, then whether `c` is void.
 abbrev pub AnswersHeld : ChangeRecord → Bool → ChangeRecord → Result Merge JoinFault → Type 0
-AnswersHeld h void c answer = ((h.owner ≢ c.owner) × (answer ≡ Err NotOwner)) ⊎ ((h.owner ≡ c.owner) × UnlessVoid void (AnswersOwn h c answer) answer)
+AnswersHeld h void c answer =
+    ((h.owner ≢ c.owner) × (answer ≡ Err NotOwner)) ⊎ ((h.owner ≡ c.owner) × UnlessVoid void (AnswersOwn h c answer) answer)
 
 -- The answer by what is held for the key, whether the change is void, and the counts of held and allowed keys.
 abbrev pub AnswersFor : Option ChangeRecord → Bool → ℕ → ℕ → ChangeRecord → Result Merge JoinFault → Type 0

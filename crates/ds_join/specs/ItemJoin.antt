@@ -12,7 +12,9 @@ abbrev pub JoinIsCommutative : Type 0
 JoinIsCommutative = (xs ys joined : List Item) → IsJoin joined xs ys → IsJoin joined ys xs
 
 abbrev pub JoinIsAssociative : Type 0
-JoinIsAssociative = (xs ys zs left right joined : List Item) → AreSingleNumbered (xs ++ (ys ++ zs)) → IsJoin left xs ys → IsJoin right ys zs → IsJoin joined left zs → IsJoin joined xs right
+JoinIsAssociative =
+    (xs ys zs left right joined : List Item) → AreSingleNumbered (xs ++ (ys ++ zs)) → IsJoin left xs ys → IsJoin right ys zs →
+    IsJoin joined left zs → IsJoin joined xs right
 
 -- A law: the join of a top with itself is that top.
 abbrev pub JoinIsIdempotent : Type 0

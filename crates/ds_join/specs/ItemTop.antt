@@ -44,7 +44,8 @@ tops items = fold held_after [] items
 -- isn't void. Floors always fit.
 abbrev pub FitsOwners : List Item → Item → Type 0
 FitsOwners items (Floored f) = Unit {0}
-FitsOwners items (Changed c) = (d : ChangeRecord) → Contains items (Changed d) → is_void items c ≡ false → is_void items d ≡ false → c.key ≡ d.key → c.owner ≡ d.owner
+FitsOwners items (Changed c) =
+    (d : ChangeRecord) → Contains items (Changed d) → is_void items c ≡ false → is_void items d ≡ false → c.key ≡ d.key → c.owner ≡ d.owner
 
 -- Whether each item of the list fits those before it. So a key that was dropped may get another owner.
 abbrev pub HasOneOwnerInTurn : List Item → Type 0

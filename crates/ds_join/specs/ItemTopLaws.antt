@@ -22,11 +22,15 @@ HeldIsItsTop = (held set : List Item) → IsTop held set → IsTop held held
 
 -- A law: a floor of the owner is held that isn't below any of the set.
 abbrev pub GreatestFloorIsHeld : Type 0
-GreatestFloorIsHeld = (set held : List Item) (f : Floor) → IsTop held set → Contains set (Floored f) → (g : Floor) × Contains held (Floored g) × (g.owner ≡ f.owner) × (f.generation ≤ g.generation)
+GreatestFloorIsHeld =
+    (set held : List Item) (f : Floor) → IsTop held set → Contains set (Floored f) →
+    (g : Floor) × Contains held (Floored g) × (g.owner ≡ f.owner) × (f.generation ≤ g.generation)
 
 -- A law: what a floor of the set voids isn't held, whether it arrived early or late.
 abbrev pub NothingVoidIsHeld : Type 0
-NothingVoidIsHeld = (set held : List Item) (f : Floor) (c : ChangeRecord) → IsTop held set → Contains set (Floored f) → Contains held (Changed c) → voids f c ≡ false
+NothingVoidIsHeld =
+    (set held : List Item) (f : Floor) (c : ChangeRecord) → IsTop held set → Contains set (Floored f) → Contains held (Changed c) →
+    voids f c ≡ false
 
 -- A law: `tops` returns a top of every list in which, in order of arrival, the changes of a key that aren't void have
 -- one owner.
@@ -39,7 +43,8 @@ TopOfTop = (xs ys top joined : List Item) → IsTop top xs → IsTop joined (top
 
 -- A law: if the items are single-numbered, the top of X and Y is a top of top(X) and Y.
 abbrev pub TopOfUnion : Type 0
-TopOfUnion = (xs ys top joined : List Item) → AreSingleNumbered (xs ++ ys) → IsTop top xs → IsTop joined (xs ++ ys) → IsTop joined (top ++ ys)
+TopOfUnion =
+    (xs ys top joined : List Item) → AreSingleNumbered (xs ++ ys) → IsTop top xs → IsTop joined (xs ++ ys) → IsTop joined (top ++ ys)
 
 -- A law: the top of all known items that a known one covers is that one alone.
 abbrev pub TopOfCovered : Type 0

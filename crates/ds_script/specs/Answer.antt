@@ -108,7 +108,8 @@ AnswersCommand (lines.Beat endpoint tick) old out new = AnswersByServices (Beat 
 AnswersCommand (lines.Tick tick) old out new = AnswersByServices Tick tick old out new
 AnswersCommand (lines.Assign device label) old out new = AnswersByServers (AnswersAssign device label) old out new
 AnswersCommand (lines.Follow map) old out new = AnswersByServers (AnswersFollow (items_of_map old map)) old out new
-AnswersCommand (lines.Submit server id unit map) old out new = AnswersByServers (AnswersSubmit server id unit (items_of_map old map)) old out new
+AnswersCommand (lines.Submit server id unit map) old out new =
+    AnswersByServers (AnswersSubmit server id unit (items_of_map old map)) old out new
 AnswersCommand (lines.Reply server endpoint id) old out new = AnswersByServers (AnswersReply server endpoint id) old out new
 AnswersCommand command old out new = AnswersAsEvent command old out new
 
@@ -139,7 +140,8 @@ MayStand (suc before) command = IsLater command
 
 -- what is answered to a line behind so many others, which has to be a command's, and the state after it
 abbrev pub AnswersLine : ℕ → SessionContent → List ℕ → List ℕ → SessionContent → Type 0
-AnswersLine before old line out new = (command : ScriptCommand) × IsLineAs (MayStand before) command line × AnswersOrRefuses command old out new
+AnswersLine before old line out new =
+    (command : ScriptCommand) × IsLineAs (MayStand before) command line × AnswersOrRefuses command old out new
 
 -- ---- behind the answers that waited
 

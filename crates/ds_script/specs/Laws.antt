@@ -76,16 +76,19 @@ MakesServers R out was now = R was.servers out now.servers × (now.events ≡ wa
 -- those of RS and the tables do as above; `ring` makes all anew, of which nothing came yet; others let nothing happen.
 abbrev pub MakesEvents : ScriptCommand → SessionContent → List ℕ → SessionContent → Past → Past → Type 0
 MakesEvents (lines.Ring ring) old out new was now = AnswersCommand (lines.Ring ring) old out new × (now ≡ no_past)
-MakesEvents (lines.Settings text) old out new was now = AnswersCommand (lines.Settings text) old out new × MakesServers (AnswersSettings text) out was now
+MakesEvents (lines.Settings text) old out new was now =
+    AnswersCommand (lines.Settings text) old out new × MakesServers (AnswersSettings text) out was now
 MakesEvents (lines.Service request label tick) old out new was now = MakesService (request_event request label) tick old out new was now
 MakesEvents (lines.Death endpoint cause tick) old out new was now = MakesService (Death endpoint cause) tick old out new was now
 MakesEvents (lines.Beat endpoint tick) old out new was now = MakesService (Beat endpoint) tick old out new was now
 MakesEvents (lines.Tick tick) old out new was now = MakesService Tick tick old out new was now
 MakesEvents (lines.Assign device label) old out new was now =
     AnswersCommand (lines.Assign device label) old out new × MakesServers (AnswersAssign device label) out was now
-MakesEvents (lines.Follow map) old out new was now = AnswersCommand (lines.Follow map) old out new × MakesServers (AnswersFollow (items_of_map old map)) out was now
+MakesEvents (lines.Follow map) old out new was now =
+    AnswersCommand (lines.Follow map) old out new × MakesServers (AnswersFollow (items_of_map old map)) out was now
 MakesEvents (lines.Submit server id unit map) old out new was now =
-    AnswersCommand (lines.Submit server id unit map) old out new × MakesServers (AnswersSubmit server id unit (items_of_map old map)) out was now
+    AnswersCommand (lines.Submit server id unit map) old out new ×
+        MakesServers (AnswersSubmit server id unit (items_of_map old map)) out was now
 MakesEvents (lines.Reply server endpoint id) old out new was now =
     AnswersCommand (lines.Reply server endpoint id) old out new × MakesServers (AnswersReply server endpoint id) out was now
 MakesEvents command old out new was now =
@@ -95,22 +98,26 @@ MakesEvents command old out new was now =
 -- and so does a line; one that is refused for want of memory, or is bad, lets nothing happen
 abbrev pub LineMakesEvents : BadLines → ℕ → SessionContent → List ℕ → List ℕ → ℕ → SessionContent → Past → Past → Type 0
 LineMakesEvents policy before old line out bad new was now =
-    ((command : ScriptCommand) × IsLineAs (MayStand before) command line × (bad ≡ 0) × ((AnswerTakesRoom command old × IsLineRefused old out new × (now ≡ was)) ⊎ MakesEvents command old out new was now))
+    ((command : ScriptCommand) × IsLineAs (MayStand before) command line × (bad ≡ 0) ×
+        ((AnswerTakesRoom command old × IsLineRefused old out new × (now ≡ was)) ⊎ MakesEvents command old out new was now))
     ⊎ (TellsBadLine policy before old line out bad new × (now ≡ was))
 
 -- and lines, one after the other
 abbrev pub LinesMakeEvents : BadLines → ℕ → SessionContent → List (List ℕ) → List ℕ → ℕ → SessionContent → Past → Past → Type 0
 LinesMakeEvents policy before old [] out bad new was now = (out ≡ []) × (bad ≡ 0) × (new ≡ old) × (now ≡ was)
 LinesMakeEvents policy before old (line ∷ lines) out bad new was now =
-    (mid : SessionContent) × (first rest : List ℕ) × (one more : ℕ) × (next : Past) × LineMakesEvents policy before old line first one mid was next × LinesMakeEvents policy (suc before) mid lines rest more new next now
+    (mid : SessionContent) × (first rest : List ℕ) × (one more : ℕ) × (next : Past) ×
+        LineMakesEvents policy before old line first one mid was next × LinesMakeEvents policy (suc before) mid lines rest more new next now
     × (out ≡ first ++ rest) × (bad ≡ one + more)
 
 -- whatever the lines of a script are answered, the session behind them came of the events of these lines, and of what they did to RS
 -- and the tables
 abbrev pub ScriptsAreEvents : Type 0
 ScriptsAreEvents =
-    (policy : BadLines) (lines : List (List ℕ)) (out : List ℕ) (bad : ℕ) (start end : SessionContent) → IsOpened 256 start → AnswersLines policy 0 start lines out bad end →
-    (past : Past) × LinesMakeEvents policy 0 start lines out bad end no_past past × (ring : ℕ) × (world : World) × CameOf past ring world end
+    (policy : BadLines) (lines : List (List ℕ)) (out : List ℕ) (bad : ℕ) (start end : SessionContent) → IsOpened 256 start →
+        AnswersLines policy 0 start lines out bad end →
+    (past : Past) × LinesMakeEvents policy 0 start lines out bad end no_past past × (ring : ℕ) × (world : World) ×
+        CameOf past ring world end
 
 -- ---- what follows
 
@@ -118,7 +125,8 @@ ScriptsAreEvents =
 -- have one key, one owner and one version, but two bodies.
 abbrev pub ScriptHoldersAgree : Type 0
 ScriptHoldersAgree =
-    (past : Past) (ring : ℕ) (world : World) (session : SessionContent) (query : Key → Bool) (h i : Holder) → CameOf past ring world session →
+    (past : Past) (ring : ℕ) (world : World) (session : SessionContent) (query : Key → Bool) (h i : Holder) →
+        CameOf past ring world session →
     let account = extended_all (new_account (seed 1 ring) (seed 2 ring) larger) past.events in
     AreExact account.brought → KnowSame query (known_at account h) (known_at account i) → HoldSame world query h i
 
@@ -133,10 +141,12 @@ ScriptLabelsAreNewest =
 -- Where both stores hold the same under the query of all keys, `show` answers the same at both sides.
 abbrev pub ShowsAgree : Type 0
 ShowsAgree =
-    (world : World) (session after : SessionContent) (out : List ℕ) → WorldStands session.world world → HoldSame world (λ key. true) (Store A) (Store B) →
+    (world : World) (session after : SessionContent) (out : List ℕ) → WorldStands session.world world →
+        HoldSame world (λ key. true) (Store A) (Store B) →
     AnswersCommand lines.Show (turned session A) out after → AnswersCommand lines.Show (turned session B) out (turned session B)
 
 -- No line is bad where a bad line ends the script.
 abbrev pub NoneIsBadWhereOneEnds : Type 0
 NoneIsBadWhereOneEnds =
-    (before : ℕ) (old new : SessionContent) (lines : List (List ℕ)) (out : List ℕ) (bad : ℕ) → AnswersLines End before old lines out bad new → bad ≡ 0
+    (before : ℕ) (old new : SessionContent) (lines : List (List ℕ)) (out : List ℕ) (bad : ℕ) →
+        AnswersLines End before old lines out bad new → bad ≡ 0

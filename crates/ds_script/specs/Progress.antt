@@ -74,37 +74,45 @@ pub record TakesText (had has : Option (List ℕ)) (old : Reached) (text : List 
 -- What is so at a fault: by the answers `output` that wait then, where `mid` is the replay behind the last line that was
 -- answered, and `rest` wasn't.
 abbrev pub Leaves : ReplayFault → (to : Option (List ℕ)) → (output : List ℕ) → (mid : Reached) → (rest : List ℕ) → Type 0
-Leaves (BadLine number place expected) to output mid rest = (mid.policy ≡ End) × (mid.waiting ≡ output) × BeginsBadLine mid.lines to rest place × (number ≡ suc mid.lines)
+Leaves (BadLine number place expected) to output mid rest =
+    (mid.policy ≡ End) × (mid.waiting ≡ output) × BeginsBadLine mid.lines to rest place × (number ≡ suc mid.lines)
 Leaves ReadFault to output mid rest = (mid.waiting ≡ output) × IsUnbroken rest
 Leaves WriteFault to output mid rest = Unit {0}
 Leaves NoRoom to output mid rest = mid.waiting ≡ output
 
 -- none of the lines was answered, or all were
 abbrev pub TakesNoneOrAll : (had has : Option (List ℕ)) → Reached → List (List ℕ) → Type 0
-TakesNoneOrAll had has old whole = (lines : List (List ℕ)) × (mid : Reached) × ((lines ≡ []) ⊎ (lines ≡ whole)) × TakesLines had has old lines mid
+TakesNoneOrAll had has old whole =
+    (lines : List (List ℕ)) × (mid : Reached) × ((lines ≡ []) ⊎ (lines ≡ whole)) × TakesLines had has old lines mid
 
 -- a line, without its newline, wasn't answered, or the writer failed behind it
 abbrev pub LineStops : ReplayFault → (had has : Option (List ℕ)) → Reached → List ℕ → (output : List ℕ) → Type 0
-LineStops (BadLine number place expected) had has old line output = (mid : Reached) × TakesLines had has old [] mid × (mid.policy ≡ End) × (mid.waiting ≡ output) × IsBadBehind old.lines line place × (number ≡ suc old.lines)
+LineStops (BadLine number place expected) had has old line output =
+    (mid : Reached) × TakesLines had has old [] mid × (mid.policy ≡ End) × (mid.waiting ≡ output) × IsBadBehind old.lines line place ×
+    (number ≡ suc old.lines)
 LineStops ReadFault had has old line output = ⊥
 LineStops WriteFault had has old line output = TakesNoneOrAll had has old (line ∷ [])
 LineStops NoRoom had has old line output = (mid : Reached) × TakesLines had has old [] mid × (mid.waiting ≡ output)
 
 -- some lines of a text were answered, and then the fault came
 abbrev pub TextStops : ReplayFault → (to had has : Option (List ℕ)) → Reached → (text output : List ℕ) → Type 0
-TextStops fault to had has old text output = (mid : Reached) × (rest : List ℕ) × TakesText had has old text mid rest × Leaves fault to output mid rest
+TextStops fault to had has old text output =
+    (mid : Reached) × (rest : List ℕ) × TakesText had has old text mid rest × Leaves fault to output mid rest
 
 -- the last line, whose newline is missing, wasn't answered, or the writer failed behind it
 abbrev pub LastStops : ReplayFault → (to had has : Option (List ℕ)) → Reached → (pending output : List ℕ) → Type 0
-LastStops fault to had has old pending output = TextStops fault to had has old pending output ⊎ ((fault ≡ WriteFault) × TakesNoneOrAll had has old (unended pending))
+LastStops fault to had has old pending output =
+    TextStops fault to had has old pending output ⊎ ((fault ≡ WriteFault) × TakesNoneOrAll had has old (unended pending))
 
 -- ---- turns
 
 -- What a turn does: more was read behind what was pending, and lines of it were answered; or there was no more to read, and
 -- what was pending was the last line, if it is one.
 abbrev pub Turns : Bool → (from to had has : Option (List ℕ)) → Reached → (pending : List ℕ) → Reached → (rest : List ℕ) → Type 0
-Turns true from to had has old pending new rest = (bytes : List ℕ) × Consumes from to bytes × TakesText had has old (pending ++ bytes) new rest × IsUnbroken rest
-Turns false from to had has old pending new rest = Consumes from to [] × IsAtEnd to × TakesLines had has old (unended pending) new × (new.waiting ≡ [])
+Turns true from to had has old pending new rest =
+    (bytes : List ℕ) × Consumes from to bytes × TakesText had has old (pending ++ bytes) new rest × IsUnbroken rest
+Turns false from to had has old pending new rest =
+    Consumes from to [] × IsAtEnd to × TakesLines had has old (unended pending) new × (new.waiting ≡ [])
 
 -- what a turn has done that stopped
 abbrev pub TurnStops : ReplayFault → (from to had has : Option (List ℕ)) → Reached → (pending output : List ℕ) → Type 0

@@ -22,7 +22,8 @@ badline number place = with_newline (codes "badline " ++ (decimal number ++ 32 �
 
 -- The line behind so many others is bad, and that is its answer, where bad lines end nothing. It changes nothing, and is counted.
 abbrev pub TellsBadLine : BadLines → ℕ → SessionContent → List ℕ → List ℕ → ℕ → SessionContent → Type 0
-TellsBadLine policy before old line out bad new = (policy ≡ GoOn) × (new ≡ old) × (bad ≡ 1) × (place : ℕ) × IsBadBehind before line place × (out ≡ badline (suc before) place)
+TellsBadLine policy before old line out bad new =
+    (policy ≡ GoOn) × (new ≡ old) × (bad ≡ 1) × (place : ℕ) × IsBadBehind before line place × (out ≡ badline (suc before) place)
 
 -- A line behind so many others is answered, or told to be bad.
 abbrev pub AnswersOrTells : BadLines → ℕ → SessionContent → List ℕ → List ℕ → ℕ → SessionContent → Type 0
@@ -32,13 +33,16 @@ AnswersOrTells policy before old line out bad new =
 -- the answers to lines behind so many, one after the other, with the count of the bad ones
 abbrev pub AnswersLines : BadLines → ℕ → SessionContent → List (List ℕ) → List ℕ → ℕ → SessionContent → Type 0
 AnswersLines policy before old [] out bad new = (out ≡ []) × (bad ≡ 0) × (new ≡ old)
-AnswersLines policy before old (line ∷ lines) out bad new = (mid : SessionContent) × (first rest : List ℕ) × (one more : ℕ) × AnswersOrTells policy before old line first one mid × AnswersLines policy (suc before) mid lines rest more new × (out ≡ first ++ rest) × (bad ≡ one + more)
+AnswersLines policy before old (line ∷ lines) out bad new =
+    (mid : SessionContent) × (first rest : List ℕ) × (one more : ℕ) × AnswersOrTells policy before old line first one mid ×
+    AnswersLines policy (suc before) mid lines rest more new × (out ≡ first ++ rest) × (bad ≡ one + more)
 
 -- The output is what the lines of a script are answered, so many of them bad, from a session whose journals keep 256 items. To no
 -- lines nothing is answered.
 abbrev pub AreAnswers : BadLines → List (List ℕ) → ℕ → List ℕ → Type 0
 AreAnswers policy [] bad output = (output ≡ []) × (bad ≡ 0)
-AreAnswers policy (line ∷ lines) bad output = (start end : SessionContent) × IsOpened 256 start × AnswersLines policy 0 start (line ∷ lines) output bad end
+AreAnswers policy (line ∷ lines) bad output =
+    (start end : SessionContent) × IsOpened 256 start × AnswersLines policy 0 start (line ∷ lines) output bad end
 
 -- The input is so many lines, so many of them bad, and the output is the answers to all of them.
 pub record IsReplayed (policy : BadLines) (input : List ℕ) (count bad : ℕ) (output : List ℕ) : Type 0 where
@@ -84,7 +88,8 @@ ReplayStops policy Why input output = (count bad : ℕ) × (rest : List ℕ) × 
 -- How the input was answered by the output when a fault ended it, where `to` is what the reader has left. A bad line ends it
 -- only where it is to.
 abbrev pub StopsWith : BadLines → ReplayFault → Option (List ℕ) → List ℕ → List ℕ → Type 0
-StopsWith policy (BadLine number place expected) to input output = (policy ≡ End) × ReplayStops policy (λ count rest. BeginsBadLine count to rest place × (number ≡ suc count)) input output
+StopsWith policy (BadLine number place expected) to input output =
+    (policy ≡ End) × ReplayStops policy (λ count rest. BeginsBadLine count to rest place × (number ≡ suc count)) input output
 StopsWith policy ReadFault to input output = ReplayStops policy (λ count rest. IsUnbroken rest) input output
 StopsWith policy WriteFault to input output = IsAnsweredInPart policy to input output
 StopsWith policy NoRoom to input output = ReplayStops policy (λ count rest. Unit {0}) input output

@@ -18,7 +18,10 @@ use Rattle.ds_script.specs.Causes.{HasWriteCause, HasTurnCause}
 
 -- what it has reached
 abbrev pub reached : {W B : Type 0} → Replay W B → Reached
-reached it = record { session = it.session.now; waiting = it.output.items; lines = it.tally.lines; bad = it.tally.bad; policy = it.bad_lines }
+reached it = record {
+    session = it.session.now; waiting = it.output.items; lines = it.tally.lines; bad = it.tally.bad;
+    policy = it.bad_lines;
+}
 
 -- the bytes that its writer holds, where they are known
 abbrev pub written : {W B : Type 0} → Writer W → Replay W B → Option (List ℕ)

@@ -86,7 +86,8 @@ pub record IsUnasked (q : Query) (front : List Item) (i : Item) (fault : JoinFau
 -- Whether the first `done` items were taken, and the next one is refused.
 pub record IsTakeStopped (q : Query) (old : Holding) (items : List Item) (new : Holding) (stop : Stop) : Type 0 where
   pub front : AreTaken q old (take stop.done items) new
-  pub refused : (next : Item) × (slice_get items stop.done ≡ Some next) × (IsRefusedUnder q new next stop.fault ⊎ IsUnasked q (take stop.done items) next stop.fault)
+  pub refused : (next : Item) × (slice_get items stop.done ≡ Some next) ×
+      (IsRefusedUnder q new next stop.fault ⊎ IsUnasked q (take stop.done items) next stop.fault)
 
 -- Whether the new holding is the top of the old one and of the items under the query, floors among them.
 abbrev pub JoinsUnder : Query → Holding → List Item → Holding → Type 0
