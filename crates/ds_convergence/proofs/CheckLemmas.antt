@@ -37,7 +37,8 @@ same_rest [] ys zs e = e
 same_rest (x ∷ xs) ys zs e = same_rest xs ys zs (let t : xs ++ ys ≡ xs ++ zs = cc in t)
 
 -- what an earlier item covers took effect as early
-early_too : (early b f : Feed) (since : List Item) (i j : Item) → f.accepted ≡ early.accepted ++ since → AreNew early.accepted since → IsFront early b → IsFront b f → Contains f.accepted i → Contains b.accepted j → covers j i ≡ true → Contains b.accepted i
+early_too : (early b f : Feed) (since : List Item) (i j : Item) → f.accepted ≡ early.accepted ++ since → AreNew early.accepted since → IsFront early b → IsFront b f →
+    Contains f.accepted i → Contains b.accepted j → covers j i ≡ true → Contains b.accepted i
 early_too early b f since i j all new later front h k e = at (Contains-append_cases b.accepted front.grown.0 i (subst (λ (l : List Item). Contains l i) front.grown.1 h))
   where
     both : since ≡ later.grown.0 ++ front.grown.0
@@ -126,7 +127,8 @@ last_stands early f query shown t s l i h q = let d = s.top.greatest i h in by_t
 
 -- Checks up to such a one do so together.
 module _ (early f : Feed) (since : List Item) (all : f.accepted ≡ early.accepted ++ since) (new : AreNew early.accepted since) (query : Key → Bool) where
-  checks_stand : (shown : List Item) (turns : List CheckTurn) (last : CheckTurn) → AreChecks early f query shown (turns ++ last ∷ []) → length last.items < last.max → (i : Item) → Contains f.accepted i → Contains last.feed.accepted i → passes query i ≡ true →
+  checks_stand : (shown : List Item) (turns : List CheckTurn) (last : CheckTurn) → AreChecks early f query shown (turns ++ last ∷ []) → length last.items < last.max → (i : Item) →
+      Contains f.accepted i → Contains last.feed.accepted i → passes query i ≡ true →
       Contains (stood_for (check_items (turns ++ last ∷ []))) i ⊎ ((e : Item) × Contains shown e × (covers e i ≡ true))
   checks_stand shown [] last s l i a h q = elim (last_stands early f query shown last s.0 l i h q) [ inl k ↦ inl (stood_left (given last.known last.items) [] i k) | inr k ↦ inr k ]
   checks_stand shown (t ∷ ts) last s l i a h q = at (checks_stand (shown ++ t.items) ts last s.1 l i a h q)
@@ -138,7 +140,8 @@ module _ (early f : Feed) (since : List Item) (all : f.accepted ≡ early.accept
           let knew : Contains t.known i = s.0.knows i (early_too early t.feed f since i e all new s.0.later s.0.front a accepted c) in
           inl (stood_left (given t.known t.items) (check_items (ts ++ last ∷ [])) i (given_stands t.known t.items i e k knew c))
 
-      at : Contains (stood_for (check_items (ts ++ last ∷ []))) i ⊎ ((e : Item) × Contains (shown ++ t.items) e × (covers e i ≡ true)) → Contains (stood_for (check_items (t ∷ ts ++ last ∷ []))) i ⊎ ((e : Item) × Contains shown e × (covers e i ≡ true))
+      at : Contains (stood_for (check_items (ts ++ last ∷ []))) i ⊎ ((e : Item) × Contains (shown ++ t.items) e × (covers e i ≡ true)) →
+          Contains (stood_for (check_items (t ∷ ts ++ last ∷ []))) i ⊎ ((e : Item) × Contains shown e × (covers e i ≡ true))
       at (inl k) = inl (stood_right (given t.known t.items) (check_items (ts ++ last ∷ [])) i k)
       at (inr k) = by_check k.0 k.2 (Contains-append_cases shown t.items k.0 k.1)
 

@@ -53,7 +53,8 @@ record IsReached (f : Feed) (p : ℕ) : Type 0 where
 reached : (f : Feed) (at : Cursor) → fault_at f at ≡ None → IsReached f at.position
 reached f at e = by_tests (at.incarnation == f.incarnation) (nat_lt (position f) at.position) (nat_lt (at.position + min f.ring (length f.accepted)) (position f)) refl refl e
   where
-    by_tests : (same ahead behind : Bool) → nat_lt (position f) at.position ≡ ahead → nat_lt (at.position + min f.ring (length f.accepted)) (position f) ≡ behind → cond (not same) (Some OldCursor) (cond ahead (Some Ahead) (cond behind (Some Behind) None)) ≡ None → IsReached f at.position
+    by_tests : (same ahead behind : Bool) → nat_lt (position f) at.position ≡ ahead → nat_lt (at.position + min f.ring (length f.accepted)) (position f) ≡ behind →
+        cond (not same) (Some OldCursor) (cond ahead (Some Ahead) (cond behind (Some Behind) None)) ≡ None → IsReached f at.position
     by_tests false ahead behind a b e = cc
     by_tests true true behind a b e = cc
     by_tests true false true a b e = cc
@@ -102,7 +103,8 @@ fewer_reach_the_end f test at max since g few = by_piece (prefix_is_shortest tes
         let l : length (piece f test at max) ≡ length f.accepted - (at.position - f.first) = ap (λ (x : List Item). length x) all ∙ rest in
         omega arith
 
-given_splits : (f : Feed) (test : Item → Bool) (at : Cursor) (max : ℕ) (since : Since) → IsGiven f test at max since → (i : Item) → test i ≡ true → Contains (before f since.cursor.position) i → Contains (before f at.position) i ⊎ Contains since.items i
+given_splits : (f : Feed) (test : Item → Bool) (at : Cursor) (max : ℕ) (since : Since) → IsGiven f test at max since → (i : Item) → test i ≡ true →
+    Contains (before f since.cursor.position) i → Contains (before f at.position) i ⊎ Contains since.items i
 given_splits f test at max since g i q h =
     elim (split_at (at.position - f.first) n f.accepted i (subst (λ (k : ℕ). Contains (take k f.accepted) i) place h)) [
       | inl k ↦ inl k
@@ -175,7 +177,8 @@ module _ (f : Feed) (scope : Key → Bool) where
       earlier k =
           by_piece (given_splits t.feed (passes scope) at t.max t.since s.0.given d q (subst (λ (l : List Item). Contains l d) (at_front t.since.cursor.position (turn_ends at t s.0).0) k))
 
-  pub journal_stands : (at : Cursor) (ts : List SinceTurn) (d : Item) → AreSince f scope at ts → passes scope d ≡ true → Contains (before f (cursor_after at ts).position) d → Contains (before f at.position) d ⊎ Contains (stood_for (since_items ts)) d
+  pub journal_stands : (at : Cursor) (ts : List SinceTurn) (d : Item) → AreSince f scope at ts → passes scope d ≡ true → Contains (before f (cursor_after at ts).position) d →
+      Contains (before f at.position) d ⊎ Contains (stood_for (since_items ts)) d
   journal_stands at ts d s q h = journal_covers at ts d d s q (covers-refl d) (inr refl) h
 
 pub sinces_extend : SincesExtend

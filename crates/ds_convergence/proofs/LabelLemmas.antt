@@ -84,7 +84,8 @@ no_older_label known held c t h e = nothing_older known held c t h (label_stays 
 at_most-means : (v w : Version) → is_at_most v w ≡ true → (v.epoch < w.epoch) ⊎ ((v.epoch ≡ w.epoch) × (v.seq ≤ w.seq))
 at_most-means v w h = by_order (nat_cmp v.epoch w.epoch) (nat_cmp v.seq w.seq) (ranked v.epoch w.epoch (nat_cmp v.epoch w.epoch) refl) (ranked v.seq w.seq (nat_cmp v.seq w.seq) refl) h
   where
-    by_order : (o p : Ordering) → MatchOrdering o (v.epoch < w.epoch) (v.epoch ≡ w.epoch) (w.epoch < v.epoch) → MatchOrdering p (v.seq < w.seq) (v.seq ≡ w.seq) (w.seq < v.seq) → is_le (ordering_then o p) ≡ true → (v.epoch < w.epoch) ⊎ ((v.epoch ≡ w.epoch) × (v.seq ≤ w.seq))
+    by_order : (o p : Ordering) → MatchOrdering o (v.epoch < w.epoch) (v.epoch ≡ w.epoch) (w.epoch < v.epoch) → MatchOrdering p (v.seq < w.seq) (v.seq ≡ w.seq) (w.seq < v.seq) →
+        is_le (ordering_then o p) ≡ true → (v.epoch < w.epoch) ⊎ ((v.epoch ≡ w.epoch) × (v.seq ≤ w.seq))
     by_order Less p a b h = inl a
     by_order Equal Less a b h = inr (a, omega arith)
     by_order Equal Equal a b h = inr (a, omega arith)
@@ -129,7 +130,8 @@ module _ (known held : List Item) (name : List ℕ) (t : IsTop held known) (vali
       rule.body
 
   -- A held change of the label isn't older than what is known.
-  not_older : (c : ChangeRecord) → Contains held (Changed c) → c.key ≡ label_key name → (d : ChangeRecord) → Contains known (Changed d) → d.key ≡ label_key name → (d.version.epoch < c.version.epoch) ⊎ ((d.version.epoch ≡ c.version.epoch) × (d.version.seq ≤ c.version.seq))
+  not_older : (c : ChangeRecord) → Contains held (Changed c) → c.key ≡ label_key name → (d : ChangeRecord) → Contains known (Changed d) → d.key ≡ label_key name →
+      (d.version.epoch < c.version.epoch) ⊎ ((d.version.epoch ≡ c.version.epoch) × (d.version.seq ≤ c.version.seq))
   not_older c h e d k q = at_most-means d.version c.version ((no_older_label known held d t k (ap (λ (l : Key). l.kind) q)).each c h (e ∙ sym q))
 
   gone_newest : (c : ChangeRecord) → Contains held (Changed c) → c.key ≡ label_key name → c.body ≡ Gone → IsGone known name
@@ -152,7 +154,8 @@ module _ (known held : List Item) (name : List ℕ) (t : IsTop held known) (vali
       newest d r (inl l) = let g : c.version.epoch ≡ p.generation = r.1 in omega arith
       newest d r (inr l) = let g : c.version.epoch ≡ p.generation = r.1 in omega arith
 
-      not_gone : (d : ChangeRecord) → (c.version.seq ≡ 0) × (c.version.epoch ≡ p.generation) → d.version.seq ≡ 1 → (d.version.epoch < c.version.epoch) ⊎ ((d.version.epoch ≡ c.version.epoch) × (d.version.seq ≤ c.version.seq)) → d.version.epoch < p.generation
+      not_gone : (d : ChangeRecord) → (c.version.seq ≡ 0) × (c.version.epoch ≡ p.generation) → d.version.seq ≡ 1 →
+          (d.version.epoch < c.version.epoch) ⊎ ((d.version.epoch ≡ c.version.epoch) × (d.version.seq ≤ c.version.seq)) → d.version.epoch < p.generation
       not_gone d r u (inl l) = let g : c.version.epoch ≡ p.generation = r.1 in omega arith
       not_gone d r u (inr l) = let s : c.version.seq ≡ 0 = r.0 in absurd (let m : d.version.seq ≤ c.version.seq = l.1 in omega arith)
 

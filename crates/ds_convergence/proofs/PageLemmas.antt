@@ -38,7 +38,8 @@ use Rattle.ds_convergence.proofs.JournalLemmas.{front_is, front_part, journal_co
 -- ---- after a key
 
 -- What comes after the first n changes of an ordered list comes after the last key of these.
-drop_behind : (after : Option Key) (xs : List Item) (n : ℕ) (d : ChangeRecord) → IsStrictlySortedBy item_cmp xs → ((i : Item) → In i xs → is_behind_key after i ≡ true) → In (Changed d) (drop n xs) → is_behind_key (last_key after (take n xs)) (Changed d) ≡ true
+drop_behind : (after : Option Key) (xs : List Item) (n : ℕ) (d : ChangeRecord) → IsStrictlySortedBy item_cmp xs → ((i : Item) → In i xs → is_behind_key after i ≡ true) →
+    In (Changed d) (drop n xs) → is_behind_key (last_key after (take n xs)) (Changed d) ≡ true
 unfolding IsStrictlySortedBy
 drop_behind after [] zero d s f h = absurd h
 drop_behind after [] (suc n) d s f h = absurd h
@@ -106,7 +107,8 @@ module _ (f : Feed) (scope : Key → Bool) (after : Option Key) (t : PageTurn) (
   taken i h = subst (λ (l : List Item). Contains l i) (sym items_are) (Contains-append_right (floors_of rest) (take t.max changes) i h)
 
   -- A held change is on the page, or after its last key if more pages follow.
-  pub on_page : (d : ChangeRecord) → Contains t.held (Changed d) → passes scope (Changed d) ≡ true → is_behind_key after (Changed d) ≡ true → Contains t.page.items (Changed d) ⊎ ((t.page.last ≡ false) × (is_behind_key (last_key after t.page.items) (Changed d) ≡ true))
+  pub on_page : (d : ChangeRecord) → Contains t.held (Changed d) → passes scope (Changed d) ≡ true → is_behind_key after (Changed d) ≡ true →
+      Contains t.page.items (Changed d) ⊎ ((t.page.last ≡ false) × (is_behind_key (last_key after t.page.items) (Changed d) ≡ true))
   on_page d h p b =
       by_place (Contains-append_cases (take t.max changes) (drop t.max changes) (Changed d)
       (subst (λ (l : List Item). Contains l (Changed d)) (sym (take-append-drop t.max changes)) (Contains-filter (λ (j : Item). not (is_floor j)) rest (Changed d) (to_come (Changed d) h p b) refl)))
@@ -132,7 +134,8 @@ module _ (f : Feed) (scope : Key → Bool) (after : Option Key) (t : PageTurn) (
       (Contains-append_left (floors_of rest) (take t.max changes) (Floored g) (Contains-filter is_floor rest (Floored g) (to_come (Floored g) h refl b) refl))
 
 -- the first page stands for all that a floor of that time covers
-first_page : (f : Feed) (scope : Key → Bool) (t : PageTurn) → IsPageTurn f scope None t → (g : Floor) (i : Item) → Contains t.feed.accepted (Floored g) → Contains t.feed.accepted i → covers (Floored g) i ≡ true → Contains (stood_for (given t.known t.page.items)) i
+first_page : (f : Feed) (scope : Key → Bool) (t : PageTurn) → IsPageTurn f scope None t → (g : Floor) (i : Item) → Contains t.feed.accepted (Floored g) →
+    Contains t.feed.accepted i → covers (Floored g) i ≡ true → Contains (stood_for (given t.known t.page.items)) i
 first_page f scope t s g i h k e = let d = s.top.greatest (Floored g) h in over d.0 d.1 d.2
   where
     over : (d : Item) → Contains t.held d → covers d (Floored g) ≡ true → Contains (stood_for (given t.known t.page.items)) i
@@ -155,7 +158,9 @@ module _ (f : Feed) (scope : Key → Bool) where
   rises t after [] w = omega arith
   rises t after (u ∷ us) w = by_last t.page.last w (rises u (last_key after u.page.items) us)
     where
-      by_last : (b : Bool) → MatchBool b ((u ∷ us) ≡ []) (ArePages f scope after t.page.cursor.position (u ∷ us)) → (Follow u (last_key after u.page.items) us → u.page.cursor.position ≤ (last_cursor u.page.cursor us).position) → t.page.cursor.position ≤ (last_cursor u.page.cursor us).position
+      by_last : (b : Bool) → MatchBool b ((u ∷ us) ≡ []) (ArePages f scope after t.page.cursor.position (u ∷ us)) →
+          (Follow u (last_key after u.page.items) us → u.page.cursor.position ≤ (last_cursor u.page.cursor us).position) →
+          t.page.cursor.position ≤ (last_cursor u.page.cursor us).position
       by_last true e more = cc
       by_last false w more =
           let on : t.page.cursor.position ≤ u.page.cursor.position = w.1 in
@@ -188,7 +193,8 @@ module _ (f : Feed) (scope : Key → Bool) where
 
       on_or_behind : (d : ChangeRecord) → covers (Changed d) (Changed c) ≡ true →
           Contains t.page.items (Changed d) ⊎ ((t.page.last ≡ false) × (is_behind_key (last_key after t.page.items) (Changed d) ≡ true)) →
-          (ArePages f scope (last_key after t.page.items) t.page.cursor.position ts → is_behind_key (last_key after t.page.items) (Changed c) ≡ true → Contains (stood_for (page_items ts)) (Changed c) ⊎ IsFloored f (last_cursor t.page.cursor ts).position (Changed c)) →
+          (ArePages f scope (last_key after t.page.items) t.page.cursor.position ts → is_behind_key (last_key after t.page.items) (Changed c) ≡ true →
+              Contains (stood_for (page_items ts)) (Changed c) ⊎ IsFloored f (last_cursor t.page.cursor ts).position (Changed c)) →
           Contains (stood_for (page_items (t ∷ ts))) (Changed c) ⊎ IsFloored f (last_cursor t.page.cursor ts).position (Changed c)
       on_or_behind d e (inl k) more = inl (here (Changed d) e k)
       on_or_behind d e (inr k) more =
@@ -198,7 +204,8 @@ module _ (f : Feed) (scope : Key → Bool) where
           ]
 
       over : (d : Item) → Contains t.held d → covers d (Changed c) ≡ true →
-          (ArePages f scope (last_key after t.page.items) t.page.cursor.position ts → is_behind_key (last_key after t.page.items) (Changed c) ≡ true → Contains (stood_for (page_items ts)) (Changed c) ⊎ IsFloored f (last_cursor t.page.cursor ts).position (Changed c)) →
+          (ArePages f scope (last_key after t.page.items) t.page.cursor.position ts → is_behind_key (last_key after t.page.items) (Changed c) ≡ true →
+              Contains (stood_for (page_items ts)) (Changed c) ⊎ IsFloored f (last_cursor t.page.cursor ts).position (Changed c)) →
           Contains (stood_for (page_items (t ∷ ts))) (Changed c) ⊎ IsFloored f (last_cursor t.page.cursor ts).position (Changed c)
       over (Floored g) k e more =
           let there : Contains (before f t.page.cursor.position) (Floored g) = subst (λ (l : List Item). Contains l (Floored g)) (sym (page_front f scope after t w.0)) (w.0.top.among (Floored g) k) in
@@ -226,7 +233,9 @@ pages_end f scope first pages w = at first None 0 pages w
     at t after p [] w = end_at after t w.0
     at t after p (u ∷ us) w = by_last t.page.last w.2 (at u (last_key after t.page.items) t.page.cursor.position us)
       where
-        by_last : (b : Bool) → MatchBool b ((u ∷ us) ≡ []) (ArePages f scope (last_key after t.page.items) t.page.cursor.position (u ∷ us)) → (ArePages f scope (last_key after t.page.items) t.page.cursor.position (u ∷ us) → (last_cursor u.page.cursor us).position ≤ position f) → (last_cursor u.page.cursor us).position ≤ position f
+        by_last : (b : Bool) → MatchBool b ((u ∷ us) ≡ []) (ArePages f scope (last_key after t.page.items) t.page.cursor.position (u ∷ us)) →
+            (ArePages f scope (last_key after t.page.items) t.page.cursor.position (u ∷ us) → (last_cursor u.page.cursor us).position ≤ position f) →
+            (last_cursor u.page.cursor us).position ≤ position f
         by_last true e rest = cc
         by_last false v rest = rest v
 

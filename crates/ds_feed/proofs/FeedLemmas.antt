@@ -22,7 +22,8 @@ last_pushed n items i =
     ap (drop (length (last_items n items ++ i ∷ []) - n)) (sym (drop-append-le k items (i ∷ []) within)) ∙ (drop-drop (length (last_items n items ++ i ∷ []) - n) k (items ++ i ∷ []) ∙ ap (λ (m : ℕ). drop m (items ++ i ∷ [])) same)
 
 -- a journal with one more item keeps the feed with one more
-pub keeps_pushed : (old new : Kept) (f : Feed) (i : Item) → Keeps old f → new.items ≡ last_items old.ring (old.items ++ i ∷ []) → new.first ≡ old.first → new.position ≡ old.position + 1 → new.ring ≡ old.ring → new.incarnation ≡ old.incarnation →
+pub keeps_pushed : (old new : Kept) (f : Feed) (i : Item) → Keeps old f → new.items ≡ last_items old.ring (old.items ++ i ∷ []) → new.first ≡ old.first →
+    new.position ≡ old.position + 1 → new.ring ≡ old.ring → new.incarnation ≡ old.incarnation →
     Keeps new (accepts f i)
 keeps_pushed old new f i k items first next ring incarnation = record {
   items = items ∙ (ap (λ (n : ℕ). last_items n (old.items ++ i ∷ [])) k.ring ∙ (ap (λ (l : List Item). last_items f.ring (l ++ i ∷ [])) k.items ∙ last_pushed f.ring f.accepted i));

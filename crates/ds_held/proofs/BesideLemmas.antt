@@ -118,5 +118,6 @@ module _ (fs : List Floor) (xs : List ChangeRecord) (lim : LimitsRecord) (kept :
     pub raised_over : (f : Floor) (place : Result ℕ ℕ) → IsFloorPlace fs f.owner place → RaiseAnswer held f (Ok Taken) → (gs : List Floor) (ys : List ChangeRecord) → gs ≡ put_at fs place f → ys ≡ left_by_floor f xs → IsRaisedIn h f gs ys
     raised_over f place p a gs ys floors changes = subst (λ g. IsRaisedIn g f gs ys) is (raise_facts f place p a gs ys floors changes)
 
-    pub raised_in : (f : Floor) (place : Result ℕ ℕ) → IsFloorPlace (held_floors h) f.owner place → RaiseAnswer h f (Ok Taken) → (gs : List Floor) (ys : List ChangeRecord) → gs ≡ put_at fs place f → ys ≡ left_by_floor f xs → IsRaisedIn h f gs ys
+    pub raised_in : (f : Floor) (place : Result ℕ ℕ) → IsFloorPlace (held_floors h) f.owner place → RaiseAnswer h f (Ok Taken) → (gs : List Floor) (ys : List ChangeRecord) →
+        gs ≡ put_at fs place f → ys ≡ left_by_floor f xs → IsRaisedIn h f gs ys
     raised_in f place p a gs ys floors changes = raised_over f place (floor_place f.owner place p) (subst (λ g. RaiseAnswer g f (Ok Taken)) (sym is) a) gs ys floors changes

@@ -124,13 +124,15 @@ get_drop (suc i) (x ∷ xs) = get_drop i xs
 
 module _ {M : Type 0} (f : Floor) where
   -- what is left of one more
-  left_next : (i : ℕ) (cs : List ChangeRecord) (ms : List M) (c : ChangeRecord) (m : M) → slice_get cs i ≡ Some c → slice_get ms i ≡ Some m → marks_left f (take (suc i) cs) (take (suc i) ms) ≡ marks_left f (take i cs) (take i ms) ++ cond (voids f c) [] (m ∷ [])
+  left_next : (i : ℕ) (cs : List ChangeRecord) (ms : List M) (c : ChangeRecord) (m : M) → slice_get cs i ≡ Some c → slice_get ms i ≡ Some m →
+      marks_left f (take (suc i) cs) (take (suc i) ms) ≡ marks_left f (take i cs) (take i ms) ++ cond (voids f c) [] (m ∷ [])
   left_next i [] ms c m e g = absurd (cc)
   left_next i (x ∷ cs) [] c m e g = absurd (cc)
   left_next zero (x ∷ cs) (n ∷ ms) c m e g =
       ap (λ (z : ChangeRecord). cond (voids f z) [] (n ∷ [])) (same_Some x c e) ∙ ap (λ z. cond (voids f c) [] (z ∷ [])) (same_Some n m g)
   left_next (suc i) (x ∷ cs) (n ∷ ms) c m e g =
-      elim (voids f x) as (λ v. cond v (marks_left f (take (suc i) cs) (take (suc i) ms)) (n ∷ marks_left f (take (suc i) cs) (take (suc i) ms)) ≡ cond v (marks_left f (take i cs) (take i ms)) (n ∷ marks_left f (take i cs) (take i ms)) ++ cond (voids f c) [] (m ∷ [])) [
+      elim (voids f x) as (λ v. cond v (marks_left f (take (suc i) cs) (take (suc i) ms)) (n ∷ marks_left f (take (suc i) cs) (take (suc i) ms)) ≡ cond v
+          (marks_left f (take i cs) (take i ms)) (n ∷ marks_left f (take i cs) (take i ms)) ++ cond (voids f c) [] (m ∷ [])) [
         | true ↦ left_next i cs ms c m e g
         | false ↦ ap (λ l. n ∷ l) (left_next i cs ms c m e g)
       ]
@@ -267,7 +269,8 @@ module _ {M : Type 0} (f : Floor) where
     few = omega arith;
   }
 
-  module _ (cs : List ChangeRecord) (ms : List M) (same : length ms ≡ length cs) (kept : List ChangeRecord) (marks : List M) (left i count : ℕ) (d : Dropped cs ms kept marks left i count) (c : ChangeRecord) (within : i < length cs) (at : c ≡ get_or kept i c) where
+  module _ (cs : List ChangeRecord) (ms : List M) (same : length ms ≡ length cs) (kept : List ChangeRecord) (marks : List M) (left i count : ℕ)
+      (d : Dropped cs ms kept marks left i count) (c : ChangeRecord) (within : i < length cs) (at : c ≡ get_or kept i c) where
     here : slice_get cs i ≡ Some c
     here = sym (still f cs cs kept left i d.changes) ∙ read_at kept i c (omega (arith, within, d.long)) at
 

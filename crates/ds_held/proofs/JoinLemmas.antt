@@ -118,7 +118,8 @@ stops_first old xs ys new stop s =
       refused = (s.refused.0, get_front stop.done xs ys within ∙ s.refused.1, s.refused.2);
     }
 
-pub stops_later : (old : Holding) (xs ys : List Item) (m new : Holding) (n done : ℕ) (fault : JoinFault) → AreMerged old xs m → n ≡ length xs → IsJoinStopped m ys new (record { done = done; fault = fault }) → IsJoinStopped old (xs ++ ys) new (record { done = n + done; fault = fault })
+pub stops_later : (old : Holding) (xs ys : List Item) (m new : Holding) (n done : ℕ) (fault : JoinFault) → AreMerged old xs m → n ≡ length xs →
+    IsJoinStopped m ys new (record { done = done; fault = fault }) → IsJoinStopped old (xs ++ ys) new (record { done = n + done; fault = fault })
 stops_later old xs ys m new n done fault w e s =
     subst (λ k. IsJoinStopped old (xs ++ ys) new (record { done = k + done; fault = fault })) (sym e) (record {
       merged = subst (λ l. AreMerged old l new) (sym (take_back done xs ys)) (merged_both old xs (take done ys) m new w s.merged);
@@ -133,7 +134,8 @@ pub merged_behind : {A : Type 0} (r : Result A Stop) (old : Holding) (xs ys : Li
 merged_behind (Ok a) old xs ys m new v w = merged_both old xs ys m new v w
 merged_behind (Err stop) old xs ys m new v w = tt
 
-pub stopped_behind : {A : Type 0} (r : Result A Stop) (ys : List Item) (m new : Holding) (n : ℕ) → IfErr r (JoinStopsBehind n m ys new) → (old : Holding) (xs : List Item) → AreMerged old xs m → n ≡ length xs → IfErr r (IsJoinStopped old (xs ++ ys) new)
+pub stopped_behind : {A : Type 0} (r : Result A Stop) (ys : List Item) (m new : Holding) (n : ℕ) → IfErr r (JoinStopsBehind n m ys new) → (old : Holding) (xs : List Item) →
+    AreMerged old xs m → n ≡ length xs → IfErr r (IsJoinStopped old (xs ++ ys) new)
 stopped_behind (Ok a) ys m new n s old xs w e = tt
 stopped_behind (Err stop) ys m new n s old xs w e = s old xs w e
 
@@ -141,7 +143,8 @@ pub join_if_ok : {A : Type 0} (r : Result A Stop) (old : Holding) (items : List 
 join_if_ok (Ok a) old items new sound w = all_join old items new sound w
 join_if_ok (Err stop) old items new sound w = tt
 
-pub join_if_stopped : {A : Type 0} (r : Result A Stop) (old : Holding) (items : List Item) (new : Holding) → IsSound old → IfErr r (IsJoinStopped old items new) → IfErr r (λ (stop : Stop). IsTop (held_items new) (held_items old ++ take stop.done items))
+pub join_if_stopped : {A : Type 0} (r : Result A Stop) (old : Holding) (items : List Item) (new : Holding) → IsSound old → IfErr r (IsJoinStopped old items new) →
+    IfErr r (λ (stop : Stop). IsTop (held_items new) (held_items old ++ take stop.done items))
 join_if_stopped (Ok a) old items new sound w = tt
 join_if_stopped (Err stop) old items new sound w = all_join old (take stop.done items) new sound w.merged
 

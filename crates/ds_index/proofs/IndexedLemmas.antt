@@ -209,7 +209,8 @@ label_kind e kind (Put (values.Str t)) k h = none_is h
 label_kind e kind (Put (values.Mem b)) k h = none_is h
 label_kind e kind Gone k h = none_is h
 
-module _ (changes : FinMap key_cmp ChangeRecord) (own : (key : Key) (c : ChangeRecord) → get changes key ≡ Some c → c.key ≡ key) (fit : All IsChange (values changes)) (names : List Named) (sorted : IsStrictlySortedBy named_cmp names) (i : IsIndexed changes names) (e : EndpointRecord) where
+module _ (changes : FinMap key_cmp ChangeRecord) (own : (key : Key) (c : ChangeRecord) → get changes key ≡ Some c → c.key ≡ key) (fit : All IsChange (values changes))
+    (names : List Named) (sorted : IsStrictlySortedBy named_cmp names) (i : IsIndexed changes names) (e : EndpointRecord) where
   -- a held label of the endpoint is listed
   held_label : (c : ChangeRecord) → In c (values changes) → names_endpoint e c ≡ true → c.key ≡ label_key c.key.name
   held_label c k t =
@@ -219,7 +220,8 @@ module _ (changes : FinMap key_cmp ChangeRecord) (own : (key : Key) (c : ChangeR
   held_listed c k t =
       In-from_Contains (named_at (Some e) c.key.name) names
       (i.listed (named_at (Some e) c.key.name)
-      (ap (λ (key : Key). option_map endpoint_left (get changes key)) (sym (held_label c k t)) ∙ ap (option_map endpoint_left) (held_at_key changes own c (Contains-from_In c (values changes) k)) ∙ ap (λ o. Some o) (value_holds e (value_of c) t)))
+      (ap (λ (key : Key). option_map endpoint_left (get changes key)) (sym (held_label c k t)) ∙
+          ap (option_map endpoint_left) (held_at_key changes own c (Contains-from_In c (values changes) k)) ∙ ap (λ o. Some o) (value_holds e (value_of c) t)))
 
   -- and a listed one of the endpoint is held
   pub record Holder (name : List ℕ) : Type 0 where

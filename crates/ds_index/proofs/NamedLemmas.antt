@@ -273,7 +273,9 @@ no_other c xs n d h e = n (Contains-from_In c xs (subst (λ (y : Named). In y xs
   where
     same_named : (a b : Named) → named_cmp a b ≡ Equal → a ≡ b
     same_named a b h =
-        let parts = exact_pairs (λ (x y : ℕ × ℕ). ordering_then (nat_cmp x.0 y.0) (nat_cmp x.1 y.1)) name_cmp (λ x y k. exact_pairs nat_cmp nat_cmp exact_unsigned exact_unsigned x y k) exact_bytes ((slot_of a.endpoint, generation_of a.endpoint), a.name) ((slot_of b.endpoint, generation_of b.endpoint), b.name) h in
+        let parts = exact_pairs (λ (x y : ℕ × ℕ). ordering_then (nat_cmp x.0 y.0) (nat_cmp x.1 y.1)) name_cmp
+            (λ x y k. exact_pairs nat_cmp nat_cmp exact_unsigned exact_unsigned x y k) exact_bytes ((slot_of a.endpoint, generation_of a.endpoint), a.name)
+            ((slot_of b.endpoint, generation_of b.endpoint), b.name) h in
         let endpoint : a.endpoint ≡ b.endpoint = sym (holder_at-numbers a.endpoint) ∙ ap (λ (r : (ℕ × ℕ) × List ℕ). holder_at r.0) parts ∙ holder_at-numbers b.endpoint in
         let name : a.name ≡ b.name = ap (λ (r : (ℕ × ℕ) × List ℕ). r.1) parts in
         ap (λ (o : Option EndpointRecord). record { endpoint = o; name = a.name }) endpoint ∙ ap (λ (n : List ℕ). record { endpoint = b.endpoint; name = n }) name
@@ -358,9 +360,11 @@ unfolding IsStrictlySortedBy
 first_found e [] s = refl
 first_found e (x ∷ xs) s = by_order (holder_cmp x.endpoint (Some e)) refl (first_found e xs s.1)
   where
-    by_order : (o : Ordering) → holder_cmp x.endpoint (Some e) ≡ o → if_of e (find (λ (p : Named). not (begins_behind e p)) xs) ≡ find (holds_endpoint e) xs → if_of e (find (λ (p : Named). not (begins_behind e p)) (x ∷ xs)) ≡ find (holds_endpoint e) (x ∷ xs)
+    by_order : (o : Ordering) → holder_cmp x.endpoint (Some e) ≡ o → if_of e (find (λ (p : Named). not (begins_behind e p)) xs) ≡ find (holds_endpoint e) xs →
+        if_of e (find (λ (p : Named). not (begins_behind e p)) (x ∷ xs)) ≡ find (holds_endpoint e) (x ∷ xs)
     by_order Less q rest = ap (λ o. if_of e (cond (not (is_lt o)) (Some x) (find (λ (p : Named). not (begins_behind e p)) xs))) q ∙ rest ∙ sym (ap (λ o. cond (is_eq o) (Some x) (find (holds_endpoint e) xs)) q)
-    by_order Equal q rest = ap (λ o. if_of e (cond (not (is_lt o)) (Some x) (find (λ (p : Named). not (begins_behind e p)) xs))) q ∙ ap (λ o. cond (is_eq o) (Some x) None) q ∙ sym (ap (λ o. cond (is_eq o) (Some x) (find (holds_endpoint e) xs)) q)
+    by_order Equal q rest = ap (λ o. if_of e (cond (not (is_lt o)) (Some x) (find (λ (p : Named). not (begins_behind e p)) xs))) q ∙ ap (λ o. cond (is_eq o) (Some x) None) q ∙
+        sym (ap (λ o. cond (is_eq o) (Some x) (find (holds_endpoint e) xs)) q)
     by_order Greater q rest =
         ap (λ o. if_of e (cond (not (is_lt o)) (Some x) (find (λ (p : Named). not (begins_behind e p)) xs))) q ∙ ap (λ o. cond (is_eq o) (Some x) None) q
         ∙ sym (ap (λ o. cond (is_eq o) (Some x) (find (holds_endpoint e) xs)) q ∙ none_of e x xs s.0 q)

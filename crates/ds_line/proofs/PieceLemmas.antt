@@ -101,7 +101,8 @@ first_breaks p q n bytes rest fixed goes s =
     }
 
 -- A part of the second piece after some first one is a part after the one that is there.
-second_stands : (p : Piece) (q : p.Of → Piece) (n k m : ℕ) (a : p.Of) (bytes r after : List ℕ) → Fixed p n → One p → Found p a bytes r → (x : (b : p.Of) × (q b).Of) → p.Can x.0 → m ≡ length (p.parts x.0) + k → Stand m (p.parts x.0 ++ (q x.0).parts x.1) bytes after
+second_stands : (p : Piece) (q : p.Of → Piece) (n k m : ℕ) (a : p.Of) (bytes r after : List ℕ) → Fixed p n → One p → Found p a bytes r → (x : (b : p.Of) × (q b).Of) → p.Can x.0 →
+    m ≡ length (p.parts x.0) + k → Stand m (p.parts x.0 ++ (q x.0).parts x.1) bytes after
     → (x.0 ≡ a) × Stand k ((q x.0).parts x.1) r after
 second_stands p q n k m a bytes r after fixed one found x can eq h =
     let two = stand_split m k (p.parts x.0) ((q x.0).parts x.1) bytes after eq h in

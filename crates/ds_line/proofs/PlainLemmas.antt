@@ -35,6 +35,7 @@ run_written text b behind plain more is is_plain_run is_more =
     ∙ sym (append_assoc (escaped_byte b) plain (escaped more))
 
 -- what is written before the rest, and one run more
-pub run_more : (items new first rest text more : List ℕ) (b : ℕ) (plain : List ℕ) → items ++ escaped rest ≡ first ++ escaped text → escaped rest ≡ (escaped_byte b ++ plain) ++ escaped more → new ≡ items ++ (escaped_byte b ++ plain) → new ++ escaped more ≡ first ++ escaped text
+pub run_more : (items new first rest text more : List ℕ) (b : ℕ) (plain : List ℕ) → items ++ escaped rest ≡ first ++ escaped text →
+    escaped rest ≡ (escaped_byte b ++ plain) ++ escaped more → new ≡ items ++ (escaped_byte b ++ plain) → new ++ escaped more ≡ first ++ escaped text
 run_more items new first rest text more b plain before one is =
     ap (λ (t : List ℕ). t ++ escaped more) is ∙ append_assoc items (escaped_byte b ++ plain) (escaped more) ∙ ap (λ (t : List ℕ). items ++ t) (sym one) ∙ before

@@ -79,5 +79,6 @@ pub open_full : (bytes block r : List ℕ) → IsOpen bytes block r 256 → ((re
 open_full bytes block r begun no_quote text rest is begins =
     elim (goes_on (take 256 block) text r rest (ap (drop 1) (sym begun.parts ∙ begins.parts ∙ unquoted text rest))) [
       | inl x ↦ no_quote rest x.1
-      | inr y ↦ (let len : length text ≡ 256 + length (y.0 ∷ y.1) = ap length y.2 ∙ length-append (take 256 block) (y.0 ∷ y.1) ∙ ap (λ (k : ℕ). k + length (y.0 ∷ y.1)) (length-take-le 256 block (omega (arith, begun.whole))) in omega (arith, len, is.limit))
+      | inr y ↦ (let len : length text ≡ 256 + length (y.0 ∷ y.1) = ap length y.2 ∙ length-append (take 256 block) (y.0 ∷ y.1) ∙
+          ap (λ (k : ℕ). k + length (y.0 ∷ y.1)) (length-take-le 256 block (omega (arith, begun.whole))) in omega (arith, len, is.limit))
     ]

@@ -80,7 +80,8 @@ module _ {M : Type 0} (h : Holding) (ms : List M) (beside : IsBesideFloors h ms)
   floor_mark_at : (i : ℕ) (f : Floor) (m : M) → slice_get (held_floors h) i ≡ Some f → slice_get ms i ≡ Some m → get (marks_beside_floors (held_floors h) ms) f.owner ≡ Some m
   floor_mark_at i f m e g = sym (own_floor_mark i f e) ∙ g
 
-  pub floor_beside_at : {P : Type 0} (r : Option P) (f : P → Floor) (m : P → M) (i : ℕ) → option_map f r ≡ slice_get (held_floors h) i → option_map m r ≡ slice_get ms i → IfSome r (λ p. get (marks_beside_floors (held_floors h) ms) (f p).owner ≡ Some (m p))
+  pub floor_beside_at : {P : Type 0} (r : Option P) (f : P → Floor) (m : P → M) (i : ℕ) → option_map f r ≡ slice_get (held_floors h) i → option_map m r ≡ slice_get ms i →
+      IfSome r (λ p. get (marks_beside_floors (held_floors h) ms) (f p).owner ≡ Some (m p))
   floor_beside_at None f m i e g = tt
   floor_beside_at (Some p) f m i e g = floor_mark_at i (f p) (m p) (sym e) (sym g)
 

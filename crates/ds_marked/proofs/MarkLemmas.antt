@@ -99,7 +99,8 @@ module _ {M : Type 0} where
     mark_at : (i : ℕ) (c : ChangeRecord) (m : M) → slice_get (held_changes h) i ≡ Some c → slice_get ms i ≡ Some m → get (marks_beside (held_changes h) ms) c.key ≡ Some m
     mark_at i c m e f = sym (own_mark i c e) ∙ f
 
-    pub beside_at : {P : Type 0} (r : Option P) (c : P → ChangeRecord) (m : P → M) (i : ℕ) → option_map c r ≡ slice_get (held_changes h) i → option_map m r ≡ slice_get ms i → IfSome r (λ p. get (marks_beside (held_changes h) ms) (c p).key ≡ Some (m p))
+    pub beside_at : {P : Type 0} (r : Option P) (c : P → ChangeRecord) (m : P → M) (i : ℕ) → option_map c r ≡ slice_get (held_changes h) i → option_map m r ≡ slice_get ms i →
+        IfSome r (λ p. get (marks_beside (held_changes h) ms) (c p).key ≡ Some (m p))
     beside_at None c m i e f = tt
     beside_at (Some p) c m i e f = mark_at i (c p) (m p) (sym e) (sym f)
 

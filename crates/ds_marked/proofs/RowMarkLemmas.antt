@@ -99,7 +99,8 @@ module _ {K V X : Type 0} (R : K → K → Ordering) (total : IsTotalOrder R) (e
         ∙ sym (get-insert total (from_entries es) k m q ∙ ap (cond (eq_by_cmp R q k) (Some m)) (get-from_entries total es q)))
 
     -- to write an element and a mark at one place is to put the mark under the element's key
-    pub marks_put : (xs : List X) (ms : List M) (c : X) (m : M) (place : Result ℕ ℕ) → Rising xs → length ms ≡ length xs → Place xs (row c).0 place → from_entries {R = R} (marked (put_at xs place c) (put_at ms place m)) ≡ finite.insert (from_entries (marked xs ms)) (row c).0 m
+    pub marks_put : (xs : List X) (ms : List M) (c : X) (m : M) (place : Result ℕ ℕ) → Rising xs → length ms ≡ length xs → Place xs (row c).0 place →
+        from_entries {R = R} (marked (put_at xs place c) (put_at ms place m)) ≡ finite.insert (from_entries (marked xs ms)) (row c).0 m
     marks_put xs ms c m place s e p = ap (λ es. from_entries {R = R} es) (marked_put xs ms c m place s e p) ∙ from_put (marked xs ms) (row c).0 m
 
     pub each_put : (xs : List X) (ms : List M) (c : X) (m : M) (place : Result ℕ ℕ) → length ms ≡ length xs → Place xs (row c).0 place → length (put_at ms place m) ≡ length (put_at xs place c)

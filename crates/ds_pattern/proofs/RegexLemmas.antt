@@ -89,7 +89,9 @@ finds_of_compiled nfa narrow tree p implements same read printable name is_name 
       step i re captures ascii =
           ap is_some (implements name i) ∙ same name ascii accept accept (λ j. refl) i ∙ seen _ _ (captures.at name (bytes ascii) accept i) ∙ rw (boundary_of_ascii name i ascii) refl
 
-      alike : (o : Option (Nested Re × Names)) (limit : ℕ) (re : Re) (names : Names) → ((other : Re) → SameCaptures re other → is_some (first_from (run nfa name (length name) nfa.start) (length name + 1 - 0) 0) ≡ is_some (find_str other name 0)) → IsSomeAnd o (IsFound re names limit) →
+      alike : (o : Option (Nested Re × Names)) (limit : ℕ) (re : Re) (names : Names) →
+          ((other : Re) → SameCaptures re other → is_some (first_from (run nfa name (length name) nfa.start) (length name + 1 - 0) 0) ≡ is_some (find_str other name 0)) →
+          IsSomeAnd o (IsFound re names limit) →
           is_some (first_from (run nfa name (length name) nfa.start) (length name + 1 - 0) 0) ≡ is_read_as o (λ found. is_some (find_str found.value name 0))
       alike None limit re names found h = absurd h
       alike (Some x) limit re names found h = found x.0.value h.1

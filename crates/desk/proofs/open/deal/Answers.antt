@@ -17,7 +17,8 @@ pub split_pass-one-requires-clause-fresh : goal.split_pass-one-requires-clause-f
 split_pass-one-requires-clause-fresh g c = let i = c.loop-left.invariant in (c.loop-left.left - 1 - 1, i.3.passes ∙ ap fresh (one_back c.loop-left.left c.loop-left-test.true))
 
 pub loop-left-preserved : goal.loop-left-preserved
-loop-left-preserved g c = let i = c.loop-left.invariant in let cut = c.split_pass-one.ensures in let n = c.new_pass.ensures in let push = c.push_reserved.ensures in let more = c.loop-left-test.true in let room = i.4 in let cap = push.capacity in (
+loop-left-preserved g c = let i = c.loop-left.invariant in let cut = c.split_pass-one.ensures in let n = c.new_pass.ensures in let push = c.push_reserved.ensures in
+    let more = c.loop-left-test.true in let room = i.4 in let cap = push.capacity in (
   omega arith,
   (cut.same.0 ∙ i.1.0, i.1.1, i.1.2),
   ap (λ m. m.1) cut.left ∙ i.2,
