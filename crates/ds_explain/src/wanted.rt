@@ -3,7 +3,7 @@
 use ds_line::Expected;
 use ds_names::Kind;
 
-/// The part that was expected, in as few words as there are.
+/// Returns the expected part in as few words as possible.
 pub(crate) fn part(expected: Expected) -> &'static str {
     let wanted = wanted(expected);
     match wanted.split_once(" was expected") {
@@ -15,7 +15,7 @@ pub(crate) fn part(expected: Expected) -> &'static str {
     }
 }
 
-/// What was expected, by the part that begins there.
+/// Returns the sentence about the expected part.
 pub(crate) fn wanted(expected: Expected) -> &'static str {
     match expected {
         Expected::Space => "a space was expected before the next part",
@@ -57,7 +57,7 @@ pub(crate) fn wanted(expected: Expected) -> &'static str {
     }
 }
 
-// What was expected, by a part of the lines of a world alone.
+// Likewise for parts that only lines about a world have.
 fn wanted_of_a_world(expected: Expected) -> &'static str {
     match expected {
         Expected::Ring => "N was expected, 1 to 4096",
@@ -73,7 +73,7 @@ fn wanted_of_a_world(expected: Expected) -> &'static str {
     }
 }
 
-// What was expected, by a part of the lines to services and driver tables alone.
+// Likewise for parts that only lines about services and driver tables have.
 fn wanted_of_services(expected: Expected) -> &'static str {
     match expected {
         Expected::Request => "`up`, `down`, `refresh` or `restart` was expected",
@@ -89,7 +89,7 @@ fn wanted_of_services(expected: Expected) -> &'static str {
     }
 }
 
-// What was expected for a value of a kind.
+// Likewise for a value of a kind.
 fn wanted_value(kind: Kind) -> &'static str {
     match kind {
         Kind::Label => {

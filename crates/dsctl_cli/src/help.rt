@@ -1,4 +1,4 @@
-//! What `dsctl` says of itself: its help, and every line of a script.
+//! The help of `dsctl`, and all lines of a script.
 
 pub(crate) const ABOUT: &str =
     "Answers a script of data store commands, in the manner of MINIX 3's DS";
@@ -172,7 +172,7 @@ up to this one is void, labels aside. It is dropped, tombstones too, and is
 stale where it comes later. A floor is under every query, and is shown to each
 subscription once.";
 
-/// Every line of a script in one row, for whoever has forgotten one.
+/// Every line of a script in one row.
 pub const LINES: &str = "\
 Lines of a script (`dsctl --help` explains them):
   publish CALLER new NAME KIND EPOCH.SEQ = VALUE  put a value; `over` to replace

@@ -1,4 +1,4 @@
-//! What `dsctl` says of recording.
+//! The help of `dsctl record`.
 
 pub(crate) const RECORD_ABOUT: &str = "Run a store on commands, and write the trace of that run";
 

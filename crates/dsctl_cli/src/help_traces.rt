@@ -1,4 +1,4 @@
-//! What `dsctl` says of traces.
+//! The help of `dsctl verify` and `dsctl upgrade`.
 
 pub(crate) const VERIFY_ABOUT: &str = "Judge whether a recorded trace is one that a store can have";
 

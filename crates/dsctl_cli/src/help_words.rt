@@ -1,4 +1,4 @@
-//! What `dsctl` says of itself: the words that it answers, its options, and its settings.
+//! The help of `dsctl`: its refusals, its options and `dsctl settings`.
 
 pub(crate) const AFTER_HELP: &str = "\
 Example session (lines behind `>` are typed, the others are printed):

@@ -1,4 +1,4 @@
-//! The words of `dsctl live`.
+//! The command line of `dsctl live`.
 
 use crate::described::{add, add_made, described, valued};
 use crate::words::Words;
@@ -54,7 +54,7 @@ fn add_numbers<'a>(alloc: Global, all: &mut Vec<Arg<'a>>) -> Result<(), AllocErr
 
 const TURNS_ABOUT: &str = "How many turns each takes, 1 to 1000";
 
-// Adds an option whose value is a number, 1 to this one at most.
+// Adds an option whose value is a number from 1 to `most`.
 fn add_number<'a>(
     alloc: Global,
     all: &mut Vec<Arg<'a>>,
@@ -67,7 +67,8 @@ fn add_number<'a>(
     add(all, number.default_value(default))
 }
 
-/// The threads that were asked for. Each option has a default; without it the number would be 0, which is none of a run's.
+/// Returns the threads that the options ask for. Each option has a default; without it the number would be 0, which no
+/// run takes.
 pub(crate) fn crew_of(given: &ArgMatches<'_>) -> Words {
     Words::Live {
         publishers: given.get_one::<u32>(PUBLISHERS).unwrap_or(0),
