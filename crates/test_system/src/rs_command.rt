@@ -10,7 +10,8 @@ use test_kit::{name_at, number_at};
 pub(crate) enum Command {
     /// `settings NEXT`: RS begins with the settings text in the lines up to `end`, and with this generation next.
     Settings(u32),
-    /// `up LABEL TICK`, also `stop`, `refresh` and `restart`; `death ENDPOINT CAUSE TICK`; `beat ENDPOINT TICK`; `tick TICK`
+    /// `up LABEL TICK`, also `stop`, `refresh` and `restart`; `death ENDPOINT CAUSE TICK`; `beat ENDPOINT TICK`;
+    /// `tick TICK`.
     Event { event: Event, tick: u64 },
     /// `state LABEL`: the state of the service.
     State(Name),

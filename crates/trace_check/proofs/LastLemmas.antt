@@ -1,4 +1,4 @@
--- After what was passed before a wrong line, no longer front of the lines is a legal trace.
+-- No front of the lines beyond what was passed before a wrong line is a legal trace.
 use Rattle.std.proofs.Common.{◌≡◌, ℕ, suc, ◌⊎◌, List, [], ◌∷◌, ◌++◌, get_or, drop, inl, inr, refl, sym, ap, subst, ◌∙◌, arith, append_assoc, append-nil}
 use Rattle.std.specs.List.{All}
 use Rattle.std.proofs.lemmas.Grind.{flat_map-append}
@@ -52,7 +52,7 @@ longer_by start front before more left first rest n is behind none fails legal (
     ∙ sym (append_assoc front (with_newline k.0) (joined k.1)) ∙ ap (λ (l : List ℕ). (front ++ l) ++ joined k.1) (sym (append-nil (with_newline k.0))) in
     absurd (stops (joined k.1, n, subst (λ (l : List ℕ). IsLegal l n) text legal))
 
--- no longer front of the lines is a legal trace
+-- no front of the lines beyond it is a legal trace
 pub none_longer : (bytes start front : List ℕ) (number : ℕ) (before after : List (List ℕ)) → HasLines bytes (before ++ after) → start ≡ joined before → IsWrongAt bytes number front → NoneEnds start front →
     (more left : List (List ℕ)) (n : ℕ) → after ≡ more ++ left → IsLegal (joined (before ++ more)) n → more ≡ []
 none_longer bytes start front number before after lines is wrong none more left n split legal =

@@ -81,8 +81,8 @@ IsUpgradeOf lines output = ((lines ≡ []) × (output ≡ [])) ⊎ ((count : ℕ
 abbrev pub IsUpgradedSoFar : List ℕ → List ℕ → Type 0
 IsUpgradedSoFar bytes output = (front rest : List (List ℕ)) × HasLines bytes (front ++ rest) × IsUpgradeOf front output
 
--- The output before a wrong line: all entries before the one with that line. No longer front of the lines is a legal
--- trace.
+-- The output before a wrong line: all entries before the one with that line. No front of the lines beyond these is a
+-- legal trace.
 pub record IsUpgradedBefore (bytes output : List ℕ) : Type 0 where
   pub front : List (List ℕ)
   pub rest : List (List ℕ)

@@ -108,7 +108,7 @@ GoesPast old from new to passed = (b : Spot) → WalksAt b old from → HasPasse
 abbrev pub EndsThere : Walk → Option (List ℕ) → Type 0
 EndsThere old from = (b : Spot) → WalksAt b old from → (lines : List (List ℕ)) × HasLines b.bytes lines × (b.front ≡ joined lines)
 
--- Whether the fault is the verdict on the input, of which no longer front is a legal trace.
+-- Whether the fault is the verdict on the input: no front of it beyond the spot is a legal trace.
 abbrev pub FailsFrom : Walk → Option (List ℕ) → WalkFault → Type 0
 FailsFrom old from fault = (b : Spot) → WalksAt b old from → IsFault b.front b.bytes fault
 
