@@ -108,12 +108,12 @@ fn explain_word(rt: &impl Runtime, audience: Audience, number: u64, text: &[u8])
 
 // Explains a command that is allowed on the first line only.
 fn explain_first(rt: &impl Runtime, number: u64, command: &str) {
-    let _ = eprintln!(rt; "line {number}, byte 0: `{command}` stands on the first line alone");
+    let _ = eprintln!(rt; "line {number}, byte 0: `{command}` is allowed on the first line only");
 }
 
 // Explains a word that isn't a command, with the nearest one.
 fn explain_unknown(rt: &impl Runtime, number: u64, word: &[u8], near: Option<&str>, help: &str) {
     let shown = Plain(&word[..word.len().min(FROM)]);
     let near = IfNear(near);
-    let _ = eprintln!(rt; "line {number}, byte 0: `{shown}` is no command{near}: see {help}");
+    let _ = eprintln!(rt; "line {number}, byte 0: `{shown}` isn't a command{near}: see {help}");
 }

@@ -12,7 +12,7 @@ use std::rt::Runtime;
 /// The most bytes of a name.
 const LONGEST_NAME: usize = 64;
 
-const CARRIAGE_RETURN: &str = "the end of the line was expected, a carriage return stands there";
+const CARRIAGE_RETURN: &str = "the end of the line was expected, a carriage return was found";
 
 /// The first bad part of a command's text.
 #[derive(Clone, Copy)]
@@ -106,7 +106,7 @@ impl<'a> BadPart<'a> {
         if count == 0 || count > LONGEST_NAME {
             let number = self.number;
             let place = self.place_in_line();
-            let _ = eprintln!(rt; "line {number}, byte {place}: {wanted}; {count} stand there");
+            let _ = eprintln!(rt; "line {number}, byte {place}: {wanted}; {count} were found");
         } else {
             self.say(rt, wanted);
         }

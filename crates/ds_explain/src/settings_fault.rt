@@ -19,7 +19,7 @@ pub fn explain_settings(
     fault: SettingsFault,
 ) -> Result<(), NoRoom> {
     let Ok(document) = std::str::from_utf8(text) else {
-        let _ = eprintln!(rt; "the text is no UTF-8");
+        let _ = eprintln!(rt; "the text isn't UTF-8");
         return Ok(());
     };
     match toml::table_from_str(rt.alloc(), document) {
@@ -98,11 +98,11 @@ fn service_at(table: &Table, index: usize) -> Option<&Table> {
 // Returns what is wrong with a field, by the cause.
 fn wrong(cause: SettingsCause) -> &'static str {
     match cause {
-        SettingsCause::UnknownField => "is no field",
+        SettingsCause::UnknownField => "isn't a field",
         SettingsCause::Missing => "is missing",
-        SettingsCause::TwoLabels | SettingsCause::TwoUnits => "is another service's too",
+        SettingsCause::TwoLabels | SettingsCause::TwoUnits => "is another service's, too",
         SettingsCause::SharedName => "has a name that is published twice",
-        _ => "is of another type, or out of its range",
+        _ => "has the wrong type, or is out of range",
     }
 }
 

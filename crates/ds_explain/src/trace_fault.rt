@@ -35,19 +35,19 @@ impl fmt::Display for WantedThere<'_> {
             ),
             (Wanted::Reply, Some(reply)) => {
                 let reply = Plain(without_newline(reply));
-                write!(f, "the reply of {asked} is \"{reply}\"")
+                write!(f, "the reply to {asked} is \"{reply}\"")
             }
-            (Wanted::Reply, None) => write!(f, "the reply of {asked} was expected"),
+            (Wanted::Reply, None) => write!(f, "the reply to {asked} was expected"),
         }
     }
 }
 
 const HEADER: &str = "a header was expected, `trace 2 INCARNATION FIRST RING SUBS KEYS`";
 
-const HEADER_MARKED: &str = "a header was expected, a byte order mark stands there";
+const HEADER_MARKED: &str = "a header was expected, a byte order mark was found";
 
 const HEADER_RETURNED: &str =
-    "a header was expected, a carriage return stands at the end of the line";
+    "a header was expected, a carriage return was found at the end of the line";
 
 const ENTRY: &str = "an entry was expected, `> PASS COMMAND`";
 

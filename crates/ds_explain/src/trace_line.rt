@@ -38,17 +38,17 @@ const OFFER: &[u8] = b"offer ";
 /// How many bytes of a word are shown.
 const SHOWN: usize = 28;
 
-const PASS_WANTED: &str = "PASS was expected, 0 to 63 with no zero before it";
+const PASS_WANTED: &str = "PASS was expected, 0 to 63 with no leading zero";
 
 const COMMAND_WANTED: &str = "a space was expected, and then a command";
 
-const COUNT_WANTED: &str = "N was expected, 0 to 256 with no zero before it";
+const COUNT_WANTED: &str = "N was expected, 0 to 256 with no leading zero";
 
 const SPACE_WANTED: &str = "a space was expected, and then N";
 
-const SPACE_TOO_MANY: &str = "a command was expected, a space stands there";
+const SPACE_TOO_MANY: &str = "a command was expected, a space was found";
 
-const FLOOR: &str = "a floor stands there, and a trace of format 1 has none";
+const FLOOR: &str = "a floor was found, and a trace of format 1 has none";
 
 /// Writes which part of a line is bad, if the line has the expected mark. Returns whether it did.
 pub(crate) fn explain_marked(rt: &(impl Runtime + AllocGlobal), wrong: &WrongLine<'_>) -> bool {
@@ -122,10 +122,10 @@ fn explain_word(rt: &impl Runtime, number: u64, word: &[u8], place: usize) {
     if word.is_empty() {
         say_at(rt, number, place, "a command was expected");
     } else if is_among(word, &COMMANDS) {
-        let _ = eprintln!(rt; "line {number}, byte {place}: `{shown}` isn't asked of a store");
+        let _ = eprintln!(rt; "line {number}, byte {place}: `{shown}` isn't a store's command");
     } else {
         let near = IfNear(nearest(word, &ASKED));
-        let _ = eprintln!(rt; "line {number}, byte {place}: `{shown}` is no command{near}");
+        let _ = eprintln!(rt; "line {number}, byte {place}: `{shown}` isn't a command{near}");
     }
 }
 

@@ -14,7 +14,7 @@ const KINDS_BEGIN: &str = "kinds and their values:\n";
 
 const PARAGRAPH_ENDS: &str = "\n\n";
 
-const REFUSALS_BEGIN: &str = "Words behind `refused`";
+const REFUSALS_BEGIN: &str = "Words after `refused`";
 
 const REFUSALS_END: &str = "Exit status:\n";
 

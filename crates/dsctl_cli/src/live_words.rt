@@ -16,15 +16,15 @@ const CHANGES: &str = "changes";
 const ABOUT: &str = "Run threads that publish, follow and exchange, and report";
 
 const LONG_ABOUT: &str = "\
-Runs threads that publish, follow and exchange over two stores, and reports what
-came of it. Nothing is read.
+Runs threads that publish, follow and exchange over two stores, and reports the
+result. Nothing is read.
 
 RS publishes the labels `p0`, `p1` and so on at the first store, and then each
 worker has a thread of its own. A publisher overwrites its number there, `n0`,
 `n1` and so on, once a turn. A subscriber takes its notices, and keeps a map of
-all that the first store holds. One more gives what the first store has to the
-second. When all have ended, the maps and the second store are brought up to
-date, and then there are four lines:
+all that the first store holds. One more worker delivers what the first store
+has to the second. When all have ended, the maps and the second store are
+brought up to date, and then there are four lines:
   entries N        how many entries the first store holds
   maps equal       each subscriber's map has just these; else `maps differ`
   replicas equal   the second store has just these; else `replicas differ`
@@ -32,8 +32,8 @@ date, and then there are four lines:
                    `account wrong`
 
 A run that fails prints nothing, has one word on standard error, and status 3:
-  noroom           memory was wanting
-  stopped          it was wanting while the second store was given items
+  noroom           memory ran out
+  stopped          memory ran out while the second store was brought up to date
   nothread         a thread couldn't be made; all that were made have ended
   refused, desk    a store, or the desk at which threads share it, refused a
                    call";

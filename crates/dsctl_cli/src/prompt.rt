@@ -23,10 +23,8 @@ pub enum Greeting {
 impl Greeting {
     fn text(self) -> &'static str {
         match self {
-            Greeting::Script => "dsctl: `help` shows the lines, ^D ends. A bad line ends nothing",
-            Greeting::ScriptToStop => {
-                "dsctl: `help` shows the lines, ^D ends, and so does a bad line"
-            }
+            Greeting::Script => "dsctl: `help` shows the lines, ^D ends. Bad lines are skipped",
+            Greeting::ScriptToStop => { "dsctl: `help` shows the lines, ^D or a bad line ends" }
             Greeting::Settings => "dsctl: a TOML text, as in dsctl settings --help, ^D ends",
             Greeting::Trace => "dsctl: a trace, as in dsctl verify --help, ^D ends",
             Greeting::Commands => "dsctl: a command a line, as in dsctl record --help, ^D ends",

@@ -183,7 +183,7 @@ fn add_without_options<'a>(
 fn add_replay<'a>(alloc: Global, all: &mut Vec<Command<'a>>) -> Result<(), AllocError> {
     let mut options = Vec::new(alloc);
     add_flags(alloc, &mut options)?;
-    let about = "Answer a script; no subcommand means this one";
+    let about = "Answer a script; this is the default subcommand";
     let replay = named(alloc, "replay", about).after_help(LINES);
     add_made(all, replay.args(options))
 }
@@ -195,24 +195,23 @@ fn add_flags<'a>(alloc: Global, options: &mut Vec<Arg<'a>>) -> Result<(), AllocE
 }
 
 // Tips for a user who named a file.
-const SCRIPT: &str = "A script is read from standard input, and not by its name: dsctl < SCRIPT";
+const SCRIPT: &str = "A script is read from standard input, not by name: dsctl < SCRIPT";
 
-const TEXT: &str = "A text is read from standard input, and not by its name: dsctl settings < TEXT";
+const TEXT: &str = "A text is read from standard input, not by name: dsctl settings < TEXT";
 
-const TRACE: &str =
-    "A trace is read from standard input, and not by its name: dsctl verify < TRACE";
+const TRACE: &str = "A trace is read from standard input, not by name: dsctl verify < TRACE";
 
 const OLDER_TRACE: &str =
-    "A trace is read from standard input, and not by its name: dsctl upgrade < TRACE > NEWER";
+    "A trace is read from standard input, not by name: dsctl upgrade < TRACE > NEWER";
 
 const COMMANDS: &str =
-    "Commands are read from standard input, and not by name: dsctl record < COMMANDS > TRACE";
+    "Commands are read from standard input, not by name: dsctl record < COMMANDS > TRACE";
 
-const NOTHING: &str = "Nothing is read by dsctl live, whose options have numbers behind them";
+const NOTHING: &str = "dsctl live reads nothing, and its options take numbers";
 
 // The tip for a user who gave an option for bad lines without its subcommand.
 const BEHIND_REPLAY: &str =
-    "--keep-going and --stop stand behind a word, as in dsctl replay --keep-going";
+    "--keep-going and --stop follow a subcommand, as in dsctl replay --keep-going";
 
 // Returns a tip to add to `clap`'s message about a wrong command line.
 fn tip(given: &[String]) -> Option<&'static str> {
