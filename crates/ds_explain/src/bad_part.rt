@@ -118,7 +118,7 @@ pub(crate) fn say_at(rt: &impl Runtime, number: u64, place: usize, said: &str) {
     let _ = eprintln!(rt; "line {number}, byte {place}: {said}");
 }
 
-/// Returns the sentence for a line that goes on past its end.
+/// Returns the sentence for a line that continues past its end.
 pub(crate) fn end_wanted(rest: &[u8]) -> &'static str {
     match read_byte(rest, b'\r') {
         Some(_) => CARRIAGE_RETURN,

@@ -170,7 +170,7 @@ fn first_word(line: &[u8]) -> (&[u8], &[u8]) {
     (word, rest.trim_ascii())
 }
 
-// Returns the word that help is asked about. An answer `refused WORD` may be typed as it was printed.
+// Returns the word that help is requested for. An answer `refused WORD` may be typed as printed.
 fn word_asked(rest: &[u8]) -> &[u8] {
     let (first, more) = first_word(rest);
     if first == b"refused".as_slice() && !more.is_empty() {

@@ -28,7 +28,7 @@ impl Judged {
         }
     }
 
-    // Returns the sort of line that a bad line stands in for.
+    // Returns the sort of line that was expected instead of a bad one.
     fn wanted(&self) -> Wanted
         ensures { result ≢ wanteds.Reply }
     {

@@ -45,7 +45,7 @@ pass_ends pass rest le e =
     (ends_rest (decimal pass) (32 ∷ rest) (unbroken_decimal pass (omega (arith, le)))
     (behind_other 32 (decimal pass ++ 32 ∷ rest) (λ same. omega (arith, same)) (behind_other 62 (32 ∷ (decimal pass ++ 32 ∷ rest)) (λ same. omega (arith, same)) e)))
 
--- ---- what is asked
+-- ---- the command
 
 -- what follows the pass
 abbrev pub behind_pass : Head → List ℕ
