@@ -53,8 +53,8 @@ entries_text m = option_map_or (λ it. shown (entries_of (held_items it.held))) 
 
 -- ---- events
 
--- The lines of an outcome. Made prints the lines of the reply that the message is; a session that stands for a world
--- has every message that was made.
+-- The lines of an outcome. Those of Made are the lines of the reply that the message is; a session that stands for a
+-- world has every message that was made.
 abbrev pub told_lines : Wording → Outcome → List Reply → List ℕ
 told_lines wording (Made message) messages = option_map_or (λ reply. reply_lines wording reply larger) (slice_get messages message) []
 told_lines wording outcome messages = outcome_lines wording outcome larger
@@ -71,8 +71,8 @@ AnswersAsEvent command old out new = MatchOption (event_of old.side command) ⊥
 
 -- ---- RS and the driver tables
 
--- Whether each RS and tables that the session stands for take this step, with this answer, to ones that it stands for
--- afterwards. The world and the side are unchanged.
+-- Whether all states of RS and tables that the session stands for take this step, with this answer, to states that it
+-- stands for afterwards. The world and the side are unchanged.
 abbrev pub AnswersByServers : (Servers → List ℕ → Servers → Type 0) → SessionContent → List ℕ → SessionContent → Type 0
 AnswersByServers R old out new = ServersLead (λ s t. R s out t) old.servers new.servers × (new.world ≡ old.world) × (new.side ≡ old.side)
 

@@ -124,7 +124,7 @@ ScriptHoldersAgree =
     AreExact account.brought → KnowSame query (known_at account h) (known_at account i) → HoldSame world query h i
 
 -- In a map that has all of a store, and nothing else, no label names an older generation. This holds for all lines,
--- since each Ask brings in proper changes and floors alone.
+-- since a line brings in nothing but valid changes and floors.
 abbrev pub ScriptLabelsAreNewest : Type 0
 ScriptLabelsAreNewest =
     (policy : BadLines) (lines : List (List ℕ)) (out : List ℕ) (bad : ℕ) (start session : SessionContent) (past : Past)

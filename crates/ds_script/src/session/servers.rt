@@ -26,7 +26,7 @@ impl Session {
         self.servers.accept(alloc, text.bytes(), output)
     }
 
-    /// Passes an event at a tick to RS, and sends its actions to the current store.
+    /// Passes an event at a tick to RS, and the commands among its actions to the current store.
     pub(crate) fn serve(
         &mut self,
         alloc: Global,
