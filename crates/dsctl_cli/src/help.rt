@@ -208,7 +208,7 @@ Lines of a script (`dsctl --help` explains them):
   assign file MAJOR block LABEL                   or character; net PORT LABEL
   follow J                                        learn where drivers are
   submit file ID UNIT J                           learn, send a request; or net
-  reply file ENDPOINT ID                          a driver answers; or net
+  reply file ENDPOINT ID                          answer a request; or net
 
 Limits: NAME 64 bytes, str 256, mem 1024, PATTERN 128, a line 4096; 4096 keys,
 64 floors, 128 subscriptions (SUB 0 to 127, eight a server), 64 maps, MAX 256,
