@@ -33,7 +33,7 @@ memory_room (Ring ring) session takes = absurd takes
 memory_room (Settings text) session takes = tt
 memory_room command session takes = takes
 
--- a line without the word of an offer is no offer
+-- a line without the word of an offer isn't an offer
 pub offer_line : (before : ℕ) (bytes : List ℕ) (command : ScriptCommand) → ReadsAs (MayStand before) bytes (Ok command) → ¬ IsOffer bytes
     → is_offer command ≡ false
 offer_line before bytes (Offer i) read none = absurd (none (texts (item_parts i), read.1))

@@ -52,7 +52,7 @@ too_long Reply start bytes front (BadLineAt number) l p = absurd l
 too_long Reply start bytes front ReadFault l p = tt
 too_long Reply start bytes front NoRoom l p = tt
 
--- out of memory is no verdict
+-- out of memory isn't a verdict
 pub no_room : (start bytes : List ℕ) (fault : WalkFault) → fault ≡ NoRoom → IsFault start bytes fault
 no_room start bytes fault e = subst (IsFault start bytes) (sym e) tt
 

@@ -138,7 +138,7 @@ one_merged s pass limits part batch before after mask is owes x text count =
       };
     }
 
--- a sweep that is refused is no entry
+-- a sweep that is refused has no entries
 pub none_swept : (s : State) (pass : ℕ) (limits : LimitsRecord) (sweep : Sweep) (refusal : Refusal) (merges : Merges) → IsEmpty merges → IsSweptInMerges s pass limits sweep (Refused refusal) merges
 none_swept s pass limits sweep refusal merges is = ([], refl, record { text = is.text; counted = is.count })
 

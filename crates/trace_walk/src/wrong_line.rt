@@ -46,7 +46,7 @@ pub struct WrongLine<'a> {
 }
 
 impl Walk {
-    /// Returns what must follow in the place of a bad line after the header.
+    /// Returns what must be there instead of a bad line after the header.
     pub fn wanted(&self) -> Wanted
         ensures { result ≢ wanteds.Reply }
     {
