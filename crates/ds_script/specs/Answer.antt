@@ -1,4 +1,4 @@
--- The answers to the lines of a script. They are a relation, since any line may be refused for memory.
+-- The answers to the lines of a script. They are a relation, since memory may run out at any line.
 use Rattle.std.specs.Prelude.{◌≡◌, ◌≢◌, ℕ, zero, suc, Bool, true, false, ◌⊎◌, List, [], ◌++◌, length, Option, None, MatchOption, codes}
 use Rattle.std.specs.List.{flat_map, slice_get}
 use Rattle.std.specs.Fmt.{decimal}

@@ -93,7 +93,7 @@ MakesEvents command old out new was now =
     MatchOption (event_of old.side command) (AnswersCommand command old out new × (now ≡ was))
     (λ event. (answer : AnswersEvent (wording command) event old out new) × (now ≡ with_events was ((event, answer.outcome) ∷ [])))
 
--- The step of a line. A line that is refused for memory, or is bad, leaves the past as it is.
+-- The step of a line. A line that is refused for lack of memory, or is bad, leaves the past as it is.
 abbrev pub LineMakesEvents : BadLines → ℕ → SessionContent → List ℕ → List ℕ → ℕ → SessionContent → Past → Past → Type 0
 LineMakesEvents policy before old line out bad new was now =
     ((command : ScriptCommand) × IsLineAs (MayStand before) command line × (bad ≡ 0) × ((AnswerTakesRoom command old × IsLineRefused old out new × (now ≡ was)) ⊎ MakesEvents command old out new was now))

@@ -3,9 +3,9 @@
 /// What is kept of a reply, to compare it with another.
 #[derive(Clone, Copy, PartialEq, Eq)]
 pub enum Kept {
-    /// Refused for memory: nothing changed.
+    /// Refused for lack of memory: nothing changed.
     NoRoom,
-    /// Stopped for memory.
+    /// Stopped for lack of memory.
     Stopped {
         /// How many items were done before.
         items: usize,

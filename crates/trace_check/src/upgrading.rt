@@ -15,11 +15,10 @@ use trace_walk::{Walk, WalkFault, append_passed};
 /// Why a trace wasn't upgraded, or not whole.
 #[derive(Clone, Copy, Debug, PartialEq, Eq, Error)]
 pub enum UpgradeFault {
-    /// Not legal: at this line, from 1, a reply line must follow, and it isn't one that a legal trace has there.
+    /// Not legal: this line, from 1, must be a reply line, and isn't one that a legal trace has there.
     #[error("illegal {0}")]
     IllegalAt(u64),
-    /// Not legal: at this line, a header, a `>` or a `+` line must follow, and it isn't one that a legal trace has
-    /// there.
+    /// Not legal: this line must be a header, a `>` or a `+` line, and isn't one that a legal trace has there.
     #[error("badline {0}")]
     BadLineAt(u64),
     /// The trace is of format 2. Nothing was written.

@@ -5,14 +5,14 @@ ghost use Rattle.trace_model.specs.Noroom.{noroom_line, stopped_line};
 
 use crate::number::number_at;
 
-/// Returns whether the line refuses the command for memory.
+/// Returns whether the line refuses the command for lack of memory.
 pub fn is_noroom(line: &[u8]) -> bool
     ensures { IsTrue result ↔ (line.now ≡ noroom_line) }
 {
     line == b"< refused noroom\n".as_slice()
 }
 
-/// Returns how many items are done, if the line stops a Merge for memory.
+/// Returns how many items are done, if the line stops a Merge for lack of memory.
 pub fn stopped_at(line: &[u8]) -> Option<u64>
     ensures found { IfSome result (λ done. (done ≤ 255) × (line.now ≡ stopped_line done)) }
     ensures none { IfNone result ((done : ℕ) → done ≤ 255 → line.now ≢ stopped_line done) }

@@ -116,7 +116,7 @@ first_is text first rest next left e f a b = (lines_one first next rest left e f
 noroom_text : (said : Wording) (limits : LimitsRecord) → reply_lines said (Refused refusals.NoRoom) limits ≡ noroom_said ++ []
 noroom_text said limits = refl
 
--- the reply is the refusal for memory: its first line says so
+-- the reply is the refusal for lack of memory: its first line says so
 noroom_first : (said : Wording) (limits : LimitsRecord) (line first rest : List ℕ) → reply_lines said (Refused refusals.NoRoom) limits ≡ first ++ rest → EndsLine first → line ≡ 60 ∷ 32 ∷ first → line ≡ noroom_line
 noroom_first said limits line first rest text ends is =
     is ∙ ap (λ (l : List ℕ). 60 ∷ 32 ∷ l) (first_is (reply_lines said (Refused refusals.NoRoom) limits) first rest noroom_said [] ends noroom_ends text (noroom_text said limits))
@@ -241,7 +241,7 @@ plain_stays c s e older = refl
 line_stays : (format : Format) (c : ScriptCommand) → older_of format c ≡ None → StaysUpgraded format (askeds.Line c)
 line_stays format c older one s e = plain_stays c s e (subst (λ (f : Format). older_of f c ≡ None) one older)
 
--- what was refused for memory
+-- what was refused for lack of memory
 pub sweep_refused : (format : Format) (c : ScriptCommand) (swept : Sweep) (merges : Merges) → older_of format c ≡ Some swept → IsEmpty merges → IsRefusedAs format (askeds.Line c) (Swept merges)
 sweep_refused format c swept merges older none one s limits pass =
     subst (λ (k : ScriptCommand). BecomesBy s limits (record { pass = pass; asked = askeds.Line k; reply = Refused refusals.NoRoom }) (Swept merges)) (sym (older_is format c swept older).1)

@@ -23,7 +23,7 @@ abbrev pub BecomesBy : State → LimitsRecord → TraceEntry → Passed → Type
 BecomesBy s limits e AsItStands = BecomesAs s e e.asked (e ∷ [])
 BecomesBy s limits e (Swept merges) = (entries : List TraceEntry) × BecomesAs s e e.asked entries × AreEntries limits merges entries
 
--- Whether this is an entry of format 1, refused for memory, in format 2.
+-- Whether this is an entry of format 1, refused for lack of memory, in format 2.
 abbrev pub IsRefusedAs : Format → Asked → Passed → Type 0
 IsRefusedAs format asked passed =
     format ≡ One → (s : State) (limits : LimitsRecord) (pass : ℕ) → BecomesBy s limits (record { pass = pass; asked = asked; reply = Refused NoRoom }) passed

@@ -10,7 +10,7 @@ use trace_model::{AskedFault, Verdict};
 /// Why a walk through a trace ended before its input did.
 #[derive(Clone, Copy, Debug, PartialEq, Eq)]
 pub enum WalkFault {
-    /// At this line, from 1, a reply line must follow, and it isn't one that a legal trace has there.
+    /// This line, from 1, must be a reply line, and isn't one that a legal trace has there.
     IllegalAt(u64),
     /// Likewise for a header, a `>` or a `+` line.
     BadLineAt(u64),

@@ -12,7 +12,7 @@ use ds_store::Store;
 use std::alloc::Global;
 use trace_model::stopped_at;
 
-/// Returns after how many of its items the line stops a Merge for memory.
+/// Returns after how many of its items the line stops a Merge for lack of memory.
 pub(crate) fn stop_of(line: &[u8], count: usize) -> Option<usize>
     ensures found { IfSome result (λ done. (done < count) × (line.now ≡ stopped_line done)) }
     ensures none { IfNone result (StopsNowhere line.now count) }

@@ -196,7 +196,7 @@ impl Walk {
     }
 }
 
-// Returns an entry refused for memory in format 2: a sweep of format 1 is left out.
+// Returns, in format 2, an entry refused for lack of memory: a sweep of format 1 is left out.
 fn refused(alloc: Global, asked: &Asked, format: Format) -> Passed
     ensures { IsRefusedAs format asked.now result }
 {
