@@ -49,7 +49,7 @@ module _ {M C R : Type 0} (steps : M → C → R → M → Type 0) (owes : R →
   NoticesBalance =
       (opening : M) (first passes : ℕ) (s : TableState) → RuleHolds steps owes opening first passes s → (server bit : ℕ) → server < 16
       → total_of (λ (v : View M C R). raised_by v.passes server bit) s.views ≡
-          total_of (λ (v : View M C R). taken_by v.passes server bit) s.views + bit_at (slice_index s.words (server + 1)) bit
+      total_of (λ (v : View M C R). taken_by v.passes server bit) s.views + bit_at (slice_index s.words (server + 1)) bit
 
   -- An entry of the history owes each pending bit.
   abbrev pub BitsAreOwed : Type 0

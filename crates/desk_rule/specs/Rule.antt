@@ -27,8 +27,14 @@ module _ {M C R : Type 0} where
   -- The view of the first seat, at which all passes sit.
   abbrev pub opening_view : M → ℕ → ℕ → View M C R
   opening_view m first passes = record {
-      opening = Some m; first = first; holding = false; seen = []; told = []; notices = []; told_notices = [];
-      passes = fresh passes;
+    opening = Some m;
+    first = first;
+    holding = false;
+    seen = [];
+    told = [];
+    notices = [];
+    told_notices = [];
+    passes = fresh passes;
   }
 
   -- The view of a seat that another one took over.
