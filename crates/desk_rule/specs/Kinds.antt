@@ -24,7 +24,7 @@ abbrev pub AtSeat : Type 0 → Type 0 → Type 0 → Type 0
 AtSeat M C R = Me (Option (Home M C R)) (View M C R)
 
 module _ {M C R : Type 0} where
-  -- The view that has seen this much of the history and of the order of notices, which include all that it was told.
+  -- The view that has seen this much of the history and of the order of notices, which include all that reached it by notes.
   abbrev pub after_look : View M C R → Bool → List (Entry C R) → List Notice → View M C R
   after_look v holding es ns = record {
     opening = v.opening;
@@ -97,7 +97,7 @@ module _ {M C R : Type 0} where
     passes = [];
   }
 
-  -- The view that was told what a note has seen.
+  -- The view after a note, with what the note has seen.
   abbrev pub after_note : View M C R → View M C R → View M C R
   after_note v w = record {
     opening = v.opening;
@@ -135,7 +135,7 @@ module _ {M C R : Type 0} where
     passes = drop 1 v.passes;
   }
 
-  -- The view with the passes of another seat, which was told what that one has seen.
+  -- The view after it takes over the passes of another seat, with what that one has seen.
   abbrev pub after_pass : View M C R → View M C R → View M C R
   after_pass v w = record {
     opening = v.opening;
@@ -148,7 +148,7 @@ module _ {M C R : Type 0} where
     passes = v.passes ++ w.passes;
   }
 
--- w is v after a load of word 0 that found this: the history that it has seen extends all that v saw and was told, is
+-- w is v after a load of word 0 that found this: the history that it has seen extends all that v saw itself or by notes, is
 -- legal, and has exactly the own entries of each pass; the same holds of the order of notices.
 pub record Looks {M C R : Type 0} (steps : M → C → R → M → Type 0) (v : View M C R) (found : ℕ) (holding : Bool)
     (w : View M C R) : Type 0 where
@@ -165,7 +165,7 @@ pub record Looks {M C R : Type 0} (steps : M → C → R → M → Type 0) (v : 
   pub order : IsOrder w.notices
   pub own_notices : OwnNotices w.notices w.passes
 
--- w is v after a notice, which comes after all that v saw of the order and was told, and found its word as the earlier
+-- w is v after a notice, which comes after all that v saw of the order itself or by notes, and found its word as the earlier
 -- ones left it.
 pub record MakesNotice {M C R : Type 0} (v : View M C R) (n : Notice) (w : View M C R) : Type 0 where
   pub before : List Notice
