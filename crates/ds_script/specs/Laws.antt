@@ -89,7 +89,7 @@ MakesEvents (lines.Follow map) old out new was now =
     AnswersCommand (lines.Follow map) old out new × MakesServers (AnswersFollow (items_of_map old map)) out was now
 MakesEvents (lines.Submit server id unit map) old out new was now =
     AnswersCommand (lines.Submit server id unit map) old out new ×
-        MakesServers (AnswersSubmit server id unit (items_of_map old map)) out was now
+    MakesServers (AnswersSubmit server id unit (items_of_map old map)) out was now
 MakesEvents (lines.Reply server endpoint id) old out new was now =
     AnswersCommand (lines.Reply server endpoint id) old out new × MakesServers (AnswersReply server endpoint id) out was now
 MakesEvents command old out new was now =
@@ -100,7 +100,7 @@ MakesEvents command old out new was now =
 abbrev pub LineMakesEvents : BadLines → ℕ → SessionContent → List ℕ → List ℕ → ℕ → SessionContent → Past → Past → Type 0
 LineMakesEvents policy before old line out bad new was now =
     ((command : ScriptCommand) × IsLineAs (MayStand before) command line × (bad ≡ 0) ×
-        ((AnswerTakesRoom command old × IsLineRefused old out new × (now ≡ was)) ⊎ MakesEvents command old out new was now))
+    ((AnswerTakesRoom command old × IsLineRefused old out new × (now ≡ was)) ⊎ MakesEvents command old out new was now))
     ⊎ (TellsBadLine policy before old line out bad new × (now ≡ was))
 
 -- The steps of lines, in order.
@@ -108,7 +108,7 @@ abbrev pub LinesMakeEvents : BadLines → ℕ → SessionContent → List (List 
 LinesMakeEvents policy before old [] out bad new was now = (out ≡ []) × (bad ≡ 0) × (new ≡ old) × (now ≡ was)
 LinesMakeEvents policy before old (line ∷ lines) out bad new was now =
     (mid : SessionContent) × (first rest : List ℕ) × (one more : ℕ) × (next : Past) ×
-        LineMakesEvents policy before old line first one mid was next × LinesMakeEvents policy (suc before) mid lines rest more new next now
+    LineMakesEvents policy before old line first one mid was next × LinesMakeEvents policy (suc before) mid lines rest more new next now
     × (out ≡ first ++ rest) × (bad ≡ one + more)
 
 -- Whatever the answers to a script's lines are, the session after them is the result of these lines' events and of
@@ -116,9 +116,9 @@ LinesMakeEvents policy before old (line ∷ lines) out bad new was now =
 abbrev pub ScriptsAreEvents : Type 0
 ScriptsAreEvents =
     (policy : BadLines) (lines : List (List ℕ)) (out : List ℕ) (bad : ℕ) (start end : SessionContent) → IsOpened 256 start →
-        AnswersLines policy 0 start lines out bad end →
+    AnswersLines policy 0 start lines out bad end →
     (past : Past) × LinesMakeEvents policy 0 start lines out bad end no_past past × (ring : ℕ) × (world : World) ×
-        CameOf past ring world end
+    CameOf past ring world end
 
 -- ---- what follows
 
@@ -127,7 +127,7 @@ ScriptsAreEvents =
 abbrev pub ScriptHoldersAgree : Type 0
 ScriptHoldersAgree =
     (past : Past) (ring : ℕ) (world : World) (session : SessionContent) (query : Key → Bool) (h i : Holder) →
-        CameOf past ring world session →
+    CameOf past ring world session →
     let account = extended_all (new_account (seed 1 ring) (seed 2 ring) larger) past.events in
     AreExact account.brought → KnowSame query (known_at account h) (known_at account i) → HoldSame world query h i
 
@@ -143,11 +143,11 @@ ScriptLabelsAreNewest =
 abbrev pub ShowsAgree : Type 0
 ShowsAgree =
     (world : World) (session after : SessionContent) (out : List ℕ) → WorldStands session.world world →
-        HoldSame world (λ key. true) (Store A) (Store B) →
+    HoldSame world (λ key. true) (Store A) (Store B) →
     AnswersCommand lines.Show (turned session A) out after → AnswersCommand lines.Show (turned session B) out (turned session B)
 
 -- No line is bad where a bad line ends the script.
 abbrev pub NoneIsBadWhereOneEnds : Type 0
 NoneIsBadWhereOneEnds =
     (before : ℕ) (old new : SessionContent) (lines : List (List ℕ)) (out : List ℕ) (bad : ℕ) →
-        AnswersLines End before old lines out bad new → bad ≡ 0
+    AnswersLines End before old lines out bad new → bad ≡ 0

@@ -19,8 +19,11 @@ use Rattle.ds_script.specs.Causes.{HasWriteCause, HasTurnCause}
 -- The state that the replay has reached.
 abbrev pub reached : {W B : Type 0} → Replay W B → Reached
 reached it = record {
-    session = it.session.now; waiting = it.output.items; lines = it.tally.lines; bad = it.tally.bad;
-    policy = it.bad_lines;
+  session = it.session.now;
+  waiting = it.output.items;
+  lines = it.tally.lines;
+  bad = it.tally.bad;
+  policy = it.bad_lines;
 }
 
 -- The bytes that its writer holds, where they are known.

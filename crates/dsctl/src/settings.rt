@@ -38,8 +38,8 @@ fn show(rt: &(impl Runtime + AllocGlobal), settings: &Settings) -> Result<ExitCo
     }
 }
 
-// Prints the fault of a text, and writes to standard error which field it is about. Out of memory is no fault of the
-// text.
+// Prints the fault of a text, and writes to standard error which field it is about. Out of memory isn't a fault
+// of the text.
 fn show_fault(
     rt: &(impl Runtime + AllocGlobal),
     text: &[u8],
