@@ -44,7 +44,8 @@ retrieve_turn v key live stood is = record {
 }
 
 -- The turn of a Retrieve that runs out of memory to copy the value.
-pub copyless_turn : (v : ContentRecord) (key : Key) (value : Value) → ((s : State) × ContentStands v s) → InEachState v (λ s. Some value ≡ live_at s key) → kind_of value ≡ key.kind → ¬ IsInPlace value → Turn v (Retrieve key) (Refused NoRoom) v
+pub copyless_turn : (v : ContentRecord) (key : Key) (value : Value) → ((s : State) × ContentStands v s) → InEachState v (λ s. Some value ≡ live_at s key) → kind_of value ≡ key.kind
+    → ¬ IsInPlace value → Turn v (Retrieve key) (Refused NoRoom) v
 copyless_turn v key value stood is kind takes = record {
   stood = stood;
   steps = λ s stands. (s, inl (inr (record { reply_is = refl; state_is = refl })), stands);
