@@ -33,7 +33,14 @@ fn reply_holds_memory(reply: &Reply) -> bool
     match reply {
         Reply::Found(value) => matches!(value, Value::Str(_) | Value::Mem(_)),
         Reply::Checked { .. } | Reply::Journaled(_) | Reply::Snapped(_) | Reply::Paged(_) => true,
-        _ => false,
+        Reply::Changed { .. }
+        | Reply::Known
+        | Reply::Swept { .. }
+        | Reply::Named(_)
+        | Reply::Subscribed { .. }
+        | Reply::Merged { .. }
+        | Reply::MergeStopped { .. }
+        | Reply::Refused(_) => false,
     }
 }
 

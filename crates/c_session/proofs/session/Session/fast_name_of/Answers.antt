@@ -12,6 +12,6 @@ pub returns-in-Some-fast_name_of : goal.returns-in-Some-fast_name_of
 returns-in-Some-fast_name_of c =
     let name = c.in-Some-fast_name_of.name.now in
     answered c.args.self.now c.tell.new.self c.args.request.now c.args.text.now c.tell.new.answer (NameOf c.in-Some.endpoint) (Named name)
-      (stands_for_name c.args.request.now c.args.text.now c.in-Some.endpoint c.requires c.in-Some.ensures)
-      (name_turn c.args.self.now.store c.in-Some.endpoint name c.cursor-stood.ensures.stood c.in-Some-fast_name_of.ensures)
-      c.tell.ensures
+    (stands_for_name c.args.request.now c.args.text.now c.in-Some.endpoint c.requires c.in-Some.ensures)
+    (name_turn c.args.self.now.store c.in-Some.endpoint name c.cursor-stood.ensures.stood c.in-Some-fast_name_of.ensures)
+    c.tell.ensures

@@ -14,23 +14,23 @@ returns-in_default c = λ text. inr (inl (stands_for_no_retrieve c.args.request.
 
 pub returns-in-Some-U32 : goal.returns-in-Some-U32
 returns-in-Some-U32 c = λ text.
-    let found : Value = U32 c.in-Some-U32.number.now in
+    let found : Value = U32 c.in-Some-U32.number in
     answered c.args.self.now c.tell.new.self c.args.request.now text c.tell.new.answer (Retrieve c.in-Some.key) (Found found)
-      (stands_for_retrieve c.args.request.now text c.in-Some.key c.requires c.in-Some.ensures)
-      (retrieve_turn c.args.self.now.store c.in-Some.key (Some found) c.cursor-stood.ensures.stood c.in-Some-U32.ensures.live)
-      c.tell.ensures
+    (stands_for_retrieve c.args.request.now text c.in-Some.key c.requires c.in-Some.ensures)
+    (retrieve_turn c.args.self.now.store c.in-Some.key (Some found) c.cursor-stood.ensures.stood c.in-Some-U32.ensures.live)
+    c.tell.ensures
 
 pub returns-in-Some-fast_retrieve : goal.returns-in-Some-fast_retrieve
 returns-in-Some-fast_retrieve c = λ text.
     answered c.args.self.now c.tell_copy.new.self c.args.request.now text c.tell_copy.new.answer (Retrieve c.in-Some.key) (copy_reply c.copy-copied.result)
-      (stands_for_retrieve c.args.request.now text c.in-Some.key c.requires c.in-Some.ensures)
-      (copied_turn c.args.self.now.store c.in-Some.key c.in-Some-fast_retrieve.value.now c.copy-copied.result c.cursor-stood.ensures.stood
-        c.in-Some-fast_retrieve.ensures.live c.in-Some-fast_retrieve.ensures.kind c.copy-copied.ensures.same c.copy-copied.ensures.in_place)
-      c.tell_copy.ensures
+    (stands_for_retrieve c.args.request.now text c.in-Some.key c.requires c.in-Some.ensures)
+    (copied_turn c.args.self.now.store c.in-Some.key c.in-Some-fast_retrieve.value.now c.copy-copied.result c.cursor-stood.ensures.stood
+    c.in-Some-fast_retrieve.ensures.live c.in-Some-fast_retrieve.ensures.kind c.copy-copied.ensures.same c.copy-copied.ensures.in_place)
+    c.tell_copy.ensures
 
 pub returns-in-None : goal.returns-in-None
 returns-in-None c = λ text.
-    answered c.args.self.now c.tell.new.self c.args.request.now text c.tell.new.answer (Retrieve c.in-Some.key) (Refused NotFound)
-      (stands_for_retrieve c.args.request.now text c.in-Some.key c.requires c.in-Some.ensures)
-      (retrieve_turn c.args.self.now.store c.in-Some.key None c.cursor-stood.ensures.stood c.in-None.ensures.live)
-      c.tell.ensures
+    answered c.args.self.now c.tell-in-None.new.self c.args.request.now text c.tell-in-None.new.answer (Retrieve c.in-Some.key) (Refused NotFound)
+    (stands_for_retrieve c.args.request.now text c.in-Some.key c.requires c.in-Some.ensures)
+    (retrieve_turn c.args.self.now.store c.in-Some.key None c.cursor-stood.ensures.stood c.in-None.ensures.live)
+    c.tell-in-None.ensures
