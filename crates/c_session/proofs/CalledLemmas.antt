@@ -1,21 +1,51 @@
 -- How a request is answered, and what some requests stand for.
-use Rattle.std.proofs.Common.{◌≡◌, ℕ, List, inl, refl, sym, ap, ◌∙◌, subst, arith}
-use Rattle.std.specs.Prelude.{Option, Some, None, IsTrue}
+use Rattle.std.proofs.Common.{◌≡◌, ℕ, true, false, List, inl, refl, sym, ap, ◌∙◌, subst, arith}
+use Rattle.std.specs.Prelude.{Option, Some, None, IsTrue, Result, Ok, Err, IfOk, IsOk}
 use Rattle.std.specs.Option.{option_map}
 use Rattle.ds_names.specs.Endpoint.{EndpointRecord}
 use Rattle.ds_names.specs.declared.key.Key.{Key}
+use Rattle.ds_names.specs.declared.room.NoRoom as room
+use Rattle.ds_entry.specs.Change.{kind_of, IsInPlace}
+use Rattle.ds_entry.specs.declared.body.Value.{Value}
+use Rattle.ds_machine.specs.Machine.{live_at}
+use Rattle.ds_machine.specs.State.{State}
+use Rattle.ds_machine.specs.declared.command.Command.{Command}
 use Rattle.ds_machine.specs.declared.command.Command.TheVariants.{Retrieve, NameOf}
+use Rattle.ds_machine.specs.declared.reply.Reply.{Reply}
+use Rattle.ds_machine.specs.declared.reply.Reply.TheVariants.{Found}
+use Rattle.ds_content.specs.Content.{ContentRecord}
+use Rattle.ds_content.specs.Stands.{ContentStands, InEachState}
+use Rattle.ds_store.specs.Turns.{Turn}
+use Rattle.ds_store.proofs.FindLemmas.{retrieve_turn, copyless_turn}
 use Rattle.c_values.specs.declared.request.Request.{Request}
 use Rattle.c_values.specs.declared.answer.Answer.{Answer}
 use Rattle.c_values.specs.declared.texts.Publication.{Publication}
+use Rattle.c_values.specs.Answer.{answer_of}
+use Rattle.store_answers.specs.declared.wording.Wording.TheVariants.{AsMerge}
 use Rattle.c_values.specs.Asked.{StandsFor, StandsForNone, has_text}
 use Rattle.c_values.specs.Request.{command_of, publish_of, publish_command, key_of, caller_of}
 use Rattle.c_values.proofs.AskedLemmas.{none_of_parts}
 use Rattle.c_session.specs.declared.session.Session.{Session}
-use Rattle.c_session.specs.Called.{CalledWith, Called}
+use Rattle.c_session.specs.Called.{CalledWith, Called, Rests}
+use Rattle.c_session.specs.declared.last.Last.TheVariants.{Reply as Replied}
+use Rattle.c_session.specs.Kept.{copy_reply}
 
 pub called : (old new : Session) (r : Request) (o : Option (List ℕ)) (text : List ℕ) (answer : Answer) → o ≡ Some text → CalledWith old r text answer new → Called old r o answer new
 called old new r o text answer is given = subst (λ (p : Option (List ℕ)). Called old r p answer new) (sym is) given
+
+-- A request that a turn of the store answers, which leaves the store unchanged.
+pub answered : (old new : Session) (r : Request) (text : List ℕ) (answer : Answer) (command : Command) (reply : Reply) → StandsFor r text command → Turn old.store command reply old.store
+    → Rests old (answer_of reply) (Replied reply AsMerge) answer new → CalledWith old r text answer new
+answered old new r text answer command reply stands turn rests = inl (record {
+  command = command;
+  stands = stands;
+  answered = record {
+    reply = reply;
+    turn = subst (λ (w : ContentRecord). Turn old.store command reply w) (sym rests.store_is) turn;
+    told = rests.told_is;
+    kept = rests.kept;
+  };
+})
 
 -- ---- what a Publish, a Retrieve and a NameOf stand for
 
@@ -51,3 +81,10 @@ stands_for_name r text endpoint four e = inl (names r text four ∙ ap (option_m
 
 pub stands_for_no_name : (r : Request) (text : List ℕ) → r.command ≡ 4 → None ≡ caller_of r → StandsForNone r text
 stands_for_no_name r text four e = none_of_parts r text (λ ten. omega (arith, four, ten)) (names r text four ∙ ap (option_map NameOf) (sym e))
+
+-- ---- the turn of a Retrieve that copies the value
+
+pub copied_turn : (v : ContentRecord) (key : Key) (value : Value) (copied : Result Value room.NoRoom) → ((s : State) × ContentStands v s) → InEachState v (λ s. Some value ≡ live_at s key) → kind_of value ≡ key.kind
+    → IfOk copied (λ copy. copy ≡ value) → (IsInPlace value → IsOk copied) → Turn v (Retrieve key) (copy_reply copied) v
+copied_turn v key value (Ok copy) stood is kind same in_place = subst (λ (x : Value). Turn v (Retrieve key) (Found x) v) (sym same) (retrieve_turn v key (Some value) stood is)
+copied_turn v key value (Err want) stood is kind same in_place = copyless_turn v key value stood is kind (λ p. let no : false ≡ true = in_place p in absurd (cc))

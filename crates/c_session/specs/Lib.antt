@@ -1,2 +1,3 @@
+pub mod Kept
 pub mod Called
 pub mod Running

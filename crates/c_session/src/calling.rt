@@ -27,15 +27,15 @@ impl Session {
     {
         match request.command {
             0 => self.fast_publish(alloc, request, text, answer),
-            3 => self.fast_retrieve(request, answer),
-            4 => self.fast_name_of(request, answer),
+            3 => self.fast_retrieve(alloc, request, answer),
+            4 => self.fast_name_of(alloc, request, text, answer),
             _ => self.ask(alloc, request, text, answer),
         }
     }
 
     // Lets the store answer the command that a request with this text stands for.
     #[inline(never)]
-    fn ask(&mut self, alloc: Global, request: &Request, text: &[u8], answer: &mut Answer)
+    pub(crate) fn ask(&mut self, alloc: Global, request: &Request, text: &[u8], answer: &mut Answer)
         ensures { CalledWith self.old request.now text.now answer.new self.new }
     {
         match read_request(alloc, request, text) {

@@ -1,13 +1,19 @@
 //! Fast ways, for the requests that callers send most: a Publish, a Retrieve and a NameOf.
 //!
-//! Each promises what `ask` promises, of the requests of one command. A Publish is read by itself. A Retrieve and a NameOf are
-//! answered by the store's own fast ways, with no command. docs/design/fast-ways.md says what that saves.
+//! Each promises what `ask` promises, for the requests of one command. A Publish is read by itself. A Retrieve and a NameOf make
+//! no command: the store lends what it finds. docs/design/fast-ways.md says what that saves.
 
 ghost use Rattle.std.specs.Prelude.{◌≡◌, ℕ, List};
-ghost use Rattle.c_session.specs.Called.{CalledWith};
+ghost use Rattle.c_session.specs.Called.{CalledWith, Rests};
+ghost use Rattle.c_session.specs.Kept.{copy_reply};
+ghost use Rattle.c_values.specs.Answer.{answer_of};
+ghost use Rattle.store_answers.specs.declared.wording.Wording.TheVariants.{AsMerge};
+ghost use Rattle.c_session.specs.declared.last.Last.TheVariants.{Reply as Replied};
 
 use crate::session::Session;
 use c_values::{Answer, Request, caller_of, key_of, read_publication};
+use ds_entry::Value;
+use ds_machine::{Refusal, Reply};
 use ds_names::NoRoom;
 use std::alloc::Global;
 use store_answers::Wording;
@@ -32,9 +38,9 @@ impl Session {
         }
     }
 
-    /// Answers a request of a Retrieve.
+    /// Answers a request of a Retrieve. A number is told as it is lent; any other value is copied first.
     #[inline(never)]
-    pub(crate) fn fast_retrieve(&mut self, request: &Request, answer: &mut Answer)
+    pub(crate) fn fast_retrieve(&mut self, alloc: Global, request: &Request, answer: &mut Answer)
         requires { request.now.command ≡ 3 }
         ensures { (text : List ℕ) → CalledWith self.old request.now text answer.new self.new }
     {
@@ -42,21 +48,53 @@ impl Session {
             return self.decline(answer);
         };
         let _stood = self.store.cursor();
-        let found = self.store.fast_retrieve(&key);
-        self.tell(Wording::AsMerge, found, answer);
+        match self.store.fast_retrieve(&key) {
+            Some(Value::U32(number)) => {
+                let found = Reply::Found(Value::U32(*number));
+                self.tell(Wording::AsMerge, found, answer);
+            }
+            Some(value) => {
+                let copied = value.copy(alloc);
+                self.tell_copy(copied, answer);
+            }
+            None => self.tell(Wording::AsMerge, Reply::Refused(Refusal::NotFound), answer),
+        }
     }
 
-    /// Answers a request of a NameOf.
+    // Tells the copy of a value, or that memory ran out for it. Not inlined: a number needs none of its locals.
     #[inline(never)]
-    pub(crate) fn fast_name_of(&mut self, request: &Request, answer: &mut Answer)
+    fn tell_copy(&mut self, copied: Result<Value, NoRoom>, answer: &mut Answer)
+        ensures { Rests self.old (answer_of (copy_reply copied)) (Replied (copy_reply copied) AsMerge) answer.new self.new }
+    {
+        match copied {
+            Ok(value) => self.tell(Wording::AsMerge, Reply::Found(value), answer),
+            Err(NoRoom) => self.tell(Wording::AsMerge, Reply::Refused(Refusal::NoRoom), answer),
+        }
+    }
+
+    /// Answers a request of a NameOf. The name of a label is told as it is lent. RS and an endpoint without a label are left
+    /// to the general way.
+    #[inline(never)]
+    pub(crate) fn fast_name_of(
+        &mut self,
+        alloc: Global,
+        request: &Request,
+        text: &[u8],
+        answer: &mut Answer,
+    )
         requires { request.now.command ≡ 4 }
-        ensures { (text : List ℕ) → CalledWith self.old request.now text answer.new self.new }
+        ensures { CalledWith self.old request.now text.now answer.new self.new }
     {
         let Some(endpoint) = caller_of(request) else {
             return self.decline(answer);
         };
         let _stood = self.store.cursor();
-        let named = self.store.fast_name_of(endpoint);
-        self.tell(Wording::AsMerge, named, answer);
+        match self.store.fast_name_of(endpoint) {
+            Some(name) => {
+                let named = Reply::Named(*name);
+                self.tell(Wording::AsMerge, named, answer);
+            }
+            None => self.ask(alloc, request, text, answer),
+        }
     }
 }

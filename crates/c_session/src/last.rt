@@ -3,10 +3,11 @@
 ghost use Rattle.std.specs.Prelude.{◌≡◌, drop, IfOk};
 ghost use Rattle.ds_held.specs.Held.{held_items};
 ghost use Rattle.c_values.specs.Pieces.{GivesPieces};
+ghost use Rattle.c_session.specs.Kept.{holds_memory, reply_holds_memory};
 ghost use Rattle.c_session.specs.Called.{pieces_in, held_shown};
 
 use c_values::{Given, give, give_items};
-use ds_entry::Items;
+use ds_entry::{Items, Value};
 use ds_held::Held;
 use ds_machine::Reply;
 use ds_names::NoRoom;
@@ -24,7 +25,38 @@ pub enum Last {
     Shown(Items),
 }
 
+// Whether a reply holds memory.
+#[inline(always)]
+fn reply_holds_memory(reply: &Reply) -> bool
+    ensures { result ≡ reply_holds_memory reply.now }
+{
+    match reply {
+        Reply::Found(value) => matches!(value, Value::Str(_) | Value::Mem(_)),
+        Reply::Checked { .. } | Reply::Journaled(_) | Reply::Snapped(_) | Reply::Paged(_) => true,
+        Reply::Changed { .. }
+        | Reply::Known
+        | Reply::Swept { .. }
+        | Reply::Named(_)
+        | Reply::Subscribed { .. }
+        | Reply::Merged { .. }
+        | Reply::MergeStopped { .. }
+        | Reply::Refused(_) => false,
+    }
+}
+
 impl Last {
+    // Whether it holds memory: items, a string or memory.
+    #[inline(always)]
+    pub(crate) fn holds_memory(&self) -> bool
+        ensures { result ≡ holds_memory self.now }
+    {
+        match self {
+            Last::Nothing => false,
+            Last::Reply { reply, .. } => reply_holds_memory(reply),
+            Last::Shown(_) => true,
+        }
+    }
+
     // Gives a buffer its pieces of text from one on.
     pub(crate) fn give(&self, alloc: Global, first: usize, room: &mut [u8]) -> Given
         ensures { GivesPieces (drop first (pieces_in self.now)) room.old result room.new }

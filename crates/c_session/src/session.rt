@@ -1,6 +1,6 @@
 //! Sessions. What they tell is written where it goes, into the caller's answer.
 
-ghost use Rattle.std.specs.Prelude.{◌≡◌, ◌≤◌, drop, length, IfOk, IfErr, OnOk};
+ghost use Rattle.std.specs.Prelude.{◌≡◌, ◌≤◌, drop, false, length, IfOk, IfErr, OnOk};
 ghost use Rattle.ds_feed.specs.Kept.{IsRing};
 ghost use Rattle.ds_held.specs.Limits.{larger};
 ghost use Rattle.ds_machine.specs.State.{opening};
@@ -9,6 +9,7 @@ ghost use Rattle.ds_content.specs.Stands.{ContentStands};
 ghost use Rattle.ds_store.specs.Opening.{IsOpenRefusal};
 ghost use Rattle.c_values.specs.Answer.{answer_of, told_shown};
 ghost use Rattle.c_values.specs.Pieces.{GivesPieces};
+ghost use Rattle.c_session.specs.Kept.{holds_memory};
 ghost use Rattle.c_session.specs.Called.{Tells, Rests, RestsForRoom, ShowsIfRoom, pieces_in};
 ghost use Rattle.c_session.specs.declared.last.Last.TheVariants.{Nothing, Reply as Replied, Shown};
 
@@ -19,6 +20,7 @@ use ds_machine::{Command, Refusal, Reply};
 use ds_names::NoRoom;
 use ds_store::Store;
 use std::alloc::Global;
+use std::mem::{forget, replace};
 use store_answers::Wording;
 
 /// A store, and what was given last.
@@ -65,7 +67,38 @@ impl Session {
         ensures { Rests self.old (answer_of reply) (Replied reply wording) answer.new self.new }
     {
         *answer = answer_of(&reply);
-        self.last = Last::Reply { reply, wording };
+        self.let_go();
+        self.overwrite(Last::Reply { reply, wording });
+    }
+
+    // Lets go of the last answer if it holds memory. The store is unchanged.
+    #[inline(always)]
+    fn let_go(&mut self)
+        ensures store { self.new.store ≡ self.old.store }
+        ensures let_go { holds_memory self.new.last ≡ false }
+    {
+        if self.last.holds_memory() {
+            self.drop_last();
+        }
+    }
+
+    // Not inlined: most answers hold no memory, and then there is nothing to drop.
+    #[inline(never)]
+    fn drop_last(&mut self)
+        ensures store { self.new.store ≡ self.old.store }
+        ensures dropped { self.new.last ≡ Nothing }
+    {
+        self.last = Last::Nothing;
+    }
+
+    // Writes the last answer over one that holds no memory, which needs no drop. The store is unchanged.
+    #[inline(always)]
+    fn overwrite(&mut self, last: Last)
+        requires { holds_memory self.old.last ≡ false }
+        ensures store { self.new.store ≡ self.old.store }
+        ensures last { self.new.last ≡ last }
+    {
+        forget(replace(&mut self.last, last));
     }
 
     /// Tells this, which has no text. The store stays as it is.

@@ -1,5 +1,5 @@
 -- What commands are answered, in the words of a store's content.
-use Rattle.std.proofs.Common.{◌≡◌, ◌≢◌, ℕ, Bool, List, [], ◌∷◌, map, length, Option, Some, None, Err, ap, ap₂, sym, ◌∙◌, subst, inl, inr, ◌⊎◌}
+use Rattle.std.proofs.Common.{◌≡◌, ℕ, Bool, List, [], ◌∷◌, map, length, Option, Some, None, Err, ap, ap₂, sym, ◌∙◌, subst, inl, inr, ◌⊎◌}
 use Rattle.std.specs.Option.{option_map_or}
 use Rattle.ds_names.specs.declared.key.Key.{Key}
 use Rattle.ds_names.specs.declared.kind.Kind.{Kind}
@@ -95,18 +95,17 @@ sweep_taken v s caller f count bits stands e counted owes =
     }
 
 -- ---- a value
-kind_in_place : (kind : Kind) (value : Value) → kind_of value ≡ kind → IsKindInPlace kind → IsInPlace value
+pub kind_in_place : (kind : Kind) (value : Value) → kind_of value ≡ kind → IsKindInPlace kind → IsInPlace value
 kind_in_place kind (values.Label e) k p = tt
 kind_in_place kind (values.U32 n) k p = tt
 kind_in_place kind (values.Str t) k p = absurd (subst IsKindInPlace (sym k) p)
 kind_in_place kind (values.Mem b) k p = absurd (subst IsKindInPlace (sym k) p)
 
--- the value that is held for a key whose values take no memory takes none
-pub found_in_place : (hs : List Item) (key : Key) (c : ChangeRecord) (value : Value) → held_at hs key ≡ Some c → IsChange c → c.body ≡ Put value → IsKindInPlace key.kind → IsInPlace value
-found_in_place hs key c value e change put p =
-    let here : key ≡ c.key = (key_found hs key c e).1 in
+-- the value that is held for a key is of the key's kind
+pub found_kind : (hs : List Item) (key : Key) (c : ChangeRecord) (value : Value) → held_at hs key ≡ Some c → IsChange c → c.body ≡ Put value → kind_of value ≡ key.kind
+found_kind hs key c value e change put =
     let of : IsOfKind c.key.kind (Put value) = subst (λ (b : Body). IsOfKind c.key.kind b) put change.kind in
-    kind_in_place c.key.kind value of (subst (λ (k : Key). IsKindInPlace k.kind) here p)
+    subst (λ (k : Key). kind_of value ≡ k.kind) (sym (key_found hs key c e).1) of
 
 -- ---- where lack of memory is reported
 -- for a Publish or a Delete
@@ -124,8 +123,3 @@ asked_last s command (replies.Snapped snapshot) fit may = absurd fit
 asked_last s command (replies.Paged page) fit may = absurd fit
 asked_last s command (replies.Merged done taken stale owed) fit may = absurd fit
 asked_last s command (replies.MergeStopped done fault owed) fit may = absurd fit
-
--- an answer that never reports it
-pub never_last : (s : State) (command : Command) (reply : Reply) (t : State) → Answers s (outcome s command) reply t → reply ≢ replies.Refused refusals.NoRoom → IsLast s command reply
-never_last s command reply t (inl is) never = last_of s command reply t is
-never_last s command reply t (inr wants) never = absurd (never wants.reply_is)

@@ -1,5 +1,6 @@
 pub mod StandingLemmas
 pub mod AnswerLemmas
+pub mod FindLemmas
 pub mod MergeLemmas
 pub mod WatchLemmas
 pub mod ReadingLemmas

@@ -1,8 +1,6 @@
 -- What is there before a change and before a floor, in a content and in the state that it stands for.
-use Rattle.std.proofs.Common.{◌≡◌, ℕ, Bool, List, Option, Some, None, IfNone, length, refl, ap, sym, ◌∙◌, subst}
+use Rattle.std.proofs.Common.{◌≡◌, ℕ, List, Option, Some, None, IfNone, length, refl, ap, sym, ◌∙◌, subst}
 use Rattle.std.specs.Option.{option_map}
-use Rattle.ds_names.specs.Endpoint.{EndpointRecord}
-use Rattle.ds_names.specs.declared.key.Key.{Key}
 use Rattle.ds_entry.specs.Change.{ChangeRecord}
 use Rattle.ds_entry.specs.Floor.{floor_of}
 use Rattle.ds_entry.specs.Void.{is_void}
@@ -14,15 +12,15 @@ use Rattle.ds_held.specs.Held.{Holding, held_items, floor_for, is_below, IsSound
 use Rattle.ds_machine.specs.Parts.{changes_in, floors_in, held_at, floor_at}
 use Rattle.ds_machine.specs.State.{State}
 use Rattle.ds_machine.specs.Order.{first_cause}
-use Rattle.ds_machine.specs.Standing.{Standing, FloorStanding, standing_of, against_change, against_floor, cause_of, IsFree, IsFloorFree}
-use Rattle.ds_machine.specs.Asking.{AskedChange, against_asked, against_sweep, change_asked, name_of, cause_against, sweep_cause}
+use Rattle.ds_machine.specs.Standing.{Standing, FloorStanding, standing_of, against_change, against_floor, cause_of, IsFree}
+use Rattle.ds_machine.specs.Asking.{AskedChange, against_asked, change_asked, name_of, cause_against}
 use Rattle.ds_machine.specs.declared.refusal.Cause.{Cause}
 use Rattle.ds_machine.proofs.PartLemmas.{owner_found}
 use Rattle.ds_judge.specs.Asked.{is_void_under}
 use Rattle.ds_content.specs.Content.{ContentRecord}
 use Rattle.ds_content.specs.Stands.{ContentStands}
 use Rattle.ds_content.proofs.HoldingLemmas.{floor_at-is, void-is}
-use Rattle.ds_content.specs.Standing.{standing_in, standing_with, floor_standing_in}
+use Rattle.ds_content.specs.Standing.{standing_in, floor_standing_in}
 use Rattle.ds_content.proofs.RoomLemmas.{standing_at, floor_standing_at}
 
 -- ---- floors
@@ -56,9 +54,6 @@ pub floor_told_same : (v : ContentRecord) (f : Floor) (o : Option Floor) (count 
     position ≡ v.journal.position → floor_told o count position ≡ floor_standing_in v f
 floor_told_same v f o count position p q r = λ i. record { held = p i; count = q i; position = r i }
 
-pub standing_is : (v : ContentRecord) (c : ChangeRecord) (t : Standing) (key : Key) (void : Bool) → t ≡ standing_with v key void → key ≡ c.key → void ≡ is_void v.held c → t ≡ standing_in v c
-standing_is v c t key void same k b = same ∙ ap (λ q. standing_with v q void) k ∙ ap (standing_with v c.key) b
-
 -- ---- the first cause
 pub asked_cause : (v : ContentRecord) (s : State) (a : AskedChange) (body : Body) (caller : Option (List ℕ)) (t : Standing) (o : Option Cause) → ContentStands v s →
     caller ≡ name_of v.held a.caller → t ≡ standing_in v (change_asked caller a body)
@@ -73,13 +68,6 @@ change_cause v s c t o stands same first = first ∙ ap (λ (x : Standing). firs
 pub floor_cause : (v : ContentRecord) (s : State) (f : Floor) (t : FloorStanding) (o : Option Cause) → ContentStands v s → t ≡ floor_standing_in v f → o ≡ first_cause None (against_floor t f) → o ≡ cause_of s (Floored f)
 floor_cause v s f t o stands same first = first ∙ ap (λ (x : FloorStanding). first_cause None (against_floor x f)) (same ∙ floor_standing_at v s f stands)
 
-pub swept_cause : (v : ContentRecord) (s : State) (caller : EndpointRecord) (f : Floor) (t : FloorStanding) (o : Option Cause) → ContentStands v s → t ≡ floor_standing_in v f →
-    o ≡ first_cause None (against_sweep t caller f) → o ≡ sweep_cause s caller f
-swept_cause v s caller f t o stands same first = first ∙ ap (λ (x : FloorStanding). first_cause None (against_sweep x caller f)) (same ∙ floor_standing_at v s f stands)
-
 -- ---- what is free
 pub none_free : (o : Option Cause) (v : ContentRecord) (c : ChangeRecord) (t : Standing) → t ≡ standing_in v c → IfNone o (IsFree t c) → IfNone o (IsFree (standing_in v c) c)
 none_free o v c t e x = subst (λ (z : Standing). IfNone o (IsFree z c)) e x
-
-pub none_floor_free : (o : Option Cause) (v : ContentRecord) (f : Floor) (t : FloorStanding) → t ≡ floor_standing_in v f → IfNone o (IsFloorFree t f) → IfNone o (IsFloorFree (floor_standing_in v f) f)
-none_floor_free o v f t e x = subst (λ (z : FloorStanding). IfNone o (IsFloorFree z f)) e x

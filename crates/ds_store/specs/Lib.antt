@@ -1,5 +1,6 @@
 pub mod Opening
 pub mod InPlace
+pub mod Finding
 pub mod Steps
 pub mod Asking
 pub mod Merging

@@ -136,8 +136,8 @@ impl Store {
                 owner,
                 generation,
             } => self.sweep(caller, Floor { owner, generation }),
-            Command::Retrieve { key } => self.fast_retrieve(&key),
-            Command::NameOf { endpoint } => self.fast_name_of(endpoint),
+            Command::Retrieve { key } => self.retrieve(&key),
+            Command::NameOf { endpoint } => self.name_of(endpoint),
             Command::Subscribe {
                 sub,
                 query,

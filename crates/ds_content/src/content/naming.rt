@@ -11,9 +11,9 @@ use crate::content::Content;
 use ds_names::{Endpoint, Name};
 
 impl Content {
-    // Returns the least name whose live label holds the endpoint. No label is named `rs`. Takes no memory.
+    /// Lends the least name whose live label holds the endpoint. No label is named `rs`. Takes no memory.
     #[inline(always)]
-    fn label_of(&self, endpoint: Endpoint) -> Option<&Name>
+    pub fn label_of(&self, endpoint: Endpoint) -> Option<&Name>
         ensures { option_copied result ≡ first_name_of endpoint (changes_in self.now.held) }
     {
         self.held.name_of(endpoint)

@@ -1,26 +1,17 @@
-use Rattle.std.proofs.Common.{inl, inr, sym, subst}
+use Rattle.std.proofs.Common.{inl, inr}
 use Rattle.ds_machine.specs.declared.command.Command.TheVariants.{NameOf}
-use Rattle.ds_content.specs.Content.{ContentRecord}
-use Rattle.ds_store.specs.Turns.{Turn}
-use Rattle.c_session.proofs.CalledLemmas.{stands_for_name, stands_for_no_name}
+use Rattle.ds_machine.specs.declared.reply.Reply.TheVariants.{Named}
+use Rattle.ds_store.proofs.FindLemmas.{name_turn}
+use Rattle.c_session.proofs.CalledLemmas.{answered, stands_for_name, stands_for_no_name}
 use Rattle.c_session.proofs.session.Session.fast_name_of.Goals as goal
 
-pub returns : goal.returns
-returns c = λ text.
-    let v = c.args.self.now.store in
-    let command = NameOf c.in-Some.endpoint in
-    let reply = c.fast_name_of-named.result in
-    inl (record {
-      command = command;
-      stands = stands_for_name c.args.request.now text c.in-Some.endpoint c.requires c.in-Some.ensures;
-      answered = record {
-        reply = reply;
-        turn = subst (λ (w : ContentRecord). Turn v command reply w) (sym c.tell.ensures.store_is)
-            (record { stood = c.cursor-stood.ensures.stood; steps = c.fast_name_of-named.ensures.step; last = c.fast_name_of-named.ensures.last });
-        told = c.tell.ensures.told_is;
-        kept = c.tell.ensures.kept;
-      };
-    })
-
 pub returns-in_default : goal.returns-in_default
-returns-in_default c = λ text. inr (inl (stands_for_no_name c.args.request.now text c.requires c.in_default.ensures, c.decline.ensures))
+returns-in_default c = inr (inl (stands_for_no_name c.args.request.now c.args.text.now c.requires c.in_default.ensures, c.decline.ensures))
+
+pub returns-in-Some-fast_name_of : goal.returns-in-Some-fast_name_of
+returns-in-Some-fast_name_of c =
+    let name = c.in-Some-fast_name_of.name.now in
+    answered c.args.self.now c.tell.new.self c.args.request.now c.args.text.now c.tell.new.answer (NameOf c.in-Some.endpoint) (Named name)
+    (stands_for_name c.args.request.now c.args.text.now c.in-Some.endpoint c.requires c.in-Some.ensures)
+    (name_turn c.args.self.now.store c.in-Some.endpoint name c.cursor-stood.ensures.stood c.in-Some-fast_name_of.ensures)
+    c.tell.ensures

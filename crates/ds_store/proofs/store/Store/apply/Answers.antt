@@ -40,13 +40,13 @@ returns-in-Check-clause-step c = λ s stands.
 
 pub returns-in-Retrieve-clause-step : goal.returns-in-Retrieve-clause-step
 returns-in-Retrieve-clause-step c = λ s stands.
-    let r = c.fast_retrieve.ensures.step s stands in
-    (r.0, subst (λ (x : Command). Step s x c.fast_retrieve.result r.0) (sym c.in-Retrieve.is) r.1, r.2)
+    let r = c.retrieve.ensures.step s stands in
+    (r.0, subst (λ (x : Command). Step s x c.retrieve.result r.0) (sym c.in-Retrieve.is) r.1, r.2)
 
 pub returns-in-NameOf-clause-step : goal.returns-in-NameOf-clause-step
 returns-in-NameOf-clause-step c = λ s stands.
-    let r = c.fast_name_of.ensures.step s stands in
-    (r.0, subst (λ (x : Command). Step s x c.fast_name_of.result r.0) (sym c.in-NameOf.is) r.1, r.2)
+    let r = c.name_of.ensures.step s stands in
+    (r.0, subst (λ (x : Command). Step s x c.name_of.result r.0) (sym c.in-NameOf.is) r.1, r.2)
 
 pub returns-in-Since-clause-step : goal.returns-in-Since-clause-step
 returns-in-Since-clause-step c = λ s stands. (s, inl (subst (λ (x : Command). Answers s (outcome s x) c.since.result s) (sym c.in-Since.is) (c.since.ensures.answer s stands)), stands)
@@ -78,7 +78,7 @@ pub returns-in-Sweep-clause-last : goal.returns-in-Sweep-clause-last
 returns-in-Sweep-clause-last c = λ s stands. subst (λ (x : Command). IsLast s x c.sweep.result) (sym c.in-Sweep.is) (c.sweep.ensures.last s stands)
 
 pub returns-in-Retrieve-clause-last : goal.returns-in-Retrieve-clause-last
-returns-in-Retrieve-clause-last c = λ s stands. subst (λ (x : Command). IsLast s x c.fast_retrieve.result) (sym c.in-Retrieve.is) (c.fast_retrieve.ensures.last s stands)
+returns-in-Retrieve-clause-last c = λ s stands. subst (λ (x : Command). IsLast s x c.retrieve.result) (sym c.in-Retrieve.is) (c.retrieve.ensures.last s stands)
 
 pub returns-in-Subscribe-clause-last : goal.returns-in-Subscribe-clause-last
 returns-in-Subscribe-clause-last c = λ s stands. subst (λ (x : Command). IsLast s x c.subscribe.result) (sym c.in-Subscribe.is) (c.subscribe.ensures.last s stands)
@@ -99,7 +99,7 @@ pub returns-in-Merge-clause-last : goal.returns-in-Merge-clause-last
 returns-in-Merge-clause-last c = λ s stands. subst (λ (x : Command). IsLast s x c.fast_merge.result) (ap (λ l. Merge l) c.as_slice.ensures ∙ sym c.in-Merge.is) (c.fast_merge.ensures.last s stands)
 
 pub returns-in-NameOf-clause-last : goal.returns-in-NameOf-clause-last
-returns-in-NameOf-clause-last c = λ s stands. subst (λ (x : Command). IsLast s x c.fast_name_of.result) (sym c.in-NameOf.is) (c.fast_name_of.ensures.last s stands)
+returns-in-NameOf-clause-last c = λ s stands. subst (λ (x : Command). IsLast s x c.name_of.result) (sym c.in-NameOf.is) (c.name_of.ensures.last s stands)
 
 -- the reply is one of a step from the state that the store stands for
 pub returns-in-Publish-clause-fits : goal.returns-in-Publish-clause-fits
@@ -132,10 +132,10 @@ returns-in-Check-clause-fits c =
     subst (λ (x : Command). IsReplyTo x c.check.result) (sym c.in-Check.is) (replies_fit at.0 r.0 (Check c.in-Check.sub c.in-Check.max) c.check.result (inl r.1))
 
 pub returns-in-Retrieve-clause-fits : goal.returns-in-Retrieve-clause-fits
-returns-in-Retrieve-clause-fits c = subst (λ (x : Command). IsReplyTo x c.fast_retrieve.result) (sym c.in-Retrieve.is) c.fast_retrieve.ensures.fits
+returns-in-Retrieve-clause-fits c = subst (λ (x : Command). IsReplyTo x c.retrieve.result) (sym c.in-Retrieve.is) c.retrieve.ensures.fits
 
 pub returns-in-NameOf-clause-fits : goal.returns-in-NameOf-clause-fits
-returns-in-NameOf-clause-fits c = subst (λ (x : Command). IsReplyTo x c.fast_name_of.result) (sym c.in-NameOf.is) c.fast_name_of.ensures.fits
+returns-in-NameOf-clause-fits c = subst (λ (x : Command). IsReplyTo x c.name_of.result) (sym c.in-NameOf.is) c.name_of.ensures.fits
 
 pub returns-in-Since-clause-fits : goal.returns-in-Since-clause-fits
 returns-in-Since-clause-fits c =
