@@ -6,6 +6,7 @@ use Rattle.ds_machine.specs.declared.command.Command.{Command}
 use Rattle.ds_machine.specs.declared.reply.Reply.{Reply}
 use Rattle.ds_pass.specs.Called.{Made}
 use Rattle.ds_pass.specs.Record.{HasLegalHistory, PassRecord}
+use Rattle.ds_pass.specs.Seat.{IsSameSeat, SeatRecord}
 use Rattle.ds_exchange.specs.declared.exchange.Exchanged.{Exchanged}
 use Rattle.ds_exchange.specs.Telling.{AsksInTurn, EndsTelling, all_told}
 use Rattle.ds_exchange.specs.Giving.{GivesAll, GivesOnly}
@@ -16,6 +17,10 @@ pub record ExchangesOnly (p q r s : PassRecord) (from : Option Cursor) : Type 0 
   pub made : Made p q own
   pub asks : AsksInTurn from own
   pub gives : GivesOnly r s (all_told own)
+
+-- The same of the two seats.
+abbrev pub SeatsExchangeOnly : SeatRecord → SeatRecord → SeatRecord → SeatRecord → Option Cursor → Type 0
+SeatsExchangeOnly a b c d from = IsSameSeat a b × IsSameSeat c d × ExchangesOnly a.pass b.pass c.pass d.pass from
 
 -- all was told, and all that was told is given and counted
 pub record Exchanges (p q r s : PassRecord) (from : Option Cursor) (x : Exchanged) : Type 0 where

@@ -12,6 +12,7 @@ use Rattle.ds_machine.specs.declared.reply.Reply.TheVariants.{Merged}
 use Rattle.ds_follow.specs.Merged.{HoldsAll}
 use Rattle.ds_pass.specs.Called.{Made}
 use Rattle.ds_pass.specs.Record.{AfterEach, HasLegalHistory, PassRecord}
+use Rattle.ds_pass.specs.Seat.{IsSameSeat, SeatRecord}
 
 -- the items of a Merge, and those of all Merges in their order
 abbrev pub items_merged : Command → List Item
@@ -58,6 +59,10 @@ pub record GivesOnly (r s : PassRecord) (items : List Item) : Type 0 where
   pub made : Made r s own
   pub merges : AreMerges own
   pub in_order : IsPrefix (all_given own) items
+
+-- The same of a seat.
+abbrev pub SeatGivesOnly : SeatRecord → SeatRecord → List Item → Type 0
+SeatGivesOnly s t items = IsSameSeat s t × GivesOnly s.pass t.pass items
 
 -- all of the items were given, each is held from then on, or what covers it, and so many were taken; where nothing was given the
 -- pass is as it was

@@ -6,8 +6,8 @@ ghost use Rattle.desk.specs.Pass.{desk_of};
 ghost use Rattle.desk.specs.declared.fault.DeskFault.TheVariants.{Noted};
 ghost use Rattle.ds_live.specs.Report.{are_exact};
 
+use crate::fault::LiveFault;
 use desk::{Closed, Desk, DeskFault, Pass, Passes};
-use ds_pass::LiveFault;
 use ds_store::Store;
 use std::alloc::Global;
 

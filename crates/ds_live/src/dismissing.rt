@@ -3,14 +3,14 @@
 ghost use Rattle.std.specs.Prelude.{All, ◌≡◌, ◌≤◌, ◌+◌, [], length, sum_by, vec_capacity};
 ghost use Rattle.desk.specs.Desk.{identity};
 ghost use Rattle.desk.specs.Pass.{desk_of};
-ghost use Rattle.ds_workers.specs.Workers.{IsOf, others_in};
+ghost use Rattle.ds_workers.specs.Workers.{ComesBack, IsOf, others_in};
 ghost use Rattle.ds_live.specs.Tasks.{IsOther};
 
 use crate::back::Back;
+use crate::fault::LiveFault;
 use desk::{Desk, Pass};
-use ds_pass::LiveFault;
 use ds_store::Store;
-use ds_workers::{Desks, Gate, StoreTurns, Task, Turns, Worker};
+use ds_workers::{Desks, Gate, StoreTurns, StoreWorker, Task, Turns, Worker};
 use std::alloc::Global;
 use std::sync::Wait;
 
@@ -35,15 +35,33 @@ pub(crate) fn dismiss<R: Wait, G: Gate>(
 {
     while let Some(job) = jobs.pop() {
         let Turns { mut worker, .. } = job;
-        if fault.is_none() {
-            fault = worker.finish(rt, alloc, &desks.first, &desks.second).err();
-        }
+        fault = finish(rt, alloc, desks, &mut worker, fault);
         let Worker { pass, task, .. } = worker;
         back.passes.push_reserved(pass);
         let room = collect(&desks.second, task, back);
         fault = fault.or(room.err());
     }
     fault
+}
+
+// Has a worker finish, unless there is a fault. Returns that fault, or the worker's.
+fn finish<W: Wait>(
+    rt: &W,
+    alloc: Global,
+    desks: &Desks<Desk<Box<Store>>>,
+    worker: &mut StoreWorker,
+    fault: Option<LiveFault>,
+) -> Option<LiveFault>
+    requires { IsOf (identity desks.now.first) (identity desks.now.second) worker.old }
+    ensures { ComesBack worker.old worker.new }
+{
+    if fault.is_some() {
+        return fault;
+    }
+    match worker.finish(rt, alloc, &desks.first, &desks.second) {
+        Ok(()) => None,
+        Err(fault) => Some(LiveFault::from(fault)),
+    }
 }
 
 // Takes back what a task has: a pass of the second desk, or a follower, which is lost where there is no room for it.

@@ -7,16 +7,18 @@
 mod back;
 mod closing;
 mod dismissing;
+mod fault;
 mod hiring;
 mod report;
 mod run;
 mod sizes;
 mod working;
 
-pub use ds_exchange::{Exchanged, exchange_once};
-pub use ds_pass::LiveFault;
-pub use ds_refresh::{Follower, Fresh, refresh};
-pub use ds_workers::{Gate, OpenGate};
+pub use ds_exchange::{ExchangeFault, Exchanged, exchange_once};
+pub use ds_pass::{CallFault, Seat};
+pub use ds_refresh::{Follower, Fresh, RefreshFault, refresh};
+pub use ds_workers::{Gate, OpenGate, WorkerFault};
+pub use fault::LiveFault;
 pub use report::LiveReport;
 pub use run::live_run;
 pub use sizes::Sizes;

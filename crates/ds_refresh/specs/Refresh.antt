@@ -1,13 +1,14 @@
 -- What a refresh does, from the pass p and the follower f to q and g.
-use Rattle.std.specs.Prelude.{◌≡◌, ℕ, ◌<◌, ◌≤◌, List, [], ◌∷◌, ◌++◌, length, Option, Some, None}
+use Rattle.std.specs.Prelude.{◌≡◌, ◌⊎◌, ℕ, ◌<◌, ◌≤◌, List, [], ◌∷◌, ◌++◌, length, Option, Some, None}
 use Rattle.std.specs.List.{AllByRecursion}
 use Rattle.history.specs.declared.entry.Entry.{Entry}
 use Rattle.ds_pattern.specs.declared.query.Query.{Query}
 use Rattle.ds_machine.specs.declared.command.Command.{Command}
 use Rattle.ds_machine.specs.declared.reply.Reply.{Reply}
 use Rattle.ds_follow.specs.Follower.{IsCurrent}
-use Rattle.ds_pass.specs.Called.{Made}
+use Rattle.ds_pass.specs.Called.{HadAccepted, Made}
 use Rattle.ds_pass.specs.Record.{AfterEach, HasLegalHistory, PassRecord, place_behind}
+use Rattle.ds_pass.specs.Seat.{IsSameSeat, SeatRecord}
 use Rattle.ds_refresh.specs.declared.refreshing.Fresh.{Fresh}
 use Rattle.ds_refresh.specs.declared.refreshing.Fresh.TheVariants.{UpTo, More}
 use Rattle.ds_refresh.specs.Follower.{FollowerRecord, IsSameFollower, mapped}
@@ -24,6 +25,10 @@ pub record CallsOnly (p q : PassRecord) (f : FollowerRecord) (limit : ℕ) : Typ
   pub made : Made p q own
   pub few : length own ≤ limit
   pub theirs : AreOfFollower f.sub f.map.query own
+
+-- The same of a seat.
+abbrev pub SeatCallsOnly : SeatRecord → SeatRecord → FollowerRecord → ℕ → Type 0
+SeatCallsOnly s t f limit = IsSameSeat s t × CallsOnly s.pass t.pass f limit
 
 -- the place is the first behind what q has seen, after which the map is what the store holds under its query
 pub record IsUpTo (q : PassRecord) (g : FollowerRecord) (place : ℕ) : Type 0 where
@@ -56,6 +61,10 @@ pub record EndsMore (p q : PassRecord) (f g : FollowerRecord) (limit : ℕ) : Ty
 abbrev pub Refreshes : PassRecord → PassRecord → FollowerRecord → FollowerRecord → ℕ → Fresh → Type 0
 Refreshes p q f g limit (UpTo place) = EndsUpTo p q f g limit place
 Refreshes p q f g limit More = EndsMore p q f g limit
+
+-- The map is unchanged, unless a call was accepted.
+abbrev pub KeepsMap : PassRecord → PassRecord → FollowerRecord → FollowerRecord → Type 0
+KeepsMap p q f g = (g.map ≡ f.map) ⊎ HadAccepted p q
 
 -- ---- one call after the other
 

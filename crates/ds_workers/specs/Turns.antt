@@ -5,24 +5,23 @@ use Rattle.ds_feed.specs.declared.cursor.Cursor.{Cursor}
 use Rattle.ds_machine.specs.declared.command.Command.{Command}
 use Rattle.ds_machine.specs.declared.refusal.Refusal.TheVariants.{Behind}
 use Rattle.ds_machine.specs.declared.reply.Reply.{Reply}
-use Rattle.ds_machine.specs.declared.reply.Reply.TheVariants.{Refused}
-use Rattle.ds_pass.specs.Called.{Made, MadeCall}
+use Rattle.ds_pass.specs.Called.{IsAccepted, Made, MadeCall}
 use Rattle.ds_pass.specs.Record.{PassRecord}
-use Rattle.ds_pass.specs.declared.fault.LiveFault.TheVariants as faults
+use Rattle.ds_pass.specs.Faults.{FailsBy}
+use Rattle.ds_pass.specs.Seat.{IsSameSeat, SeatRecord}
+use Rattle.ds_pass.specs.declared.fault.CallFault.TheVariants as calls
 use Rattle.ds_refresh.specs.Follower.{FollowerRecord}
 use Rattle.ds_refresh.specs.Refresh.{AreOfFollower, IsUpTo}
 use Rattle.ds_exchange.specs.declared.exchange.Exchanged.{Exchanged}
 use Rattle.ds_exchange.specs.Exchange.{Exchanges}
-use Rattle.ds_exchange.specs.Faults.{IsExchangeFault}
 
 -- q is the pass p later, by calls of its own
 abbrev pub HasCalled : PassRecord → PassRecord → Type 0
 HasCalled p q = (own : List (Entry Command Reply)) × Made p q own
 
--- a reply that isn't a refusal
-abbrev pub IsAccepted : Reply → Type 0
-IsAccepted (Refused refusal) = ⊥
-IsAccepted _ = Unit {0}
+-- The same of a seat.
+abbrev pub SeatHasCalled : SeatRecord → SeatRecord → Type 0
+SeatHasCalled s t = IsSameSeat s t × HasCalled s.pass t.pass
 
 -- by this one call, which wasn't refused
 pub record WasAccepted (p q : PassRecord) (command : Command) : Type 0 where
@@ -49,7 +48,7 @@ IsBroughtUp q g = (place : ℕ) × IsUpTo q g place
 abbrev pub HasExchanged : PassRecord → PassRecord → PassRecord → PassRecord → Option Cursor → Option Cursor → Bool → Type 0
 HasExchanged p q r s from next more =
     ((x : Exchanged) × Exchanges p q r s from x × (next ≡ Some x.cursor) × (more ≡ x.more))
-    ⊎ ((more ≡ true) × (next ≡ None) × IsExchangeFault q s (faults.Refused Behind))
+    ⊎ ((more ≡ true) × (next ≡ None) × FailsBy p q (calls.Refused Behind))
 
 -- the last thing that the two did was an exchange that left nothing more
 pub record IsHandedOver (q s : PassRecord) : Type 0 where

@@ -6,6 +6,7 @@
 
 mod commands;
 mod exchanging;
+mod fault;
 mod following;
 mod gate;
 mod job;
@@ -14,6 +15,7 @@ mod task;
 mod worker;
 
 pub use commands::everything;
+pub use fault::WorkerFault;
 pub use gate::{Gate, OpenGate};
 pub use job::{Desks, StoreTurns, Turns};
 pub use publishing::publish_label;

@@ -11,8 +11,8 @@ use crate::line::Sizes;
 use crate::mark::mark_of_map;
 use desk::{Answer, Desk, Pass};
 use ds_machine::{Refusal, Reply};
-use ds_pass::LiveFault;
-use ds_refresh::{Follower, Fresh, refresh};
+use ds_pass::{CallFault, Seat};
+use ds_refresh::{Follower, Fresh, RefreshFault, refresh};
 use ds_store::Store;
 use std::alloc::Global;
 use std::sync::Wait;
@@ -132,13 +132,15 @@ fn follow_once<R: Wait>(
     ensures stays { desk_of worker.new.pass ≡ desk_of worker.old.pass }
     ensures keeps { KeepsUpWith (pass_record worker.new.pass) follower.new }
 {
-    match refresh(rt, alloc, desk, &mut worker.pass, follower, 65536) {
+    let mut seat = Seat::new(rt, desk, &mut worker.pass);
+    let fresh = refresh(&mut seat, alloc, follower, 65536);
+    let _pass = seat.leave();
+    match fresh {
         Ok(Fresh::UpTo(place)) => {
             let view = view_of(alloc, follower, place)?;
             worker.said.push(view).ok()
         }
-        Ok(Fresh::More) | Err(LiveFault::NoRoom) => Some(()),
-        Err(LiveFault::Refused(Refusal::NoRoom)) => Some(()),
+        Ok(Fresh::More) | Err(RefreshFault::Call(CallFault::NoRoom)) => Some(()),
         Err(_) => None,
     }
 }
