@@ -1,4 +1,4 @@
-//! How workers are finished with, and their passes taken back.
+//! Finishes the workers, and takes their passes back.
 
 ghost use Rattle.std.specs.Prelude.{All, ◌≡◌, ◌≤◌, ◌+◌, [], length, sum_by, vec_capacity};
 ghost use Rattle.desk.specs.Desk.{identity};
@@ -14,8 +14,8 @@ use ds_workers::{Desks, Gate, StoreTurns, StoreWorker, Task, Turns, Worker};
 use std::alloc::Global;
 use std::sync::Wait;
 
-/// Takes all passes back. Where there is no fault, it has each worker finish first, worker 0 before the others, and tells the fault of
-/// the first that can't.
+/// Takes all passes back. If there is no fault, each worker finishes first, worker 0 before the others. Returns the fault, or that of
+/// the first worker that can't finish.
 pub(crate) fn dismiss<R: Wait, G: Gate>(
     rt: &R,
     alloc: Global,
@@ -64,7 +64,7 @@ fn finish<W: Wait>(
     }
 }
 
-// Takes back what a task has: a pass of the second desk, or a follower, which is lost where there is no room for it.
+// Takes back what a task has: a pass of the second desk, or a follower, which is dropped if there is no room for it.
 fn collect(
     second: &Desk<Box<Store>>,
     task: Task<Pass<Box<Store>>>,

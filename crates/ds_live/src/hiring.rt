@@ -1,4 +1,4 @@
-//! How a run begins.
+//! The beginning of a run.
 
 ghost use Rattle.std.specs.Prelude.{All, ◌≡◌, ◌≤◌, ◌<◌, ◌+◌, [], length, sum_by, vec_capacity, IfOk, IsTrue};
 ghost use Rattle.desk.specs.Desk.{identity, pass_count};
@@ -20,10 +20,10 @@ use ds_workers::{Desks, Gate, StoreTurns, Task, Turns, Worker, everything, publi
 use std::alloc::Global;
 use std::sync::Wait;
 
-// How many items the journal of a store keeps.
+// The number of items in the journal of a store.
 const RING: u32 = 256;
 
-/// A desk over a new store of this incarnation, and its passes, 1 to 64.
+/// Opens a desk of a new store of this incarnation. Returns it with its passes, 1 to 64.
 pub(crate) fn open_desk(
     alloc: Global,
     incarnation: u64,
@@ -45,8 +45,8 @@ pub(crate) fn open_desk(
     }
 }
 
-/// A job for each pass of the first desk, of which the last is that of worker 0: publishers, whose labels are published, then
-/// subscribers, then the one that exchanges, with the pass of the second desk. The lists of passes keep their room.
+/// Makes a job for each pass of the first desk; the last job is worker 0's. Publishers come first, whose labels are published here, then
+/// subscribers, then the worker that exchanges, with the pass of the second desk. The lists of passes keep their capacity.
 pub(crate) fn hire<'e, R: Wait, G: Gate>(
     rt: &'e R,
     alloc: Global,
@@ -129,7 +129,7 @@ fn publish_labels<W: Wait>(seat: &mut Seat<'_, W>, count: u32) -> Result<(), Cal
     Ok(())
 }
 
-// What a worker is for, of those before the last. Subscriber s follows all keys by its server's first subscription, 8 s.
+// Returns the task of a worker before the last. Subscriber s follows all keys by its server's first subscription, 8 s.
 fn task_of(
     alloc: Global,
     sizes: Sizes,

@@ -1,7 +1,7 @@
-//! A store that threads share: followers, exchanges between two replicas, and a run of them all.
+//! A run of threads that share two stores: publishers, followers, and an exchange between the two replicas.
 //!
-//! Drivers and the servers that follow them by MINIX 3's data store (DS), beside a second replica: `live_run` has each of them work in a
-//! thread of its own, and says what came of it. The run and its report are of this project.
+//! Drivers, the servers that follow them by MINIX 3's data store (DS), and a second replica: `live_run` runs each of them in a thread of
+//! its own, and reports the result. The run and its report are of this project.
 #![tactic(auto)]
 
 mod back;

@@ -15,11 +15,11 @@ use Rattle.ds_refresh.specs.Follower.{FollowerRecord, IsSameFollower, mapped}
 use Rattle.ds_refresh.specs.FollowerCalls.{AreOpenCalls, ChecksLast, IsOfFollower, IsOpenCall}
 use Rattle.ds_refresh.specs.KeepsUp.{KeepsUpWith}
 
--- all of these calls are the follower's
+-- All of these calls are the follower's.
 abbrev pub AreOfFollower : ℕ → Query → List (Entry Command Reply) → Type 0
 AreOfFollower sub query own = AllByRecursion (λ (e : Entry Command Reply). IsOfFollower sub query e.command) own
 
--- no more than so many calls were made, each of them the follower's
+-- At most `limit` calls were made, each of them the follower's.
 pub record CallsOnly (p q : PassRecord) (f : FollowerRecord) (limit : ℕ) : Type 0 where
   pub own : List (Entry Command Reply)
   pub made : Made p q own
@@ -30,12 +30,12 @@ pub record CallsOnly (p q : PassRecord) (f : FollowerRecord) (limit : ℕ) : Typ
 abbrev pub SeatCallsOnly : SeatRecord → SeatRecord → FollowerRecord → ℕ → Type 0
 SeatCallsOnly s t f limit = IsSameSeat s t × CallsOnly s.pass t.pass f limit
 
--- the place is the first behind what q has seen, after which the map is what the store holds under its query
+-- The place is the first after what q has seen. After that the map is what the store holds under its query.
 pub record IsUpTo (q : PassRecord) (g : FollowerRecord) (place : ℕ) : Type 0 where
   pub at : place ≡ place_behind q
   pub current : AfterEach q q.history (λ t. IsCurrent t g.map.query (mapped g))
 
--- the last call ended it, and none before did; its place is above all that p had seen
+-- The last call ended the refresh, and none before did. Its place is above all that p had seen.
 pub record EndsUpTo (p q : PassRecord) (f g : FollowerRecord) (limit place : ℕ) : Type 0 where
   pub own : List (Entry Command Reply)
   pub last : Entry Command Reply
@@ -50,7 +50,7 @@ pub record EndsUpTo (p q : PassRecord) (f g : FollowerRecord) (limit place : ℕ
   pub up_to : IsUpTo q g place
   pub above : place_behind p < place
 
--- just `limit` calls were made, and none of them ended it
+-- Exactly `limit` calls were made, and none of them ended the refresh.
 pub record EndsMore (p q : PassRecord) (f g : FollowerRecord) (limit : ℕ) : Type 0 where
   pub own : List (Entry Command Reply)
   pub made : Made p q own
@@ -66,16 +66,16 @@ Refreshes p q f g limit More = EndsMore p q f g limit
 abbrev pub KeepsMap : PassRecord → PassRecord → FollowerRecord → FollowerRecord → Type 0
 KeepsMap p q f g = (g.map ≡ f.map) ⊎ HadAccepted p q
 
--- ---- one call after the other
+-- ---- call by call
 
--- one call that didn't end it
+-- One call that didn't end the refresh.
 pub record GoesOnBy (p q : PassRecord) (f g : FollowerRecord) : Type 0 where
   pub call : Entry Command Reply
   pub made : Made p q (call ∷ [])
   pub legal : HasLegalHistory q
   pub is_open : IsOpenCall f.sub f.map.query f.stamp call g.stamp
 
--- one that did
+-- One call that did.
 pub record EndsBy (p q : PassRecord) (f g : FollowerRecord) (place : ℕ) : Type 0 where
   pub call : Entry Command Reply
   pub stamp : ℕ
@@ -87,12 +87,12 @@ pub record EndsBy (p q : PassRecord) (f g : FollowerRecord) (place : ℕ) : Type
   pub stamp_is : g.stamp ≡ Some after
   pub up_to : IsUpTo q g place
 
--- one call, which gives a place where it ended the refresh
+-- One call. It returns a place if it ended the refresh.
 abbrev pub TakesOneCall : PassRecord → PassRecord → FollowerRecord → FollowerRecord → Option ℕ → Type 0
 TakesOneCall p q f g None = GoesOnBy p q f g
 TakesOneCall p q f g (Some place) = EndsBy p q f g place
 
--- so many calls were made, and none ended it
+-- `count` calls were made, and none ended the refresh.
 pub record HasGone (p q : PassRecord) (f g : FollowerRecord) (count : ℕ) : Type 0 where
   pub own : List (Entry Command Reply)
   pub made : Made p q own

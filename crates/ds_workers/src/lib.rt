@@ -1,4 +1,4 @@
-//! The threads of a run over two desks of stores: publishers, subscribers, and one that exchanges.
+//! The threads of a run at two desks of stores: publishers, subscribers, and one that exchanges.
 //!
 //! MINIX 3's drivers, the servers that follow them by its data store (DS), and a second replica, each in a thread of its own. Their
 //! turns, and the gate before each turn, are of this project.

@@ -1,4 +1,4 @@
-//! What the passes of a desk do.
+//! The steps of the passes of a desk.
 
 ghost use Rattle.std.specs.Prelude.{◌≡◌};
 ghost use Rattle.desk.specs.Desk.{identity};
@@ -75,7 +75,7 @@ pub(crate) fn start_many<R: Print + Wait>(
     Ok(())
 }
 
-/// Takes the notices of server 0, and prints them with the first place behind what the pass has then seen.
+/// Takes the notices of server 0, and prints them with the first place after what the pass has then seen.
 pub(crate) fn take<R: Print>(
     rt: &R,
     desk: &Desk<Box<Store>>,
@@ -99,7 +99,7 @@ pub(crate) fn take<R: Print>(
     }
 }
 
-/// Refreshes the follower by so many calls, and prints what came of it, and how many keys its map has.
+/// Refreshes the follower by at most `limit` calls, and prints the result, and the number of keys in its map.
 pub(crate) fn bring_up<R: Print + Wait>(
     rt: &R,
     alloc: Global,
@@ -119,7 +119,7 @@ pub(crate) fn bring_up<R: Print + Wait>(
     tell_fresh(rt, fresh, limit, follower)
 }
 
-// Prints what came of a refresh by so many calls, and how many keys the map has.
+// Prints the result of a refresh by `limit` calls, and the number of keys in the map.
 fn tell_fresh(
     rt: &impl Print,
     fresh: Result<Fresh, RefreshFault>,
@@ -161,8 +161,7 @@ pub(crate) fn look<R: Print>(
     tell(rt, &[("front", u128::from(desk.front(pass)))])
 }
 
-/// Gives what the one store has to the other, and prints what came of it. `from` is then from where the next exchange asks, none
-/// behind a fault.
+/// Gives what one store has to the other, and prints the result. `from` is then the cursor of the next exchange, None after a fault.
 pub(crate) fn exchange<R: Print + Wait>(
     rt: &R,
     a: &mut Side,

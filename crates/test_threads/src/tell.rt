@@ -1,4 +1,4 @@
-//! What a row prints.
+//! Prints the results of a row.
 
 use ds_live::LiveFault;
 use test_kit::Failure;

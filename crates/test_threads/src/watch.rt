@@ -1,4 +1,4 @@
-//! What each thread does.
+//! The work of each thread.
 
 ghost use Rattle.std.specs.Prelude.{◌≡◌};
 ghost use Rattle.desk.specs.Desk.{identity};
@@ -119,7 +119,7 @@ fn follow_often<R: Wait>(
     Some(())
 }
 
-// One refresh. Where it came to a place, that is kept with what the map then has; where memory was wanting, nothing is.
+// One refresh. If it reached a place, the place is kept with what the map then has; if memory ran out, nothing is kept.
 fn follow_once<R: Wait>(
     rt: &R,
     alloc: Global,
@@ -145,7 +145,7 @@ fn follow_once<R: Wait>(
     }
 }
 
-// What is kept of a map that was brought up to a place. `None` where memory is wanting.
+// What is kept of a map that was brought up to a place. Returns `None` if memory runs out.
 fn view_of(alloc: Global, follower: &Follower, place: u64) -> Option<Said> {
     let entries = follower.map().entries(alloc).ok()?;
     let mark = mark_of_map(alloc, &entries)?;

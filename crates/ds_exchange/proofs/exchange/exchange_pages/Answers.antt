@@ -16,7 +16,7 @@ returns-in_err-items-clause-only g c =
     let l = c.loop in (
       c.in_err-items.ensures.same ∙ l.invariant.2,
       l.invariant.3,
-      page_fails c.args.a.now.pass l.a.pass c.args.b.now.pass l.b.pass c.page.new.self.pass l.after l.first l.done l.taken l.invariant.4 c.in_err-items.field-0 c.in_err-items.ensures.fault,
+      page_fails c.args.a.now.pass l.a.pass c.args.b.now.pass l.b.pass c.page.new.self.pass l.after l.first l.done l.taken l.invariant.4 c.in_err-items.field-0.0 c.in_err-items.ensures.fault,
     )
 
 pub returns-in_err-items-clause-fault : goal.returns-in_err-items-clause-fault
@@ -24,7 +24,7 @@ returns-in_err-items-clause-fault g c =
     let l = c.loop in
     let exit = err_from_is_err_and c.from_residual.result c.from_residual.ensures.1 in
     rw (exit.1, exit.2)
-    (page_fault c.args.a.now.pass l.a.pass c.args.b.now.pass l.b.pass c.page.new.self.pass l.after l.first l.done l.taken l.invariant.4 c.in_err-items.field-0 c.in_err-items.ensures.fault)
+    (page_fault c.args.a.now.pass l.a.pass c.args.b.now.pass l.b.pass c.page.new.self.pass l.after l.first l.done l.taken l.invariant.4 c.in_err-items.field-0.0 c.in_err-items.ensures.fault)
 
 pub returns-in_err-given-clause-only : goal.returns-in_err-given-clause-only
 returns-in_err-given-clause-only g c =
@@ -41,7 +41,7 @@ returns-in_err-given-clause-fault g c =
     let exit = err_from_is_err_and c.from_residual-in_err-given.result c.from_residual-in_err-given.ensures.1 in
     rw (exit.1, exit.2)
     (page_stops c.args.a.now.pass l.a.pass c.args.b.now.pass l.b.pass c.page.new.self.pass l.after l.first l.done l.taken l.invariant.4 c.give.new.seat.pass c.in_ok-items.field-0 c.in_ok-items.ensures.told
-    c.in_err-given.field-0 c.in_err-given.ensures.fault)
+    c.in_err-given.field-0.0 c.in_err-given.ensures.fault)
 
 pub returns-then-last-clause-only : goal.returns-then-last-clause-only
 returns-then-last-clause-only g c =

@@ -6,12 +6,12 @@ use Rattle.ds_exchange.proofs.exchange.exchange_since.Goals as goal
 
 pub returns-in_err-items-clause-only : goal.returns-in_err-items-clause-only
 returns-in_err-items-clause-only g c =
-    (c.in_err-items.ensures.same, refl, since_fails c.args.a.now.pass c.since.new.self.pass c.args.from c.args.b.now.pass c.in_err-items.field-0 c.in_err-items.ensures.fault)
+    (c.in_err-items.ensures.same, refl, since_fails c.args.a.now.pass c.since.new.self.pass c.args.from c.args.b.now.pass c.in_err-items.field-0.0 c.in_err-items.ensures.fault)
 
 pub returns-in_err-items-clause-fault : goal.returns-in_err-items-clause-fault
 returns-in_err-items-clause-fault g c =
     let exit = err_from_is_err_and c.from_residual.result c.from_residual.ensures.1 in
-    rw (exit.1, exit.2) (since_fault c.args.a.now.pass c.since.new.self.pass c.args.from c.args.b.now.pass c.in_err-items.field-0 c.in_err-items.ensures.fault)
+    rw (exit.1, exit.2) (since_fault c.args.a.now.pass c.since.new.self.pass c.args.from c.args.b.now.pass c.in_err-items.field-0.0 c.in_err-items.ensures.fault)
 
 pub returns-in_err-taken-clause-only : goal.returns-in_err-taken-clause-only
 returns-in_err-taken-clause-only g c =
@@ -25,7 +25,7 @@ pub returns-in_err-taken-clause-fault : goal.returns-in_err-taken-clause-fault
 returns-in_err-taken-clause-fault g c =
     let exit = err_from_is_err_and c.from_residual-in_err-taken.result c.from_residual-in_err-taken.ensures.1 in
     rw (exit.1, exit.2)
-    (since_stops c.args.a.now.pass c.since.new.self.pass c.args.from c.args.b.now.pass c.give.new.seat.pass c.in_ok-items.field-0 c.in_ok-items.ensures.told c.in_err-taken.field-0 c.in_err-taken.ensures.fault)
+    (since_stops c.args.a.now.pass c.since.new.self.pass c.args.from c.args.b.now.pass c.give.new.seat.pass c.in_ok-items.field-0 c.in_ok-items.ensures.told c.in_err-taken.field-0.0 c.in_err-taken.ensures.fault)
 
 pub returns-clause-only : goal.returns-clause-only
 returns-clause-only g c =

@@ -29,7 +29,7 @@ returns-in_err-count-clause-only g c =
     let is = c.in_ok-part.ensures.part in (
       c.in_err-count.ensures.same ∙ l.invariant.0,
       only_part l.rest part is c.first_part.new.items c.args.items l.invariant.1.0 c.in_ok-part.ensures.rest l.invariant.1.2 c.args.seat.now.pass l.seat.pass c.merge.new.self.pass l.taken l.invariant.1.1
-          (fails_only l.seat.pass c.merge.new.self.pass part c.in_err-count.field-0 (part_has_some l.rest part is (omega (arith, c.loop-rest-test.true))) (part_has_few l.rest part is) c.in_err-count.ensures.fault),
+          (fails_only l.seat.pass c.merge.new.self.pass part c.in_err-count.field-0.0 (part_has_some l.rest part is (omega (arith, c.loop-rest-test.true))) (part_has_few l.rest part is) c.in_err-count.ensures.fault),
     )
 
 pub returns-in_err-count-clause-fault : goal.returns-in_err-count-clause-fault
@@ -37,7 +37,7 @@ returns-in_err-count-clause-fault g c =
     let l = c.loop-rest in
     let exit = err_from_is_err_and c.from_residual-in_err-count.result c.from_residual-in_err-count.ensures.1 in
     rw (exit.1, exit.2)
-    (merge_fails c.args.seat.now.pass l.seat.pass c.merge.new.self.pass c.args.items l.invariant.1.0 c.in_ok-part.part l.taken c.in_err-count.field-0 l.invariant.1.1 c.in_err-count.ensures.fault)
+    (merge_fails c.args.seat.now.pass l.seat.pass c.merge.new.self.pass c.args.items l.invariant.1.0 c.in_ok-part.part l.taken c.in_err-count.field-0.0 l.invariant.1.1 c.in_err-count.ensures.fault)
 
 pub loop-rest-smaller : goal.loop-rest-smaller
 loop-rest-smaller g c = omega (arith, ap (λ (x : List Item). length x) c.in_ok-part.ensures.rest, length-drop 256 c.loop-rest.rest, c.loop-rest-test.true)
@@ -74,7 +74,7 @@ returns-in_err-count-2-clause-only g c =
     let few : length l.rest ≤ 256 = omega (arith, c.loop-rest-test.false) in (
       c.in_err-count-2.ensures.same ∙ l.invariant.0,
       only_rest c.args.seat.now.pass l.seat.pass c.merge-2.new.self.pass c.args.items l.invariant.1.0 l.rest l.taken l.invariant.1.1 l.invariant.1.2
-          (fails_only l.seat.pass c.merge-2.new.self.pass l.rest c.in_err-count-2.field-0 some few c.in_err-count-2.ensures.fault),
+          (fails_only l.seat.pass c.merge-2.new.self.pass l.rest c.in_err-count-2.field-0.0 some few c.in_err-count-2.ensures.fault),
     )
 
 pub returns-in_err-count-2-clause-fault : goal.returns-in_err-count-2-clause-fault
@@ -82,7 +82,7 @@ returns-in_err-count-2-clause-fault g c =
     let l = c.loop-rest in
     let exit = err_from_is_err_and c.from_residual-in_err-count-2.result c.from_residual-in_err-count-2.ensures.1 in
     rw (exit.1, exit.2)
-    (merge_fails c.args.seat.now.pass l.seat.pass c.merge-2.new.self.pass c.args.items l.invariant.1.0 l.rest l.taken c.in_err-count-2.field-0 l.invariant.1.1 c.in_err-count-2.ensures.fault)
+    (merge_fails c.args.seat.now.pass l.seat.pass c.merge-2.new.self.pass c.args.items l.invariant.1.0 l.rest l.taken c.in_err-count-2.field-0.0 l.invariant.1.1 c.in_err-count-2.ensures.fault)
 
 pub returns-clause-only : goal.returns-clause-only
 returns-clause-only g c =
