@@ -180,13 +180,13 @@ told_only p q items taken some few t = only_called p q items (Merged t.0 taken t
 -- it failed
 pub fails_only : (p q : PassRecord) (items : List Item) (fault : MergeFault) → 0 < length items → length items ≤ most_items →
     FailsMerging p q (Merge items) fault → GivesOnly p q items
-fails_only p q items (merges.Desk worn) some few w = record { own = []; made = w.made; merges = tt; in_order = prefix_nil items }
+fails_only p q items (merges.Desk fault) some few w = record { own = []; made = w.made; merges = tt; in_order = prefix_nil items }
 fails_only p q items (merges.Stopped done cause) some few t = only_called p q items t.0 t.1 some few t.2
 
 pub merge_fails : (p q r : PassRecord) (items front part : List Item) (m : ℕ) (fault : MergeFault) → GivesAll p q front m →
     FailsMerging q r (Merge part) fault → IsGivingFault p r items (merge_fault fault)
-merge_fails p q r items front part m (merges.Desk worn) g w =
-    fails_later p q r g.own (calls.Desk worn) g.made (record { own = []; made = w.made; cause = (w.fault_is, w.full) })
+merge_fails p q r items front part m (merges.Desk fault) g w =
+    fails_later p q r g.own (calls.Desk fault) g.made (record { own = []; made = w.made; cause = (w.fault_is, w.full) })
 merge_fails p q r items front part m (merges.Stopped done cause) g t =
     let last : Entry Command Reply = entry q.origin.number (Merge part) t.0 in
     record { front = g.own; last = last; made = made_more p q r g.own (last ∷ []) g.made t.2.made; stopped = t.3 }

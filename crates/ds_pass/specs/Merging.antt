@@ -17,6 +17,6 @@ IsStoppedBy _ done fault = ⊥
 
 -- The Merge failed: no place is left at the desk and nothing was entered, or the store stopped it.
 abbrev pub FailsMerging : PassRecord → PassRecord → Command → MergeFault → Type 0
-FailsMerging p q command (Desk worn) = FoundWorn p q worn
+FailsMerging p q command (Desk fault) = FoundWorn p q fault
 FailsMerging p q command (Stopped done fault) =
     (reply : Reply) × (place : ℕ) × MadeCall p q command reply place × IsStoppedBy reply done fault
