@@ -201,7 +201,7 @@ class Playing:
         try:
             done, taken, more, cursor = self.given(one, other, cursor)
         except Wanting as wanting:
-            return self.say(NOROOM if wanting.done is None else f"stopped behind {wanting.done} items: {NOROOM}")
+            return self.say(NOROOM if wanting.done is None else f"stopped after {wanting.done} items: {NOROOM}")
         except model.store.Refused as refused:
             return self.say(str(refused))
         for word, number in (("done", done), ("taken", taken), ("more", int(more)), ("position", cursor)):

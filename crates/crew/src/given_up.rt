@@ -1,4 +1,4 @@
-//! A word that tells jobs to end.
+//! A flag that tells jobs to end.
 
 use std::sync::atomic::{AtomicBool, Ordering};
 
@@ -9,19 +9,19 @@ pub struct GivenUp {
 }
 
 impl GivenUp {
-    /// That of a run which goes on.
+    /// Returns the flag of a run that isn't given up.
     pub fn new() -> GivenUp {
         GivenUp {
             told: AtomicBool::new(false),
         }
     }
 
-    /// Tells all jobs to end.
+    /// Gives the run up: all jobs are to end.
     pub(crate) fn tell(&self) {
         self.told.store(true, Ordering::SeqCst);
     }
 
-    /// Whether they were told. A job asks before each of its turns.
+    /// Returns whether the run was given up. A job calls it before each of its turns.
     pub fn is_told(&self) -> bool {
         self.told.load(Ordering::SeqCst)
     }

@@ -1,7 +1,7 @@
-//! Jobs, each in a thread of its own, all of which come back.
+//! Runs jobs, each in a thread of its own. All of them come back.
 //!
-//! A job may borrow, since it is joined before the call that started it returns. Where a thread can't be made, the run is given up,
-//! and all jobs come back none the less. All of it is of this project.
+//! A job may borrow, since it is joined before the call that started it returns. If a thread can't be made, the run is given up, and
+//! still all jobs come back. All of it is of this project.
 #![tactic(auto)]
 
 mod given_up;

@@ -10,8 +10,8 @@ use std::sync::Wait;
 use std::thread;
 use std::thread::{Promise, Scope, Threads};
 
-/// The jobs of a run that was given up, since a thread couldn't be made for the job at `place`. Those before it weren't started, and
-/// are as they were.
+/// The jobs of a run that was given up because no thread could be made for the job at `place`. Those before it weren't started, and
+/// are unchanged.
 #[derive(Drop)]
 pub struct NoThread<J> {
     /// All jobs, each at its place.
@@ -28,9 +28,8 @@ impl<J: Job> Promise<J> for Back<J> {
     ghost kept_by = { λ p j. J.comes_back p.0.value j };
 }
 
-/// Runs each job in a thread of its own, the last of the list first, and joins all of them. Each job comes back to its place, and no
-/// memory is taken but for the threads themselves. Where a thread can't be made, no further job is started, and those at work are told
-/// to end.
+/// Runs each job in a thread of its own, the last of the list first, and joins all of them. Each job comes back to its place. Only the
+/// threads themselves take memory. If a thread can't be made, no further job is started, and the running jobs are told to end.
 pub fn run_all<'e, R: Threads + Wait, J: Job + Send + Drop + 'e>(
     rt: &R,
     given_up: &GivenUp,
@@ -58,8 +57,8 @@ pub fn run_all<'e, R: Threads + Wait, J: Job + Send + Drop + 'e>(
     )
 }
 
-// The last job gets a thread; beside it the others are started; then it is joined, and stands at its place again. Answers the place of
-// the job for which no thread could be made.
+// Starts the last job in a thread, then the others, then joins it and puts it back at its place. Returns the place of the job for
+// which no thread could be made.
 fn start<'s, 'e: 's, R: Threads + Wait, J: Job + Send + Drop + 'e>(
     scope: &'s Scope<'s, &'e ()>,
     rt: &R,
@@ -87,7 +86,7 @@ fn start<'s, 'e: 's, R: Threads + Wait, J: Job + Send + Drop + 'e>(
             refused
         }
         Err(refused) => {
-            // The closure hands its job back, which does nothing else once the run is given up.
+            // The closure hands its job back, and does nothing else once the run is given up.
             given_up.tell();
             let job = (refused.value)();
             let place = jobs.len();

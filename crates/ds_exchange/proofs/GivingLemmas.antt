@@ -1,7 +1,6 @@
 -- What Merges give, one after the other.
-use Rattle.std.proofs.Common.{◌≡◌, ◌≢◌, ◌⊎◌, ℕ, ◌+◌, ◌-◌, ◌<◌, ◌≤◌, List, [], ◌∷◌, ◌++◌, length, take, drop, Result, Ok, Err, refl, ap, sym, ◌∙◌, subst, inl, inr, arith, append-nil, append_assoc, length-append, length-drop}
+use Rattle.std.proofs.Common.{◌≡◌, ◌⊎◌, ℕ, ◌+◌, ◌-◌, ◌<◌, ◌≤◌, List, [], ◌∷◌, ◌++◌, length, take, drop, refl, ap, sym, ◌∙◌, subst, inl, inr, arith, append-nil, append_assoc, length-append, length-drop}
 use Rattle.std.specs.List.{AllByRecursion}
-use Rattle.std.specs.Result.{IfErr, IfOk}
 use Rattle.std.proofs.lemmas.List.{take-append-drop}
 use Rattle.std.proofs.lemmas.List.Concat.{flat_map-append}
 use Rattle.std.proofs.lemmas.List.Elements.{Contains-append_cases}
@@ -9,7 +8,6 @@ use Rattle.std.proofs.lemmas.List.Sums.{sum_by-append}
 use Rattle.history.specs.declared.entry.Entry.{Entry}
 use Rattle.history.specs.History.{entry, Run}
 use Rattle.history.proofs.RunLemmas.{run_cut}
-use Rattle.desk.specs.declared.fault.DeskFault.{DeskFault}
 use Rattle.desk_rule.proofs.ListLemmas.{prefix_append, prefix_nil}
 use Rattle.ds_names.specs.Limits.{most_items}
 use Rattle.ds_entry.specs.declared.item.Item.{Item}
@@ -26,12 +24,15 @@ use Rattle.ds_store.specs.Turns.{Answered}
 use Rattle.ds_follow.specs.Merged.{HoldsAll}
 use Rattle.ds_follow.proofs.FollowLemmas.{stays_reached}
 use Rattle.ds_follow.proofs.MergedLemmas.{held_stays}
-use Rattle.ds_pass.specs.Called.{FoundWorn, Made, MadeCall}
+use Rattle.ds_pass.specs.Called.{Made, MadeCall}
+use Rattle.ds_pass.specs.Merging.{FailsMerging}
 use Rattle.ds_pass.specs.Record.{AfterEach, HasLegalHistory, PassRecord}
-use Rattle.ds_pass.specs.declared.fault.LiveFault.{LiveFault}
-use Rattle.ds_pass.specs.declared.fault.LiveFault.TheVariants.{NoRoom, Stopped}
+use Rattle.ds_pass.specs.declared.fault.CallFault.TheVariants as calls
+use Rattle.ds_pass.specs.declared.merging.MergeFault.{MergeFault}
+use Rattle.ds_pass.specs.declared.merging.MergeFault.TheVariants as merges
+use Rattle.ds_pass.proofs.FaultLemmas.{fails_later}
 use Rattle.ds_pass.proofs.RecordLemmas.{call_last, made_more, made_none}
-use Rattle.ds_exchange.specs.Faults.{IsGivingFault, LeavesSome, TellsStop}
+use Rattle.ds_exchange.specs.Faults.{IsGivingFault, LeavesSome, merge_fault}
 use Rattle.ds_exchange.specs.Giving.{AreMerges, GivesAll, GivesOnly, IsWholeMerge, all_given, taken_in_all, taken_told, items_merged}
 
 -- ---- lists of Merges
@@ -96,9 +97,6 @@ gives_both p q r xs ys m n a b = record {
 pub only_none : (p : PassRecord) (items : List Item) → GivesOnly p p items
 only_none p items = record { own = []; made = made_none p; merges = tt; in_order = prefix_nil items }
 
-pub only_worn : (p q : PassRecord) (fault : DeskFault) (items : List Item) → FoundWorn p q fault → GivesOnly p q items
-only_worn p q fault items w = record { own = []; made = w.made; merges = tt; in_order = prefix_nil items }
-
 pub only_all : (p q : PassRecord) (xs ys : List Item) (m : ℕ) → GivesAll p q xs m → GivesOnly p q (xs ++ ys)
 only_all p q xs ys m a = record { own = a.own; made = a.made; merges = whole_merges a.own a.merges; in_order = (ys, ap (λ (l : List Item). l ++ ys) a.items_are) }
 
@@ -135,10 +133,6 @@ leaves_behind p q r xs ys m a o = record {
 }
 
 -- ---- one Merge
-pub stop_lacks_no_room : {T : Type 0} (reply : Reply) (result : Result T LiveFault) → IfErr result (TellsStop reply) → IfErr result (λ fault. fault ≢ NoRoom)
-stop_lacks_no_room reply (Ok taken) told = tt
-stop_lacks_no_room reply (Err fault) told = λ none. subst (λ (f : LiveFault). TellsStop reply f) none told
-
 module _ (p q : PassRecord) (items : List Item) (reply : Reply) (place : ℕ) (some : 0 < length items) (few : length items ≤ most_items) (c : MadeCall p q (Merge items) reply place) where
   call : Entry Command Reply
   call = entry p.origin.number (Merge items) reply
@@ -151,11 +145,6 @@ module _ (p q : PassRecord) (items : List Item) (reply : Reply) (place : ℕ) (s
     merges = (record { part = items; command = refl; some = some; few = few }, inl refl);
     in_order = ([], append-nil (items ++ []) ∙ append-nil items);
   }
-
-  pub stop_is_fault : (fault : LiveFault) → TellsStop reply fault → IsGivingFault q fault
-  unfolding call
-  stop_is_fault (Stopped done cause) told = record { before = p.calls; last = call; calls_are = c.made.calls_are; stopped = told }
-  stop_is_fault fault told = absurd told
 
 module _ (p q : PassRecord) (items : List Item) (done taken stale owed place : ℕ) (some : 0 < length items) (few : length items ≤ most_items)
     (c : MadeCall p q (Merge items) (Merged done taken stale owed) place) where
@@ -180,10 +169,27 @@ module _ (p q : PassRecord) (items : List Item) (done taken stale owed place : �
         held = λ content opened s t at reached. (says s t at.reached reached).holds;
       }
 
-pub merged_gives : {E : Type 0} (p q : PassRecord) (items : List Item) (reply : Reply) (place : ℕ) (result : Result ℕ E) → 0 < length items → length items ≤ most_items → MadeCall p q (Merge items) reply place →
-    IfOk result (λ taken. (done : ℕ) × (stale : ℕ) × (owed : ℕ) × (reply ≡ Merged done taken stale owed)) → IfOk result (GivesAll p q items)
-merged_gives p q items reply place (Ok taken) some few c is = merge_gives p q items is.0 taken is.1 is.2 place some few (subst (λ (r : Reply). MadeCall p q (Merge items) r place) is.3 c)
-merged_gives p q items reply place (Err fault) some few c is = tt
+pub told_gives : (p q : PassRecord) (items : List Item) (taken : ℕ) → 0 < length items → length items ≤ most_items →
+    (done stale owed place : ℕ) × MadeCall p q (Merge items) (Merged done taken stale owed) place → GivesAll p q items taken
+told_gives p q items taken some few t = merge_gives p q items t.0 taken t.1 t.2 t.3 some few t.4
+
+pub told_only : (p q : PassRecord) (items : List Item) (taken : ℕ) → 0 < length items → length items ≤ most_items →
+    (done stale owed place : ℕ) × MadeCall p q (Merge items) (Merged done taken stale owed) place → GivesOnly p q items
+told_only p q items taken some few t = only_called p q items (Merged t.0 taken t.1 t.2) t.3 some few t.4
+
+-- it failed
+pub fails_only : (p q : PassRecord) (items : List Item) (fault : MergeFault) → 0 < length items → length items ≤ most_items →
+    FailsMerging p q (Merge items) fault → GivesOnly p q items
+fails_only p q items (merges.Desk fault) some few w = record { own = []; made = w.made; merges = tt; in_order = prefix_nil items }
+fails_only p q items (merges.Stopped done cause) some few t = only_called p q items t.0 t.1 some few t.2
+
+pub merge_fails : (p q r : PassRecord) (items front part : List Item) (m : ℕ) (fault : MergeFault) → GivesAll p q front m →
+    FailsMerging q r (Merge part) fault → IsGivingFault p r items (merge_fault fault)
+merge_fails p q r items front part m (merges.Desk fault) g w =
+    fails_later p q r g.own (calls.Desk fault) g.made (record { own = []; made = w.made; cause = (w.fault_is, w.full) })
+merge_fails p q r items front part m (merges.Stopped done cause) g t =
+    let last : Entry Command Reply = entry q.origin.number (Merge part) t.0 in
+    record { front = g.own; last = last; made = made_more p q r g.own (last ∷ []) g.made t.2.made; stopped = t.3 }
 
 -- ---- parts of 256
 module _ (rest part : List Item) (is : part ≡ take most_items rest) where

@@ -1,4 +1,3 @@
-mod TellingLemmas
 mod GivingLemmas
 mod PageLemmas
 mod WholeLemmas

@@ -1,43 +1,24 @@
--- One question to the store that tells.
+-- Pages that are asked for in order.
 use Rattle.std.specs.Prelude.{◌≡◌, ℕ, ◌*◌, ◌^◌, ◌≤◌, List, [], ◌∷◌, length, Option, None}
 use Rattle.history.specs.declared.entry.Entry.{Entry}
 use Rattle.ds_names.specs.declared.key.Key.{Key}
 use Rattle.ds_feed.specs.declared.cursor.Cursor.{Cursor}
-use Rattle.ds_feed.specs.declared.reading.Since as readings
 use Rattle.ds_feed.specs.declared.reading.Page.{Page as Leaf}
 use Rattle.ds_convergence.specs.Paged.{last_key}
 use Rattle.ds_machine.specs.declared.command.Command.{Command}
 use Rattle.ds_machine.specs.declared.reply.Reply.{Reply}
-use Rattle.ds_machine.specs.declared.reply.Reply.TheVariants.{Journaled, Paged}
 use Rattle.ds_pass.specs.Called.{Made}
-use Rattle.ds_pass.specs.Record.{HasLegalHistory, PassRecord}
+use Rattle.ds_pass.specs.Record.{PassRecord}
 use Rattle.ds_exchange.specs.Giving.{GivesAll}
-use Rattle.ds_exchange.specs.Telling.{IsOpenPage, all_told, first_told, page_asked, since_asked}
+use Rattle.ds_exchange.specs.Telling.{IsOpenPage, all_told, first_told, page_asked}
 
--- it was asked, and got this reply
-pub record GetsTold (p q : PassRecord) (command : Command) (reply : Reply) : Type 0 where
-  pub call : Entry Command Reply
-  pub made : Made p q (call ∷ [])
-  pub legal : HasLegalHistory q
-  pub command_is : call.command ≡ command
-  pub reply_is : call.reply ≡ reply
-
-abbrev pub TellsSince : PassRecord → PassRecord → Cursor → readings.Since → Type 0
-TellsSince p q from since = GetsTold p q (since_asked from) (Journaled since)
-
-abbrev pub TellsPage : PassRecord → PassRecord → Option Key → Leaf → Type 0
-TellsPage p q after page = GetsTold p q (page_asked after) (Paged page)
-
--- ---- page after page
-
--- pages, the first behind this key and each other one behind the last key that was told, none of them the last; the next one is
--- behind that key
+-- Pages of which none is the last: the first is after this key, each other one after the last key that was told, and so is the next one.
 abbrev pub AsksOpenPages : Option Key → List (Entry Command Reply) → Option Key → Type 0
 AsksOpenPages after [] next = next ≡ after
 AsksOpenPages after (e ∷ es) next =
     (e.command ≡ page_asked after) × ((page : Leaf) × IsOpenPage e page × AsksOpenPages (last_key after page.items) es next)
 
--- so far they were told and given, and counted
+-- The pages so far were told, given and counted.
 pub record GoesByPages (p q r s : PassRecord) (after : Option Key) (first : Option Cursor) (done taken : ℕ) : Type 0 where
   pub own : List (Entry Command Reply)
   pub made : Made p q own

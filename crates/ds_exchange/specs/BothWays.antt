@@ -9,21 +9,21 @@ use Rattle.ds_pass.specs.Record.{AfterEach, PassRecord}
 use Rattle.ds_exchange.specs.declared.exchange.Exchanged.{Exchanged}
 use Rattle.ds_exchange.specs.Exchange.{Exchanges}
 
--- from p to q all calls at the desk were the pass's
+-- From p to q all calls at the desk were the pass's.
 pub record CalledAlone (p q : PassRecord) : Type 0 where
   pub own : List (Entry Command Reply)
   pub calls_are : q.calls ≡ p.calls ++ own
   pub history_is : q.history ≡ p.history ++ own
 
--- of the passes p and q of the one desk, and r and s of the other: the first store gave the second one all that it holds, and then
--- the second one the first; nobody else called meanwhile
+-- Of the passes p and q of one desk, and r and s of the other: the first store gave the second all that it holds, and then the second
+-- the first. No other pass called meanwhile.
 pub record ExchangesBothWays (p p' q r r' s : PassRecord) (x y : Exchanged) : Type 0 where
   pub there : Exchanges p p' r r' None x
   pub back : Exchanges r' s p' q None y
   pub alone_here : CalledAlone p q
   pub alone_there : CalledAlone r s
 
--- if all that took effect in the two is exact, they hold the same then: no two changes of one key, owner and version have two bodies
+-- If all that took effect in the two is exact, they then hold the same: no two changes of one key, owner and version have two bodies.
 abbrev pub ExchangedAlike : Type 0
 ExchangedAlike =
     (p p' q r r' s : PassRecord) (x y : Exchanged) → ExchangesBothWays p p' q r r' s x y →

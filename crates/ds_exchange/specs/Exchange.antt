@@ -1,4 +1,4 @@
--- What an exchange does: from p to q is the pass that asks, from r to s the one that gives.
+-- What an exchange does: from p to q is the pass that asks, from r to s the one that merges.
 use Rattle.std.specs.Prelude.{◌≡◌, List, length, Option}
 use Rattle.history.specs.declared.entry.Entry.{Entry}
 use Rattle.ds_feed.specs.declared.cursor.Cursor.{Cursor}
@@ -6,18 +6,23 @@ use Rattle.ds_machine.specs.declared.command.Command.{Command}
 use Rattle.ds_machine.specs.declared.reply.Reply.{Reply}
 use Rattle.ds_pass.specs.Called.{Made}
 use Rattle.ds_pass.specs.Record.{HasLegalHistory, PassRecord}
+use Rattle.ds_pass.specs.Seat.{IsSameSeat, SeatRecord}
 use Rattle.ds_exchange.specs.declared.exchange.Exchanged.{Exchanged}
 use Rattle.ds_exchange.specs.Telling.{AsksInTurn, EndsTelling, all_told}
 use Rattle.ds_exchange.specs.Giving.{GivesAll, GivesOnly}
 
--- no more was called than these questions, and Merges of what was told
+-- Only these questions were asked, and only what was told was merged.
 pub record ExchangesOnly (p q r s : PassRecord) (from : Option Cursor) : Type 0 where
   pub own : List (Entry Command Reply)
   pub made : Made p q own
   pub asks : AsksInTurn from own
   pub gives : GivesOnly r s (all_told own)
 
--- all was told, and all that was told is given and counted
+-- The same of the two seats.
+abbrev pub SeatsExchangeOnly : SeatRecord → SeatRecord → SeatRecord → SeatRecord → Option Cursor → Type 0
+SeatsExchangeOnly a b c d from = IsSameSeat a b × IsSameSeat c d × ExchangesOnly a.pass b.pass c.pass d.pass from
+
+-- All was told, and all that was told is merged and counted.
 pub record Exchanges (p q r s : PassRecord) (from : Option Cursor) (x : Exchanged) : Type 0 where
   pub own : List (Entry Command Reply)
   pub made : Made p q own

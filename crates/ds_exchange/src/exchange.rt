@@ -1,87 +1,65 @@
 //! One exchange between the stores of two desks.
 
-ghost use Rattle.std.specs.Prelude.{◌≡◌, None, Some, IfOk, IfErr};
-ghost use Rattle.desk.specs.Desk.{identity};
-ghost use Rattle.desk.specs.Pass.{desk_of};
-ghost use Rattle.ds_pass.specs.Record.{pass_record as seen};
-ghost use Rattle.ds_exchange.specs.Exchange.{Exchanges, ExchangesOnly};
-ghost use Rattle.ds_exchange.specs.Faults.{IsExchangeFault, LacksRoom};
+ghost use Rattle.std.specs.Prelude.{None, Some, IfOk, IfErr};
+ghost use Rattle.ds_exchange.specs.Exchange.{Exchanges, SeatsExchangeOnly};
+ghost use Rattle.ds_exchange.specs.Faults.{IsExchangeFault};
 
+use crate::fault::ExchangeFault;
 use crate::giving::give;
-use crate::telling::{ask_page, ask_since};
-use desk::{Desk, Pass};
 use ds_feed::{Cursor, Page, Since};
+use ds_machine::Scope;
 use ds_names::limits::MOST_ITEMS;
-use ds_pass::LiveFault;
+use ds_pass::Seat;
 use ds_reader::go_behind;
-use ds_store::Store;
 use std::sync::Wait;
 
 /// What an exchange did.
 #[derive(Clone, Copy, Debug, PartialEq, Eq)]
 pub struct Exchanged {
-    /// From where the next exchange asks.
+    /// The cursor from which the next exchange asks.
     pub cursor: Cursor,
     /// How many items were given.
     pub done: u128,
     /// How many of them took effect.
     pub taken: u128,
-    /// Whether there may be more behind the cursor.
+    /// Whether there may be more after the cursor.
     pub more: bool,
 }
 
-/// Gives the store at desk `b` what the store at desk `a` has, while others call both. It may wait.
+/// Gives what the store at seat `a` has to the store at seat `b`, while others call both. It may wait.
 ///
-/// With a cursor this is what took effect from there on, up to 256 items, and there may be more where there were as many; without
-/// one it is all that is held, by pages of 256, and the cursor is the first page's. The items go to `b` in Merges of at most 256;
-/// from then on it holds each, or what covers it. A cursor that the journal of `a` doesn't reach back to is `Refused` as `Behind`:
-/// begin again without one.
+/// With a cursor it gives what took effect from there on, up to 256 items; there may be more if there are 256. Without one it gives
+/// all that is held, by pages of 256, and the cursor is the first page's. The items go to `b` in Merges of at most 256; from then on
+/// `b` holds each, or an item that covers it. `Refused(Behind)` if the journal of `a` doesn't reach back to the cursor: begin again
+/// without one.
 pub fn exchange_once<W: Wait>(
-    rt: &W,
-    a: &Desk<Box<Store>>,
-    pass_a: &mut Pass<Box<Store>>,
-    b: &Desk<Box<Store>>,
-    pass_b: &mut Pass<Box<Store>>,
+    a: &mut Seat<'_, W>,
+    b: &mut Seat<'_, W>,
     from: Option<Cursor>,
-) -> Result<Exchanged, LiveFault>
-    requires of_a { desk_of pass_a.old ≡ identity a.now }
-    requires of_b { desk_of pass_b.old ≡ identity b.now }
-    ensures stays_a { desk_of pass_a.new ≡ desk_of pass_a.old }
-    ensures stays_b { desk_of pass_b.new ≡ desk_of pass_b.old }
-    ensures only { ExchangesOnly (seen pass_a.old) (seen pass_a.new) (seen pass_b.old) (seen pass_b.new) from }
-    ensures exchanged { IfOk result (Exchanges (seen pass_a.old) (seen pass_a.new) (seen pass_b.old) (seen pass_b.new) from) }
-    ensures fault { IfErr result (IsExchangeFault (seen pass_a.new) (seen pass_b.new)) }
-    ensures room { IfErr result (λ fault. fault ≡ LiveFault.NoRoom →
-        LacksRoom (seen pass_a.old) (seen pass_a.new) (seen pass_b.old) (seen pass_b.new)) }
+) -> Result<Exchanged, ExchangeFault>
+    ensures only { SeatsExchangeOnly a.old a.new b.old b.new from }
+    ensures exchanged { IfOk result (Exchanges a.old.pass a.new.pass b.old.pass b.new.pass from) }
+    ensures fault { IfErr result (IsExchangeFault a.old.pass a.new.pass b.old.pass b.new.pass) }
 {
     match from {
-        Some(cursor) => exchange_since(rt, a, pass_a, b, pass_b, cursor),
-        None => exchange_pages(rt, a, pass_a, b, pass_b),
+        Some(cursor) => exchange_since(a, b, cursor),
+        None => exchange_pages(a, b),
     }
 }
 
-// What took effect from the cursor on.
+// Gives what took effect from the cursor on.
 fn exchange_since<W: Wait>(
-    rt: &W,
-    a: &Desk<Box<Store>>,
-    pass_a: &mut Pass<Box<Store>>,
-    b: &Desk<Box<Store>>,
-    pass_b: &mut Pass<Box<Store>>,
+    a: &mut Seat<'_, W>,
+    b: &mut Seat<'_, W>,
     from: Cursor,
-) -> Result<Exchanged, LiveFault>
-    requires of_a { desk_of pass_a.old ≡ identity a.now }
-    requires of_b { desk_of pass_b.old ≡ identity b.now }
-    ensures stays_a { desk_of pass_a.new ≡ desk_of pass_a.old }
-    ensures stays_b { desk_of pass_b.new ≡ desk_of pass_b.old }
-    ensures only { ExchangesOnly (seen pass_a.old) (seen pass_a.new) (seen pass_b.old) (seen pass_b.new) (Some from) }
-    ensures exchanged { IfOk result (Exchanges (seen pass_a.old) (seen pass_a.new) (seen pass_b.old) (seen pass_b.new) (Some from)) }
-    ensures fault { IfErr result (IsExchangeFault (seen pass_a.new) (seen pass_b.new)) }
-    ensures room { IfErr result (λ fault. fault ≡ LiveFault.NoRoom →
-        LacksRoom (seen pass_a.old) (seen pass_a.new) (seen pass_b.old) (seen pass_b.new)) }
+) -> Result<Exchanged, ExchangeFault>
+    ensures only { SeatsExchangeOnly a.old a.new b.old b.new (Some from) }
+    ensures exchanged { IfOk result (Exchanges a.old.pass a.new.pass b.old.pass b.new.pass (Some from)) }
+    ensures fault { IfErr result (IsExchangeFault a.old.pass a.new.pass b.old.pass b.new.pass) }
 {
-    let Since { items, cursor } = ask_since(rt, a, pass_a, from)?;
+    let Since { items, cursor } = a.since(Scope::All, from, MOST_ITEMS as u32)?;
     let done = items.len();
-    let taken = give(rt, b, pass_b, items)?;
+    let taken = give(b, items)?;
     Ok(Exchanged {
         cursor,
         done: done as u128,
@@ -90,38 +68,29 @@ fn exchange_since<W: Wait>(
     })
 }
 
-// All that is held, page by page.
+// Gives all that is held, page by page.
 fn exchange_pages<W: Wait>(
-    rt: &W,
-    a: &Desk<Box<Store>>,
-    pass_a: &mut Pass<Box<Store>>,
-    b: &Desk<Box<Store>>,
-    pass_b: &mut Pass<Box<Store>>,
-) -> Result<Exchanged, LiveFault>
-    requires of_a { desk_of pass_a.old ≡ identity a.now }
-    requires of_b { desk_of pass_b.old ≡ identity b.now }
-    ensures stays_a { desk_of pass_a.new ≡ desk_of pass_a.old }
-    ensures stays_b { desk_of pass_b.new ≡ desk_of pass_b.old }
-    ensures only { ExchangesOnly (seen pass_a.old) (seen pass_a.new) (seen pass_b.old) (seen pass_b.new) None }
-    ensures exchanged { IfOk result (Exchanges (seen pass_a.old) (seen pass_a.new) (seen pass_b.old) (seen pass_b.new) None) }
-    ensures fault { IfErr result (IsExchangeFault (seen pass_a.new) (seen pass_b.new)) }
-    ensures room { IfErr result (λ fault. fault ≡ LiveFault.NoRoom →
-        LacksRoom (seen pass_a.old) (seen pass_a.new) (seen pass_b.old) (seen pass_b.new)) }
+    a: &mut Seat<'_, W>,
+    b: &mut Seat<'_, W>,
+) -> Result<Exchanged, ExchangeFault>
+    ensures only { SeatsExchangeOnly a.old a.new b.old b.new None }
+    ensures exchanged { IfOk result (Exchanges a.old.pass a.new.pass b.old.pass b.new.pass None) }
+    ensures fault { IfErr result (IsExchangeFault a.old.pass a.new.pass b.old.pass b.new.pass) }
 {
     let mut done = 0u128;
     let mut taken = 0u128;
     let mut after = None;
     let mut first = None;
-    for _ in rt.forever() {
+    for _ in a.rt().forever() {
         let Page {
             items,
             last,
             cursor,
-        } = ask_page(rt, a, pass_a, after)?;
+        } = a.page(Scope::All, after, MOST_ITEMS as u32)?;
         go_behind(&mut after, &items);
         let from = first.unwrap_or(cursor);
         let count = items.len();
-        let given = give(rt, b, pass_b, items)?;
+        let given = give(b, items)?;
         done += count as u128;
         taken += given as u128;
         if last {

@@ -1,12 +1,13 @@
-//! What the store at one desk holds is given to the store at another, while other threads call both.
+//! Gives what the store at one desk holds to the store at another, while other threads call both.
 //!
-//! Two replicas of MINIX 3's data store (DS), and what they tell each other, are of this project.
+//! Two replicas of MINIX 3's data store (DS), and their exchange, are of this project.
 #![tactic(auto)]
 
 mod exchange;
+mod fault;
 mod giving;
 mod law;
-mod telling;
 
 pub use exchange::{Exchanged, exchange_once};
+pub use fault::ExchangeFault;
 pub use law::exchanged_alike;

@@ -1,4 +1,4 @@
--- What a store holds of items that were merged into it.
+-- What a store continues to hold of items that were merged into it.
 use Rattle.std.specs.Prelude.{List}
 use Rattle.history.specs.declared.entry.Entry.{Entry}
 use Rattle.history.specs.History.{Run}
@@ -10,12 +10,12 @@ use Rattle.ds_machine.specs.declared.command.Command.{Command}
 use Rattle.ds_machine.specs.declared.reply.Reply.{Reply}
 use Rattle.ds_store.specs.Turns.{Answered}
 
--- for each change among the items it holds at least its version, or a floor that makes it void, and for each floor one at least
--- as great
+-- For each change among the items it holds at least its version, or a floor that makes it void. For each floor it holds one that is at
+-- least as great.
 abbrev pub HoldsAll : State → List Item → Type 0
 HoldsAll s items = CoversAll (held s) items
 
--- so it stays, whatever is asked
+-- It continues to hold them, whatever commands come.
 abbrev pub MergedStaysHeld : Type 0
 MergedStaysHeld =
     (es : List (Entry Command Reply)) (s t : State) (items : List Item) → IsReached s → Run Answered s es t → HoldsAll s items → HoldsAll t items

@@ -3,11 +3,11 @@
 ghost use Rattle.ds_follow.specs.Laws.{ChecksFit, FollowsAlone, FollowsCheck, FollowsFirst, FollowsOn, TellsOthers, TellsOwn};
 ghost use Rattle.ds_follow.specs.Merged.{MergedStaysHeld};
 
-/// A law: what keeps a map up with a store is the subscriber's own Subscribe and its own Checks.
+/// A law: a subscriber's own Subscribe and Checks keep its map up with a store.
 ///
-/// Whatever others ask, the map goes on following, or its subscription has a greater stamp, which the next Check tells. A
-/// Subscribe with INITIAL begins it, with an empty map. With the items of a Check it follows; with fewer of them than were asked
-/// for, it is what the store holds under the query. No item of a Check is refused by the map but for want of memory.
+/// Whatever commands others send, the map continues to follow, or its subscription has a greater stamp, which the next Check shows.
+/// A Subscribe with INITIAL begins with an empty map. With the items of a Check the map follows; if they are fewer than were asked
+/// for, the map is what the store holds under the query. The map refuses an item of a Check only if memory runs out.
 pub fn followers_follow()
     ensures on { FollowsOn }
     ensures alone { FollowsAlone }
@@ -18,8 +18,8 @@ pub fn followers_follow()
     ensures fit { ChecksFit }
 {}
 
-/// A law: what a store holds of items that were merged into it stays held, whatever is asked: of each change its version or a
-/// greater one, or a floor that makes it void, and of each floor one that is at least as great.
+/// A law: a store continues to hold the items that were merged into it, whatever commands come: for each change its version or a
+/// greater one, or a floor that makes it void, and for each floor one that is at least as great.
 pub fn merged_items_stay()
     ensures { MergedStaysHeld }
 {}

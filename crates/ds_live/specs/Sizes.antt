@@ -1,4 +1,4 @@
--- How large a run may be.
+-- The sizes that a run may have.
 use Rattle.std.specs.Prelude.{Bool, ◌&&◌, nat_le}
 use Rattle.ds_live.specs.declared.sizes.Sizes.{Sizes}
 

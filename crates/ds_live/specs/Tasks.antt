@@ -1,4 +1,4 @@
--- What a worker's task has of the second desk.
+-- The pass of the second desk in a worker's task.
 use Rattle.std.specs.Prelude.{◌≡◌}
 use Rattle.atomic_table.specs.Seated.{TableId}
 use Rattle.desk_rule.specs.declared.view.View.{View}
@@ -12,7 +12,7 @@ use Rattle.ds_workers.specs.declared.task.Task.TheVariants.{Exchange, Follow, Pu
 use Rattle.ds_workers.specs.Workers.{StorePass}
 
 module _ {Z : Type 0} {G : Ghosts (View (Boxed Z) Command Reply)} where
-  -- the task's pass, if it has one, is of the desk
+  -- The task's pass, if it has one, is of the desk.
   abbrev pub IsOther : TableId → Task (StorePass Z G) → Type 0
   IsOther second Publish = Unit {0}
   IsOther second (Follow follower) = Unit {0}

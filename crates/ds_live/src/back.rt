@@ -1,13 +1,13 @@
-//! What workers have of their desks.
+//! What workers hand back.
 
 use ds_refresh::Follower;
 
-/// The passes and the followers that no worker has. The pass is a plain parameter.
+/// The passes and the followers that no worker has.
 #[derive(Drop)]
 pub(crate) struct Back<P> {
-    /// Those of the first desk.
+    /// The passes of the first desk.
     pub passes: Vec<P>,
-    /// Those of the second desk.
+    /// The passes of the second desk.
     pub others: Vec<P>,
     /// The subscribers' followers.
     pub followers: Vec<Follower>,

@@ -1,4 +1,4 @@
-//! How a run ends.
+//! The end of a run.
 
 ghost use Rattle.std.specs.Prelude.{All, ◌≡◌, ◌≤◌, ◌⊎◌, length, true, IfOk, IfErr};
 ghost use Rattle.desk.specs.Desk.{identity, pass_count};
@@ -6,12 +6,12 @@ ghost use Rattle.desk.specs.Pass.{desk_of};
 ghost use Rattle.desk.specs.declared.fault.DeskFault.TheVariants.{Noted};
 ghost use Rattle.ds_live.specs.Report.{are_exact};
 
+use crate::fault::LiveFault;
 use desk::{Closed, Desk, DeskFault, Pass, Passes};
-use ds_pass::LiveFault;
 use ds_store::Store;
 use std::alloc::Global;
 
-/// Each pass but the last makes a note, which the next one learns: so as many are learnt as were made.
+/// Has each pass but the last make a note that the next one learns, so that all notes are learnt.
 pub(crate) fn share_notes(
     desk: &Desk<Box<Store>>,
     passes: &mut Vec<Pass<Box<Store>>>,
@@ -29,7 +29,7 @@ pub(crate) fn share_notes(
     Ok(())
 }
 
-/// Closes a desk with its passes, which are all that it has.
+/// Closes a desk with all of its passes.
 pub(crate) fn close_desk(
     alloc: Global,
     desk: Desk<Box<Store>>,

@@ -1,21 +1,21 @@
-//! How workers are finished with, and their passes taken back.
+//! Finishes the workers, and takes their passes back.
 
 ghost use Rattle.std.specs.Prelude.{All, ◌≡◌, ◌≤◌, ◌+◌, [], length, sum_by, vec_capacity};
 ghost use Rattle.desk.specs.Desk.{identity};
 ghost use Rattle.desk.specs.Pass.{desk_of};
-ghost use Rattle.ds_workers.specs.Workers.{IsOf, others_in};
+ghost use Rattle.ds_workers.specs.Workers.{ComesBack, IsOf, others_in};
 ghost use Rattle.ds_live.specs.Tasks.{IsOther};
 
 use crate::back::Back;
+use crate::fault::LiveFault;
 use desk::{Desk, Pass};
-use ds_pass::LiveFault;
 use ds_store::Store;
-use ds_workers::{Desks, Gate, StoreTurns, Task, Turns, Worker};
+use ds_workers::{Desks, Gate, StoreTurns, StoreWorker, Task, Turns, Worker};
 use std::alloc::Global;
 use std::sync::Wait;
 
-/// Takes all passes back. Where there is no fault, it has each worker finish first, worker 0 before the others, and tells the fault of
-/// the first that can't.
+/// Takes all passes back. If there is no fault, each worker finishes first, worker 0 before the others. Returns the fault, or that of
+/// the first worker that can't finish.
 pub(crate) fn dismiss<R: Wait, G: Gate>(
     rt: &R,
     alloc: Global,
@@ -35,9 +35,7 @@ pub(crate) fn dismiss<R: Wait, G: Gate>(
 {
     while let Some(job) = jobs.pop() {
         let Turns { mut worker, .. } = job;
-        if fault.is_none() {
-            fault = worker.finish(rt, alloc, &desks.first, &desks.second).err();
-        }
+        fault = finish(rt, alloc, desks, &mut worker, fault);
         let Worker { pass, task, .. } = worker;
         back.passes.push_reserved(pass);
         let room = collect(&desks.second, task, back);
@@ -46,7 +44,27 @@ pub(crate) fn dismiss<R: Wait, G: Gate>(
     fault
 }
 
-// Takes back what a task has: a pass of the second desk, or a follower, which is lost where there is no room for it.
+// Has a worker finish, unless there is a fault. Returns that fault, or the worker's.
+fn finish<W: Wait>(
+    rt: &W,
+    alloc: Global,
+    desks: &Desks<Desk<Box<Store>>>,
+    worker: &mut StoreWorker,
+    fault: Option<LiveFault>,
+) -> Option<LiveFault>
+    requires { IsOf (identity desks.now.first) (identity desks.now.second) worker.old }
+    ensures { ComesBack worker.old worker.new }
+{
+    if fault.is_some() {
+        return fault;
+    }
+    match worker.finish(rt, alloc, &desks.first, &desks.second) {
+        Ok(()) => None,
+        Err(fault) => Some(LiveFault::from(fault)),
+    }
+}
+
+// Takes back what a task has: a pass of the second desk, or a follower, which is dropped if there is no room for it.
 fn collect(
     second: &Desk<Box<Store>>,
     task: Task<Pass<Box<Store>>>,

@@ -1,27 +1,29 @@
-//! How a run begins.
+//! The beginning of a run.
 
 ghost use Rattle.std.specs.Prelude.{All, ◌≡◌, ◌≤◌, ◌<◌, ◌+◌, [], length, sum_by, vec_capacity, IfOk, IsTrue};
 ghost use Rattle.desk.specs.Desk.{identity, pass_count};
 ghost use Rattle.desk.specs.Pass.{desk_of};
 ghost use Rattle.ds_pass.specs.Record.{pass_record};
+ghost use Rattle.ds_workers.specs.Turns.{SeatHasCalled};
 ghost use Rattle.ds_workers.specs.Workers.{IsOf, IsTask, others_in};
 ghost use Rattle.ds_live.specs.Sizes.{are_fit};
 
 use crate::back::Back;
+use crate::fault::LiveFault;
 use crate::sizes::Sizes;
 use crew::GivenUp;
 use desk::{Desk, Pass};
-use ds_pass::LiveFault;
+use ds_pass::{CallFault, Seat};
 use ds_refresh::Follower;
 use ds_store::Store;
 use ds_workers::{Desks, Gate, StoreTurns, Task, Turns, Worker, everything, publish_label};
 use std::alloc::Global;
 use std::sync::Wait;
 
-// How many items the journal of a store keeps.
+// The number of items in the journal of a store.
 const RING: u32 = 256;
 
-/// A desk over a new store of this incarnation, and its passes, 1 to 64.
+/// Opens a desk of a new store of this incarnation. Returns it with its passes, 1 to 64.
 pub(crate) fn open_desk(
     alloc: Global,
     incarnation: u64,
@@ -43,8 +45,8 @@ pub(crate) fn open_desk(
     }
 }
 
-/// A job for each pass of the first desk, of which the last is that of worker 0: publishers, whose labels are published, then
-/// subscribers, then the one that exchanges, with the pass of the second desk. The lists of passes keep their room.
+/// Makes a job for each pass of the first desk; the last job is worker 0's. Publishers come first, whose labels are published here, then
+/// subscribers, then the worker that exchanges, with the pass of the second desk. The lists of passes keep their capacity.
 pub(crate) fn hire<'e, R: Wait, G: Gate>(
     rt: &'e R,
     alloc: Global,
@@ -71,7 +73,10 @@ pub(crate) fn hire<'e, R: Wait, G: Gate>(
     let Some(mut pass) = back.passes.pop() else {
         unreachable!()
     };
-    publish_labels(rt, &desks.first, &mut pass, sizes.publishers)?;
+    let mut seat = Seat::new(rt, &desks.first, &mut pass);
+    let told = publish_labels(&mut seat, sizes.publishers);
+    let _pass = seat.leave();
+    told?;
     let Some(other) = back.others.pop() else {
         unreachable!()
     };
@@ -113,24 +118,18 @@ pub(crate) fn hire<'e, R: Wait, G: Gate>(
     Ok(jobs)
 }
 
-// RS publishes the publishers' labels, by a pass.
-fn publish_labels<W: Wait>(
-    rt: &W,
-    desk: &Desk<Box<Store>>,
-    pass: &mut Pass<Box<Store>>,
-    count: u32,
-) -> Result<(), LiveFault>
-    requires of_desk { desk_of pass.old ≡ identity desk.now }
-    requires few { count ≤ 8 }
-    ensures { desk_of pass.new ≡ desk_of pass.old }
+// RS publishes the labels of the publishers.
+fn publish_labels<W: Wait>(seat: &mut Seat<'_, W>, count: u32) -> Result<(), CallFault>
+    requires { count ≤ 8 }
+    ensures { SeatHasCalled seat.old seat.new }
 {
     for index in 0..count {
-        publish_label(rt, desk, pass, index)?;
+        publish_label(seat, index)?;
     }
     Ok(())
 }
 
-// What a worker is for, of those before the last. Subscriber s follows all keys by its server's first subscription, 8 s.
+// Returns the task of a worker before the last. Subscriber s follows all keys by its server's first subscription, 8 s.
 fn task_of(
     alloc: Global,
     sizes: Sizes,

@@ -1,22 +1,24 @@
-//! A store that threads share: followers, exchanges between two replicas, and a run of them all.
+//! A run of threads that share two stores: publishers, followers, and an exchange between the two replicas.
 //!
-//! Drivers and the servers that follow them by MINIX 3's data store (DS), beside a second replica: `live_run` has each of them work in a
-//! thread of its own, and says what came of it. The run and its report are of this project.
+//! Drivers, the servers that follow them by MINIX 3's data store (DS), and a second replica: `live_run` runs each of them in a thread of
+//! its own, and reports the result. The run and its report are of this project.
 #![tactic(auto)]
 
 mod back;
 mod closing;
 mod dismissing;
+mod fault;
 mod hiring;
 mod report;
 mod run;
 mod sizes;
 mod working;
 
-pub use ds_exchange::{Exchanged, exchange_once};
-pub use ds_pass::LiveFault;
-pub use ds_refresh::{Follower, Fresh, refresh};
-pub use ds_workers::{Gate, OpenGate};
+pub use ds_exchange::{ExchangeFault, Exchanged, exchange_once};
+pub use ds_pass::{CallFault, Seat};
+pub use ds_refresh::{Follower, Fresh, RefreshFault, refresh};
+pub use ds_workers::{Gate, OpenGate, WorkerFault};
+pub use fault::LiveFault;
 pub use report::LiveReport;
 pub use run::live_run;
 pub use sizes::Sizes;

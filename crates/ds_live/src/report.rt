@@ -1,4 +1,4 @@
-//! What came of a run.
+//! The report of a run.
 
 ghost use Rattle.std.specs.Prelude.{◌≡◌, ◌&&◌, length, IfOk};
 ghost use Rattle.ds_entry.specs.Under.{entries_of};
@@ -13,20 +13,20 @@ use ds_refresh::Follower;
 use ds_store::Store;
 use std::alloc::Global;
 
-/// What came of a run.
+/// The report of a run.
 #[derive(Clone, Copy, Debug, PartialEq, Eq)]
 pub struct LiveReport {
     /// How many puts the first store holds.
     pub entries: usize,
-    /// Whether each subscriber's map has the same ones.
+    /// Whether each subscriber's map has the same puts.
     pub maps: bool,
-    /// Whether the second store has.
+    /// Whether the second store has the same puts.
     pub replicas: bool,
-    /// Whether in each row of both desks' accounts raises are takes and what is pending.
+    /// Whether, in each row of both desks' accounts, raises are the takes and what is pending.
     pub account: bool,
 }
 
-/// The report on two closed desks and the subscribers' followers.
+/// Returns the report on two closed desks and the subscribers' followers.
 pub(crate) fn report_of(
     alloc: Global,
     left: &Closed<Box<Store>>,
@@ -52,7 +52,7 @@ pub(crate) fn report_of(
     })
 }
 
-// Whether each follower's map has these entries.
+// Returns whether each follower's map has these entries.
 fn all_have(alloc: Global, entries: &Items, followers: &Vec<Follower>) -> Result<bool, NoRoom>
     ensures { IfOk result (λ r. r ≡ all_have entries.now followers.now.items) }
 {
@@ -67,7 +67,7 @@ fn all_have(alloc: Global, entries: &Items, followers: &Vec<Follower>) -> Result
     Ok(true)
 }
 
-// The puts of what a store holds, in the order of their keys.
+// Returns the puts that a store holds, in the order of their keys.
 fn entries_held(alloc: Global, held: &Held) -> Result<Items, NoRoom>
     ensures { IfOk result (λ items. items ≡ entries_of (held_items held.now)) }
 {
@@ -83,7 +83,7 @@ fn entries_held(alloc: Global, held: &Held) -> Result<Items, NoRoom>
     Ok(puts)
 }
 
-// Whether each row of an account is exact.
+// Returns whether each row of an account is exact.
 fn are_exact(account: &Account) -> bool
     ensures { result ≡ are_exact account.now }
 {
@@ -99,7 +99,7 @@ fn are_exact(account: &Account) -> bool
     true
 }
 
-// Whether raises are takes and what is pending.
+// Returns whether raises are the takes and what is pending.
 fn is_exact(row: Row) -> bool
     ensures { result ≡ is_exact row }
 {

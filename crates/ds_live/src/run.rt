@@ -1,4 +1,4 @@
-//! A run.
+//! A run of threads.
 
 ghost use Rattle.std.specs.Prelude.{All, ◌≡◌, ◌≤◌, length, Err, true, false, IfOk, OnOk, IsTrue};
 ghost use Rattle.desk.specs.Desk.{identity, pass_count};
@@ -9,13 +9,13 @@ ghost use Rattle.ds_live.specs.Sizes.{are_fit};
 use crate::back::Back;
 use crate::closing::{close_desk, share_notes};
 use crate::dismissing::dismiss;
+use crate::fault::LiveFault;
 use crate::hiring::{hire, open_desk};
 use crate::report::{LiveReport, report_of};
 use crate::sizes::Sizes;
 use crate::working::work_all;
 use crew::GivenUp;
 use desk::{Closed, Desk, Pass};
-use ds_pass::LiveFault;
 use ds_refresh::Follower;
 use ds_store::Store;
 use ds_workers::{Desks, Gate};
@@ -23,12 +23,12 @@ use std::alloc::Global;
 use std::sync::Wait;
 use std::thread::Threads;
 
-/// Has publishers and subscribers share a store, beside one who gives what it has to a second store, each worker in a thread of its
-/// own; then brings the subscribers' maps and the second store up to date, closes both desks, and reports what they hold.
+/// Runs publishers and subscribers that share a store, and a worker that gives what it has to a second store, each in a thread of its
+/// own. Then brings the subscribers' maps and the second store up to date, closes both desks, and reports what they hold.
 ///
-/// Publishers are workers 0, 1 and so on, then come the subscribers, then the one that exchanges. Each takes so many turns, with the
-/// gate before each and behind the last. Refused: BadSizes; where workers fail, the fault of the lowest, GateShut where its gate
-/// turned it away; NoThread where a thread couldn't be made; NoRoom.
+/// Publishers are workers 0, 1 and so on, then come the subscribers, then the worker that exchanges. Each takes `changes` turns, with
+/// the gate before each and after the last. Errors: BadSizes; if workers fail, the fault of the lowest, which is GateShut if its gate
+/// turned it away; NoThread if a thread couldn't be made; NoRoom.
 pub fn live_run<R: Threads + Wait + Sync, G: Gate + Sync>(
     rt: &R,
     alloc: Global,
@@ -58,7 +58,7 @@ pub fn live_run<R: Threads + Wait + Sync, G: Gate + Sync>(
     close_both(alloc, first, second, back, fault)
 }
 
-// Closes both desks, and reports, unless there was a fault before.
+// Closes both desks, and reports, unless there is a fault.
 fn close_both(
     alloc: Global,
     first: Desk<Box<Store>>,
@@ -79,7 +79,7 @@ fn close_both(
     }
 }
 
-// Reports what two desks held, if both could be closed.
+// Reports what two desks held, if both were closed.
 fn report_both(
     alloc: Global,
     left: &Result<Closed<Box<Store>>, LiveFault>,

@@ -1,9 +1,9 @@
-//! How large a run is.
+//! The sizes of a run.
 
 ghost use Rattle.std.specs.Prelude.{◌≡◌, ◌+◌, IsTrue};
 ghost use Rattle.ds_live.specs.Sizes.{are_fit};
 
-/// How many workers there are, and how many turns each takes.
+/// The number of workers, and of the turns that each takes.
 #[derive(Clone, Copy, Debug, PartialEq, Eq)]
 pub struct Sizes {
     /// How many publishers: 1 to 8.
@@ -15,7 +15,7 @@ pub struct Sizes {
 }
 
 impl Sizes {
-    // Whether each is in its range.
+    // Returns whether each is in its range.
     pub(crate) fn are_fit(self) -> bool
         ensures { result ≡ are_fit self }
     {
@@ -27,7 +27,7 @@ impl Sizes {
             && self.changes <= 1000
     }
 
-    // How many workers there are: the last one exchanges.
+    // Returns the number of workers. The last one exchanges.
     pub(crate) fn workers(self) -> u32
         requires { IsTrue (are_fit self) }
         ensures { result ≡ self.publishers + self.subscribers + 1 }

@@ -1,4 +1,4 @@
-//! What all workers do, each in a thread of its own.
+//! Runs all workers, each in a thread of its own.
 
 ghost use Rattle.std.specs.Prelude.{All, ◌≡◌, map};
 ghost use Rattle.desk.specs.Desk.{identity};
@@ -6,13 +6,13 @@ ghost use Rattle.crew.specs.Back.{AreBack};
 ghost use Rattle.ds_workers.specs.Workers.{ComesBack, IsOf};
 ghost use Rattle.ds_live.specs.Faults.{HasWorkersFault, lowest_fault};
 
+use crate::fault::LiveFault;
 use crew::{GivenUp, run_all};
-use ds_pass::LiveFault;
 use ds_workers::{Gate, StoreTurns};
 use std::sync::Wait;
 use std::thread::Threads;
 
-/// Runs all jobs, and tells the fault of the lowest worker that has one; a worker that got no thread is higher than those that worked.
+/// Runs all jobs. Returns them with the fault of the lowest worker that has one, or NoThread if a thread couldn't be made and none has.
 pub(crate) fn work_all<'e, R: Threads + Wait + Sync, G: Gate + Sync>(
     rt: &'e R,
     given_up: &'e GivenUp,
@@ -34,14 +34,14 @@ pub(crate) fn work_all<'e, R: Threads + Wait + Sync, G: Gate + Sync>(
     }
 }
 
-// The fault of the lowest worker that has one, of a list in which the last has the number 0.
+// Returns the fault of the lowest worker that has one. The last job is worker 0's.
 fn find_fault<R, G>(jobs: &Vec<StoreTurns<'_, R, G>>) -> Option<LiveFault>
     ensures { result ≡ lowest_fault (map (λ j. j.worker.fault) jobs.now.items) }
 {
     let mut lowest = None;
     for place in 0..jobs.len() {
         if let Some(fault) = jobs[place].worker.fault {
-            lowest = Some(fault);
+            lowest = Some(LiveFault::from(fault));
         }
     }
     lowest

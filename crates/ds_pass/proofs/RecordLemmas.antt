@@ -8,7 +8,7 @@ use Rattle.ds_machine.specs.State.{State}
 use Rattle.ds_machine.specs.declared.command.Command.{Command}
 use Rattle.ds_machine.specs.declared.reply.Reply.{Reply}
 use Rattle.ds_store.specs.Turns.{Answered}
-use Rattle.ds_pass.specs.Called.{Made, MadeCall}
+use Rattle.ds_pass.specs.Called.{HadAccepted, Made, MadeCall}
 use Rattle.ds_pass.specs.Later.{MadeSeesMore, SeenMoreAgain}
 use Rattle.ds_pass.specs.Record.{HasJustItsCalls, PassOrigin, PassRecord, place_behind}
 
@@ -63,3 +63,24 @@ module _ (p q : PassRecord) (command : Command) (reply : Reply) (place : ℕ) (c
   pub call_last : (s t : State) → Run Answered s q.history t → (m : State) × Run Answered s (p.history ++ c.between) m × Answered m command reply t
   call_last s t run =
       run_end Answered s t (p.history ++ c.between) (entry p.origin.number command reply) (subst (λ (l : List (Entry Command Reply)). Run Answered s l t) c.ends run)
+
+-- ---- a call that wasn't refused
+pub accepted_first : (p q r : PassRecord) (more : List (Entry Command Reply)) → HadAccepted p q → Made q r more → HadAccepted p r
+accepted_first p q r more a b = record {
+  front = a.front;
+  call = a.call;
+  back = a.back ++ more;
+  made = subst (λ (l : List (Entry Command Reply)). Made p r l) (append_assoc a.front (a.call ∷ a.back) more)
+      (made_more p q r (a.front ++ a.call ∷ a.back) more a.made b);
+  accepted = a.accepted;
+}
+
+pub accepted_last : (p q r : PassRecord) (own : List (Entry Command Reply)) → Made p q own → HadAccepted q r → HadAccepted p r
+accepted_last p q r own a b = record {
+  front = own ++ b.front;
+  call = b.call;
+  back = b.back;
+  made = subst (λ (l : List (Entry Command Reply)). Made p r l) (sym (append_assoc own b.front (b.call ∷ b.back)))
+      (made_more p q r own (b.front ++ b.call ∷ b.back) a b.made);
+  accepted = b.accepted;
+}

@@ -1,30 +1,48 @@
--- Why a call of a desk's store failed.
-use Rattle.std.specs.Prelude.{◌≡◌, ◌≢◌, ◌⊎◌, ◌^◌, List, [], ◌∷◌, ◌++◌}
+-- Why the calls of a pass ended with a fault.
+use Rattle.std.specs.Prelude.{◌≡◌, ◌≢◌, ◌⊎◌, ℕ, ◌^◌, List, [], ◌∷◌, ◌++◌}
 use Rattle.history.specs.declared.entry.Entry.{Entry}
+use Rattle.desk.specs.declared.fault.DeskFault.{DeskFault}
 use Rattle.desk.specs.declared.fault.DeskFault.TheVariants.{Worn}
 use Rattle.ds_machine.specs.declared.command.Command.{Command}
 use Rattle.ds_machine.specs.declared.refusal.Refusal.{Refusal}
 use Rattle.ds_machine.specs.declared.refusal.Refusal.TheVariants as refusals
 use Rattle.ds_machine.specs.declared.reply.Reply.{Reply}
 use Rattle.ds_machine.specs.declared.reply.Reply.TheVariants as replies
-use Rattle.ds_pass.specs.declared.fault.LiveFault.{LiveFault}
-use Rattle.ds_pass.specs.declared.fault.LiveFault.TheVariants.{Desk, Refused, NoRoom}
+use Rattle.ds_pass.specs.Called.{FoundWorn, Made, MadeCall}
+use Rattle.ds_pass.specs.declared.fault.CallFault.{CallFault}
+use Rattle.ds_pass.specs.declared.fault.CallFault.TheVariants.{Desk, Refused, NoRoom}
 use Rattle.ds_pass.specs.Record.{PassRecord, place_behind}
 
--- the store's refusal is told as it is, and want of memory as such
-abbrev pub TellsRefusal : Refusal → LiveFault → Type 0
+-- The fault that reports a store's refusal: NoRoom as NoRoom, any other as Refused.
+abbrev pub TellsRefusal : Refusal → CallFault → Type 0
 TellsRefusal refusal fault = ((refusal ≡ refusals.NoRoom) × (fault ≡ NoRoom)) ⊎ ((refusal ≢ refusals.NoRoom) × (fault ≡ Refused refusal))
 
--- the last call of the pass was refused so
-pub record WasRefused (q : PassRecord) (refusal : Refusal) : Type 0 where
-  pub before : List (Entry Command Reply)
+-- ---- one call
+
+-- The call of this command failed: no place is left at the desk and nothing was entered, or the store refused it.
+abbrev pub FailsAsking : PassRecord → PassRecord → Command → CallFault → Type 0
+FailsAsking p q command fault =
+    ((worn : DeskFault) × FoundWorn p q worn × (fault ≡ Desk worn))
+    ⊎ ((refusal : Refusal) × (place : ℕ) × MadeCall p q command (replies.Refused refusal) place × TellsRefusal refusal fault)
+
+-- ---- several calls
+
+-- The store refused the last of these calls.
+pub record EndsRefused (own : List (Entry Command Reply)) (refusal : Refusal) : Type 0 where
+  pub front : List (Entry Command Reply)
   pub last : Entry Command Reply
-  pub calls_are : q.calls ≡ before ++ last ∷ []
+  pub parts : own ≡ front ++ last ∷ []
   pub refused : last.reply ≡ replies.Refused refusal
 
--- a fault by which the pass gave up: no place is left at the desk, or the store refused its last call, or memory is wanting
-abbrev pub IsFaultOf : PassRecord → LiveFault → Type 0
-IsFaultOf q (Desk fault) = (fault ≡ Worn) × (place_behind q ≡ 2 ^ 62)
-IsFaultOf q (Refused refusal) = (refusal ≢ refusals.NoRoom) × WasRefused q refusal
-IsFaultOf q NoRoom = Unit {0}
-IsFaultOf q _ = ⊥
+-- The fault ends these calls of a pass, which is q after them: no place is left at the desk, the store refused the last of them, or
+-- memory ran out.
+abbrev pub IsFaultAfter : PassRecord → List (Entry Command Reply) → CallFault → Type 0
+IsFaultAfter q own (Desk fault) = (fault ≡ Worn) × (place_behind q ≡ 2 ^ 62)
+IsFaultAfter q own (Refused refusal) = (refusal ≢ refusals.NoRoom) × EndsRefused own refusal
+IsFaultAfter q own NoRoom = Unit {0}
+
+-- The pass made calls of its own from p to q, which this fault ended.
+pub record FailsBy (p q : PassRecord) (fault : CallFault) : Type 0 where
+  pub own : List (Entry Command Reply)
+  pub made : Made p q own
+  pub cause : IsFaultAfter q own fault

@@ -12,16 +12,16 @@ use Rattle.ds_store.specs.Turns.{Turn}
 use Rattle.ds_pass.specs.Called.{Made}
 use Rattle.ds_pass.specs.Record.{Boxed, PassRecord, is_content, pass_record}
 
--- what q has seen begins with what p has, at a desk that was opened alike
+-- What q has seen begins with what p has seen, at desks that were opened with one content.
 pub record HasSeenMore (p q : PassRecord) : Type 0 where
   pub same_opening : q.opened ≡ p.opened
   pub begins : IsPrefix p.history q.history
 
--- later than later is later
+-- Seeing more is transitive.
 abbrev pub SeenMoreAgain : Type 0
 SeenMoreAgain = (p q r : PassRecord) → HasSeenMore p q → HasSeenMore q r → HasSeenMore p r
 
--- who made calls has seen more
+-- A pass that made calls has seen more.
 abbrev pub MadeSeesMore : Type 0
 MadeSeesMore = (p q : PassRecord) (own : List (Entry Command Reply)) → Made p q own → HasSeenMore p q
 

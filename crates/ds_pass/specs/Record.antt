@@ -15,15 +15,15 @@ use Rattle.ds_content.specs.Content.{ContentRecord}
 use Rattle.ds_content.specs.Stands.{ContentStands}
 use Rattle.ds_store.specs.Turns.{Answered}
 
--- a store on the heap
+-- A store on the heap.
 abbrev pub Boxed : Type 0 → Type 0
 Boxed Z = Box ContentRecord Z
 
--- what it stands for, as a desk's machine: its content
+-- The content that the machine of a desk stands for.
 abbrev pub is_content : {Z : Type 0} → Boxed Z → ContentRecord → Type 0
 is_content m content = m.value ≡ content
 
--- which pass it is, of which desk, and the place of that desk's first call
+-- Which pass it is, of which desk, and the place of the desk's first call.
 pub record PassOrigin : Type 0 where
   pub desk : TableId
   pub number : ℕ
@@ -32,36 +32,36 @@ pub record PassOrigin : Type 0 where
 abbrev pub pass_origin : {Z : Type 0} {G : Ghosts (View (Boxed Z) Command Reply)} → Pass (Boxed Z) Command Reply G → PassOrigin
 pass_origin p = record { desk = desk_of p; number = number p; first = first_place p }
 
--- a pass by plain values
+-- A pass by plain values.
 pub record PassRecord : Type 0 where
   pub origin : PassOrigin
-  -- what the desk's store kept when the desk was opened
+  -- the content of the desk's store when the desk was opened
   pub opened : Option ContentRecord
   -- the history that the pass has seen, and the calls that it made
   pub history : List (Entry Command Reply)
   pub calls : List (Entry Command Reply)
 
--- what a store on the heap keeps
+-- The content of a store on the heap.
 abbrev pub boxed_content : {Z : Type 0} → Boxed Z → ContentRecord
 boxed_content m = m.value
 
 abbrev pub pass_record : {Z : Type 0} {G : Ghosts (View (Boxed Z) Command Reply)} → Pass (Boxed Z) Command Reply G → PassRecord
 pass_record p = record { origin = pass_origin p; opened = option_map boxed_content (opening p); history = history p; calls = calls p }
 
--- the first place behind what it has seen
+-- The first place after what it has seen.
 abbrev pub place_behind : PassRecord → ℕ
 place_behind p = p.origin.first + length p.history
 
--- this is so in each state to which these calls lead from one that the desk's store stood for when the desk was opened
+-- This holds in each state to which these calls lead from a state that the desk's store stood for when the desk was opened.
 abbrev pub AfterEach : PassRecord → List (Entry Command Reply) → (State → Type 0) → Type 0
 AfterEach p es holds =
     (content : ContentRecord) → p.opened ≡ Some content → (s t : State) → ContentStands content s → Run Answered s es t → holds t
 
--- the entries of the pass in what it has seen are just its calls
+-- The entries of the pass in what it has seen are exactly its calls.
 abbrev pub HasJustItsCalls : PassRecord → Type 0
 HasJustItsCalls p = calls_by p.origin.number p.history ≡ p.calls
 
--- what it has seen is a legal history, from each state that the desk's store stood for, and there was one
+-- What it has seen is a legal history from each state that the desk's store stood for, and there is such a state.
 pub record HasLegalHistory (p : PassRecord) : Type 0 where
   pub content : ContentRecord
   pub opened_with : p.opened ≡ Some content

@@ -5,7 +5,7 @@ ghost use Rattle.ds_pass.specs.Later.{MadeSeesMore, SeenMoreAgain, SeesMoreByCal
 use desk::Pass;
 use ds_store::Store;
 
-/// A law: whatever a pass calls, takes, looks at, notes or learns, what it has then seen begins with what it had seen.
+/// A law: whatever a pass calls, takes, looks at, notes or learns, the history that it has then seen begins with what it had seen.
 pub fn passes_see_more(pass: &Pass<Box<Store>>)
     ensures calls { SeesMoreByCalls pass.now }
     ensures looks { SeesMoreByLooks pass.now }

@@ -1,6 +1,5 @@
 -- What one call of a follower's leaves, by what it was answered.
-use Rattle.std.proofs.Common.{◌≡◌, ◌≢◌, ℕ, ◌+◌, ◌<◌, ◌≤◌, List, ◌++◌, length, take, Option, Some, None, refl, ap, sym, ◌∙◌, subst, inl, inr}
-use Rattle.history.specs.declared.entry.Entry.{Entry}
+use Rattle.std.proofs.Common.{◌≡◌, ℕ, ◌+◌, ◌<◌, List, ◌++◌, length, take, Option, Some, refl, ap, sym, ◌∙◌, subst, inl, inr}
 use Rattle.history.specs.History.{entry}
 use Rattle.ds_names.specs.Limits.{most_items}
 use Rattle.ds_entry.specs.Under.{under}
@@ -12,12 +11,9 @@ use Rattle.ds_held.specs.Held.{Holding, held_items}
 use Rattle.ds_held.specs.Limits.{larger}
 use Rattle.ds_pattern.specs.declared.query.Query.{Query}
 use Rattle.ds_pattern.specs.Under.{is_under}
-use Rattle.ds_machine.specs.declared.command.Command.{Command}
 use Rattle.ds_machine.specs.declared.command.Command.TheVariants.{Check}
 use Rattle.ds_machine.specs.declared.reply.Reply.{Reply}
-use Rattle.ds_machine.specs.declared.reply.Reply.TheVariants.{Subscribed, Checked, Refused}
-use Rattle.ds_machine.specs.declared.refusal.Refusal.{Refusal}
-use Rattle.ds_machine.specs.Says.{IsCheckReply, IsSubscribeReply}
+use Rattle.ds_machine.specs.declared.reply.Reply.TheVariants.{Subscribed, Checked}
 use Rattle.ds_content.proofs.OpenLemmas.{nothing_is_held}
 use Rattle.ds_submap.specs.Map.{IsMap, SubMapRecord, empty_map, map_of}
 use Rattle.ds_submap.specs.Take.{IsTakeStopped}
@@ -27,21 +23,9 @@ use Rattle.ds_pass.specs.Record.{PassRecord}
 use Rattle.ds_pass.proofs.RecordLemmas.{call_behind}
 use Rattle.ds_reader.specs.Asked.{subscribe_anew}
 use Rattle.ds_refresh.specs.Follower.{FollowerRecord, follower_of, mapped}
-use Rattle.ds_refresh.specs.FollowerCalls.{Checks, IsOpenCall, Subscribes}
 use Rattle.ds_refresh.specs.KeepsUp.{KeepsUpWith, StandsForFront, StandsIfStamped}
-use Rattle.ds_refresh.specs.Refresh.{EndsBy, GoesOnBy}
+use Rattle.ds_refresh.specs.Refresh.{EndsBy}
 use Rattle.ds_refresh.proofs.StandLemmas.{checked_current, checked_in, checked_stands, subscribed_stands}
-
--- ---- a call is told what it asks for, or is refused
-pub subscribe_told : (reply : Reply) → IsSubscribeReply reply → ((stamp owed : ℕ) → reply ≢ Subscribed stamp owed) → ((refusal : Refusal) → reply ≢ Refused refusal) → ⊥
-subscribe_told (Subscribed stamp owed) fits told refused = told stamp owed refl
-subscribe_told (Refused refusal) fits told refused = refused refusal refl
-subscribe_told _ fits told refused = fits
-
-pub check_told : (reply : Reply) → IsCheckReply reply → ((items : List Item) (before after : ℕ) → reply ≢ Checked items before after) → ((refusal : Refusal) → reply ≢ Refused refusal) → ⊥
-check_told (Checked items before after) fits told refused = told items before after refl
-check_told (Refused refusal) fits told refused = refused refusal refl
-check_told _ fits told refused = fits
 
 -- ---- a lost follower emptied its map and subscribed, by a query that is the map's
 pub subscribe_stands : (p q : PassRecord) (sub : ℕ) (query asked : Query) (map : SubMapRecord) (stamp place : ℕ) (reply : Reply) → map ≡ empty_map query → asked ≡ query →
@@ -52,22 +36,6 @@ subscribe_stands p q sub query asked map stamp place reply empty same called tol
     let stands = subscribed_stands p q sub query stamp told.0 place made in
     subst (λ (m : SubMapRecord). StandsForFront q sub m.query stamp (held_items m.held)) (sym empty)
     (subst (λ (l : List Item). StandsForFront q sub query stamp l) (sym (nothing_is_held larger)) stands)
-
-pub subscribe_goes : (p q : PassRecord) (f g : FollowerRecord) (sub : ℕ) (asked : Query) (stamp place : ℕ) (reply : Reply) → sub ≡ f.sub → asked ≡ f.map.query → f.stamp ≡ None → g.stamp ≡ Some stamp →
-    MadeCall p q (subscribe_anew sub asked) reply place → (owed : ℕ) × (reply ≡ Subscribed stamp owed) → GoesOnBy p q f g
-subscribe_goes p q f g sub asked stamp place reply same also lost now called told =
-    let call : Entry Command Reply = entry p.origin.number (subscribe_anew sub asked) reply in
-    let subscribes : Subscribes f.sub f.map.query call stamp = record {
-      owed = told.0;
-      command = ap (λ (s : ℕ). subscribe_anew s asked) same ∙ ap (λ (x : Query). subscribe_anew f.sub x) also;
-      reply = told.1;
-    } in
-    record {
-      call = call;
-      made = called.made;
-      legal = called.legal;
-      is_open = subst (λ (o : Option ℕ). IsOpenCall f.sub f.map.query o call g.stamp) (sym lost) (subst (λ (o : Option ℕ). IsOpenCall f.sub f.map.query None call o) (sym now) subscribes);
-    }
 
 -- ---- a follower with this last stamp checked
 module _ (p q : PassRecord) (f : FollowerRecord) (stamp before after place : ℕ) (items : List Item) (reply : Reply) (stamped : f.stamp ≡ Some stamp) (keeps : KeepsUpWith p f)
@@ -146,28 +114,3 @@ module _ (p q : PassRecord) (f : FollowerRecord) (sub : ℕ) (o : Option ℕ) (o
   pub map_never_stops : (stop : Stop) → IsMap new → IsTop (held_items new.held) (held_items old.held ++ under (is_under old.query) (take stop.done items)) →
       IsTakeStopped old.query old.held items new.held stop → stop.fault ≡ NoRoom
   map_never_stops stop map top stopped = never_stops p q (follower_of sub o old) stamp before after place items reply has_stamp kept called told same new stop map top stopped
-
--- ---- a check that didn't end the refresh
-module _ (p q : PassRecord) (f g : FollowerRecord) (sub stamp before after place : ℕ) (items : List Item) (reply : Reply) (same : sub ≡ f.sub) (stamped : f.stamp ≡ Some stamp)
-    (called : MadeCall p q (Check sub most_items) reply place) (told : reply ≡ Checked items before after) where
-  abbrev checking : Entry Command Reply
-  checking = entry p.origin.number (Check sub most_items) reply
-
-  checks : Checks f.sub checking items before after
-  checks = record { command = ap (λ (s : ℕ). Check s most_items) same; reply = told }
-
-  goes_by : (o : Option ℕ) → g.stamp ≡ o → IsOpenCall f.sub f.map.query (Some stamp) checking o → GoesOnBy p q f g
-  goes_by o e is = record {
-    call = checking;
-    made = called.made;
-    legal = called.legal;
-    is_open = subst (λ (x : Option ℕ). IsOpenCall f.sub f.map.query x checking g.stamp) (sym stamped) (subst (λ (x : Option ℕ). IsOpenCall f.sub f.map.query (Some stamp) checking x) (sym e) is);
-  }
-
-  -- another's stamp makes it lost
-  pub goes_lost : g.stamp ≡ None → before ≢ stamp → GoesOnBy p q f g
-  goes_lost e differs = goes_by None e record { items = items; before = before; after = after; checks = checks; differs = differs }
-
-  -- as many items as it asked for
-  pub goes_full : g.stamp ≡ Some after → before ≡ stamp → most_items ≤ length items → GoesOnBy p q f g
-  goes_full e own full = goes_by (Some after) e record { items = items; checks = subst (λ (b : ℕ). Checks f.sub checking items b after) own checks; full = full }

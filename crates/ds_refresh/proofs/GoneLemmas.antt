@@ -1,16 +1,17 @@
 -- One call of a refresh after the other.
-use Rattle.std.proofs.Common.{ℕ, ◌+◌, ◌<◌, List, [], ◌∷◌, ◌++◌, Option, refl, ◌∙◌, subst, arith, length-append}
+use Rattle.std.proofs.Common.{ℕ, ◌+◌, ◌<◌, List, [], ◌∷◌, ◌++◌, Option, Some, None, refl, sym, ◌∙◌, subst, inl, inr, arith, length-append}
 use Rattle.history.specs.declared.entry.Entry.{Entry}
 use Rattle.ds_pattern.specs.declared.query.Query.{Query}
 use Rattle.ds_machine.specs.declared.command.Command.{Command}
 use Rattle.ds_machine.specs.declared.reply.Reply.{Reply}
 use Rattle.ds_pass.specs.Record.{PassRecord}
-use Rattle.ds_pass.proofs.RecordLemmas.{made_above, made_more, made_none}
+use Rattle.ds_pass.specs.Called.{HadAccepted, IsAccepted}
+use Rattle.ds_pass.proofs.RecordLemmas.{accepted_first, accepted_last, made_above, made_more, made_none}
 use Rattle.ds_refresh.specs.declared.refreshing.Fresh.TheVariants.{UpTo, More}
 use Rattle.ds_refresh.specs.Follower.{FollowerRecord, IsSameFollower}
 use Rattle.ds_refresh.specs.FollowerCalls.{AreOpenCalls, ChecksLast, IsOpenCall}
 use Rattle.ds_refresh.specs.KeepsUp.{KeepsUpWith}
-use Rattle.ds_refresh.specs.Refresh.{EndsBy, GoesOnBy, HasGone, Refreshes}
+use Rattle.ds_refresh.specs.Refresh.{CallsOnly, EndsBy, GoesOnBy, HasGone, KeepsMap, Refreshes}
 
 open_more : (sub : ℕ) (query : Query) (old mid new : Option ℕ) (own : List (Entry Command Reply)) (e : Entry Command Reply) → AreOpenCalls sub query old own mid →
     IsOpenCall sub query mid e new → AreOpenCalls sub query old (own ++ e ∷ []) new
@@ -66,3 +67,21 @@ module _ (p q r : PassRecord) (f g h : FollowerRecord) (count : ℕ) (gone : Has
 
 pub gone_all : (p q : PassRecord) (f g : FollowerRecord) (limit : ℕ) → 0 < limit → HasGone p q f g limit → Refreshes p q f g limit More
 gone_all p q f g limit some gone = record { own = gone.own; made = gone.made; legal = gone.legal some; all = gone.all; open_calls = gone.open_calls }
+
+-- ---- what becomes of the map
+open_accepted : (sub : ℕ) (query : Query) (old new : Option ℕ) (e : Entry Command Reply) → IsOpenCall sub query old e new → IsAccepted e.reply
+open_accepted sub query None None e t = absurd t
+open_accepted sub query None (Some new) e t = subst (λ (r : Reply). IsAccepted r) (sym t.reply) tt
+open_accepted sub query (Some stamp) (Some new) e t = subst (λ (r : Reply). IsAccepted r) (sym t.checks.reply) tt
+open_accepted sub query (Some stamp) None e t = subst (λ (r : Reply). IsAccepted r) (sym t.checks.reply) tt
+
+pub goes_on_accepted : (p q r : PassRecord) (f g h : FollowerRecord) (count : ℕ) → HasGone p q f g count → GoesOnBy q r g h → HadAccepted p r
+goes_on_accepted p q r f g h count gone by =
+    accepted_last p q r gone.own gone.made
+    (record { front = []; call = by.call; back = []; made = by.made; accepted = open_accepted g.sub g.map.query g.stamp h.stamp by.call by.is_open })
+
+pub map_kept : (p q r : PassRecord) (f g h : FollowerRecord) (count limit : ℕ) → HasGone p q f g count → KeepsMap p q f g → CallsOnly q r g limit → KeepsMap q r g h →
+    KeepsMap p r f h
+map_kept p q r f g h count limit gone (inl same) only (inl still) = inl (still ∙ same)
+map_kept p q r f g h count limit gone kept only (inr had) = inr (accepted_last p q r gone.own gone.made had)
+map_kept p q r f g h count limit gone (inr had) only (inl still) = inr (accepted_first p q r only.own had only.made)

@@ -1,17 +1,11 @@
 -- That all calls are the follower's, whatever is answered.
-use Rattle.std.proofs.Common.{◌≡◌, ℕ, ◌<◌, ◌≤◌, List, [], ◌∷◌, ◌++◌, Option, Some, None, ap, ◌∙◌, subst, inl, inr, arith, length-append}
+use Rattle.std.proofs.Common.{ℕ, ◌<◌, ◌≤◌, List, [], ◌∷◌, ◌++◌, Option, Some, None, subst, inl, inr, arith, length-append}
 use Rattle.history.specs.declared.entry.Entry.{Entry}
-use Rattle.history.specs.History.{entry}
-use Rattle.desk.specs.declared.fault.DeskFault.{DeskFault}
-use Rattle.ds_names.specs.Limits.{most_items}
 use Rattle.ds_pattern.specs.declared.query.Query.{Query}
 use Rattle.ds_machine.specs.declared.command.Command.{Command}
-use Rattle.ds_machine.specs.declared.command.Command.TheVariants.{Check}
 use Rattle.ds_machine.specs.declared.reply.Reply.{Reply}
-use Rattle.ds_pass.specs.Called.{FoundWorn, MadeCall}
 use Rattle.ds_pass.specs.Record.{PassRecord}
-use Rattle.ds_pass.proofs.RecordLemmas.{made_more, made_none}
-use Rattle.ds_reader.specs.Asked.{subscribe_anew}
+use Rattle.ds_pass.proofs.RecordLemmas.{made_more}
 use Rattle.ds_refresh.specs.Follower.{FollowerRecord}
 use Rattle.ds_refresh.specs.FollowerCalls.{AreOpenCalls, IsOfFollower, IsOpenCall}
 use Rattle.ds_refresh.specs.Refresh.{AreOfFollower, CallsOnly, HasGone}
@@ -29,23 +23,6 @@ all_open sub query old new (e ∷ own) t = (of_open sub query old t.0 e t.1, all
 of_both : (sub : ℕ) (query : Query) (own more : List (Entry Command Reply)) → AreOfFollower sub query own → AreOfFollower sub query more → AreOfFollower sub query (own ++ more)
 of_both sub query [] more a b = b
 of_both sub query (e ∷ own) more a b = (a.0, of_both sub query own more a.1 b)
-
--- ---- one call, or none
-pub only_none : (p : PassRecord) (f : FollowerRecord) (limit : ℕ) → CallsOnly p p f limit
-only_none p f limit = record { own = []; made = made_none p; few = omega arith; theirs = tt }
-
-pub only_worn : (p q : PassRecord) (f : FollowerRecord) (limit : ℕ) (fault : DeskFault) → FoundWorn p q fault → CallsOnly p q f limit
-only_worn p q f limit fault w = record { own = []; made = w.made; few = omega arith; theirs = tt }
-
-only_call : (p q : PassRecord) (f : FollowerRecord) (command : Command) (reply : Reply) (place : ℕ) → IsOfFollower f.sub f.map.query command → MadeCall p q command reply place → CallsOnly p q f 1
-only_call p q f command reply place is c = record { own = entry p.origin.number command reply ∷ []; made = c.made; few = omega arith; theirs = (is, tt) }
-
-pub only_its_subscribe : (p q : PassRecord) (f : FollowerRecord) (sub : ℕ) (asked : Query) (reply : Reply) (place : ℕ) → sub ≡ f.sub → asked ≡ f.map.query → MadeCall p q (subscribe_anew sub asked) reply place → CallsOnly p q f 1
-only_its_subscribe p q f sub asked reply place same also c =
-    only_call p q f (subscribe_anew sub asked) reply place (inl (ap (λ (s : ℕ). subscribe_anew s asked) same ∙ ap (λ (x : Query). subscribe_anew f.sub x) also)) c
-
-pub only_its_check : (p q : PassRecord) (f : FollowerRecord) (sub : ℕ) (reply : Reply) (place : ℕ) → sub ≡ f.sub → MadeCall p q (Check sub most_items) reply place → CallsOnly p q f 1
-only_its_check p q f sub reply place same c = only_call p q f (Check sub most_items) reply place (inr (ap (λ (s : ℕ). Check s most_items) same)) c
 
 -- ---- behind calls that were open
 module _ (p q : PassRecord) (f g : FollowerRecord) (count : ℕ) (gone : HasGone p q f g count) where

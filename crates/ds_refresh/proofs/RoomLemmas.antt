@@ -1,4 +1,4 @@
--- Where a refresh lacks memory.
+-- Faults of a refresh, by the call that failed.
 use Rattle.std.proofs.Common.{◌≡◌, ℕ, ◌<◌, List, [], ◌∷◌, length, slice_get, Option, Some, None, refl, ap, sym, ◌∙◌, subst, inl, inr, arith}
 use Rattle.history.specs.declared.entry.Entry.{Entry}
 use Rattle.history.specs.History.{entry}
@@ -10,37 +10,43 @@ use Rattle.ds_machine.specs.declared.refusal.Refusal.{Refusal}
 use Rattle.ds_machine.specs.declared.reply.Reply.{Reply}
 use Rattle.ds_machine.specs.declared.reply.Reply.TheVariants.{Checked, Refused}
 use Rattle.ds_pass.specs.Called.{MadeCall}
-use Rattle.ds_pass.specs.Faults.{TellsRefusal}
+use Rattle.ds_pass.specs.Faults.{FailsAsking}
 use Rattle.ds_pass.specs.Record.{PassRecord}
-use Rattle.ds_pass.specs.declared.fault.LiveFault.{LiveFault}
-use Rattle.ds_pass.specs.declared.fault.LiveFault.TheVariants as faults
-use Rattle.ds_pass.proofs.FaultLemmas.{refused_for_room}
+use Rattle.ds_pass.specs.declared.fault.CallFault.{CallFault}
+use Rattle.ds_pass.specs.declared.fault.CallFault.TheVariants as faults
+use Rattle.ds_pass.proofs.FaultLemmas.{fails_by, fails_later}
 use Rattle.ds_pass.proofs.RecordLemmas.{made_more, made_none}
-use Rattle.ds_refresh.specs.Faults.{CallLacksRoom, RunsShort, LacksNow}
+use Rattle.ds_refresh.specs.Faults.{CallLacksRoom, FailsOnce, FailsRefreshing, LacksNow}
 use Rattle.ds_refresh.specs.Follower.{FollowerRecord}
 use Rattle.ds_refresh.specs.FollowerCalls.{Checks}
 use Rattle.ds_refresh.specs.Refresh.{HasGone}
 
 -- ---- at one call
-pub lacks_unasked : (p : PassRecord) (f : FollowerRecord) → f.stamp ≡ None → LacksNow p p f
-lacks_unasked p f lost = record { own = []; made = made_none p; lacks = subst (λ (o : Option ℕ). CallLacksRoom f.sub [] o) (sym lost) tt }
+pub fails_unasked : (p : PassRecord) (f : FollowerRecord) → f.stamp ≡ None → FailsOnce p p f faults.NoRoom
+fails_unasked p f lost = record { own = []; made = made_none p; lacks = subst (λ (o : Option ℕ). CallLacksRoom f.sub [] o) (sym lost) tt }
 
-pub lacks_refused : (p q : PassRecord) (f : FollowerRecord) (command : Command) (reply : Reply) (place : ℕ) (fault : LiveFault) → MadeCall p q command reply place → fault ≡ faults.NoRoom →
-    (refusal : Refusal) × (reply ≡ Refused refusal) × TellsRefusal refusal fault → LacksNow p q f
-lacks_refused p q f command reply place fault c none is =
-    record {
-      own = entry p.origin.number command reply ∷ [];
-      made = c.made;
-      lacks = (refl, inl (is.1 ∙ ap (λ (r : Refusal). Refused r) (refused_for_room is.0 fault none is.2)));
-    }
+pub fails_asking : (p q : PassRecord) (f : FollowerRecord) (command : Command) (fault : CallFault) → FailsAsking p q command fault → FailsOnce p q f fault
+fails_asking p q f command fault (inl t) =
+    subst (λ (x : CallFault). FailsOnce p q f x) (sym t.2) (fails_by p q command (faults.Desk t.0) (inl (t.0, t.1, refl)))
+fails_asking p q f command fault (inr t) = elim t.3 [
+  | inl wants ↦
+      subst (λ (x : CallFault). FailsOnce p q f x) (sym wants.1) (record {
+        own = entry p.origin.number command (Refused t.0) ∷ [];
+        made = t.2.made;
+        lacks = (refl, inl (ap (λ (r : Refusal). Refused r) wants.0));
+      })
+  | inr other ↦
+      subst (λ (x : CallFault). FailsOnce p q f x) (sym other.1)
+      (fails_by p q command (faults.Refused t.0) (inr (t.0, t.1, t.2, inr (other.0, refl))))
+]
 
-pub lacks_given : (p q : PassRecord) (f : FollowerRecord) (sub stamp before after place : ℕ) (items : List Item) (reply : Reply) → sub ≡ f.sub → f.stamp ≡ Some stamp →
-    MadeCall p q (Check sub most_items) reply place → reply ≡ Checked items before after → before ≡ stamp → 0 < length items → LacksNow p q f
-lacks_given p q f sub stamp before after place items reply same stamped c told own some =
-    let e : Entry Command Reply = entry p.origin.number (Check sub most_items) reply in
+pub fails_given : (p q : PassRecord) (f : FollowerRecord) (sub stamp before after place : ℕ) (items : List Item) → sub ≡ f.sub → f.stamp ≡ Some stamp →
+    MadeCall p q (Check sub most_items) (Checked items before after) place → before ≡ stamp → 0 < length items → FailsOnce p q f faults.NoRoom
+fails_given p q f sub stamp before after place items same stamped c own some =
+    let e : Entry Command Reply = entry p.origin.number (Check sub most_items) (Checked items before after) in
     let checks : Checks f.sub e items stamp after = record {
       command = ap (λ (s : ℕ). Check s most_items) same;
-      reply = told ∙ ap (λ (b : ℕ). Checked items b after) own;
+      reply = ap (λ (b : ℕ). Checked items b after) own;
     } in
     record {
       own = e ∷ [];
@@ -52,9 +58,11 @@ pub some_there : (items : List Item) (n : ℕ) (i : Item) → slice_get items n 
 some_there [] n i is = absurd (cc)
 some_there (x ∷ items) n i is = omega arith
 
--- ---- behind calls that were open
-pub lacks_later : (p q r : PassRecord) (f g : FollowerRecord) (count : ℕ) → HasGone p q f g count → LacksNow q r g → RunsShort p r f
-lacks_later p q r f g count gone now = record {
+-- ---- after calls that were open
+pub fails_refreshing : (p q r : PassRecord) (f g : FollowerRecord) (count : ℕ) (fault : CallFault) → HasGone p q f g count → FailsOnce q r g fault → FailsRefreshing p r f fault
+fails_refreshing p q r f g count (faults.Desk fault) gone by = fails_later p q r gone.own (faults.Desk fault) gone.made by
+fails_refreshing p q r f g count (faults.Refused refusal) gone by = fails_later p q r gone.own (faults.Refused refusal) gone.made by
+fails_refreshing p q r f g count faults.NoRoom gone now = record {
   own = gone.own;
   last = now.own;
   stamp = g.stamp;

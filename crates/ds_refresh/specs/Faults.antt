@@ -1,4 +1,4 @@
--- Which faults a refresh answers.
+-- The faults of a refresh, and when each comes.
 use Rattle.std.specs.Prelude.{◌≡◌, ◌⊎◌, ℕ, ◌<◌, ◌≤◌, List, [], ◌∷◌, ◌++◌, length, Option, Some, None}
 use Rattle.history.specs.declared.entry.Entry.{Entry}
 use Rattle.ds_entry.specs.declared.item.Item.{Item}
@@ -7,27 +7,24 @@ use Rattle.ds_machine.specs.declared.refusal.Refusal.TheVariants as refusals
 use Rattle.ds_machine.specs.declared.reply.Reply.{Reply}
 use Rattle.ds_machine.specs.declared.reply.Reply.TheVariants.{Refused}
 use Rattle.ds_pass.specs.Called.{Made}
-use Rattle.ds_pass.specs.Faults.{IsFaultOf}
+use Rattle.ds_pass.specs.Faults.{FailsBy}
 use Rattle.ds_pass.specs.Record.{PassRecord}
-use Rattle.ds_pass.specs.declared.fault.LiveFault.{LiveFault}
-use Rattle.ds_pass.specs.declared.fault.LiveFault.TheVariants.{BadLimit}
+use Rattle.ds_pass.specs.declared.fault.CallFault.{CallFault}
+use Rattle.ds_pass.specs.declared.fault.CallFault.TheVariants.{NoRoom}
+use Rattle.ds_refresh.specs.declared.fault.RefreshFault.{RefreshFault}
+use Rattle.ds_refresh.specs.declared.fault.RefreshFault.TheVariants.{BadLimit, Call}
 use Rattle.ds_refresh.specs.Follower.{FollowerRecord}
 use Rattle.ds_refresh.specs.FollowerCalls.{AreOpenCalls, Checks}
 
--- that the limit is none, or where it is one, one of its calls: so never that the map stopped
-abbrev pub IsRefreshFault : ℕ → PassRecord → LiveFault → Type 0
-IsRefreshFault limit q BadLimit = (limit < 2) ⊎ (65536 < limit)
-IsRefreshFault limit q fault = (2 ≤ limit) × (limit ≤ 65536) × IsFaultOf q fault
+-- ---- out of memory
 
--- ---- where memory may be wanting
-
--- a Check gave the follower some items, under its own stamp, which its map has to take in
+-- A Check returned items under the follower's own stamp, which its map has to store.
 abbrev pub TellsItems : ℕ → Entry Command Reply → Option ℕ → Type 0
 TellsItems sub e None = ⊥
 TellsItems sub e (Some stamp) = (items : List Item) × (after : ℕ) × Checks sub e items stamp after × (0 < length items)
 
--- a follower of this last stamp, or none: a lost one didn't come to subscribe, for which it copies its query; or one call was made,
--- which the store refused for that, or which gave it some items
+-- Where a follower with this last stamp, or none, may run out of memory: a lost one before it subscribes, for the copy of its query;
+-- or after one call, which the store refused with NoRoom, or which returned items.
 abbrev pub CallLacksRoom : ℕ → List (Entry Command Reply) → Option ℕ → Type 0
 CallLacksRoom sub [] None = Unit {0}
 CallLacksRoom sub [] (Some stamp) = ⊥
@@ -38,7 +35,7 @@ pub record LacksNow (p q : PassRecord) (f : FollowerRecord) : Type 0 where
   pub made : Made p q own
   pub lacks : CallLacksRoom f.sub own f.stamp
 
--- a refresh that ran short of it: behind calls that didn't end it, and left the follower with this stamp
+-- A refresh that ran out of memory: after calls that didn't end it and left the follower with this stamp.
 pub record RunsShort (p q : PassRecord) (f : FollowerRecord) : Type 0 where
   pub own : List (Entry Command Reply)
   pub last : List (Entry Command Reply)
@@ -46,3 +43,20 @@ pub record RunsShort (p q : PassRecord) (f : FollowerRecord) : Type 0 where
   pub made : Made p q (own ++ last)
   pub open_calls : AreOpenCalls f.sub f.map.query f.stamp own stamp
   pub lacks : CallLacksRoom f.sub last stamp
+
+-- ---- each fault
+
+-- The fault of one call of the follower.
+abbrev pub FailsOnce : PassRecord → PassRecord → FollowerRecord → CallFault → Type 0
+FailsOnce p q f NoRoom = LacksNow p q f
+FailsOnce p q f fault = FailsBy p q fault
+
+-- The fault of the last of some calls.
+abbrev pub FailsRefreshing : PassRecord → PassRecord → FollowerRecord → CallFault → Type 0
+FailsRefreshing p q f NoRoom = RunsShort p q f
+FailsRefreshing p q f fault = FailsBy p q fault
+
+-- BadLimit for a limit that isn't 2 to 65536, and otherwise the fault of the refresh's last call.
+abbrev pub IsRefreshFault : ℕ → PassRecord → PassRecord → FollowerRecord → RefreshFault → Type 0
+IsRefreshFault limit p q f BadLimit = (limit < 2) ⊎ (65536 < limit)
+IsRefreshFault limit p q f (Call fault) = (2 ≤ limit) × (limit ≤ 65536) × FailsRefreshing p q f fault

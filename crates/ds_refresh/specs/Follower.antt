@@ -1,29 +1,29 @@
--- What a follower is.
+-- A follower by plain values.
 use Rattle.std.specs.Prelude.{◌≡◌, ℕ, List, Option, None}
 use Rattle.ds_entry.specs.declared.item.Item.{Item}
 use Rattle.ds_held.specs.Held.{held_items}
 use Rattle.ds_pattern.specs.declared.query.Query.{Query}
 use Rattle.ds_submap.specs.Map.{SubMapRecord, empty_map}
 
--- its subscription, the last stamp that it was told, which it has none of while it is new or lost, and its map
+-- Its subscription, the last stamp that it knows, which is None if it is new or lost, and its map.
 pub record FollowerRecord : Type 0 where
   pub sub : ℕ
   pub stamp : Option ℕ
   pub map : SubMapRecord
 
--- the follower of these parts
+-- The follower of these parts.
 abbrev pub follower_of : ℕ → Option ℕ → SubMapRecord → FollowerRecord
 follower_of sub stamp map = record { sub = sub; stamp = stamp; map = map }
 
--- one that nothing was told yet
+-- A new follower.
 abbrev pub new_follower : ℕ → Query → FollowerRecord
 new_follower sub query = follower_of sub None (empty_map query)
 
--- what its map holds
+-- The items in its map.
 abbrev pub mapped : FollowerRecord → List Item
 mapped f = held_items f.map.held
 
--- g has the subscription and the query of f
+-- g has the subscription and the query of f.
 pub record IsSameFollower (f g : FollowerRecord) : Type 0 where
   pub sub : g.sub ≡ f.sub
   pub query : g.map.query ≡ f.map.query

@@ -10,13 +10,13 @@ use Rattle.ds_follow.specs.Follower.{FollowsStore}
 use Rattle.ds_pass.specs.Record.{AfterEach, PassRecord}
 use Rattle.ds_refresh.specs.Follower.{FollowerRecord, mapped}
 
--- the map stands for a front of what the pass has seen: after it, it follows
+-- After some front of what the pass has seen, the map follows the store.
 pub record StandsForFront (p : PassRecord) (sub : ℕ) (query : Query) (stamp : ℕ) (map : List Item) : Type 0 where
   pub front : List (Entry Command Reply)
   pub begins : IsPrefix front p.history
   pub follows : AfterEach p front (λ t. FollowsStore t sub query stamp map)
 
--- one that has a last stamp does; one that is new or lost owes nothing
+-- A follower with a last stamp does. For one that is new or lost nothing is said.
 abbrev pub StandsIfStamped : PassRecord → ℕ → Query → Option ℕ → List Item → Type 0
 StandsIfStamped p sub query None map = Unit {0}
 StandsIfStamped p sub query (Some stamp) map = StandsForFront p sub query stamp map

@@ -1,9 +1,9 @@
-//! What holds of followers at a desk.
+//! Laws of followers at a desk.
 
 ghost use Rattle.ds_refresh.specs.Laws.{KeepsUpLater, LostKeepsUp, RefreshedAlike};
 
-/// A law: a follower that is new or lost keeps up with every pass. One that keeps up with a pass goes on keeping up with it,
-/// whatever the pass calls, takes, looks at or learns, and keeps up with each pass that has seen what this one has.
+/// A law: a follower that is new or lost keeps up with every pass. One that keeps up with a pass continues to, whatever the pass calls,
+/// takes, looks at or learns, and keeps up with each pass that has seen what this one has.
 pub fn followers_keep_up()
     ensures lost { LostKeepsUp }
     ensures later { KeepsUpLater }

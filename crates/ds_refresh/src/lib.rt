@@ -1,14 +1,16 @@
-//! Bringing a subscriber's map up to date with a store that other threads call meanwhile.
+//! Brings a subscriber's map up to date with a store that other threads call meanwhile.
 //!
 //! A subscriber of MINIX 3's data store (DS) is notified, and checks until nothing is left (the DS interface of MINIX 3). Stamps,
-//! by which it learns that another took its subscription over, and the limit of calls are of this project.
+//! by which it learns that another program replaced its subscription, and the limit of calls are of this project.
 #![tactic(auto)]
 
 mod calling;
+mod fault;
 mod follower;
 mod law;
 mod refreshing;
 
+pub use fault::RefreshFault;
 pub use follower::Follower;
 pub use law::{followers_keep_up, refreshed_alike};
 pub use refreshing::{Fresh, refresh};

@@ -1,5 +1,5 @@
 -- Calls of a pass, one after the other.
-use Rattle.std.proofs.Common.{◌≡◌, ◌<◌, Bool, true, false, Option, List, [], ◌∷◌, ◌++◌, length, ap, sym, inl, inr, ◌∙◌, arith, length-append}
+use Rattle.std.proofs.Common.{◌≡◌, ◌<◌, Bool, true, false, Option, List, [], ◌∷◌, ◌++◌, length, refl, ap, sym, inl, inr, ◌∙◌, arith, length-append}
 use Rattle.history.specs.declared.entry.Entry.{Entry}
 use Rattle.ds_machine.specs.declared.command.Command.{Command}
 use Rattle.ds_machine.specs.declared.reply.Reply.{Reply}
@@ -11,13 +11,20 @@ use Rattle.ds_refresh.specs.declared.refreshing.Fresh.TheVariants.{UpTo, More}
 use Rattle.ds_refresh.specs.Follower.{FollowerRecord}
 use Rattle.ds_refresh.specs.Refresh.{CallsOnly, Refreshes}
 use Rattle.ds_feed.specs.declared.cursor.Cursor.{Cursor}
-use Rattle.ds_workers.specs.Turns.{HasExchanged, HasCalled, HasRefreshed, IsHandedOver}
+use Rattle.ds_pass.specs.Seat.{SeatRecord}
+use Rattle.ds_workers.specs.Turns.{HasExchanged, HasCalled, HasRefreshed, IsHandedOver, SeatHasCalled}
 
 pub called_none : (p : PassRecord) → HasCalled p p
 called_none p = ([], made_none p)
 
 pub called_more : (p q r : PassRecord) → HasCalled p q → HasCalled q r → HasCalled p r
 called_more p q r a b = (a.0 ++ b.0, made_more p q r a.0 b.0 a.1 b.1)
+
+pub seat_called_none : (s : SeatRecord) → SeatHasCalled s s
+seat_called_none s = (refl, called_none s.pass)
+
+pub seat_called_more : (s t u : SeatRecord) → SeatHasCalled s t → SeatHasCalled t u → SeatHasCalled s u
+seat_called_more s t u a b = (b.0 ∙ a.0, called_more s.pass t.pass u.pass a.1 b.1)
 
 -- calls that are counted twice are as many
 as_many : (p q : PassRecord) (own more : List (Entry Command Reply)) → Made p q own → Made p q more → length own ≡ length more

@@ -1,4 +1,4 @@
--- What the workers of a run ask of a store.
+-- The commands of the workers of a run.
 use Rattle.std.specs.Prelude.{ℕ, ◌+◌, true, List, [], ◌∷◌}
 use Rattle.ds_names.specs.Endpoint.{EndpointRecord, endpoint_of}
 use Rattle.ds_names.specs.Key.{label_key}
@@ -10,29 +10,29 @@ use Rattle.ds_pattern.specs.declared.query.Query.{Query}
 use Rattle.ds_machine.specs.declared.command.Command.{Command}
 use Rattle.ds_machine.specs.declared.command.Command.TheVariants.{Publish}
 
--- the endpoint of a publisher: its generation is its number plus 1, its slot 16 and its number
+-- The endpoint of a publisher: its generation is its number plus 1, its slot is its number plus 16.
 abbrev pub publisher : ℕ → EndpointRecord
 publisher index = endpoint_of (index + 1) (16 + index)
 
--- a letter and the digit of a number
+-- The name of a letter and a digit.
 abbrev pub lettered : ℕ → ℕ → List ℕ
 lettered letter index = letter ∷ (48 + index) ∷ []
 
 abbrev pub version_of : ℕ → ℕ → Version
 version_of epoch seq = record { epoch = epoch; seq = seq }
 
--- RS publishes its label, `p0` and so on, over any that is there
+-- RS publishes its label, `p0` and so on, over any earlier one.
 abbrev pub publisher_label : ℕ → Command
 publisher_label index =
     Publish (endpoint_of 0 2) (label_key (lettered 112 index)) (version_of (index + 1) 0) (values.Label (publisher index)) true
 
--- it overwrites its number, `n0` and so on, with the number of its turn
+-- The publisher overwrites its number, `n0` and so on, with the number of its turn.
 abbrev pub number_key : ℕ → Key
 number_key index = record { name = lettered 110 index; kind = kinds.U32 }
 
 abbrev pub publisher_number : ℕ → ℕ → Command
 publisher_number index turn = Publish (publisher index) (number_key index) (version_of (index + 1) turn) (values.U32 turn) true
 
--- the query `.*` of all kinds
+-- The query `.*` of all kinds.
 abbrev pub every_key : Query
 every_key = record { text = 46 ∷ 42 ∷ []; kinds = 15 }

@@ -5,53 +5,52 @@ use Rattle.ds_feed.specs.declared.cursor.Cursor.{Cursor}
 use Rattle.ds_machine.specs.declared.command.Command.{Command}
 use Rattle.ds_machine.specs.declared.refusal.Refusal.TheVariants.{Behind}
 use Rattle.ds_machine.specs.declared.reply.Reply.{Reply}
-use Rattle.ds_machine.specs.declared.reply.Reply.TheVariants.{Refused}
-use Rattle.ds_pass.specs.Called.{Made, MadeCall}
+use Rattle.ds_pass.specs.Called.{IsAccepted, Made, MadeCall}
 use Rattle.ds_pass.specs.Record.{PassRecord}
-use Rattle.ds_pass.specs.declared.fault.LiveFault.TheVariants as faults
+use Rattle.ds_pass.specs.Faults.{FailsBy}
+use Rattle.ds_pass.specs.Seat.{IsSameSeat, SeatRecord}
+use Rattle.ds_pass.specs.declared.fault.CallFault.TheVariants as calls
 use Rattle.ds_refresh.specs.Follower.{FollowerRecord}
 use Rattle.ds_refresh.specs.Refresh.{AreOfFollower, IsUpTo}
 use Rattle.ds_exchange.specs.declared.exchange.Exchanged.{Exchanged}
 use Rattle.ds_exchange.specs.Exchange.{Exchanges}
-use Rattle.ds_exchange.specs.Faults.{IsExchangeFault}
 
--- q is the pass p later, by calls of its own
+-- q is the pass p after some calls of its own.
 abbrev pub HasCalled : PassRecord → PassRecord → Type 0
 HasCalled p q = (own : List (Entry Command Reply)) × Made p q own
 
--- a reply that isn't a refusal
-abbrev pub IsAccepted : Reply → Type 0
-IsAccepted (Refused refusal) = ⊥
-IsAccepted _ = Unit {0}
+-- The same of a seat.
+abbrev pub SeatHasCalled : SeatRecord → SeatRecord → Type 0
+SeatHasCalled s t = IsSameSeat s t × HasCalled s.pass t.pass
 
--- by this one call, which wasn't refused
+-- q is the pass p after this one call, which wasn't refused.
 pub record WasAccepted (p q : PassRecord) (command : Command) : Type 0 where
   pub reply : Reply
   pub place : ℕ
   pub call : MadeCall p q command reply place
   pub accepted : IsAccepted reply
 
--- by some calls, each the follower's
+-- q is the pass p after some calls, each of them the follower's.
 pub record HasRefreshed (p q : PassRecord) (f : FollowerRecord) : Type 0 where
   pub own : List (Entry Command Reply)
   pub made : Made p q own
   pub some : 0 < length own
   pub theirs : AreOfFollower f.sub f.map.query own
 
--- the map is what the store held under its query after all that the pass has seen
+-- The map is what the store held under its query after all that the pass has seen.
 abbrev pub IsBroughtUp : PassRecord → FollowerRecord → Type 0
 IsBroughtUp q g = (place : ℕ) × IsUpTo q g place
 
--- ---- from p to q is the pass that asks, from r to s the one that gives
+-- ---- from p to q is the pass that asks, from r to s the one that merges
 
--- one exchange was made from the cursor on, and the next one is from its cursor; or the journal didn't reach back, and the next one
--- has none
+-- One exchange was made from the cursor on, and the next one begins at its cursor. Or the journal didn't reach back, and the next one
+-- has no cursor.
 abbrev pub HasExchanged : PassRecord → PassRecord → PassRecord → PassRecord → Option Cursor → Option Cursor → Bool → Type 0
 HasExchanged p q r s from next more =
     ((x : Exchanged) × Exchanges p q r s from x × (next ≡ Some x.cursor) × (more ≡ x.more))
-    ⊎ ((more ≡ true) × (next ≡ None) × IsExchangeFault q s (faults.Refused Behind))
+    ⊎ ((more ≡ true) × (next ≡ None) × FailsBy p q (calls.Refused Behind))
 
--- the last thing that the two did was an exchange that left nothing more
+-- The last exchange of the two left nothing more.
 pub record IsHandedOver (q s : PassRecord) : Type 0 where
   pub asked : PassRecord
   pub given : PassRecord

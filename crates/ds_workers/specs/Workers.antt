@@ -13,35 +13,35 @@ use Rattle.ds_workers.specs.declared.task.Task.TheVariants.{Exchange, Follow, Pu
 use Rattle.ds_workers.specs.declared.worker.Worker.{Worker}
 use Rattle.ds_workers.specs.Turns.{HasCalled, IsBroughtUp, IsHandedOver}
 
--- a pass of a desk over a store
+-- A pass of a desk of a store.
 abbrev pub StorePass : (Z : Type 0) → Ghosts (View (Boxed Z) Command Reply) → Type 0
 StorePass Z G = Pass (Boxed Z) Command Reply G
 
--- how many passes of the second desk a task has
+-- How many passes of the second desk a task has.
 abbrev pub others_in : {P : Type 0} → Task P → ℕ
 others_in (Exchange other cursor) = 1
 others_in _ = 0
 
 module _ {Z : Type 0} {G : Ghosts (View (Boxed Z) Command Reply)} where
-  -- one of eight publishers; a follower that keeps up with the pass; a pass of the second desk
+  -- One of eight publishers; a follower that keeps up with the pass; a pass of the second desk.
   abbrev pub IsTask : TableId → ℕ → StorePass Z G → Task (StorePass Z G) → Type 0
   IsTask second index pass Publish = index < 8
   IsTask second index pass (Follow follower) = KeepsUpWith (pass_record pass) follower
   IsTask second index pass (Exchange other cursor) = desk_of other ≡ second
 
-  -- its pass is of the first desk, and its task's of the second
+  -- Its pass is of the first desk, and its task's pass is of the second.
   pub record IsOf (first second : TableId) (w : Worker (StorePass Z G)) : Type 0 where
     pub pass : desk_of w.pass ≡ first
     pub task : IsTask second w.index w.pass w.task
 
-  -- w is the worker v later: of its number, with its passes, each still of its desk, by calls of its own
+  -- w is the worker v later, after calls of its own: with its number and its passes, each still of its desk.
   pub record ComesBack (v w : Worker (StorePass Z G)) : Type 0 where
     pub same_index : w.index ≡ v.index
     pub same_others : others_in w.task ≡ others_in v.task
     pub called : HasCalled (pass_record v.pass) (pass_record w.pass)
     pub still : (first second : TableId) → IsOf first second v → IsOf first second w
 
-  -- its map is up to date, or there is no more to exchange
+  -- Its map is up to date, or there is no more to exchange.
   abbrev pub IsTaskDone : StorePass Z G → Task (StorePass Z G) → Type 0
   IsTaskDone pass Publish = Unit {0}
   IsTaskDone pass (Follow follower) = IsBroughtUp (pass_record pass) follower

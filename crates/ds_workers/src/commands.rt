@@ -1,4 +1,4 @@
-//! What the workers ask of a store.
+//! The commands of the workers.
 
 ghost use Rattle.std.specs.Prelude.{◌≡◌, ◌<◌, IfOk};
 ghost use Rattle.ds_workers.specs.Commands.{every_key, publisher_number, publisher_label, publisher};
@@ -9,7 +9,7 @@ use ds_names::{Endpoint, Generation, Key, Kind, Kinds, Name, NoRoom, Version};
 use ds_pattern::{PatternText, Query};
 use std::alloc::Global;
 
-// The endpoint of a publisher.
+// Returns the endpoint of a publisher.
 fn publisher(index: u32) -> Endpoint
     requires { index < 8 }
     ensures { result ≡ publisher index }
@@ -23,7 +23,7 @@ fn publisher(index: u32) -> Endpoint
     endpoint
 }
 
-// The first version of an endpoint's generation.
+// Returns the first version of an endpoint's generation.
 fn first_version(endpoint: Endpoint) -> Version
     ensures { (result.epoch ≡ endpoint.generation) × (result.seq ≡ 0) }
 {
@@ -33,7 +33,7 @@ fn first_version(endpoint: Endpoint) -> Version
     }
 }
 
-/// RS publishes the label of a publisher, of number 0 to 7: `p0` to `p7`.
+/// Returns the command by which RS publishes the label of publisher `index`, 0 to 7: `p0` to `p7`.
 pub(crate) fn label(index: u32) -> Command
     requires { index < 8 }
     ensures { result ≡ publisher_label index }
@@ -54,7 +54,7 @@ pub(crate) fn label(index: u32) -> Command
     }
 }
 
-/// A publisher, of number 0 to 7, overwrites its number: `n0` to `n7`.
+/// Returns the command by which publisher `index`, 0 to 7, overwrites its number: `n0` to `n7`.
 pub(crate) fn change(index: u32, turn: u32) -> Command
     requires { index < 8 }
     ensures { result ≡ publisher_number index turn }
@@ -78,7 +78,7 @@ pub(crate) fn change(index: u32, turn: u32) -> Command
     }
 }
 
-/// A query of all keys.
+/// Returns the query of all keys.
 pub fn everything(alloc: Global) -> Result<Query, NoRoom>
     ensures { IfOk result (λ query. query ≡ every_key) }
 {

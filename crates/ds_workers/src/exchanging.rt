@@ -1,41 +1,30 @@
-//! What the one who exchanges does.
+//! Exchanges from the first desk's store to the second's.
 
-ghost use Rattle.std.specs.Prelude.{◌≡◌, IfOk, OnOk};
-ghost use Rattle.desk.specs.Desk.{identity};
-ghost use Rattle.desk.specs.Pass.{desk_of};
-ghost use Rattle.ds_pass.specs.Record.{pass_record as seen};
-ghost use Rattle.ds_workers.specs.Turns.{HasExchanged, HasCalled, IsHandedOver};
+ghost use Rattle.std.specs.Prelude.{IfOk, OnOk};
+ghost use Rattle.ds_workers.specs.Turns.{HasExchanged, IsHandedOver, SeatHasCalled};
 
-use desk::{Desk, Pass};
-use ds_exchange::exchange_once;
+use ds_exchange::{ExchangeFault, exchange_once};
 use ds_feed::Cursor;
 use ds_machine::Refusal;
-use ds_pass::LiveFault;
-use ds_store::Store;
+use ds_pass::{CallFault, Seat};
 use std::sync::Wait;
 
-/// One exchange, from the cursor on; where the journal doesn't reach back to it, the next one has none. Whether there may be more.
+/// Makes one exchange, from the cursor on. If the journal doesn't reach back to it, the next exchange has no cursor. Returns whether
+/// there may be more.
 pub(crate) fn exchange<W: Wait>(
-    rt: &W,
-    first: &Desk<Box<Store>>,
-    pass: &mut Pass<Box<Store>>,
-    second: &Desk<Box<Store>>,
-    other: &mut Pass<Box<Store>>,
+    first: &mut Seat<'_, W>,
+    second: &mut Seat<'_, W>,
     cursor: &mut Option<Cursor>,
-) -> Result<bool, LiveFault>
-    requires first { desk_of pass.old ≡ identity first.now }
-    requires second { desk_of other.old ≡ identity second.now }
-    ensures stays { desk_of pass.new ≡ desk_of pass.old }
-    ensures other_stays { desk_of other.new ≡ desk_of other.old }
-    ensures called { HasCalled (seen pass.old) (seen pass.new) }
-    ensures exchanged { IfOk result (HasExchanged (seen pass.old) (seen pass.new) (seen other.old) (seen other.new) cursor.old cursor.new) }
+) -> Result<bool, ExchangeFault>
+    ensures called { SeatHasCalled first.old first.new × SeatHasCalled second.old second.new }
+    ensures exchanged { IfOk result (HasExchanged first.old.pass first.new.pass second.old.pass second.new.pass cursor.old cursor.new) }
 {
-    match exchange_once(rt, first, pass, second, other, *cursor) {
+    match exchange_once(first, second, *cursor) {
         Ok(exchanged) => {
             *cursor = Some(exchanged.cursor);
             Ok(exchanged.more)
         }
-        Err(LiveFault::Refused(Refusal::Behind)) => {
+        Err(ExchangeFault::Call(CallFault::Refused(Refusal::Behind))) => {
             *cursor = None;
             Ok(true)
         }
@@ -45,22 +34,15 @@ pub(crate) fn exchange<W: Wait>(
 
 /// Exchanges until there is no more.
 pub(crate) fn hand_over<W: Wait>(
-    rt: &W,
-    first: &Desk<Box<Store>>,
-    pass: &mut Pass<Box<Store>>,
-    second: &Desk<Box<Store>>,
-    other: &mut Pass<Box<Store>>,
+    first: &mut Seat<'_, W>,
+    second: &mut Seat<'_, W>,
     cursor: &mut Option<Cursor>,
-) -> Result<(), LiveFault>
-    requires first { desk_of pass.old ≡ identity first.now }
-    requires second { desk_of other.old ≡ identity second.now }
-    ensures stays { desk_of pass.new ≡ desk_of pass.old }
-    ensures other_stays { desk_of other.new ≡ desk_of other.old }
-    ensures called { HasCalled (seen pass.old) (seen pass.new) }
-    ensures handed { OnOk result (IsHandedOver (seen pass.new) (seen other.new)) }
+) -> Result<(), ExchangeFault>
+    ensures called { SeatHasCalled first.old first.new × SeatHasCalled second.old second.new }
+    ensures handed { OnOk result (IsHandedOver first.new.pass second.new.pass) }
 {
-    for _ in rt.forever() {
-        let more = exchange(rt, first, pass, second, other, cursor)?;
+    for _ in first.rt().forever() {
+        let more = exchange(first, second, cursor)?;
         if !more {
             return Ok(());
         }

@@ -1,8 +1,8 @@
-//! Where workers arrive before each of their turns.
+//! Gates at which workers arrive before each of their turns.
 
-/// A gate, which may hold a worker, or turn it away. Threads share it.
+/// A gate that may hold a worker, or turn it away. Threads share it.
 pub trait Gate {
-    /// Worker `worker` comes to its turn `turn`, counted from 0, or, behind its last one, to its end. False ends the worker.
+    /// Worker `worker` arrives before its turn `turn`, counted from 0, or after its last one. False ends the worker.
     fn arrive(&self, worker: u32, turn: u32) -> bool;
 }
 

@@ -11,21 +11,21 @@ use ds_store::Store;
 use std::alloc::Global;
 use std::sync::Wait;
 
-/// Two desks, which all workers share. The desk is a plain parameter, so that these are found to be shared by threads.
+/// Two desks that all workers share. The type of a desk is a parameter, so that the compiler derives that these are `Sync`.
 #[derive(Drop)]
 pub struct Desks<D> {
-    /// That of the store which publishers change and subscribers follow.
+    /// The desk of the store that publishers change and subscribers follow.
     pub first: D,
-    /// That of the store which is given what the first has.
+    /// The desk of the store that gets what the first has.
     pub second: D,
 }
 
-/// A worker, and all that its turns take. Each is a plain parameter, so that these are found to cross threads.
+/// A worker, with all that its turns need. Each type is a parameter, so that the compiler derives that these are `Send`.
 #[derive(Drop)]
 pub struct Turns<'e, R, G, D, W> {
-    /// By what a worker waits.
+    /// The handle by which a worker waits.
     pub rt: &'e R,
-    /// Where memory is taken.
+    /// The allocator.
     pub alloc: Global,
     /// The gate before each turn.
     pub gate: &'e G,
@@ -37,7 +37,7 @@ pub struct Turns<'e, R, G, D, W> {
     pub worker: W,
 }
 
-/// The turns of a worker at two desks over stores.
+/// The turns of a worker at two desks of stores.
 pub type StoreTurns<'e, R, G> = Turns<'e, R, G, Desks<Desk<Box<Store>>>, StoreWorker>;
 
 impl<'e, R: Wait, G: Gate> Job

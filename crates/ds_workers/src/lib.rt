@@ -1,4 +1,4 @@
-//! The threads of a run over two desks of stores: publishers, subscribers, and one that exchanges.
+//! The threads of a run at two desks of stores: publishers, subscribers, and one that exchanges.
 //!
 //! MINIX 3's drivers, the servers that follow them by its data store (DS), and a second replica, each in a thread of its own. Their
 //! turns, and the gate before each turn, are of this project.
@@ -6,6 +6,7 @@
 
 mod commands;
 mod exchanging;
+mod fault;
 mod following;
 mod gate;
 mod job;
@@ -14,6 +15,7 @@ mod task;
 mod worker;
 
 pub use commands::everything;
+pub use fault::WorkerFault;
 pub use gate::{Gate, OpenGate};
 pub use job::{Desks, StoreTurns, Turns};
 pub use publishing::publish_label;

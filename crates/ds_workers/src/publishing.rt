@@ -1,80 +1,54 @@
-//! What a publisher does.
+//! Publishes labels and numbers.
 
-ghost use Rattle.std.specs.Prelude.{◌≡◌, ◌<◌, IfErr, OnOk};
-ghost use Rattle.desk.specs.Desk.{identity};
-ghost use Rattle.desk.specs.Pass.{desk_of};
-ghost use Rattle.ds_pass.specs.Faults.{IsFaultOf, TellsRefusal};
-ghost use Rattle.ds_pass.specs.Record.{pass_record as seen};
-ghost use Rattle.ds_machine.specs.declared.refusal.Refusal.{Refusal};
+ghost use Rattle.std.specs.Prelude.{◌<◌, IfErr, OnOk};
+ghost use Rattle.ds_pass.specs.Faults.{FailsAsking};
 ghost use Rattle.ds_workers.specs.Commands.{publisher_number, publisher_label};
-ghost use Rattle.ds_workers.specs.Turns.{HasCalled, IsAccepted, WasAccepted};
+ghost use Rattle.ds_workers.specs.Turns.{SeatHasCalled, WasAccepted};
 
 use crate::commands::{change, label};
-use desk::{Answer, Desk, Pass};
+use desk::Answer;
 use ds_machine::{Command, Reply};
-use ds_pass::{LiveFault, ask_desk};
-use ds_store::Store;
+use ds_pass::{CallFault, Seat};
 use std::sync::Wait;
 
-/// Has the label of a publisher, of number 0 to 7, published, which says where it is.
-pub fn publish_label<W: Wait>(
-    rt: &W,
-    desk: &Desk<Box<Store>>,
-    pass: &mut Pass<Box<Store>>,
-    index: u32,
-) -> Result<(), LiveFault>
-    requires of_desk { desk_of pass.old ≡ identity desk.now }
-    requires index { index < 8 }
-    ensures stays { desk_of pass.new ≡ desk_of pass.old }
-    ensures called { HasCalled (seen pass.old) (seen pass.new) }
-    ensures accepted { OnOk result (WasAccepted (seen pass.old) (seen pass.new) (publisher_label index)) }
-    ensures fault { IfErr result (IsFaultOf (seen pass.new)) }
+/// RS publishes the label of publisher `index`, 0 to 7.
+pub fn publish_label<W: Wait>(seat: &mut Seat<'_, W>, index: u32) -> Result<(), CallFault>
+    requires { index < 8 }
+    ensures called { SeatHasCalled seat.old seat.new }
+    ensures accepted { OnOk result (WasAccepted seat.old.pass seat.new.pass (publisher_label index)) }
+    ensures fault { IfErr result (FailsAsking seat.old.pass seat.new.pass (publisher_label index)) }
 {
-    ask_for_change(rt, desk, pass, label(index))
+    ask_for_change(seat, label(index))
 }
 
-/// A publisher's turn: it overwrites its number.
+/// Takes a publisher's turn: overwrites its number.
 pub(crate) fn publish<W: Wait>(
-    rt: &W,
-    desk: &Desk<Box<Store>>,
-    pass: &mut Pass<Box<Store>>,
+    seat: &mut Seat<'_, W>,
     index: u32,
     turn: u32,
-) -> Result<(), LiveFault>
-    requires of_desk { desk_of pass.old ≡ identity desk.now }
-    requires index { index < 8 }
-    ensures stays { desk_of pass.new ≡ desk_of pass.old }
-    ensures called { HasCalled (seen pass.old) (seen pass.new) }
-    ensures accepted { OnOk result (WasAccepted (seen pass.old) (seen pass.new) (publisher_number index turn)) }
-    ensures fault { IfErr result (IsFaultOf (seen pass.new)) }
+) -> Result<(), CallFault>
+    requires { index < 8 }
+    ensures called { SeatHasCalled seat.old seat.new }
+    ensures accepted { OnOk result (WasAccepted seat.old.pass seat.new.pass (publisher_number index turn)) }
+    ensures fault { IfErr result (FailsAsking seat.old.pass seat.new.pass (publisher_number index turn)) }
 {
-    ask_for_change(rt, desk, pass, change(index, turn))
+    ask_for_change(seat, change(index, turn))
 }
 
-// One call, which isn't to be refused.
-fn ask_for_change<W: Wait>(
-    rt: &W,
-    desk: &Desk<Box<Store>>,
-    pass: &mut Pass<Box<Store>>,
-    command: Command,
-) -> Result<(), LiveFault>
-    requires { desk_of pass.old ≡ identity desk.now }
-    ensures stays { desk_of pass.new ≡ desk_of pass.old }
-    ensures called { HasCalled (seen pass.old) (seen pass.new) }
-    ensures accepted { OnOk result (WasAccepted (seen pass.old) (seen pass.new) command) }
-    ensures fault { IfErr result (IsFaultOf (seen pass.new)) }
+// Sends one command, and fails if the store refuses it.
+fn ask_for_change<W: Wait>(seat: &mut Seat<'_, W>, command: Command) -> Result<(), CallFault>
+    ensures called { SeatHasCalled seat.old seat.new }
+    ensures accepted { OnOk result (WasAccepted seat.old.pass seat.new.pass command) }
+    ensures fault { IfErr result (FailsAsking seat.old.pass seat.new.pass command) }
 {
-    let answer = ask_desk(rt, desk, pass, command)?;
-    accepted(&answer.reply)
-}
-
-// Whether a change was accepted, by its reply.
-fn accepted(reply: &Reply) -> Result<(), LiveFault>
-    ensures accepted { OnOk result (IsAccepted reply.now) }
-    ensures refused { IfErr result (λ fault. (refusal : Refusal) × (reply.now ≡ Reply.Refused refusal) × TellsRefusal refusal fault) }
-{
+    let Answer {
+        reply,
+        place: _place,
+        owed: _owed,
+        raised: _raised,
+    } = seat.ask(command)?;
     match reply {
-        Reply::Refused(refusal) => Err(LiveFault::from(*refusal)),
+        Reply::Refused(refusal) => Err(CallFault::from(refusal)),
         _ => Ok(()),
     }
 }

@@ -1,20 +1,20 @@
-//! What a worker is for.
+//! The tasks of workers.
 
 use ds_feed::Cursor;
 use ds_refresh::Follower;
 
-/// What a worker is for. The pass is a plain parameter, so that a task is found to cross threads.
+/// A worker's task. The type of a pass is a parameter, so that the compiler derives that a task is `Send`.
 #[derive(Drop)]
 pub enum Task<P> {
-    /// It overwrites its number in the first desk's store.
+    /// Overwrites its number in the first desk's store.
     Publish,
-    /// It keeps a map of the first desk's store.
+    /// Keeps a map of the first desk's store.
     Follow(Follower),
-    /// It gives what the first desk's store has to the second's.
+    /// Gives what the first desk's store has to the second's.
     Exchange {
         /// Its pass of the second desk.
         other: P,
-        /// From where it asks next.
+        /// The cursor of the next exchange.
         cursor: Option<Cursor>,
     },
 }

@@ -1,41 +1,42 @@
-//! What one worker does.
+//! A worker and its turns.
 
 ghost use Rattle.std.specs.Prelude.{◌≡◌, OnOk};
 ghost use Rattle.desk.specs.Desk.{identity};
 ghost use Rattle.ds_workers.specs.Workers.{ComesBack, IsDone, IsOf};
 
 use crate::exchanging::{exchange, hand_over};
+use crate::fault::WorkerFault;
 use crate::following::{bring_up, follow};
 use crate::gate::Gate;
 use crate::publishing::publish;
 use crate::task::Task;
 use crew::GivenUp;
 use desk::{Desk, Pass};
-use ds_pass::LiveFault;
+use ds_pass::Seat;
 use ds_store::Store;
 use std::alloc::Global;
 use std::sync::Wait;
 
-/// A worker with its pass of the first desk. The pass is a plain parameter, so that a worker is found to cross threads.
+/// A worker with its pass of the first desk. The type of the pass is a parameter, so that the compiler derives that a worker is `Send`.
 #[derive(Drop)]
 pub struct Worker<P> {
-    /// Its number: publishers come first, then subscribers, then the one that exchanges.
+    /// Its number: publishers come first, then subscribers, then the worker that exchanges.
     pub index: u32,
     /// How many turns it takes.
     pub turns: u32,
     /// Its pass of the first desk.
     pub pass: P,
-    /// What it is for.
+    /// Its task.
     pub task: Task<P>,
     /// Why it ended early.
-    pub fault: Option<LiveFault>,
+    pub fault: Option<WorkerFault>,
 }
 
-/// A worker at two desks over stores.
+/// A worker at two desks of stores.
 pub type StoreWorker = Worker<Pass<Box<Store>>>;
 
 impl Worker<Pass<Box<Store>>> {
-    /// Takes its turns, with the gate before each and behind the last. It ends early at a fault, which it keeps, or where the run was
+    /// Takes all its turns, with the gate before each and after the last. Ends early at a fault, which it keeps, or if the run was
     /// given up.
     pub(crate) fn work<W: Wait, G: Gate>(
         &mut self,
@@ -54,7 +55,7 @@ impl Worker<Pass<Box<Store>>> {
         }
     }
 
-    // Turn by turn.
+    // Takes all its turns.
     fn take_turns<W: Wait, G: Gate>(
         &mut self,
         rt: &W,
@@ -63,7 +64,7 @@ impl Worker<Pass<Box<Store>>> {
         given_up: &GivenUp,
         first: &Desk<Box<Store>>,
         second: &Desk<Box<Store>>,
-    ) -> Result<(), LiveFault>
+    ) -> Result<(), WorkerFault>
         requires { IsOf (identity first.now) (identity second.now) self.old }
         ensures { ComesBack self.old self.new }
     {
@@ -80,7 +81,7 @@ impl Worker<Pass<Box<Store>>> {
         pass_gate(gate, self.index, self.turns)
     }
 
-    // One turn.
+    // Takes one turn.
     fn turn<W: Wait>(
         &mut self,
         rt: &W,
@@ -88,47 +89,75 @@ impl Worker<Pass<Box<Store>>> {
         first: &Desk<Box<Store>>,
         second: &Desk<Box<Store>>,
         turn: u32,
-    ) -> Result<(), LiveFault>
+    ) -> Result<(), WorkerFault>
         requires { IsOf (identity first.now) (identity second.now) self.old }
         ensures { ComesBack self.old self.new }
     {
         match &mut self.task {
-            Task::Publish => publish(rt, first, &mut self.pass, self.index, turn),
-            Task::Follow(follower) => follow(rt, alloc, first, &mut self.pass, follower, turn),
+            Task::Publish => {
+                let mut seat = Seat::new(rt, first, &mut self.pass);
+                let told = publish(&mut seat, self.index, turn);
+                let _pass = seat.leave();
+                told?;
+                Ok(())
+            }
+            Task::Follow(follower) => {
+                let mut seat = Seat::new(rt, first, &mut self.pass);
+                let told = follow(&mut seat, alloc, follower, turn);
+                let _pass = seat.leave();
+                told
+            }
             Task::Exchange { other, cursor } => {
-                exchange(rt, first, &mut self.pass, second, other, cursor)?;
+                let mut here = Seat::new(rt, first, &mut self.pass);
+                let mut there = Seat::new(rt, second, other);
+                let told = exchange(&mut here, &mut there, cursor);
+                let _other = there.leave();
+                let _pass = here.leave();
+                let _more = told?;
                 Ok(())
             }
         }
     }
 
-    /// Behind the turns of all workers: a subscriber's map is brought up to date, and what is left to exchange is given over.
+    /// After the turns of all workers: brings a subscriber's map up to date, or exchanges what is left.
     pub fn finish<W: Wait>(
         &mut self,
         rt: &W,
         alloc: Global,
         first: &Desk<Box<Store>>,
         second: &Desk<Box<Store>>,
-    ) -> Result<(), LiveFault>
+    ) -> Result<(), WorkerFault>
         requires { IsOf (identity first.now) (identity second.now) self.old }
         ensures back { ComesBack self.old self.new }
         ensures done { OnOk result (IsDone self.new) }
     {
         match &mut self.task {
             Task::Publish => Ok(()),
-            Task::Follow(follower) => bring_up(rt, alloc, first, &mut self.pass, follower),
+            Task::Follow(follower) => {
+                let mut seat = Seat::new(rt, first, &mut self.pass);
+                let told = bring_up(&mut seat, alloc, follower);
+                let _pass = seat.leave();
+                told?;
+                Ok(())
+            }
             Task::Exchange { other, cursor } => {
-                hand_over(rt, first, &mut self.pass, second, other, cursor)
+                let mut here = Seat::new(rt, first, &mut self.pass);
+                let mut there = Seat::new(rt, second, other);
+                let told = hand_over(&mut here, &mut there, cursor);
+                let _other = there.leave();
+                let _pass = here.leave();
+                told?;
+                Ok(())
             }
         }
     }
 }
 
-// Before a turn, or behind the last.
-fn pass_gate<G: Gate>(gate: &G, worker: u32, turn: u32) -> Result<(), LiveFault> {
+// Arrives at the gate, before a turn or after the last.
+fn pass_gate<G: Gate>(gate: &G, worker: u32, turn: u32) -> Result<(), WorkerFault> {
     if gate.arrive(worker, turn) {
         Ok(())
     } else {
-        Err(LiveFault::GateShut)
+        Err(WorkerFault::GateShut)
     }
 }

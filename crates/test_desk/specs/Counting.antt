@@ -10,7 +10,7 @@ counted_after s (Watch watchers) = record { total = s.total; watchers = watchers
 counted_after s (Add amount) = record { total = (s.total + amount) % 2 ^ 64; watchers = s.watchers }
 counted_after s Read = s
 
--- an addition is told to those who watch
+-- An addition owes a notice to the watching subscriptions.
 abbrev pub answer : Counter → Count → Counted
 answer s (Watch watchers) = record { total = s.total; owed = 0 }
 answer s (Add amount) = record { total = (s.total + amount) % 2 ^ 64; owed = s.watchers }

@@ -1,4 +1,4 @@
-//! What a line asks for, done and printed.
+//! Does what a line says, and prints the result.
 
 use crate::counter::Counter;
 use crate::labels::{Labels, publish_labels};
@@ -16,7 +16,7 @@ use std::sync::Wait;
 use std::thread::Threads;
 use test_kit::Failure;
 
-/// Does what a line asks for, and prints what came of it.
+/// Does what a line says, and prints the result.
 pub(crate) fn answer_line<R: Print + Threads + Wait + Sync>(
     rt: &R,
     alloc: Global,
@@ -74,7 +74,7 @@ fn tell_sum(rt: &impl Print, count: Option<u64>) -> Result<(), Failure> {
     tell(rt, &[("sum ", u128::from(sum))], "\n")
 }
 
-// Prints how threads were answered; of a machine that takes memory also how many calls were refused for want of it.
+// Prints how threads were answered; of a machine that takes memory also how many calls were refused because memory ran out.
 fn tell_review(
     rt: &impl Print,
     threads: u32,

@@ -1,4 +1,4 @@
-//! How a desk with two passes is closed.
+//! Closes a desk with two passes.
 
 ghost use Rattle.std.specs.Prelude.{◌≡◌, ◌∷◌, [], IfSome};
 ghost use Rattle.std.specs.List.{AllByRecursion};
@@ -122,7 +122,7 @@ where
     look(rt, desk, pass)
 }
 
-// The two passes of a desk. `None` where memory is wanting.
+// The two passes of a desk. Returns `None` if memory runs out.
 fn list_of<M: Followed + Drop>(alloc: Global, one: Pass<M>, two: Pass<M>) -> Option<Passes<M>>
 where
     M::Command: Drop,

@@ -1,4 +1,4 @@
-//! What a store is asked.
+//! The commands to a store.
 
 use ds_entry::{Body, Change, Floor, Item, Items, Value};
 use ds_machine::Command;
@@ -13,7 +13,7 @@ pub(crate) struct Driver {
     endpoint: Endpoint,
 }
 
-/// The driver of a label. `None` where there is no such label, generation or slot.
+/// The driver of a label. Returns `None` if there is no such label, generation or slot.
 pub(crate) fn driver_of(label: &[u8], generation: u32, slot: u16) -> Option<Driver> {
     let key = Key {
         name: Name::read(label).ok()?,
@@ -68,7 +68,7 @@ impl Driver {
     }
 }
 
-/// A subscription to all that comes later, over one of this number. `None` where memory is wanting.
+/// A subscription to all that comes later, over one of this number. Returns `None` if memory runs out.
 pub(crate) fn follow(alloc: Global, sub: u32) -> Option<Command> {
     let kinds = Kinds::of(15)?;
     let text = PatternText::of(alloc, b".*").ok()?;
@@ -81,7 +81,7 @@ pub(crate) fn follow(alloc: Global, sub: u32) -> Option<Command> {
 }
 
 /// Another holder gives what it has of a driver: a floor under half of its generations, and a number that it published in the
-/// last one. `None` where memory is wanting.
+/// last one. Returns `None` if memory runs out.
 pub(crate) fn merge(alloc: Global, driver: &Driver, number: u32) -> Option<Command> {
     let mut items = Items::new(alloc);
     add_items(&mut items, driver, number)?;

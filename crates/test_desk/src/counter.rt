@@ -6,7 +6,7 @@ ghost use Rattle.std.specs.Prelude.{◌≡◌};
 
 use history::Machine;
 
-/// What a counter is asked.
+/// A command to a counter.
 #[derive(Clone, Copy)]
 pub(crate) enum Count {
     /// Tell these subscriptions, and no others, from now on: bit 8 s + k is that of subscription k of server s.
@@ -17,7 +17,7 @@ pub(crate) enum Count {
     Read,
 }
 
-/// What it answers.
+/// The reply of a counter.
 #[derive(Clone, Copy)]
 pub(crate) struct Counted {
     /// The sum.

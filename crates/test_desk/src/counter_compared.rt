@@ -1,4 +1,4 @@
-//! What threads ask of a counter.
+//! The commands of threads to a counter.
 
 use crate::compared::Compared;
 use crate::counter::{Count, Counted, Counter};

@@ -9,7 +9,7 @@ const BEGINNING: u64 = 0xcbf2_9ce4_8422_2325;
 
 const FACTOR: u64 = 0x0100_0000_01b3;
 
-/// What is kept of a reply: of one that wants no memory the hash of its whole text. `None` where memory is wanting for the text.
+/// What is kept of a reply: of one that wants no memory the hash of its whole text. Returns `None` if memory runs out for the text.
 pub(crate) fn kept_of(alloc: Global, reply: &Reply) -> Option<Kept> {
     match reply {
         Reply::Refused(Refusal::NoRoom) => Some(Kept::NoRoom),
@@ -28,7 +28,7 @@ pub(crate) fn kept_of(alloc: Global, reply: &Reply) -> Option<Kept> {
     }
 }
 
-// The hash of a reply's text. `None` where memory is wanting for the text.
+// The hash of a reply's text. Returns `None` if memory runs out for the text.
 fn hash_of(alloc: Global, reply: &Reply) -> Option<u64> {
     let text = format!(in alloc; "{reply:?}").ok()?;
     let mut hash = BEGINNING;

@@ -20,7 +20,8 @@ pub(crate) struct Labels {
     pub second: u32,
 }
 
-/// Has two threads change a label each, so often, and asks the machine that is left. `None` where memory or a label is wanting.
+/// Has two threads change a label each, so often, and asks the machine that is left. Returns `None` if memory runs out, or if a label
+/// is missing.
 pub(crate) fn publish_labels<M, R>(rt: &R, alloc: Global, calls: u32) -> Option<Labels>
 where
     M: Followed + Send + Drop,

@@ -40,7 +40,7 @@ use std::sync::Wait;
 use std::thread::Threads;
 use test_kit::Failure;
 
-/// Answers the lines in turn, up to the first that can't be read.
+/// Answers the lines in order, up to the first that can't be read.
 pub fn answer<R: Print + AllocGlobal + Threads + Wait + Sync>(
     rt: &R,
     lines: &str,

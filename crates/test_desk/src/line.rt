@@ -2,7 +2,7 @@
 
 use crate::rows::{BITS, LAST, NOTICE, Row};
 
-/// What a line asks for.
+/// What a line says to do.
 #[derive(Clone, Copy)]
 pub(crate) enum Line {
     /// Calls of a counter by threads, to be compared with one thread's.
@@ -19,7 +19,7 @@ pub(crate) enum Line {
     Take(u32),
     /// Two passes that call a store in turn, row by row.
     Rows(&'static [Row]),
-    /// What opens no desk.
+    /// Calls that open no desk.
     NoDesk,
 }
 
@@ -30,7 +30,7 @@ pub(crate) struct Sizes {
     pub calls: u32,
 }
 
-/// Reads a line. `None` where it is none of these.
+/// Reads a line. Returns `None` for any other line.
 pub(crate) fn read_line(line: &str) -> Option<Line> {
     let Some((word, rest)) = line.split_once(' ') else {
         return read_row(line);

@@ -12,8 +12,8 @@ pub(crate) const FIRST: u64 = 1 << 32;
 // How many items the journal of a store keeps.
 const RING: u32 = 256;
 
-/// A store that holds nothing, and begins at a position. It stands on the heap, since each turn takes the machine out of the
-/// desk's slot and puts it back. `None` where memory is wanting.
+/// A store that holds nothing, and begins at a position. It is on the heap, since each turn takes the machine out of the
+/// desk's slot and puts it back. Returns `None` if memory runs out.
 pub(crate) fn store_at(alloc: Global, position: u64) -> Option<Box<Store>> {
     let store = Store::open(alloc, INCARNATION, position, RING).ok()?;
     Box::new(alloc, store).ok()

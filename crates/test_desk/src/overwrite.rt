@@ -79,8 +79,8 @@ where
     Some(())
 }
 
-/// Has so many threads overwrite a label each of one new machine, which each of them follows. `None` where memory or a place is
-/// wanting.
+/// Has so many threads overwrite a label each of one new machine, which each of them follows. Returns `None` if memory or
+/// places run out.
 pub(crate) fn overwrite_by_crew<M, R>(rt: &R, alloc: Global, sizes: Sizes) -> Option<Crew<M>>
 where
     M: Followed + Send + Drop,

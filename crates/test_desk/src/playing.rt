@@ -121,7 +121,7 @@ fn tell_answer<M: Followed, R: Print>(rt: &R, answer: &Answer<M::Reply>) -> Resu
     )
 }
 
-/// Looks how far the history goes, and prints the first place behind what the pass has then seen.
+/// Looks how far the history goes, and prints the first place after what the pass has then seen.
 pub(crate) fn look<M: Followed, R: Print>(
     rt: &R,
     desk: &Desk<M>,

@@ -1,4 +1,4 @@
-//! What opens no desk.
+//! Calls that open no desk.
 
 use crate::followed::Followed;
 use crate::rows::NO_DESK;
@@ -24,7 +24,7 @@ where
     Ok(())
 }
 
-// Why there is no such desk, and where the machine is that comes back. `None` where memory is wanting, or a desk was opened.
+// Why there is no such desk, and where the machine is that comes back. Returns `None` if memory runs out, or if a desk was opened.
 fn refusal_of<M: Followed + Drop>(
     alloc: Global,
     passes: u32,

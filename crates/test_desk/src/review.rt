@@ -13,18 +13,18 @@ use test_crews::{Crew, Kept, Said, run_crew};
 pub(crate) struct Review {
     /// How many calls they made.
     pub entries: u64,
-    /// Whether each place is of one call, behind all that its thread had seen, and one machine that is given the commands in
+    /// Whether each place is of one call, after all that its thread had seen, and one machine that is given the commands in
     /// the order of their places answers each as it was answered, and comes as far; and whether who learnt a note looked as far
     /// as its maker.
     pub legal: bool,
-    /// How many calls were refused or stopped for want of memory, and so changed nothing beside what they say.
+    /// How many calls were refused or stopped because memory ran out, and so changed nothing beside what they say.
     pub noroom: u64,
     /// Whether in each row of the account raises are takes and what is pending, and all rows together are what the threads
     /// counted.
     pub exact: bool,
 }
 
-/// Has so many threads share a new machine, by so many calls each, and compares them with one thread. `None` where memory is wanting,
+/// Has so many threads share a new machine, by so many calls each, and compares them with one thread. Returns `None` if memory runs out,
 /// or where there are not 1 to 64 threads.
 pub(crate) fn share_and_compare<M, R>(rt: &R, alloc: Global, sizes: Sizes) -> Option<Review>
 where
@@ -38,8 +38,8 @@ where
     review_of(alloc, &crew)
 }
 
-// Gives one machine the commands in the order of their places, but for those that were refused for want of memory, and of one
-// that was stopped so what was done. `None` where memory is wanting here.
+// Gives one machine the commands in the order of their places, but for those that were refused because memory ran out, and of one
+// that was stopped so what was done. Returns `None` if memory runs out here.
 fn review_of<M: Compared + Drop>(alloc: Global, crew: &Crew<M>) -> Option<Review>
 where
     M::Reply: Drop,
@@ -93,7 +93,7 @@ impl Review {
     }
 }
 
-// Whether the machine answers the call so. `None` where memory is wanting here.
+// Whether the machine answers the call so. Returns `None` if memory runs out here.
 fn is_answered_so<M: Compared>(alloc: Global, alone: &mut M, one: &Said) -> Option<bool>
 where
     M::Reply: Drop,
@@ -105,7 +105,7 @@ where
     }
 }
 
-// Of a call that stopped for want of memory the machine is given what was done: whether it owes so.
+// Of a call that stopped because memory ran out the machine is given what was done: whether it owes so.
 fn does_first<M: Compared>(
     alloc: Global,
     alone: &mut M,

@@ -11,7 +11,7 @@ use desk::{Desk, Pass};
 use history::Machine;
 use std::alloc::Global;
 
-/// Looks so often how far the history of a desk goes. What it saw, added up; `None` where memory is wanting.
+/// Looks so often how far the history of a desk goes. What it saw, added up; Returns `None` if memory runs out.
 pub(crate) fn look<M: Followed + Drop>(alloc: Global, count: u32) -> Option<u64>
 where
     M::Command: Drop,
@@ -31,7 +31,7 @@ fn look_often<M: Machine>(desk: &Desk<M>, pass: &mut Pass<M>, count: u32) -> u64
     seen
 }
 
-/// Takes the notices of a server so often. What it took, added up; `None` where memory is wanting.
+/// Takes the notices of a server so often. What it took, added up; Returns `None` if memory runs out.
 pub(crate) fn take<M: Followed + Drop>(alloc: Global, count: u32) -> Option<u64>
 where
     M::Command: Drop,

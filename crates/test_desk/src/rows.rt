@@ -72,7 +72,7 @@ pub(crate) const LAST: [Row; 2] = [
 ];
 
 /// The subscription 127 is owed a notice, which is bit 7 of server 15's word. There is no server 16. Who follows looks one place
-/// further behind the other's call than before it.
+/// further after the other's call than before it.
 pub(crate) const BITS: [Row; 1] = [Row {
     place: 0,
     position: 0,

@@ -63,7 +63,7 @@ where
     keep::<M>(alloc, &mut worker.said, seen, turn, &answer)
 }
 
-// Keeps what a call was answered. `None` where memory is wanting.
+// Keeps what a call was answered. Returns `None` if memory runs out.
 fn keep<M: Compared>(
     alloc: Global,
     said: &mut Vec<Said>,

@@ -1,4 +1,4 @@
-//! What threads ask of a store.
+//! The commands of threads to a store.
 
 use crate::commands::{Asked, driver_of, follow, merge};
 use crate::compared::Compared;
@@ -79,7 +79,7 @@ fn merge_of(items: Items) -> Command {
     Command::Merge { items }
 }
 
-// The first so many items. `None` where there aren't so many, or memory is wanting.
+// The first so many items. Returns `None` if there are fewer, or if memory runs out.
 fn first_items(mut all: Items, count: usize) -> Option<Items> {
     if count > all.len() {
         return None;

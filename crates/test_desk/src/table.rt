@@ -16,7 +16,7 @@ pub(crate) struct Table<D, P> {
     pub two: P,
 }
 
-/// A desk whose first place is this one, over a new machine that begins at this position. `None` where memory is wanting.
+/// A desk whose first place is this one, over a new machine that begins at this position. Returns `None` if memory runs out.
 pub(crate) fn open_table<M: Followed + Drop>(
     alloc: Global,
     place: u64,

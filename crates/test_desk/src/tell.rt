@@ -1,9 +1,9 @@
-//! What is printed.
+//! Prints results.
 
 use desk::DeskFault;
 use test_kit::Failure;
 
-/// Prints each text with the number behind it, and then the end.
+/// Prints each text followed by its number, and then the end.
 pub(crate) fn tell(rt: &impl Print, numbers: &[(&str, u128)], end: &str) -> Result<(), Failure> {
     for (text, number) in numbers {
         print!(rt; "{text}{number}")?;

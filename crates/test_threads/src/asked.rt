@@ -1,4 +1,4 @@
-//! What a store is asked.
+//! The commands to a store.
 
 use ds_entry::Value;
 use ds_machine::Command;
@@ -9,19 +9,19 @@ use std::alloc::Global;
 // The labels that all writers change.
 const LABELS: [&[u8]; 4] = [b"disk", b"eth0", b"inet", b"tty"];
 
-/// What a row asks of a store.
+/// A command of a row.
 #[derive(Clone, Copy)]
 pub(crate) enum Asked<'a> {
     /// RS publishes that a label of this generation is in this slot, over an earlier one.
     Start(&'a [u8], u32, u16),
     /// RS ends what was published by a label's generations up to this one.
     Sweep(&'a [u8], u32),
-    /// Another takes this subscription over.
+    /// Another program replaces this subscription.
     TakeOver(u32),
 }
 
 impl Asked<'_> {
-    /// The command. `None` where a part of it is none, or memory is wanting.
+    /// The command. Returns `None` if a part of it is malformed, or if memory runs out.
     pub(crate) fn command(self, alloc: Global) -> Option<Command> {
         match self {
             Asked::Start(name, generation, slot) => start(name, generation, 0, slot),
@@ -49,7 +49,7 @@ pub(crate) fn command_of(writer: u64, turn: u32) -> Option<Command> {
     }
 }
 
-// RS publishes that a label of this version is in this slot, over an earlier one. `None` where a part is none.
+// RS publishes that a label of this version is in this slot, over an earlier one. Returns `None` if a part is malformed.
 fn start(name: &[u8], generation: u32, seq: u32, slot: u16) -> Option<Command> {
     let epoch = Generation::of(generation)?;
     Some(Command::Publish {
@@ -61,7 +61,7 @@ fn start(name: &[u8], generation: u32, seq: u32, slot: u16) -> Option<Command> {
     })
 }
 
-// RS deletes a label by this version. `None` where a part is none.
+// RS deletes a label by this version. Returns `None` if a part is malformed.
 fn delete(name: &[u8], generation: u32, seq: u32) -> Option<Command> {
     let epoch = Generation::of(generation)?;
     Some(Command::Delete {
@@ -71,7 +71,7 @@ fn delete(name: &[u8], generation: u32, seq: u32) -> Option<Command> {
     })
 }
 
-// RS ends what was published by a label's generations up to this one. `None` where a part is none.
+// RS ends what was published by a label's generations up to this one. Returns `None` if a part is malformed.
 fn sweep(name: &[u8], generation: u32) -> Option<Command> {
     Some(Command::Sweep {
         caller: Endpoint::rs(),
@@ -80,7 +80,7 @@ fn sweep(name: &[u8], generation: u32) -> Option<Command> {
     })
 }
 
-// The key of a label. `None` where there is no such name.
+// The key of a label. Returns `None` if there is no such name.
 fn label(name: &[u8]) -> Option<Key> {
     Some(Key {
         name: Name::read(name).ok()?,
@@ -88,7 +88,7 @@ fn label(name: &[u8]) -> Option<Key> {
     })
 }
 
-/// A query of all kinds. `None` where memory is wanting.
+/// A query of all kinds. Returns `None` if memory runs out.
 pub(crate) fn query(alloc: Global, pattern: &[u8]) -> Option<Query> {
     Some(Query {
         text: PatternText::of(alloc, pattern).ok()?,

@@ -29,7 +29,7 @@ fn one_waits_for_another<R: Runtime + Threads + Wait + Sync>(
     tell_run(rt, alloc, &Hold::new(1, 0), sizes)
 }
 
-// Each worker is turned away before its first turn; the last alone is, behind its last.
+// Each worker is turned away before its first turn; the last alone is, after its last.
 fn some_are_turned_away<R: Runtime + Threads + Wait + Sync>(
     rt: &R,
     alloc: Global,

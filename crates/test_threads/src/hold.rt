@@ -4,10 +4,10 @@ use ds_live::Gate;
 use std::sync::atomic::{AtomicBool, Ordering};
 use std::thread;
 
-// How often a worker that is held looks whether it may go on.
+// How often a worker that is held checks whether it may continue.
 const MOST_LOOKS: u32 = 100_000_000;
 
-/// A gate that holds a worker before its first turn until another had its first one, or turns it away where that takes too long.
+/// A gate that holds a worker before its first turn until another had its first one, or turns it away if that takes too long.
 #[derive(Drop)]
 pub(crate) struct Hold {
     held: u32,
@@ -16,7 +16,7 @@ pub(crate) struct Hold {
 }
 
 impl Hold {
-    /// That of two workers, at which nobody has arrived.
+    /// Makes the gate of two workers, at which nobody has arrived.
     pub(crate) fn new(held: u32, other: u32) -> Hold {
         Hold {
             held,

@@ -34,7 +34,7 @@ use std::sync::Wait;
 use std::thread::Threads;
 use test_kit::Failure;
 
-/// Answers the lines in turn, up to the first that can't be read.
+/// Answers the lines in order, up to the first that can't be read.
 pub fn answer<R: Runtime + AllocGlobal + Threads + Wait + Sync>(
     rt: &R,
     lines: &str,
@@ -45,7 +45,7 @@ pub fn answer<R: Runtime + AllocGlobal + Threads + Wait + Sync>(
     Ok(())
 }
 
-// Does what a line asks for.
+// Does what a line says.
 fn answer_line<R: Runtime + AllocGlobal + Threads + Wait + Sync>(
     rt: &R,
     line: &str,
@@ -58,7 +58,7 @@ fn answer_line<R: Runtime + AllocGlobal + Threads + Wait + Sync>(
     }
 }
 
-// Has threads change and follow a store, and says how the maps compare.
+// Has threads change and follow a store, and prints how the maps compare.
 fn follow<R: Runtime + AllocGlobal + Threads + Wait + Sync>(
     rt: &R,
     sizes: Sizes,

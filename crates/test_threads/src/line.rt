@@ -1,6 +1,6 @@
 //! The lines of the section.
 
-/// What a line asks for.
+/// What a line says to do.
 #[derive(Clone, Copy)]
 pub(crate) enum Line {
     /// `WRITERS FOLLOWERS CALLS`
@@ -19,7 +19,7 @@ pub(crate) struct Sizes {
     pub calls: u32,
 }
 
-/// Reads a line. `None` where it is none.
+/// Reads a line. Returns `None` for any other line.
 pub(crate) fn read_line(line: &str) -> Option<Line> {
     match line {
         "gates" => Some(Line::Gates),

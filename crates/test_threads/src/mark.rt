@@ -10,7 +10,7 @@ const BEGINNING: u64 = 0xcbf2_9ce4_8422_2325;
 
 const FACTOR: u64 = 0x0100_0000_01b3;
 
-/// The hash of the lines of what a map has. `None` where memory is wanting.
+/// The hash of the lines of what a map has. Returns `None` if memory runs out.
 pub(crate) fn mark_of_map(alloc: Global, entries: &Items) -> Option<u64> {
     let mut text = Vec::new(alloc);
     for index in 0..entries.len() {
@@ -21,7 +21,7 @@ pub(crate) fn mark_of_map(alloc: Global, entries: &Items) -> Option<u64> {
     Some(hash_of(&text))
 }
 
-/// The hash of the lines of the puts that a store holds. `None` where memory is wanting.
+/// The hash of the lines of the puts that a store holds. Returns `None` if memory runs out.
 pub(crate) fn mark_of_store(alloc: Global, store: &Store) -> Option<u64> {
     let mut text = Vec::new(alloc);
     let held = store.held();

@@ -31,7 +31,7 @@ impl Review {
     }
 }
 
-/// Has threads change and follow a new store, and compares. `None` where memory is wanting.
+/// Has threads change and follow a new store, and compares the maps. Returns `None` if memory runs out.
 pub(crate) fn watch_and_compare<R: Threads + Wait + Sync>(
     rt: &R,
     alloc: Global,
@@ -53,7 +53,7 @@ pub(crate) fn watch_and_compare<R: Threads + Wait + Sync>(
     }
 }
 
-// A store that holds nothing. It stands on the heap, since each turn takes it out of the desk's slot and puts it back.
+// A store that holds nothing. It is on the heap, since each turn takes it out of the desk's slot and puts it back.
 fn new_store(alloc: Global) -> Option<Box<Store>> {
     let store = Store::open(alloc, 1, 0, 256).ok()?;
     Box::new(alloc, store).ok()

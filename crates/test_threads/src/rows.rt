@@ -13,7 +13,7 @@ pub(crate) enum Step {
     StartMany(u32, u32),
     /// How far the caller sees the first desk's history go is printed.
     Look,
-    /// The follower is refreshed by so many calls.
+    /// The follower is refreshed by at most this many calls.
     Refresh(u32),
     /// The follower's notices are taken.
     Take,
@@ -63,7 +63,7 @@ pub(crate) const ROWS: [Row; 5] = [
 ];
 
 // A follower of `eth.*` learns where a driver is. A limit of 1 is none, and loses it; a later generation owes it a notice; another
-// takes its subscription over, which the next Check tells; it is made lost, and begins again.
+// replaces its subscription, which the next Check shows; it is made lost, and begins again.
 const FOLLOW_A_DRIVER: Row = Row {
     ring: 256,
     sub: 0,
@@ -137,7 +137,7 @@ const FOLLOW_MANY: Row = Row {
     end: End::Map,
 };
 
-// 300 labels are given by two pages, and what is published behind them by the journal, 256 of it at once.
+// 300 labels are given by two pages, and what is published after them by the journal, 256 of it at once.
 const EXCHANGE_MANY: Row = Row {
     ring: 4096,
     sub: 0,

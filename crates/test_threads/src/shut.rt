@@ -2,7 +2,7 @@
 
 use ds_live::Gate;
 
-/// A gate that turns away every worker from a number on, before a turn or behind the last.
+/// A gate that turns away every worker from a number on, before a turn or after the last.
 #[derive(Clone, Copy)]
 pub(crate) struct Shut {
     /// The first worker that is turned away.

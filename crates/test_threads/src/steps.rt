@@ -1,4 +1,4 @@
-//! What the passes of a desk do.
+//! The steps of the passes of a desk.
 
 ghost use Rattle.std.specs.Prelude.{◌≡◌};
 ghost use Rattle.desk.specs.Desk.{identity};
@@ -13,10 +13,11 @@ use crate::world::Side;
 use desk::{Desk, Pass};
 use ds_exchange::{Exchanged, exchange_once};
 use ds_feed::Cursor;
+use ds_live::LiveFault;
 use ds_machine::Reply;
 use ds_names::Name;
-use ds_pass::LiveFault;
-use ds_refresh::{Follower, Fresh, refresh};
+use ds_pass::Seat;
+use ds_refresh::{Follower, Fresh, RefreshFault, refresh};
 use ds_store::Store;
 use std::alloc::Global;
 use std::sync::Wait;
@@ -74,7 +75,7 @@ pub(crate) fn start_many<R: Print + Wait>(
     Ok(())
 }
 
-/// Takes the notices of server 0, and prints them with the first place behind what the pass has then seen.
+/// Takes the notices of server 0, and prints them with the first place after what the pass has then seen.
 pub(crate) fn take<R: Print>(
     rt: &R,
     desk: &Desk<Box<Store>>,
@@ -98,7 +99,7 @@ pub(crate) fn take<R: Print>(
     }
 }
 
-/// Refreshes the follower by so many calls, and prints what came of it, and how many keys its map has.
+/// Refreshes the follower by at most `limit` calls, and prints the result, and the number of keys in its map.
 pub(crate) fn bring_up<R: Print + Wait>(
     rt: &R,
     alloc: Global,
@@ -112,14 +113,16 @@ pub(crate) fn bring_up<R: Print + Wait>(
     ensures of_desk { desk_of pass.new ≡ identity desk.now }
     ensures keeps { KeepsUpWith (pass_record pass.new) follower.new }
 {
-    let fresh = refresh(rt, alloc, desk, pass, follower, limit);
+    let mut seat = Seat::new(rt, desk, pass);
+    let fresh = refresh(&mut seat, alloc, follower, limit);
+    let _pass = seat.leave();
     tell_fresh(rt, fresh, limit, follower)
 }
 
-// Prints what came of a refresh by so many calls, and how many keys the map has.
+// Prints the result of a refresh by `limit` calls, and the number of keys in the map.
 fn tell_fresh(
     rt: &impl Print,
-    fresh: Result<Fresh, LiveFault>,
+    fresh: Result<Fresh, RefreshFault>,
     limit: u32,
     follower: &Follower,
 ) -> Result<(), Failure> {
@@ -128,7 +131,7 @@ fn tell_fresh(
         Ok(Fresh::UpTo(place)) => tell(rt, &[("up to", u128::from(place)), keys]),
         Ok(Fresh::More) => tell(rt, &[("more, limit", u128::from(limit)), keys]),
         Err(fault) => {
-            tell_fault(rt, fault)?;
+            tell_fault(rt, LiveFault::from(fault))?;
             tell(rt, &[keys])
         }
     }
@@ -158,8 +161,7 @@ pub(crate) fn look<R: Print>(
     tell(rt, &[("front", u128::from(desk.front(pass)))])
 }
 
-/// Gives what the one store has to the other, and prints what came of it. `from` is then from where the next exchange asks, none
-/// behind a fault.
+/// Gives what one store has to the other, and prints the result. `from` is then the cursor of the next exchange, None after a fault.
 pub(crate) fn exchange<R: Print + Wait>(
     rt: &R,
     a: &mut Side,
@@ -170,14 +172,19 @@ pub(crate) fn exchange<R: Print + Wait>(
     ensures sides { IsSide a.new × IsSide b.new }
     ensures readers { (a.new.reader ≡ a.old.reader) × (b.new.reader ≡ b.old.reader) }
 {
-    match exchange_once(rt, &a.desk, &mut a.caller, &b.desk, &mut b.caller, *from) {
+    let mut here = Seat::new(rt, &a.desk, &mut a.caller);
+    let mut there = Seat::new(rt, &b.desk, &mut b.caller);
+    let told = exchange_once(&mut here, &mut there, *from);
+    let _there = there.leave();
+    let _here = here.leave();
+    match told {
         Ok(exchanged) => {
             *from = Some(exchanged.cursor);
             tell_exchanged(rt, exchanged)
         }
         Err(fault) => {
             *from = None;
-            tell_fault(rt, fault)
+            tell_fault(rt, LiveFault::from(fault))
         }
     }
 }

@@ -1,6 +1,6 @@
-//! What a row prints.
+//! Prints the results of a row.
 
-use ds_pass::LiveFault;
+use ds_live::LiveFault;
 use test_kit::Failure;
 
 /// Prints lines of a word and a number.
@@ -11,7 +11,7 @@ pub(crate) fn tell(rt: &impl Print, lines: &[(&str, u128)]) -> Result<(), Failur
     Ok(())
 }
 
-/// Prints why the work on a desk's store ended.
+/// Prints why a call failed.
 pub(crate) fn tell_fault(rt: &impl Print, fault: LiveFault) -> Result<(), Failure> {
     println!(rt; "{fault}")?;
     Ok(())

@@ -1,4 +1,4 @@
-//! What each thread does.
+//! The work of each thread.
 
 ghost use Rattle.std.specs.Prelude.{◌≡◌};
 ghost use Rattle.desk.specs.Desk.{identity};
@@ -11,8 +11,8 @@ use crate::line::Sizes;
 use crate::mark::mark_of_map;
 use desk::{Answer, Desk, Pass};
 use ds_machine::{Refusal, Reply};
-use ds_pass::LiveFault;
-use ds_refresh::{Follower, Fresh, refresh};
+use ds_pass::{CallFault, Seat};
+use ds_refresh::{Follower, Fresh, RefreshFault, refresh};
 use ds_store::Store;
 use std::alloc::Global;
 use std::sync::Wait;
@@ -119,7 +119,7 @@ fn follow_often<R: Wait>(
     Some(())
 }
 
-// One refresh. Where it came to a place, that is kept with what the map then has; where memory was wanting, nothing is.
+// One refresh. If it reached a place, the place is kept with what the map then has; if memory ran out, nothing is kept.
 fn follow_once<R: Wait>(
     rt: &R,
     alloc: Global,
@@ -132,18 +132,20 @@ fn follow_once<R: Wait>(
     ensures stays { desk_of worker.new.pass ≡ desk_of worker.old.pass }
     ensures keeps { KeepsUpWith (pass_record worker.new.pass) follower.new }
 {
-    match refresh(rt, alloc, desk, &mut worker.pass, follower, 65536) {
+    let mut seat = Seat::new(rt, desk, &mut worker.pass);
+    let fresh = refresh(&mut seat, alloc, follower, 65536);
+    let _pass = seat.leave();
+    match fresh {
         Ok(Fresh::UpTo(place)) => {
             let view = view_of(alloc, follower, place)?;
             worker.said.push(view).ok()
         }
-        Ok(Fresh::More) | Err(LiveFault::NoRoom) => Some(()),
-        Err(LiveFault::Refused(Refusal::NoRoom)) => Some(()),
+        Ok(Fresh::More) | Err(RefreshFault::Call(CallFault::NoRoom)) => Some(()),
         Err(_) => None,
     }
 }
 
-// What is kept of a map that was brought up to a place. `None` where memory is wanting.
+// What is kept of a map that was brought up to a place. Returns `None` if memory runs out.
 fn view_of(alloc: Global, follower: &Follower, place: u64) -> Option<Said> {
     let entries = follower.map().entries(alloc).ok()?;
     let mark = mark_of_map(alloc, &entries)?;

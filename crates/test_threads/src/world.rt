@@ -1,4 +1,4 @@
-//! Two desks, and who calls there.
+//! Two desks, and the passes that call there.
 
 ghost use Rattle.std.specs.Prelude.{IfSome};
 ghost use Rattle.test_threads.specs.World.{IsSide, IsWorld};
@@ -25,12 +25,12 @@ pub(crate) struct World {
     pub first: Side,
     pub second: Side,
     pub follower: Follower,
-    /// From where the next exchange asks the first store.
+    /// The cursor of the next exchange from the first store.
     pub from: Option<Cursor>,
 }
 
 impl World {
-    /// A new one for a row: empty stores of incarnations 1 and 2. `None` where memory is wanting.
+    /// Makes the desks of a row: empty stores of incarnations 1 and 2. Returns `None` if memory runs out.
     pub(crate) fn new(alloc: Global, row: &Row) -> Option<World>
         ensures { IfSome result IsWorld }
     {
@@ -46,7 +46,7 @@ impl World {
     }
 }
 
-// A new desk over an empty store of this incarnation, whose journal has so long a ring. `None` where memory is wanting.
+// Opens a desk of an empty store of this incarnation, whose journal has a ring of this length. Returns `None` if memory runs out.
 fn open(alloc: Global, incarnation: u64, ring: u32) -> Option<Side>
     ensures { IfSome result IsSide }
 {

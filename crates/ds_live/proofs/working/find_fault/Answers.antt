@@ -1,5 +1,7 @@
-use Rattle.std.proofs.Common.{map, take, ap, sym, ◌∙◌, arith}
-use Rattle.ds_live.specs.Faults.{fault_or, lowest_fault}
+use Rattle.std.proofs.Common.{Some, map, take, ap, sym, ◌∙◌, arith}
+use Rattle.std.specs.Option.{option_map}
+use Rattle.ds_live.specs.Faults.{fault_or, lowest_fault, worker_fault}
+use Rattle.ds_live.specs.declared.fault.LiveFault.{LiveFault}
 use Rattle.ds_live.proofs.FaultLemmas.{lowest_more}
 use Rattle.ds_live.proofs.working.find_fault.Goals as goal
 use Rattle.ds_live.proofs.working.find_fault.Goals.{in-Some, in_default}
@@ -10,6 +12,6 @@ loop-place-preserved g c =
     let more = lowest_more (λ j. j.worker.fault) c.args.jobs.now.items c.loop-place.place c.index.result.now
     (omega (arith, c.loop-place-test.true, c.len-place-end.ensures, c.args.jobs.now.ok.0)) c.index.ensures in
     elim c.match-index.branch [
-      | in-Some w ↦ w.lowest-is ∙ sym (more ∙ ap (λ f. fault_or f before) w.in-Some.is)
-      | in_default w ↦ w.lowest-is ∙ c.loop-place.invariant ∙ sym (more ∙ ap (λ f. fault_or f before) w.in_default.is)
+      | in-Some w ↦ w.lowest-is ∙ ap (λ (f : LiveFault). Some f) w.from.ensures ∙ sym (more ∙ ap (λ f. fault_or (option_map worker_fault f) before) w.in-Some.is)
+      | in_default w ↦ w.lowest-is ∙ c.loop-place.invariant ∙ sym (more ∙ ap (λ f. fault_or (option_map worker_fault f) before) w.in_default.is)
     ]

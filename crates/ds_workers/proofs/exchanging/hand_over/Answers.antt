@@ -1,26 +1,32 @@
-use Rattle.std.proofs.Common.{◌∙◌}
-use Rattle.ds_pass.specs.Record.{pass_record as seen}
-use Rattle.ds_workers.proofs.TurnLemmas.{called_more, handed_over}
+use Rattle.ds_workers.proofs.TurnLemmas.{handed_over, seat_called_more, seat_called_none}
 use Rattle.ds_workers.proofs.exchanging.hand_over.Goals as goal
+
+pub loop-init : goal.loop-init
+loop-init g c = (tt, tt, seat_called_none c.args.first.now, seat_called_none c.args.second.now)
 
 pub loop-preserved : goal.loop-preserved
 loop-preserved g c =
     let l = c.loop in
-    let e = c.in_ok-more.ensures in (
+    let e = c.in_ok-more.ensures.called in (
       tt,
       tt,
-      e.stays ∙ l.invariant.2,
-      e.other_stays ∙ l.invariant.3,
-      called_more (seen c.args.pass.now) (seen l.pass) (seen c.exchange.new.pass) l.invariant.4 e.called,
+      seat_called_more c.args.first.now l.first c.exchange.new.first l.invariant.2 e.0,
+      seat_called_more c.args.second.now l.second c.exchange.new.second l.invariant.3 e.1,
     )
 
 pub returns-in_err-more-clause-called : goal.returns-in_err-more-clause-called
-returns-in_err-more-clause-called g c = called_more (seen c.args.pass.now) (seen c.loop.pass) (seen c.exchange.new.pass) c.loop.invariant.4 c.in_err-more.ensures.called
+returns-in_err-more-clause-called g c =
+    let l = c.loop in
+    let e = c.in_err-more.ensures.called in
+    (seat_called_more c.args.first.now l.first c.exchange.new.first l.invariant.2 e.0, seat_called_more c.args.second.now l.second c.exchange.new.second l.invariant.3 e.1)
 
 pub returns-then-not-more-clause-called : goal.returns-then-not-more-clause-called
-returns-then-not-more-clause-called g c = called_more (seen c.args.pass.now) (seen c.loop.pass) (seen c.exchange.new.pass) c.loop.invariant.4 c.in_ok-more.ensures.called
+returns-then-not-more-clause-called g c =
+    let l = c.loop in
+    let e = c.in_ok-more.ensures.called in
+    (seat_called_more c.args.first.now l.first c.exchange.new.first l.invariant.2 e.0, seat_called_more c.args.second.now l.second c.exchange.new.second l.invariant.3 e.1)
 
 pub returns-then-not-more-clause-handed : goal.returns-then-not-more-clause-handed
 returns-then-not-more-clause-handed g c =
     let l = c.loop in
-    handed_over (seen l.pass) (seen c.exchange.new.pass) (seen l.other) (seen c.exchange.new.other) l.cursor c.exchange.new.cursor c.in_ok-more.more c.in_ok-more.ensures.exchanged c.if-not-more.true
+    handed_over l.first.pass c.exchange.new.first.pass l.second.pass c.exchange.new.second.pass l.cursor c.exchange.new.cursor c.in_ok-more.more c.in_ok-more.ensures.exchanged c.if-not-more.true

@@ -1,32 +1,33 @@
 use Rattle.std.proofs.Common.{[], sym, subst}
-use Rattle.ds_pass.specs.Record.{pass_record as seen}
-use Rattle.ds_pass.proofs.PassLemmas.{sees_by_looks, sees_made}
+use Rattle.ds_pass.specs.Seat.{SeatRecord}
+use Rattle.ds_pass.proofs.RecordLemmas.{made_sees_more}
 use Rattle.ds_refresh.proofs.LawLemmas.{keeps_up_later}
-use Rattle.ds_workers.specs.Turns.{HasCalled}
-use Rattle.ds_workers.proofs.TurnLemmas.{called_more, called_none, refreshed}
+use Rattle.ds_workers.specs.Turns.{SeatHasCalled}
+use Rattle.ds_workers.proofs.TurnLemmas.{refreshed, seat_called_more, seat_called_none}
 use Rattle.ds_workers.proofs.following.follow.Goals as goal
 
 pub returns-in_err-_taken-clause-called : goal.returns-in_err-_taken-clause-called
 returns-in_err-_taken-clause-called g c =
-    let p = c.args.pass.now in
-    subst (λ q. HasCalled (seen p) (seen q)) (sym c.in_err-_taken.ensures.refused.2) (called_none (seen p))
+    let s = c.args.seat.now in
+    subst (λ (t : SeatRecord). SeatHasCalled s t) (sym c.in_err-_taken.ensures.refused.2) (seat_called_none s)
 
-pub refresh-requires-clause-keeps : goal.refresh-requires-clause-keeps
-refresh-requires-clause-keeps g c =
-    let p = c.args.pass.now in
-    keeps_up_later (seen p) (seen c.take.new.pass) c.args.follower.now (sees_by_looks p c.take.new.pass c.in_ok-_taken.ensures.sees.1) c.requires.keeps
+pub refresh-requires : goal.refresh-requires
+refresh-requires g c =
+    let p = c.args.seat.now.pass in
+    let q = c.take.new.self.pass in
+    keeps_up_later p q c.args.follower.now (made_sees_more p q [] c.in_ok-_taken.ensures.looked) c.requires
 
 pub returns-in_err-_fresh-clause-called : goal.returns-in_err-_fresh-clause-called
 returns-in_err-_fresh-clause-called g c =
-    let p = c.args.pass.now in let q = c.take.new.pass in let only = c.in_err-_fresh.ensures.only in
-    called_more (seen p) (seen q) (seen c.refresh.new.pass) ([], sees_made p q c.in_ok-_taken.ensures.sees.1) (only.own, only.made)
+    let only = c.in_err-_fresh.ensures.only in
+    seat_called_more c.args.seat.now c.take.new.self c.refresh.new.seat (c.in_ok-_taken.ensures.same, ([], c.in_ok-_taken.ensures.looked)) (only.0, (only.1.own, only.1.made))
 
 pub returns-clause-called : goal.returns-clause-called
 returns-clause-called g c =
-    let p = c.args.pass.now in let q = c.take.new.pass in let only = c.in_ok-_fresh.ensures.only in
-    called_more (seen p) (seen q) (seen c.refresh.new.pass) ([], sees_made p q c.in_ok-_taken.ensures.sees.1) (only.own, only.made)
+    let only = c.in_ok-_fresh.ensures.only in
+    seat_called_more c.args.seat.now c.take.new.self c.refresh.new.seat (c.in_ok-_taken.ensures.same, ([], c.in_ok-_taken.ensures.looked)) (only.0, (only.1.own, only.1.made))
 
 pub returns-clause-refreshed : goal.returns-clause-refreshed
 returns-clause-refreshed g c =
-    let p = c.args.pass.now in let q = c.take.new.pass in
-    refreshed (seen p) (seen q) (seen c.refresh.new.pass) c.args.follower.now c.refresh.new.follower c.in_ok-_fresh._fresh (sees_made p q c.in_ok-_taken.ensures.sees.1) c.in_ok-_fresh.ensures.only c.in_ok-_fresh.ensures.fresh
+    refreshed c.args.seat.now.pass c.take.new.self.pass c.refresh.new.seat.pass c.args.follower.now c.refresh.new.follower c.in_ok-_fresh._fresh c.in_ok-_taken.ensures.looked c.in_ok-_fresh.ensures.only.1
+    c.in_ok-_fresh.ensures.fresh

@@ -1,0 +1,59 @@
+//! Why an exchange failed.
+
+use ds_machine::Refusal;
+use ds_names::NoRoom;
+use ds_pass::{CallFault, MergeFault};
+use thiserror::Error;
+
+/// Why an exchange between two desks failed.
+#[derive(Clone, Copy, Debug, PartialEq, Eq, Error)]
+pub enum ExchangeFault {
+    /// A question to the store that gives failed, a desk refused a call, or the caller is out of memory.
+    #[error("{0}")]
+    Call(CallFault),
+    /// The other store did the first `done` items of a Merge, and refused the next one.
+    #[error("stopped after {done} items: {fault}")]
+    Stopped {
+        /// How many items were done.
+        done: usize,
+        /// Why the next one wasn't.
+        fault: Refusal,
+    },
+}
+
+impl From<NoRoom> for ExchangeFault {
+    ghost use Rattle.std.specs.Prelude.{◌≡◌};
+    ghost use Rattle.ds_pass.specs.declared.fault.CallFault.TheVariants as calls;
+    ghost use Rattle.ds_exchange.specs.declared.fault.ExchangeFault.TheVariants as faults;
+
+    ghost from_gives = { λ _ fault. fault ≡ faults.Call calls.NoRoom };
+
+    fn from(_refused: NoRoom) -> ExchangeFault {
+        ExchangeFault::Call(CallFault::NoRoom)
+    }
+}
+
+impl From<CallFault> for ExchangeFault {
+    ghost use Rattle.std.specs.Prelude.{◌≡◌};
+    ghost use Rattle.ds_exchange.specs.declared.fault.ExchangeFault.TheVariants as faults;
+
+    ghost from_gives = { λ call fault. fault ≡ faults.Call call };
+
+    fn from(fault: CallFault) -> ExchangeFault {
+        ExchangeFault::Call(fault)
+    }
+}
+
+impl From<MergeFault> for ExchangeFault {
+    ghost use Rattle.std.specs.Prelude.{◌≡◌};
+    ghost use Rattle.ds_exchange.specs.Faults.{merge_fault};
+
+    ghost from_gives = { λ merge fault. fault ≡ merge_fault merge };
+
+    fn from(fault: MergeFault) -> ExchangeFault {
+        match fault {
+            MergeFault::Desk(fault) => ExchangeFault::Call(CallFault::Desk(fault)),
+            MergeFault::Stopped { done, fault } => ExchangeFault::Stopped { done, fault },
+        }
+    }
+}

@@ -1,0 +1,20 @@
+use Rattle.std.proofs.Common.{◌≡◌, IfOk, ap, subst}
+use Rattle.std.proofs.lemmas.Result.{IfOk-weaker}
+use Rattle.desk.proofs.SightLemmas.{rests_facts}
+use Rattle.ds_pass.specs.Called.{MadeCall}
+use Rattle.ds_pass.specs.Record.{PassRecord, pass_record}
+use Rattle.ds_pass.specs.Seat.{SeatRecord}
+use Rattle.ds_pass.proofs.PassLemmas.{call_fits, call_made}
+use Rattle.ds_pass.proofs.seat.Seat.ask.Goals as goal
+
+pub returns-clause-called : goal.returns-clause-called
+returns-clause-called g c =
+    let p = c.self.inside.pass.now in
+    let same : pass_record p ≡ c.args.self.now.pass = ap (λ (s : SeatRecord). s.pass) c.self.view_is in
+    subst (λ (x : PassRecord). IfOk c.call.result (λ a. MadeCall x (pass_record c.call.new.pass) c.args.command a.reply a.place)) same
+    (IfOk-weaker c.call.result _ _ (λ a called. call_made p c.call.new.pass c.args.command a.reply a.place called (rests_facts p.seat.me.0 p.resting).2) c.call.ensures.called)
+
+pub returns-clause-fits : goal.returns-clause-fits
+returns-clause-fits g c =
+    let p = c.self.inside.pass.now in
+    IfOk-weaker c.call.result _ _ (λ a called. call_fits p c.call.new.pass c.args.command a.reply a.place called (rests_facts p.seat.me.0 p.resting).2) c.call.ensures.called
