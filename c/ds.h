@@ -337,7 +337,6 @@ struct ds_rs_service {
     uint32_t generation;
     uint32_t failures;      /* in a row, since it was last brought up by DS_RS_UP */
     uint32_t period, limit;
-    uint32_t publishes;     /* how many names it may publish */
     uint16_t slot;
     uint8_t service_class;  /* of enum ds_rs_class */
     uint8_t has_unit, unit; /* its major number or port, if has_unit is 1; a server has none */

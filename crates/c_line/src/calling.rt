@@ -25,7 +25,8 @@ pub fn call_line(alloc: Global, session: &mut Session, bytes: &[u8], answer: &mu
     }
 }
 
-fn carry_out(alloc: Global, session: &mut Session, command: ScriptCommand, answer: &mut Answer)
+/// Carries out a command: it shows what is held, or it is a step of the store.
+pub fn carry_out(alloc: Global, session: &mut Session, command: ScriptCommand, answer: &mut Answer)
     ensures { CarriesOut command session.old answer.new session.new }
 {
     match what_shows(&command) {

@@ -5,5 +5,6 @@ mod calling;
 mod reading;
 mod text;
 
-pub use calling::call_line;
-pub use text::give_text;
+pub use calling::{call_line, carry_out};
+pub use reading::read_bytes;
+pub use text::{give_part, give_text, no_text};

@@ -17,7 +17,7 @@ const SHORT_LINE: usize = 255;
 
 /// Reads the command of the line that bytes are, whose newline may be missing. Where more comes behind the newline, it is bad at the
 /// place where that begins.
-pub(crate) fn read_bytes(alloc: Global, bytes: &[u8]) -> Result<ScriptCommand, CommandFault>
+pub fn read_bytes(alloc: Global, bytes: &[u8]) -> Result<ScriptCommand, CommandFault>
     ensures { ReadsBytes bytes.now result }
 {
     match newline_place(bytes) {

@@ -27,15 +27,22 @@ pub fn give_text(alloc: Global, session: &Session, first: usize, room: &mut [u8]
 {
     match write_text(alloc, session.last()) {
         Ok(text) => give_part(text.as_slice(), first, room),
-        Err(NoRoom) => Given {
-            stop: NO_ROOM,
-            ..Given::nothing()
-        },
+        Err(NoRoom) => no_text(),
     }
 }
 
-// Gives a buffer a text from a byte on, as much as fits.
-fn give_part(text: &[u8], first: usize, room: &mut [u8]) -> Given
+/// Returns what is written when memory for the text runs out: nothing.
+pub fn no_text() -> Given
+    ensures { result ≡ record { count = 0; length = 0; stop = 20 } }
+{
+    Given {
+        stop: NO_ROOM,
+        ..Given::nothing()
+    }
+}
+
+/// Writes a text to a buffer, from a byte on: as many bytes as fit.
+pub fn give_part(text: &[u8], first: usize, room: &mut [u8]) -> Given
     ensures { GivesPart text.now first room.old result room.new }
 {
     let rest = behind(text, first);

@@ -15,24 +15,25 @@ use Rattle.c_values.specs.declared.answer.Answer.{Answer}
 use Rattle.c_values.specs.Asked.{request_text}
 use Rattle.c_session.specs.declared.session.Session.{Session}
 use Rattle.c_session.specs.Called.{Called}
-use Rattle.c_session.specs.Running.{CallsInTurn, HasNoText, IsNoEntry, IsEntryOf, CallsAreTurns}
+use Rattle.c_session.specs.Running.{InOrder, CallsInTurn, HasNoText, IsNoEntry, IsEntryOf, CallsAreTurns}
 
--- one more behind them
-pub calls_more : (texts : List ℕ) (rs : List Request) (ys : List Answer) (old mid new : Session) (r : Request) (a : Answer)
-    → CallsInTurn texts old rs ys mid → Called mid r (request_text r texts) a new → CallsInTurn texts old (rs ++ r ∷ []) (ys ++ a ∷ []) new
-calls_more texts [] [] old mid new r a none called = (new, subst (λ (s : Session). Called s r (request_text r texts) a new) none called, refl)
-calls_more texts (x ∷ rs) (y ∷ ys) old mid new r a calls called = (calls.0, calls.1, calls_more texts rs ys calls.0 mid new r a calls.2 called)
-calls_more texts [] (y ∷ ys) old mid new r a calls called = absurd calls
-calls_more texts (x ∷ rs) [] old mid new r a calls called = absurd calls
+module _ {S : Type 0} (does : S → Request → Answer → S → Type 0) where
+  -- one more request
+  pub calls_more : (rs : List Request) (ys : List Answer) (old mid new : S) (r : Request) (a : Answer)
+      → InOrder does old rs ys mid → does mid r a new → InOrder does old (rs ++ r ∷ []) (ys ++ a ∷ []) new
+  calls_more [] [] old mid new r a none called = (new, subst (λ (s : S). does s r a new) none called, refl)
+  calls_more (x ∷ rs) (y ∷ ys) old mid new r a calls called = (calls.0, calls.1, calls_more rs ys calls.0 mid new r a calls.2 called)
+  calls_more [] (y ∷ ys) old mid new r a calls called = absurd calls
+  calls_more (x ∷ rs) [] old mid new r a calls called = absurd calls
 
--- the next request is asked, and its answer put behind the others
-pub calls_next : (texts : List ℕ) (rs : List Request) (ys : List Answer) (old mid new : Session) (i : ℕ) (d : Request) (a : Answer) → i < length rs → i < length ys
-    → CallsInTurn texts old (take i rs) (take i ys) mid → Called mid (get_or rs i d) (request_text (get_or rs i d) texts) a new
-    → CallsInTurn texts old (take (i + 1) rs) (take (i + 1) (slice_set ys i a)) new
-calls_next texts rs ys old mid new i d a asks places calls called =
-    subst (λ (l : List Request). CallsInTurn texts old l (take (i + 1) (slice_set ys i a)) new) (sym (take_more rs i d asks))
-    (subst (λ (l : List Answer). CallsInTurn texts old (take i rs ++ get_or rs i d ∷ []) l new) (sym (take_more_set ys i a places))
-    (calls_more texts (take i rs) (take i ys) old mid new (get_or rs i d) a calls called))
+  -- the next request, whose answer is written after the others
+  pub calls_next : (rs : List Request) (ys : List Answer) (old mid new : S) (i : ℕ) (d : Request) (a : Answer) → i < length rs → i < length ys
+      → InOrder does old (take i rs) (take i ys) mid → does mid (get_or rs i d) a new
+      → InOrder does old (take (i + 1) rs) (take (i + 1) (slice_set ys i a)) new
+  calls_next rs ys old mid new i d a asks places calls called =
+      subst (λ (l : List Request). InOrder does old l (take (i + 1) (slice_set ys i a)) new) (sym (take_more rs i d asks))
+      (subst (λ (l : List Answer). InOrder does old (take i rs ++ get_or rs i d ∷ []) l new) (sym (take_more_set ys i a places))
+      (calls_more (take i rs) (take i ys) old mid new (get_or rs i d) a calls called))
 
 -- and none of the answers has a text, if that one has none
 pub silent_next : (ys : List Answer) (i : ℕ) (a : Answer) → i < length ys → All HasNoText (take i ys) → a.pieces ≡ 0 → All HasNoText (take (i + 1) (slice_set ys i a))

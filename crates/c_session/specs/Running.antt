@@ -13,12 +13,14 @@ use Rattle.c_values.specs.Asked.{StandsFor, request_text}
 use Rattle.c_session.specs.declared.session.Session.{Session}
 use Rattle.c_session.specs.Called.{Called}
 
--- the requests are asked in turn, and answered so, each as it is alone
-abbrev pub CallsInTurn : List ℕ → Session → List Request → List Answer → Session → Type 0
-CallsInTurn texts old [] [] new = new ≡ old
-CallsInTurn texts old (r ∷ rs) (a ∷ ys) new = (mid : Session) × Called old r (request_text r texts) a mid × CallsInTurn texts mid rs ys new
-CallsInTurn texts old [] (a ∷ ys) new = ⊥
-CallsInTurn texts old (r ∷ rs) [] new = ⊥
+-- what one request does to something, such as a session, and its answer
+module _ {S : Type 0} (does : S → Request → Answer → S → Type 0) where
+  -- the requests are carried out in order, with these answers
+  abbrev pub InOrder : S → List Request → List Answer → S → Type 0
+  InOrder old [] [] new = new ≡ old
+  InOrder old (r ∷ rs) (a ∷ ys) new = (mid : S) × does old r a mid × InOrder mid rs ys new
+  InOrder old [] (a ∷ ys) new = ⊥
+  InOrder old (r ∷ rs) [] new = ⊥
 
 -- the answer has no text
 abbrev pub HasNoText : Answer → Type 0
@@ -28,13 +30,26 @@ HasNoText answer = answer.pieces ≡ 0
 abbrev pub EndsWithText : List Answer → Type 0
 EndsWithText answers = (front : List Answer) × (last : Answer) × (answers ≡ front ++ last ∷ []) × All HasNoText front × (0 < last.pieces)
 
--- So many of the requests are asked in turn, and their answers are at the front of the place; what stands behind them there stays. It
--- ends behind the first answer that has a text, or where there is no more request, or no more place.
-pub record RunsCalls (old : Session) (requests : List Request) (texts : List ℕ) (place : List Answer) (done : ℕ) (answers : List Answer) (new : Session) : Type 0 where
-  pub within : (done ≤ length requests) × (done ≤ length place)
-  pub calls : CallsInTurn texts old (take done requests) (take done answers) new
-  pub behind : drop done answers ≡ drop done place
-  pub ended : (All HasNoText (take done answers) × ((done ≡ length requests) ⊎ (done ≡ length place))) ⊎ EndsWithText (take done answers)
+module _ {S : Type 0} (does : S → Request → Answer → S → Type 0) where
+  -- `done` requests are carried out in order. Their answers are at the front of the place, the rest of which is unchanged. The run ends
+  -- after the first answer that has a text, after the last request, or when the place is full.
+  pub record Runs (old : S) (requests : List Request) (place : List Answer) (done : ℕ) (answers : List Answer) (new : S) : Type 0 where
+    pub within : (done ≤ length requests) × (done ≤ length place)
+    pub calls : InOrder does old (take done requests) (take done answers) new
+    pub behind : drop done answers ≡ drop done place
+    pub ended : (All HasNoText (take done answers) × ((done ≡ length requests) ⊎ (done ≡ length place))) ⊎ EndsWithText (take done answers)
+
+-- what a request does to a session, where its text is in the texts
+abbrev pub CalledIn : List ℕ → Session → Request → Answer → Session → Type 0
+CalledIn texts old r answer new = Called old r (request_text r texts) answer new
+
+-- the requests are carried out in order, each as it is alone
+abbrev pub CallsInTurn : List ℕ → Session → List Request → List Answer → Session → Type 0
+CallsInTurn texts old requests answers new = InOrder (CalledIn texts) old requests answers new
+
+-- the run of a session
+abbrev pub RunsCalls : Session → List Request → List ℕ → List Answer → ℕ → List Answer → Session → Type 0
+RunsCalls old requests texts place done answers new = Runs (CalledIn texts) old requests place done answers new
 
 -- ---- what such a run is to the machine
 

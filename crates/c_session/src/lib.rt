@@ -5,6 +5,7 @@ mod calling;
 mod fast;
 mod last;
 mod running;
+mod serving;
 mod session;
 
 pub use last::Last;

@@ -59,9 +59,9 @@ impl Session {
         self.tell(wording, reply, answer);
     }
 
-    // Tells a reply, and keeps it. The store stays as it is.
+    /// Writes the answer of a reply, and keeps the reply. The store is unchanged.
     #[inline(always)]
-    pub(crate) fn tell(&mut self, wording: Wording, reply: Reply, answer: &mut Answer)
+    pub fn tell(&mut self, wording: Wording, reply: Reply, answer: &mut Answer)
         ensures { Rests self.old (answer_of reply) (Replied reply wording) answer.new self.new }
     {
         *answer = answer_of(&reply);

@@ -56,6 +56,8 @@ word_number words.Refused = 12
 word_number words.NoRequest = 13
 word_number words.Shown = 14
 word_number words.BadLine = 15
+word_number words.Acted = 16
+word_number words.Begun = 17
 
 -- a word, and zeros
 abbrev pub worded : Word → Answer

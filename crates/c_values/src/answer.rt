@@ -25,6 +25,10 @@ pub enum Word {
     Shown,
     /// The line is no command's.
     BadLine,
+    /// RS took an event.
+    Acted,
+    /// RS began.
+    Begun,
 }
 
 /// An answer. The pieces of its text come beside it, as bytes.
@@ -82,13 +86,15 @@ impl Word {
             Word::NoRequest => 13,
             Word::Shown => 14,
             Word::BadLine => 15,
+            Word::Acted => 16,
+            Word::Begun => 17,
         }
     }
 }
 
 impl Answer {
-    /// A word, and zeros.
-    pub(crate) fn of(word: Word) -> Answer
+    /// An answer with this word, and zeros.
+    pub fn of(word: Word) -> Answer
         ensures { result ≡ worded word }
     {
         Answer {

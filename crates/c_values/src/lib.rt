@@ -15,7 +15,7 @@ mod texts;
 pub use answer::{Answer, Word};
 pub use giving::{Given, give, give_items};
 pub use lines::read_items;
-pub use parts::{caller_of, key_of};
+pub use parts::{caller_of, endpoint, key_of, kind, name_in};
 pub use reading::read_request;
 pub use request::Request;
 pub use telling::{answer_of, no_room, refusal_number};

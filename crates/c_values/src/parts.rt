@@ -15,8 +15,9 @@ pub(crate) fn generation(number: u32) -> Option<Generation>
     Generation::of(number)
 }
 
+/// Returns the endpoint of a generation and a slot. `None` if one of them is out of its range.
 #[tactic(auto, unfolding(crate::specs::Request::endpoint_at))]
-pub(crate) fn endpoint(number: u32, slot: u16) -> Option<Endpoint>
+pub fn endpoint(number: u32, slot: u16) -> Option<Endpoint>
     ensures { result ≡ endpoint_at number slot }
 {
     Endpoint::of(Generation::of(number)?, slot)
@@ -40,8 +41,9 @@ pub(crate) fn version(request: &Request) -> Option<Version>
     })
 }
 
+/// Returns the kind with this number in C: 1 label, 2 number, 4 string, 8 memory. `None` for another number.
 #[tactic(auto, unfolding(crate::specs::Request::kind_at))]
-pub(crate) fn kind(bit: u8) -> Option<Kind>
+pub fn kind(bit: u8) -> Option<Kind>
     ensures { result ≡ kind_at bit }
 {
     match bit {
@@ -53,15 +55,22 @@ pub(crate) fn kind(bit: u8) -> Option<Kind>
     }
 }
 
+/// Returns the name in the first `length` bytes of a block. `None` if they aren't a name, or the block is shorter.
 #[tactic(auto, unfolding(crate::specs::Request::name_at))]
-pub(crate) fn name(request: &Request) -> Option<Name>
-    ensures { result ≡ named_in request.now }
+pub fn name_in(block: &[u8; 64], length: u8) -> Option<Name>
+    ensures { result ≡ name_at block.now length }
 {
-    let length = usize::from(request.name_length);
+    let length = usize::from(length);
     if length > 64 {
         return None;
     }
-    Name::read(&request.name[..length]).ok()
+    Name::read(&block[..length]).ok()
+}
+
+pub(crate) fn name(request: &Request) -> Option<Name>
+    ensures { result ≡ named_in request.now }
+{
+    name_in(&request.name, request.name_length)
 }
 
 /// The key of a request. `None` where it has none.

@@ -1,0 +1,14 @@
+use Rattle.std.proofs.Common.{◌≡◌, length, take, drop}
+use Rattle.std.specs.List.{All}
+use Rattle.c_session.specs.Running.{InOrder, HasNoText}
+use Rattle.c_rs.specs.Requests.{CallsRs}
+use Rattle.c_rs.proofs.calling.RsSession.run.Given as goal
+
+-- the requests so far were asked, no answer had a text, and the places behind the answers are as they were
+abbrev pub invariant-loop-index : goal.invariant-loop-index
+invariant-loop-index l = record {
+  calls : InOrder (CallsRs l.texts) l.initial.self (take l.index l.requests) (take l.index l.answers) l.self;
+  silent : All HasNoText (take l.index l.answers);
+  behind : drop l.index l.answers ≡ drop l.index l.initial.answers;
+  many : length l.answers ≡ length l.initial.answers;
+}
