@@ -29,9 +29,18 @@ unit_or_0 (Some unit) = unit
 -- the settings of a service, and zeros for its state
 abbrev pub with_settings : Service → RsService
 with_settings service = record {
-  until = 0; state = 0; generation = 0; failures = 0; period = service.period; limit = service.limit; slot = 0;
-  service_class = class_number service.class; has_unit = has_unit service.unit; unit = unit_or_0 service.unit;
-  label_length = length service.label; label = block_of service.label;
+  until = 0;
+  state = 0;
+  generation = 0;
+  failures = 0;
+  period = service.period;
+  limit = service.limit;
+  slot = 0;
+  service_class = class_number service.class;
+  has_unit = has_unit service.unit;
+  unit = unit_or_0 service.unit;
+  label_length = length service.label;
+  label = block_of service.label;
 }
 
 -- a service in a state

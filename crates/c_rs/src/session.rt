@@ -63,9 +63,7 @@ impl RsSession {
     pub(crate) fn serve(&mut self, alloc: Global, event: Event, tick: u64, answer: &mut Answer)
         ensures { ServesBy event tick self.old answer.new self.new }
     {
-        let reply = self
-            .session
-            .serve(alloc, &mut self.services, event, tick);
+        let reply = self.session.serve(alloc, &mut self.services, event, tick);
         self.keep(Told::Served(reply), answer);
     }
 

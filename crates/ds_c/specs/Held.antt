@@ -8,7 +8,7 @@ use Rattle.std_alloc.specs.Box.Ownership.{box_owns}
 use mir.Syntax.{Ty}
 use Rattle.std.specs.declared.alloc.Global.{Global}
 use Rattle.std.specs.contracts.impls.GlobalAllocator.TheImpl.{ghosts}
-use Rattle.c_session.specs.contracts.session.Session as session
+use Rattle.c_rs.specs.contracts.session.RsSession as session
 use Rattle.ds_submap.specs.contracts.map.SubMap as map
 
 -- the token by which the heap knows a block, which is the same whoever holds a handle to the heap

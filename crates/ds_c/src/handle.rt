@@ -4,11 +4,11 @@ ghost use Rattle.std.specs.Prelude.{◌≡◌};
 ghost use Rattle.std.specs.declared.option.Option.{Option};
 ghost use Rattle.std.specs.declared.option.Option.TheVariants.{None, Some};
 ghost use Rattle.std.specs.Option.{MatchOption};
-ghost use Rattle.c_session.specs.declared.session.Session.{Session};
+ghost use Rattle.c_rs.specs.declared.session.RsSession.{RsSession};
 ghost use Rattle.ds_c.specs.Held.{holds};
 
 use crate::loose::Loose;
-use c_session::Session;
+use c_rs::RsSession;
 use std::alloc::Global;
 use std::marker::Model;
 use std::mem::replace;
@@ -18,7 +18,7 @@ use std::ptr::null_mut;
 #[repr(C)]
 pub struct Handle {
     at: *mut u8,
-    pub ghost value: { Option Session },
+    pub ghost value: { Option RsSession },
 }
 
 impl Model for Handle {
@@ -34,7 +34,7 @@ impl Handle {
     }
 
     /// The handle of a session.
-    pub(crate) fn of(session: Loose<Session, Global>) -> Handle
+    pub(crate) fn of(session: Loose<RsSession, Global>) -> Handle
         ensures { result.value ≡ Some session.value }
     {
         let Loose { at, alloc: _ } = session;
@@ -42,7 +42,7 @@ impl Handle {
     }
 
     /// The session of a handle, if it is open.
-    pub(crate) fn into_loose(self, alloc: Global) -> Option<Loose<Session, Global>>
+    pub(crate) fn into_loose(self, alloc: Global) -> Option<Loose<RsSession, Global>>
         ensures { MatchOption result (self.value ≡ None) (λ l. self.value ≡ Some l.value) }
     {
         let Handle { at } = self;
@@ -50,14 +50,14 @@ impl Handle {
             None
         } else {
             Some(Loose {
-                at: at as *mut Session,
+                at: at as *mut RsSession,
                 alloc,
             })
         }
     }
 
     /// Takes the session out, and leaves a closed handle.
-    pub(crate) fn take(&mut self, alloc: Global) -> Option<Box<Session>>
+    pub(crate) fn take(&mut self, alloc: Global) -> Option<Box<RsSession>>
         ensures session { MatchOption result (self.old.value ≡ None) (λ b. self.old.value ≡ Some b.value) }
         ensures left { self.new.value ≡ None }
     {
@@ -69,7 +69,7 @@ impl Handle {
     }
 
     /// Puts a session in; one that stood there is dropped.
-    pub(crate) fn put(&mut self, alloc: Global, session: Box<Session>)
+    pub(crate) fn put(&mut self, alloc: Global, session: Box<RsSession>)
         ensures { self.new.value ≡ Some session.value }
     {
         let before = replace(self, Handle::of(Loose::of(session)));

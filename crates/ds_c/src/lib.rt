@@ -10,13 +10,14 @@ mod loose;
 mod map_handle;
 mod maps;
 mod runs;
+mod services;
 mod words;
 
 ghost use Rattle.std.specs.Prelude.{◌≡◌};
 ghost use Rattle.std.specs.declared.option.Option.TheVariants.{None};
 ghost use Rattle.ds_c.specs.Calls.{Opens, Opened, Calls, Fetches, Closes};
 
-use c_session::Session;
+use c_rs::RsSession;
 use c_values::{Answer, Given, Request, refusal_number};
 use ds_machine::Refusal;
 pub use handle::Handle;
@@ -24,6 +25,9 @@ pub use lines::{ds_call_line, ds_text};
 pub use map_handle::MapHandle;
 pub use maps::{ds_map_close, ds_map_label, ds_map_new, ds_map_take};
 pub use runs::ds_run;
+pub use services::{
+    ds_rs_action, ds_rs_due, ds_rs_event, ds_rs_may_publish, ds_rs_next, ds_rs_open, ds_rs_service,
+};
 use std::alloc::Global;
 use words::{DONE, IS_CLOSED, IS_OPEN};
 
@@ -52,7 +56,7 @@ fn open_in(alloc: Global, handle: &mut Handle, incarnation: u64, first: u64, rin
     requires { handle.old.value ≡ None }
     ensures { Opened incarnation first ring result handle.new.value }
 {
-    match Session::open(alloc, incarnation, first, ring) {
+    match RsSession::open(alloc, incarnation, first, ring) {
         Ok(session) => match Box::new(alloc, session) {
             Ok(session) => {
                 handle.put(alloc, session);

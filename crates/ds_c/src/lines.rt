@@ -5,7 +5,6 @@ ghost use Rattle.ds_c.specs.Calls.{CallsByLine, FetchesText};
 
 use crate::handle::Handle;
 use crate::words::{DONE, IS_CLOSED};
-use c_line::{call_line, give_text};
 use c_values::{Answer, Given};
 use std::alloc::Global;
 
@@ -22,7 +21,7 @@ pub extern "C" fn ds_call_line(
     match handle.take(alloc) {
         None => IS_CLOSED,
         Some(mut session) => {
-            call_line(alloc, &mut session, line, answer);
+            session.call_line(alloc, line, answer);
             handle.put(alloc, session);
             DONE
         }
@@ -45,7 +44,7 @@ pub extern "C" fn ds_text(
     match handle.take(alloc) {
         None => IS_CLOSED,
         Some(session) => {
-            *given = give_text(alloc, &session, first, room);
+            *given = session.give_text(alloc, first, room);
             handle.put(alloc, session);
             DONE
         }
