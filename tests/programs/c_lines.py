@@ -7,6 +7,7 @@ import model
 
 WHOLE, TOO_SMALL = 0, 1
 ASKED = {b"offer", b"show", b"all", *c_calls.COMMANDS} - {b"merge"}
+SERVICES = {b"settings", b"service", b"death", b"beat", b"tick"}
 
 
 class Session(c_calls.Session):
@@ -54,15 +55,43 @@ def is_served(script):
     return all(line.split(b" ")[0] in ASKED for line in script)
 
 
+def is_supervised(script):
+    """Each line is a command of one store or of RS, and some are of RS."""
+    words = {line.split(b" ")[0] for line in script}
+    return words <= ASKED | SERVICES and not words.isdisjoint(SERVICES) and not is_ended_early(script)
+
+
+def is_ended_early(script):
+    """Some line can't be read, so that a script ends there."""
+    try:
+        return not all(model.read(line, at == 0) for at, line in enumerate(script))
+    except model.BadLine:
+        return True
+
+
+def play(library, room, script, wanted):
+    """A store with RS answers the lines of a script as the script prints."""
+    store = Session(library, room)
+    store.open(1, 0, 256)
+    given = []
+    for line in script:
+        store.call_line(line)
+        given.append(store.text())
+    if store.close() != 0:
+        raise AssertionError("it wasn't open at the end")
+    if b"".join(given) != wanted:
+        raise AssertionError(f"it printed {b''.join(given)[:600]}, and not {wanted[:600]}")
+
+
 def read(library, script):
-    """Each line of a script is read as the model reads it, by a store that holds nothing: as a command of one store, as another, or as none."""
+    """Each line of a script is read as the model reads it, by a store that holds nothing: as a command of it or RS, as another, or as none."""
     for line in sorted(set(script)):
         store = Session(library, 4096)
         store.open(1, 0, 256)
         answer = store.call_line(line)
         try:
             command = model.read(line, True)[0]
-            wanted = None if command in ASKED else ("no_request", 0)
+            wanted = None if command in ASKED | SERVICES else ("no_request", 0)
         except model.BadLine as bad:
             wanted = "bad_line", bad.place
         given = c_calls.WORDS[answer.word], answer.count

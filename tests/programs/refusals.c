@@ -37,14 +37,14 @@ static void ask(const char *line) {
 }
 
 static void numbers(void) {
-    for (uint32_t number = 0; number <= DS_ISOPEN + 1; number++) {
+    for (uint32_t number = 0; number <= DS_SHAREDNAME + 1; number++) {
         printf("%" PRIu32 " %s\n", number, ds_refusal_text(number));
     }
     printf("%" PRIu32 " %s\n", UINT32_MAX, ds_refusal_text(UINT32_MAX));
 }
 
 static void words(void) {
-    for (uint32_t number = 0; number <= DS_BADLINE + 1; number++) {
+    for (uint32_t number = 0; number <= DS_BEGUN + 1; number++) {
         printf("word %" PRIu32 " %s\n", number, ds_word_text(number));
     }
     printf("the library's version is %s\n", strcmp(ds_version(), DS_VERSION) ? "another one" : "the header's");
@@ -95,6 +95,41 @@ static void worn(void) {
     ask("publish 0/2 new eth0 label 3.0 = 3/16");
 }
 
+/* Each fault of a settings text, and each of an event. */
+static void services(void) {
+    ask("service up disk 0");
+    ask("settings [[service");
+    ask("settings services = []");
+    ask("settings service = [{label = \"disk\", class = \"block\"}]");
+    ask("settings slots = 0");
+    ask("settings service = [{label = \"a\", class = \"server\"}, {label = \"a\", class = \"server\"}]");
+    ask("settings service = [{label = \"a\", class = \"block\", unit = 3}, {label = \"b\", class = \"character\", unit = 3}]");
+    ask("settings service = [{label = \"a\", class = \"server\", publishes = [\"x\", \"x\"]}]");
+    ask("settings service = [{label = \"disk\", class = \"block\", unit = 3}]");
+    ask("settings service = []");
+    ask("service down disk 4");
+    ask("service up disk 4");
+    ask("service up disk 4");
+    ask("service down disk 3");
+    ask("tick 4611686018427387905");
+    ask("death 1/16 7 4");
+    ask("beat 1/17 4");
+    ask("publish 0/2 over disk label 2.0 = 2/16");
+}
+
+/* RS with its last generation, and RS with one slot for two services. */
+static void spent(void) {
+    static const char few[] = "slots = 1\n[[service]]\nlabel = \"a\"\nclass = \"server\"\n[[service]]\nlabel = \"b\"\nclass = \"server\"\n";
+    struct ds_settings_fault fault;
+    printf("a start of generation 0: %s\n", ds_refusal_text(ds_rs_open(&store, few, sizeof few - 1, 0, 16, &fault)));
+    printf("the last generation:%s\n", ds_refusal_text(ds_rs_open(&store, few, sizeof few - 1, 2097152, 16, &fault)));
+    ask("service up a 0");
+    reopen(0, RING);
+    printf("one slot:%s\n", ds_refusal_text(ds_rs_open(&store, few, sizeof few - 1, 1, 16, &fault)));
+    ask("service up a 0");
+    ask("service up b 0");
+}
+
 static void calls(void) {
     struct ds_map map = DS_CLOSED;
     printf("open: %s\n", ds_refusal_text(ds_open(&store, 1, 0, RING)));
@@ -116,6 +151,10 @@ int main(void) {
     full();
     reopen(last_position, RING);
     worn();
+    reopen(0, RING);
+    services();
+    reopen(0, RING);
+    spent();
     calls();
     return 0;
 }
