@@ -20,8 +20,8 @@ use Rattle.c_rs.specs.declared.session.Told.{Told}
 use Rattle.c_rs.specs.declared.session.Told.TheVariants.{Served}
 
 -- the bytes of a name at the front of a block of 64, and zeros
-abbrev pub block_of : List ℕ → List ℕ
-block_of name = name ++ replicate (64 - length name) 0
+abbrev pub label_block : List ℕ → List ℕ
+label_block name = name ++ replicate (64 - length name) 0
 
 -- an action of a kind, and zeros
 abbrev pub blank : ℕ → RsAction
@@ -32,7 +32,7 @@ abbrev pub with_endpoint : RsAction → EndpointRecord → RsAction
 with_endpoint action endpoint = record action { generation = endpoint.generation; slot = endpoint.slot }
 
 abbrev pub with_label : RsAction → List ℕ → RsAction
-with_label action label = record action { label_length = length label; label = block_of label }
+with_label action label = record action { label_length = length label; label = label_block label }
 
 -- the slot of a label that is put, and whether the label is taken back
 abbrev pub slot_in : Body → ℕ

@@ -12,11 +12,11 @@ use Rattle.c_rs.specs.declared.session.RsSession.{RsSession}
 use Rattle.c_rs.specs.Serving.{SessionDoes, ServesBy}
 
 -- the event of a kind, 0 to 3, and a label
-abbrev pub labelled : ℕ → List ℕ → Event
-labelled kind label = cond (kind == 0) (Up label) (cond (kind == 1) (Stop label) (cond (kind == 2) (Refresh label) (Restart label)))
+abbrev pub event_of_label : ℕ → List ℕ → Event
+event_of_label kind label = cond (kind == 0) (Up label) (cond (kind == 1) (Stop label) (cond (kind == 2) (Refresh label) (Restart label)))
 
 unfoldable pub of_label : RsEvent → Option Event
-of_label e = option_map (labelled e.kind) (name_at e.label e.label_length)
+of_label e = option_map (event_of_label e.kind) (name_at e.label e.label_length)
 
 -- the event of a kind, 4 or 5, and an instance
 abbrev pub of_endpoint : ℕ → ℕ → EndpointRecord → Event

@@ -1,6 +1,7 @@
 pub mod Telling
 pub mod Serving
 pub mod Requests
+pub mod Running
 pub mod Lines
 pub mod Opening
 pub mod Event

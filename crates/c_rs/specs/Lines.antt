@@ -24,23 +24,23 @@ abbrev pub AsksUnlessBarred : Bool → ScriptCommand → RsSession → Answer �
 AsksUnlessBarred true command old answer new = Denies old answer new
 AsksUnlessBarred false command old answer new = SessionDoes (lines.CarriesOut command) old answer new
 
-abbrev pub AsksStore : ScriptCommand → RsSession → Answer → RsSession → Type 0
-AsksStore command old answer new = AsksUnlessBarred (is_some old.services && is_rs_line command) command old answer new
+abbrev pub AsksByLine : ScriptCommand → RsSession → Answer → RsSession → Type 0
+AsksByLine command old answer new = AsksUnlessBarred (is_some old.services && is_rs_line command) command old answer new
 
 -- settings open RS, and the other lines that are no events are the store's
 abbrev pub PassesOn : ScriptCommand → RsSession → Answer → RsSession → Type 0
 PassesOn (Settings text) old answer new = BeginsBy text old answer new
-PassesOn command old answer new = AsksStore command old answer new
+PassesOn command old answer new = AsksByLine command old answer new
 
 -- the command is carried out
-abbrev pub CarriesOut : ScriptCommand → RsSession → Answer → RsSession → Type 0
-CarriesOut command old answer new = MatchOption (service_event_of command) (PassesOn command old answer new) (λ event. ServesBy event.0 event.1 old answer new)
+abbrev pub CarriesOutCommand : ScriptCommand → RsSession → Answer → RsSession → Type 0
+CarriesOutCommand command old answer new = MatchOption (service_event_of command) (PassesOn command old answer new) (λ event. ServesBy event.0 event.1 old answer new)
 
 -- the bytes are the line of a command, which is carried out
 pub record CarriesOutLine (bytes : List ℕ) (old : RsSession) (answer : Answer) (new : RsSession) : Type 0 where
   pub command : ScriptCommand
   pub stands : IsCommandIn bytes command
-  pub carried : CarriesOut command old answer new
+  pub carried : CarriesOutCommand command old answer new
 
 -- they are no command's line, from the place on that is answered
 abbrev pub LineIsBad : List ℕ → RsSession → Answer → RsSession → Type 0

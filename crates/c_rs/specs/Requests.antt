@@ -3,9 +3,9 @@ use Rattle.std.specs.Prelude.{◌≡◌, ℕ, ◌==◌, Bool, true, false, ◌&&
 use Rattle.rs_core.specs.State.{RsRecord}
 use Rattle.c_values.specs.declared.request.Request.{Request}
 use Rattle.c_values.specs.declared.answer.Answer.{Answer}
+use Rattle.c_values.specs.Asked.{request_text}
 use Rattle.c_session.specs.declared.session.Session.{Session}
-use Rattle.c_session.specs.Called.{pieces_in as session_pieces}
-use Rattle.c_session.specs.Running.{CalledIn, Runs}
+use Rattle.c_session.specs.Called.{Called, pieces_in as session_pieces}
 use Rattle.c_rs.specs.declared.session.RsSession.{RsSession}
 use Rattle.c_rs.specs.declared.session.Told.{Told}
 use Rattle.c_rs.specs.Serving.{SessionDoes, Denies}
@@ -15,25 +15,21 @@ abbrev pub is_rs_request : Request → Bool
 is_rs_request r = nat_le r.command 2 && (r.generation == 0 && r.slot == 2)
 
 -- whether the request is refused, since RS alone sends such requests once it is open
-abbrev pub is_barred : Option RsRecord → Request → Bool
-is_barred services r = is_some services && is_rs_request r
+abbrev pub is_for_rs_alone : Option RsRecord → Request → Bool
+is_for_rs_alone services r = is_some services && is_rs_request r
 
 -- a barred request is denied; any other one is a session's
 abbrev pub CallsUnlessBarred : Bool → List ℕ → RsSession → Request → Answer → RsSession → Type 0
 CallsUnlessBarred true texts old r answer new = Denies old answer new
-CallsUnlessBarred false texts old r answer new = SessionDoes (λ s a t. CalledIn texts s r a t) old answer new
+CallsUnlessBarred false texts old r answer new = SessionDoes (λ s a t. Called s r (request_text r texts) a t) old answer new
 
 abbrev pub CallsRs : List ℕ → RsSession → Request → Answer → RsSession → Type 0
-CallsRs texts old r answer new = CallsUnlessBarred (is_barred old.services r) texts old r answer new
-
--- requests in order, each so
-abbrev pub RunsRs : List ℕ → RsSession → List Request → List Answer → ℕ → List Answer → RsSession → Type 0
-RunsRs texts old requests place done answers new = Runs (CallsRs texts) old requests place done answers new
+CallsRs texts old r answer new = CallsUnlessBarred (is_for_rs_alone old.services r) texts old r answer new
 
 -- the pieces of the last answer: one of RS has none
 abbrev pub pieces_if : Session → Option Told → List (List ℕ)
 pieces_if session None = session_pieces session.last
 pieces_if session (Some what) = []
 
-abbrev pub pieces_in : RsSession → List (List ℕ)
-pieces_in s = pieces_if s.session s.told
+abbrev pub answer_pieces : RsSession → List (List ℕ)
+answer_pieces s = pieces_if s.session s.told

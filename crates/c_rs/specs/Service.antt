@@ -8,7 +8,7 @@ use Rattle.rs_core.specs.State.{RsRecord}
 use Rattle.rs_core.specs.declared.state.State.{State}
 use Rattle.rs_core.specs.declared.state.State.TheVariants.{Down, Up, Waiting, GaveUp}
 use Rattle.c_rs.specs.declared.service.RsService.{RsService}
-use Rattle.c_rs.specs.Action.{block_of}
+use Rattle.c_rs.specs.Action.{label_block}
 
 -- the number of a class
 abbrev pub class_number : Class → ℕ
@@ -40,7 +40,7 @@ with_settings service = record {
   has_unit = has_unit service.unit;
   unit = unit_or_0 service.unit;
   label_length = length service.label;
-  label = block_of service.label;
+  label = label_block service.label;
 }
 
 -- a service in a state
@@ -51,7 +51,7 @@ told_service service (Waiting p) = record (with_settings service) { state = 2; u
 told_service service GaveUp = record (with_settings service) { state = 3 }
 
 -- the service with the index: none past the last one, or if RS isn't open
-abbrev pub service_in : Option RsRecord → ℕ → Option RsService
-service_in None index = None
-service_in (Some rs) index =
+abbrev pub service_row : Option RsRecord → ℕ → Option RsService
+service_row None index = None
+service_row (Some rs) index =
     option_and_then (λ service. option_map (told_service service) (slice_get rs.states index)) (slice_get rs.settings.services index)

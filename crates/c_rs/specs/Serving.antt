@@ -19,11 +19,11 @@ use Rattle.c_session.specs.Called.{Rests}
 use Rattle.c_rs.specs.declared.session.RsSession.{RsSession}
 use Rattle.c_rs.specs.declared.session.Told.{Told}
 use Rattle.c_rs.specs.declared.session.Told.TheVariants.{Served, BadSettings}
-use Rattle.c_rs.specs.Telling.{told}
+use Rattle.c_rs.specs.Telling.{told_answer}
 
 -- an answer of RS is written and kept, and nothing else changes
-pub record Keeps (what : Told) (old : RsSession) (answer : Answer) (new : RsSession) : Type 0 where
-  pub told_is : answer ≡ told what
+pub record KeepsAnswer (what : Told) (old : RsSession) (answer : Answer) (new : RsSession) : Type 0 where
+  pub told_is : answer ≡ told_answer what
   pub kept : new.told ≡ Some what
   pub services : new.services ≡ old.services
   pub session : new.session ≡ old.session
@@ -32,7 +32,7 @@ pub record Keeps (what : Told) (old : RsSession) (answer : Answer) (new : RsSess
 pub record ServesBy (event : Event) (tick : ℕ) (old : RsSession) (answer : Answer) (new : RsSession) : Type 0 where
   pub reply : RsReply
   pub served : EventTurn event tick old.services old.session.store reply new.services new.session.store
-  pub told_is : answer ≡ told (Served reply)
+  pub told_is : answer ≡ told_answer (Served reply)
   pub kept : new.told ≡ Some (Served reply)
 
 -- the session changes so, and RS is unchanged
@@ -64,6 +64,6 @@ BeginsIf text (Some rs) what new = (what ≡ Served Exists) × (new ≡ Some rs)
 pub record BeginsBy (text : List ℕ) (old : RsSession) (answer : Answer) (new : RsSession) : Type 0 where
   pub what : Told
   pub begins : BeginsIf text old.services what new.services
-  pub told_is : answer ≡ told what
+  pub told_is : answer ≡ told_answer what
   pub kept : new.told ≡ Some what
   pub session : new.session ≡ old.session

@@ -69,9 +69,9 @@ told_served (replies.Acted actions given service) =
     record (worded words.Acted) { count = action_count actions service; owed = to_le_bytes w128 (owed_in (replies.Acted actions given service)) }
 told_served (replies.Refused fault) = told_cause (rs_fault_number fault)
 
-abbrev pub told : Told → Answer
-told (Served reply) = told_served reply
-told (BadSettings cause) = told_cause (cause_number cause)
+abbrev pub told_answer : Told → Answer
+told_answer (Served reply) = told_served reply
+told_answer (BadSettings cause) = told_cause (cause_number cause)
 
 -- the word of a beginning: 0 for one that succeeds, else the number of the refusal; that of a start that is out of its range is BadFirst
 abbrev pub begun_word : RsReply → ℕ

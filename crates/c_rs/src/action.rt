@@ -2,7 +2,7 @@
 
 ghost use Rattle.std.specs.Prelude.{◌≡◌};
 ghost use Rattle.std.specs.Option.{option_copied};
-ghost use Rattle.c_rs.specs.Action.{action_at, action_in, blank, block_of, given_up_action, told_action, told_change, told_floor, told_part, with_endpoint, with_label};
+ghost use Rattle.c_rs.specs.Action.{action_at, action_in, blank, given_up_action, label_block, told_action, told_change, told_floor, told_part, with_endpoint, with_label};
 
 use crate::session::{RsSession, Told};
 use c_values::answer_of;
@@ -174,7 +174,7 @@ fn with_label(action: RsAction, label: &Name) -> RsAction
 
 /// Returns a block with the bytes of a name, and zeros after them.
 pub(crate) fn block_of(name: &Name) -> [u8; 64]
-    ensures { result ≡ block_of name.now }
+    ensures { result ≡ label_block name.now }
 {
     let bytes = name.bytes();
     let mut block = [0; 64];

@@ -1,8 +1,8 @@
-//! Requests, one and in order, and the pieces of an answer.
+//! Requests, and the pieces of an answer.
 
 ghost use Rattle.std.specs.Prelude.{◌≡◌, drop};
 ghost use Rattle.c_values.specs.Pieces.{GivesPieces};
-ghost use Rattle.c_rs.specs.Requests.{CallsRs, RunsRs, is_barred, is_rs_request, pieces_in};
+ghost use Rattle.c_rs.specs.Requests.{CallsRs, is_for_rs_alone, is_rs_request, answer_pieces};
 
 use crate::session::RsSession;
 use c_values::{Answer, Given, Request};
@@ -23,42 +23,15 @@ impl RsSession {
 
     // Whether RS is open, and the request is in its name.
     fn is_barred(&self, request: &Request) -> bool
-        ensures { result ≡ is_barred self.now.services request.now }
+        ensures { result ≡ is_for_rs_alone self.now.services request.now }
     {
         self.services.is_some() && is_rs_request(request)
-    }
-
-    /// Carries out requests in order, each as `call` does, and writes their answers. It ends after the first answer that has a text, so
-    /// that this can be fetched, after the last request, or when `answers` is full. Returns how many were carried out.
-    pub fn run(
-        &mut self,
-        alloc: Global,
-        requests: &[Request],
-        texts: &[u8],
-        answers: &mut [Answer],
-    ) -> usize
-        ensures { RunsRs texts.now self.old requests.now answers.old result answers.new self.new }
-    {
-        let count = if requests.len() < answers.len() {
-            requests.len()
-        } else {
-            answers.len()
-        };
-        for index in 0..count {
-            let mut answer = Answer::no_request();
-            self.call(alloc, &requests[index], texts, &mut answer);
-            answers[index] = answer;
-            if answer.pieces > 0 {
-                return index + 1;
-            }
-        }
-        count
     }
 
     /// Writes the text of the last answer to a buffer, from the piece at an index on: as many whole pieces as fit. An answer of RS has
     /// none.
     pub fn give(&self, alloc: Global, first: usize, room: &mut [u8]) -> Given
-        ensures { GivesPieces (drop first (pieces_in self.now)) room.old result room.new }
+        ensures { GivesPieces (drop first (answer_pieces self.now)) room.old result room.new }
     {
         match &self.told {
             None => self.session.give(alloc, first, room),

@@ -1,7 +1,7 @@
 //! Lines of a script.
 
 ghost use Rattle.std.specs.Prelude.{◌≡◌};
-ghost use Rattle.c_rs.specs.Lines.{AsksStore, CallsRsLine, CarriesOut, PassesOn, is_rs_line};
+ghost use Rattle.c_rs.specs.Lines.{AsksByLine, CallsRsLine, CarriesOutCommand, PassesOn, is_rs_line};
 ghost use Rattle.c_rs.specs.Serving.{BeginsBy};
 
 use crate::session::{RsSession, Told};
@@ -36,7 +36,7 @@ impl RsSession {
 
     // Carries out a command.
     fn carry(&mut self, alloc: Global, command: ScriptCommand, answer: &mut Answer)
-        ensures { CarriesOut command self.old answer.new self.new }
+        ensures { CarriesOutCommand command self.old answer.new self.new }
     {
         match command.service_event() {
             Some((event, tick)) => self.serve(alloc, event, tick, answer),
@@ -56,7 +56,7 @@ impl RsSession {
 
     // Carries out a command of the store.
     fn ask_store(&mut self, alloc: Global, command: ScriptCommand, answer: &mut Answer)
-        ensures { AsksStore command self.old answer.new self.new }
+        ensures { AsksByLine command self.old answer.new self.new }
     {
         if self.services.is_some() && is_rs_line(&command) {
             return self.deny(answer);

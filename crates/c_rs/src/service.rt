@@ -1,7 +1,7 @@
 //! Services, as C has them.
 
 ghost use Rattle.std.specs.Prelude.{◌≡◌};
-ghost use Rattle.c_rs.specs.Service.{class_number, service_in, told_service, with_settings};
+ghost use Rattle.c_rs.specs.Service.{class_number, service_row, told_service, with_settings};
 
 use crate::action::block_of;
 use crate::session::RsSession;
@@ -37,7 +37,7 @@ pub struct RsService {
 impl RsSession {
     /// Returns what RS knows of the service at an index of the settings, from 0. `None` past the end, or if RS isn't open.
     pub fn service(&self, index: usize) -> Option<RsService>
-        ensures { result ≡ service_in self.now.services index }
+        ensures { result ≡ service_row self.now.services index }
     {
         let Some(rs) = &self.services else {
             return None;

@@ -8,7 +8,7 @@ ghost use Rattle.ds_names.specs.Limits.{last_place};
 ghost use Rattle.ds_content.specs.Stands.{ContentStands};
 ghost use Rattle.ds_store.specs.Opening.{IsOpenRefusal};
 ghost use Rattle.c_session.specs.declared.last.Last.TheVariants.{Nothing};
-ghost use Rattle.c_rs.specs.Serving.{Denies, Keeps, ServesBy};
+ghost use Rattle.c_rs.specs.Serving.{Denies, KeepsAnswer, ServesBy};
 
 use crate::telling::told;
 use c_session::Session;
@@ -69,7 +69,7 @@ impl RsSession {
 
     /// Writes an answer of RS, and keeps it.
     pub(crate) fn keep(&mut self, what: Told, answer: &mut Answer)
-        ensures { Keeps what self.old answer.new self.new }
+        ensures { KeepsAnswer what self.old answer.new self.new }
     {
         *answer = told(&what);
         self.told = Some(what);

@@ -1,7 +1,7 @@
 //! Answers of RS, in numbers.
 
 ghost use Rattle.std.specs.Prelude.{◌≡◌};
-ghost use Rattle.c_rs.specs.Telling.{action_count, begun_word, cause_number, rs_fault_number, told, told_cause, told_served, told_start_fault};
+ghost use Rattle.c_rs.specs.Telling.{action_count, begun_word, cause_number, rs_fault_number, told_answer, told_cause, told_served, told_start_fault};
 
 use crate::session::Told;
 use c_values::{Answer, Word, answer_of, no_room};
@@ -12,7 +12,7 @@ use rs_store::RsReply;
 
 /// Returns the answer.
 pub(crate) fn told(what: &Told) -> Answer
-    ensures { result ≡ told what.now }
+    ensures { result ≡ told_answer what.now }
 {
     match what {
         Told::Served(reply) => told_served(reply),

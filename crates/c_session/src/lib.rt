@@ -4,10 +4,8 @@
 mod calling;
 mod fast;
 mod last;
-mod running;
 mod serving;
 mod session;
 
 pub use last::Last;
-pub use running::calls_are_turns;
 pub use session::Session;

@@ -13,7 +13,8 @@ use Rattle.c_values.specs.Pieces.{GivesPieces}
 use Rattle.c_session.specs.declared.last.Last.TheVariants.{Nothing}
 use Rattle.c_line.specs.Text.{GivesText}
 use Rattle.c_rs.specs.declared.session.RsSession.{RsSession}
-use Rattle.c_rs.specs.Requests.{CallsRs, RunsRs, pieces_in}
+use Rattle.c_rs.specs.Requests.{CallsRs, answer_pieces}
+use Rattle.c_rs.specs.Running.{RunsCalls}
 use Rattle.c_rs.specs.Lines.{CallsRsLine}
 use Rattle.c_rs.specs.Text.{text_in}
 
@@ -56,12 +57,12 @@ Calls (Some old) r texts before word answer new = AskedOf old r texts word answe
 -- a call that fetches the text of the last answer: a closed handle gives nothing
 abbrev pub Fetches : Option RsSession → ℕ → List ℕ → Given → ℕ → List ℕ → Given → Type 0
 Fetches None first old before word room given = (word ≡ is_closed) × (room ≡ old) × (given ≡ before)
-Fetches (Some s) first old before word room given = (word ≡ done) × GivesPieces (drop first (pieces_in s)) old given room
+Fetches (Some s) first old before word room given = (word ≡ done) × GivesPieces (drop first (answer_pieces s)) old given room
 
 -- requests were asked in turn of what an open handle holds
 abbrev pub RanOf : RsSession → List Request → List ℕ → List Answer → ℕ → List Answer → ℕ → Option RsSession → Type 0
 RanOf old rs texts place word answers count None = ⊥
-RanOf old rs texts place word answers count (Some new) = (word ≡ done) × RunsRs texts old rs place count answers new
+RanOf old rs texts place word answers count (Some new) = (word ≡ done) × RunsCalls old rs texts place count answers new
 
 -- a call that asks requests in turn, and tells how many: a closed handle, and the places, stay as they are
 abbrev pub RunsInTurn : Option RsSession → List Request → List ℕ → List Answer → ℕ → ℕ → List Answer → ℕ → Option RsSession → Type 0

@@ -11,7 +11,7 @@ use Rattle.c_rs.specs.Action.{action_in}
 use Rattle.c_rs.specs.Event.{ServesEvent}
 use Rattle.c_rs.specs.Opening.{OpensRs}
 use Rattle.c_rs.specs.Reading.{ReadsDue, may_publish_in}
-use Rattle.c_rs.specs.Service.{service_in}
+use Rattle.c_rs.specs.Service.{service_row}
 use Rattle.ds_c.specs.Calls.{done, is_closed}
 
 abbrev pub not_allowed : ℕ
@@ -56,7 +56,7 @@ abbrev pub ReadsAction : Option RsSession → ℕ → RsAction → ℕ → RsAct
 ReadsAction held index before word action = ReadsOf (λ s. action_in s index) held before word action
 
 abbrev pub ReadsService : Option RsSession → ℕ → RsService → ℕ → RsService → Type 0
-ReadsService held index before word service = ReadsOf (λ s. service_in s.services index) held before word service
+ReadsService held index before word service = ReadsOf (λ s. service_row s.services index) held before word service
 
 abbrev pub ReadsNext : Option RsSession → ℕ → ℕ → ℕ → Type 0
 ReadsNext held before word generation = ReadsOf (λ s. option_map (λ rs. rs.next) s.services) held before word generation

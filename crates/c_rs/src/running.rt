@@ -1,15 +1,14 @@
-//! Requests one after the other.
+//! Requests in order.
 
-ghost use Rattle.c_session.specs.Running.{CallsAreTurns, RunsCalls};
+ghost use Rattle.c_rs.specs.Running.{CallsAreTurns, RunsCalls};
 
-use crate::session::Session;
+use crate::session::RsSession;
 use c_values::{Answer, Request};
 use std::alloc::Global;
 
-impl Session {
-    /// Lets the store answer requests, one after the other, each as `call` does, and writes their answers. It ends behind the first
-    /// answer that has a text, so that this can be fetched, or where there are no more requests, or no more places for answers. It
-    /// gives how many were answered; the others weren't asked.
+impl RsSession {
+    /// Carries out requests in order, each as `call` does, and writes their answers. It ends after the first answer that has a text, so
+    /// that this can be fetched, after the last request, or when `answers` is full. Returns how many were carried out.
     pub fn run(
         &mut self,
         alloc: Global,
@@ -36,7 +35,7 @@ impl Session {
     }
 }
 
-/// A law: requests that are asked in turn are turns of the store, one for each that stands for a command.
+/// The law of requests in order: they are turns of the store, one for each that is a command and isn't refused for RS's name.
 pub fn calls_are_turns()
     ensures { CallsAreTurns }
 {}
