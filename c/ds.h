@@ -8,7 +8,7 @@
  *
  * The caller keeps these right, since no call can check them:
  *   - a handle begins as DS_CLOSED, and only these calls read, write or copy it;
- *   - the address of a handle, a request, an answer or a struct ds_given is never NULL; that of a buffer of length 0 may be NULL;
+ *   - the address of a handle, a struct or a number is never NULL; that of a buffer of length 0 may be NULL;
  *   - a length is at most that of its buffer, and the buffers of one call don't overlap;
  *   - at most one thread at a time makes a call on a handle.
  * Any other misuse is answered by a word, and changes nothing.
