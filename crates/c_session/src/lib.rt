@@ -1,4 +1,4 @@
-//! A store that a caller asks, one thing after the other, and what it gave last, whose text is fetched in pieces.
+//! A store, and its last answer, whose text is fetched in pieces.
 #![tactic(auto)]
 
 mod calling;

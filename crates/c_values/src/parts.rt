@@ -1,4 +1,4 @@
-//! The parts of a request that take no memory, and the commands of such parts alone.
+//! The parts of a request that take no memory, and the commands that have only such parts.
 
 ghost use Rattle.std.specs.Prelude.{◌≡◌};
 ghost use Rattle.c_values.specs.Request.{generation_at, endpoint_at, caller_of, version_at, versioned, kind_at, name_at, named_in, key_of};
@@ -23,7 +23,7 @@ pub fn endpoint(number: u32, slot: u16) -> Option<Endpoint>
     Endpoint::of(Generation::of(number)?, slot)
 }
 
-/// The endpoint of a request, which is its caller's, or the one whose name a NameOf asks for. `None` where it has none.
+/// Returns the endpoint of a request: its caller's, or that of a NameOf. `None` if it is out of range.
 pub fn caller_of(request: &Request) -> Option<Endpoint>
     ensures { result ≡ caller_of request.now }
 {
@@ -73,7 +73,7 @@ pub(crate) fn name(request: &Request) -> Option<Name>
     name_in(&request.name, request.name_length)
 }
 
-/// The key of a request. `None` where it has none.
+/// Returns the key of a request. `None` if its name or its kind isn't one.
 #[tactic(auto, unfolding(crate::specs::Request::key_of))]
 pub fn key_of(request: &Request) -> Option<Key>
     ensures { result ≡ key_of request.now }
@@ -83,7 +83,7 @@ pub fn key_of(request: &Request) -> Option<Key>
     Some(Key { name, kind })
 }
 
-/// Behind which key a Page begins: none, where it is the first one.
+/// Returns the key after which a Page begins, and an inner `None` for the first page.
 #[tactic(auto, unfolding(crate::specs::Request::behind_of))]
 pub(crate) fn behind(request: &Request) -> Option<Option<Key>>
     ensures { result ≡ behind_of request.now }

@@ -1,4 +1,4 @@
-//! The handle: what C keeps from call to call. A struct that crosses to C has no parameter, so a map has its own handle.
+//! The handle of a store, which C keeps. A struct that crosses to C has no type parameter, so a map has a handle of its own.
 
 ghost use Rattle.std.specs.Prelude.{◌≡◌};
 ghost use Rattle.std.specs.declared.option.Option.{Option};
@@ -14,7 +14,7 @@ use std::marker::Model;
 use std::mem::replace;
 use std::ptr::null_mut;
 
-/// A session that C holds, as one pointer: null where the handle is closed.
+/// A pointer to a session, which is null if the handle is closed.
 #[repr(C)]
 pub struct Handle {
     at: *mut u8,
@@ -26,14 +26,14 @@ impl Model for Handle {
 }
 
 impl Handle {
-    /// A closed handle.
+    /// Returns a closed handle.
     pub(crate) fn closed() -> Handle
         ensures { result.value ≡ None }
     {
         Handle { at: null_mut() }
     }
 
-    /// The handle of a session.
+    /// Returns the handle of a session.
     pub(crate) fn of(session: Loose<RsSession, Global>) -> Handle
         ensures { result.value ≡ Some session.value }
     {
@@ -41,7 +41,7 @@ impl Handle {
         Handle { at: at as *mut u8 }
     }
 
-    /// The session of a handle, if it is open.
+    /// Returns the session of a handle. `None` if it is closed.
     pub(crate) fn into_loose(self, alloc: Global) -> Option<Loose<RsSession, Global>>
         ensures { MatchOption result (self.value ≡ None) (λ l. self.value ≡ Some l.value) }
     {
@@ -56,7 +56,7 @@ impl Handle {
         }
     }
 
-    /// Takes the session out, and leaves a closed handle.
+    /// Takes the session out, which closes the handle.
     pub(crate) fn take(&mut self, alloc: Global) -> Option<Box<RsSession>>
         ensures session { MatchOption result (self.old.value ≡ None) (λ b. self.old.value ≡ Some b.value) }
         ensures left { self.new.value ≡ None }
@@ -68,7 +68,7 @@ impl Handle {
         }
     }
 
-    /// Puts a session in; one that stood there is dropped.
+    /// Puts a session in, and drops the one that was there.
     pub(crate) fn put(&mut self, alloc: Global, session: Box<RsSession>)
         ensures { self.new.value ≡ Some session.value }
     {

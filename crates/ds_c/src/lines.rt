@@ -1,4 +1,4 @@
-//! The calls by lines of a script.
+//! The calls with lines of a script.
 
 ghost use Rattle.std.specs.Prelude.{◌≡◌};
 ghost use Rattle.ds_c.specs.Calls.{CallsByLine, FetchesText};
@@ -8,7 +8,7 @@ use crate::words::{DONE, IS_CLOSED};
 use c_values::{Answer, Given};
 use std::alloc::Global;
 
-/// Carries out the command that stands on a line of a script. The text of the answer is kept for `ds_text` and `ds_items`.
+/// Carries out the command on a line of a script. The text of the answer is kept for `ds_text` and `ds_items`.
 #[unsafe(no_mangle)]
 pub extern "C" fn ds_call_line(
     alloc: Global,
@@ -28,8 +28,8 @@ pub extern "C" fn ds_call_line(
     }
 }
 
-/// Gives `room` the text of the last answer, as a script prints it, from a byte on: as much as fits. `given` says how many bytes
-/// these are, how many the whole text has, and why no more. What doesn't fit is there for the next such call.
+/// Copies the text of the last answer to `room`, as a script prints it, from the byte at `first` on: as many bytes as fit. `given` has
+/// their number, the length of the whole text, and why it stopped. The rest is kept for the next such call.
 #[unsafe(no_mangle)]
 pub extern "C" fn ds_text(
     alloc: Global,

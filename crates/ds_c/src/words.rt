@@ -1,4 +1,4 @@
-// The words of calls, beside the numbers of the store's refusals.
+// What calls return, besides the numbers of other refusals.
 
 pub(crate) const DONE: u32 = 0;
 
