@@ -4,6 +4,7 @@ use Rattle.rs_core.specs.State.{RsRecord}
 use Rattle.rs_settings.specs.Fault.{no_room}
 use Rattle.rs_settings.specs.Settings.{SettingsRecord, settings_of, MayTakeMemory}
 use Rattle.rs_settings.specs.declared.fault.SettingsFault.{SettingsFault}
+use Rattle.rs_settings.specs.declared.fault.SettingsCause.{SettingsCause}
 use Rattle.rs_settings.specs.declared.fault.SettingsCause.TheVariants.{NoRoom}
 use Rattle.rs_store.specs.Serving.{BeginsFirst}
 use Rattle.rs_store.specs.declared.call.RsReply.{RsReply}
@@ -29,10 +30,15 @@ pub record TextBegins (text : List ℕ) (next first : ℕ) (before : SettingsRef
   pub word_is : word ≡ begun_word reply
   pub fault_is : fault ≡ before
 
--- the text has a fault, or memory to read it runs out: that is its fault then
+-- the fault with this cause is the text's; or it is that memory to read the text runs out
+abbrev pub IsWhy : List ℕ → SettingsFault → SettingsCause → Type 0
+IsWhy text why NoRoom = MayTakeMemory text × (why ≡ no_room)
+IsWhy text why cause = settings_of text ≡ Err why
+
+-- the text has a fault, or memory to read it runs out
 pub record TextIsRefused (text : List ℕ) (word : ℕ) (fault : SettingsRefusal) (new : Option RsRecord) : Type 0 where
   pub why : SettingsFault
-  pub refused : (settings_of text ≡ Err why) ⊎ ((why ≡ no_room) × MayTakeMemory text)
+  pub refused : IsWhy text why why.cause
   pub word_is : word ≡ cause_number why.cause
   pub fault_is : fault ≡ told_fault why
   pub none : new ≡ None

@@ -1,5 +1,5 @@
 -- The answers of RS, in numbers.
-use Rattle.std.specs.Prelude.{ℕ, ◌+◌, List, length, Option, Some, None}
+use Rattle.std.specs.Prelude.{ℕ, ◌+◌, ◌-◌, ◌^◌, min, List, length, Option, Some, None}
 use Rattle.std.specs.Int.{to_le_bytes, w128}
 use Rattle.ds_machine.specs.declared.refusal.Refusal.TheVariants.{Exists, NotAllowed}
 use Rattle.ds_machine.specs.declared.reply.Reply.TheVariants.{Refused}
@@ -52,10 +52,10 @@ abbrev pub told_start_fault : NewFault → Answer
 told_start_fault new_faults.OutOfRange = told_cause (cause_number causes.OutOfRange)
 told_start_fault new_faults.NoRoom = told_no_room
 
--- the number of actions, with that of a service that was given up
+-- the number of actions, with that of a service that is given up; a list is never that long
 abbrev pub action_count : List Action → Option ℕ → ℕ
 action_count actions None = length actions
-action_count actions (Some service) = length actions + 1
+action_count actions (Some service) = min (length actions + 1) (2 ^ 64 - 1)
 
 -- The answer of a reply: how many actions there are, and which notices the store's replies to them owe together; of how many services
 -- and slots RS began; or why not.

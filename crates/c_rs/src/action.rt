@@ -70,7 +70,8 @@ fn given_up_action(services: &Option<Rs>, given_up: Option<usize>) -> Option<RsA
     let Some(rs) = services else {
         return None;
     };
-    let service = rs.settings().services().get(given_up?)?;
+    let index = given_up?;
+    let service = rs.settings().services().get(index)?;
     Some(with_label(blank(5), &service.label))
 }
 
