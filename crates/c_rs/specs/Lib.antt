@@ -3,6 +3,7 @@ pub mod Serving
 pub mod Requests
 pub mod Running
 pub mod Lines
+pub mod Line
 pub mod Opening
 pub mod Event
 pub mod Action

@@ -10,6 +10,7 @@ use Rattle.rs_store.specs.Serving.{BeginsFirst}
 use Rattle.rs_store.specs.declared.call.RsReply.{RsReply}
 use Rattle.c_rs.specs.declared.fault.SettingsRefusal.{SettingsRefusal}
 use Rattle.c_rs.specs.declared.session.RsSession.{RsSession}
+use Rattle.c_rs.specs.Line.{IsFaultLine}
 use Rattle.c_rs.specs.Telling.{begun_word, cause_number}
 
 -- the number of a service, of which there are 64 at most; that of the whole text
@@ -17,9 +18,11 @@ abbrev pub service_number : Option ℕ → ℕ
 service_number None = 4294967295
 service_number (Some index) = cond (nat_lt index 64) index 4294967295
 
--- the numbers of a fault
-abbrev pub told_fault : SettingsFault → SettingsRefusal
-told_fault fault = record { line = 0; cause = cause_number fault.cause; service = service_number fault.index }
+-- these are the numbers of a fault of the text
+pub record TellsFault (text : List ℕ) (fault : SettingsFault) (told : SettingsRefusal) : Type 0 where
+  pub line : IsFaultLine text fault told.line
+  pub cause : told.cause ≡ cause_number fault.cause
+  pub service : told.service ≡ service_number fault.index
 
 -- the text has settings, with which RS begins, or not, as the word says
 pub record TextBegins (text : List ℕ) (next first : ℕ) (before : SettingsRefusal) (word : ℕ) (fault : SettingsRefusal) (new : Option RsRecord) : Type 0 where
@@ -40,7 +43,7 @@ pub record TextIsRefused (text : List ℕ) (word : ℕ) (fault : SettingsRefusal
   pub why : SettingsFault
   pub refused : IsWhy text why why.cause
   pub word_is : word ≡ cause_number why.cause
-  pub fault_is : fault ≡ told_fault why
+  pub told : TellsFault text why fault
   pub none : new ≡ None
 
 -- RS is opened, or refused, as the word says; once it is open, a further text is ignored

@@ -1,10 +1,12 @@
 //! Why a settings text is refused, in numbers.
 
 ghost use Rattle.std.specs.Prelude.{◌≡◌};
-ghost use Rattle.c_rs.specs.Opening.{service_number, told_fault};
+ghost use Rattle.c_rs.specs.Opening.{service_number, TellsFault};
 
+use crate::line::fault_line;
 use crate::telling::cause_number;
 use rs_settings::SettingsFault;
+use std::alloc::Global;
 
 /// The service number that stands for the whole text.
 const WHOLE_TEXT: u32 = 4294967295;
@@ -22,12 +24,12 @@ pub struct SettingsRefusal {
 }
 
 impl SettingsRefusal {
-    /// The numbers of a fault.
-    pub(crate) fn of(fault: SettingsFault) -> SettingsRefusal
-        ensures { result ≡ told_fault fault }
+    /// Returns a fault of a settings text, in numbers.
+    pub(crate) fn of(alloc: Global, text: &[u8], fault: SettingsFault) -> SettingsRefusal
+        ensures { TellsFault text.now fault result }
     {
         SettingsRefusal {
-            line: 0,
+            line: fault_line(alloc, text, fault),
             cause: cause_number(fault.cause),
             service: service_number(fault.index),
         }

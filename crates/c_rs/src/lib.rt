@@ -7,6 +7,7 @@ mod action;
 mod calling;
 mod event;
 mod fault;
+mod line;
 mod lines;
 mod opening;
 mod reading;

@@ -34,7 +34,7 @@ impl RsSession {
                 begun_word(&reply)
             }
             Err(why) => {
-                *fault = SettingsRefusal::of(why);
+                *fault = SettingsRefusal::of(alloc, text, why);
                 cause_number(why.cause)
             }
         }
