@@ -6,19 +6,15 @@ exception.
 from .client import AsyncClient, Client
 from .map import Map
 from .refusals import (
-    Ahead, AlreadyUp, BadCause, BadFirst, BadKind, BadLabel, BadLine, BadPattern, BadRing, BadSub, BadVersion, Behind, Clash, Exists,
-    Full, GenerationsSpent, IsClosed, IsOpen, Missing, NoCaller, NoRoom, NoSlot, NotAllowed, NotFound, NotOwner, NotUp, OldCursor,
-    OldEndpoint, OutOfRange, Refused, SharedName, Stale, TickBack, Toml, TooLong, TooMany, TwoLabels, TwoUnits, UnknownField,
-    UnknownLabel, Worn,
+    Ahead, BadFirst, BadKind, BadLabel, BadLine, BadPattern, BadRing, BadSub, BadVersion, Behind, Clash, Exists, Full, IsClosed,
+    IsOpen, NoCaller, NoRoom, NotAllowed, NotFound, NotOwner, OldCursor, Refused, Stale, TooLong, TooMany, Worn,
 )
 from .store import Store
 from .values import RS, Change, Cursor, Done, Endpoint, Floor, Items, Merged, Page, Reading, Subscribed, Swept, Version, read_item
 
 __all__ = [
     "AsyncClient", "BadLine", "Client", "Map", "Store", "RS", "Change", "Cursor", "Done", "Endpoint", "Floor", "Items", "Merged", "Page",
-    "Reading", "Subscribed", "Swept", "Version", "read_item", "Ahead", "AlreadyUp", "BadCause", "BadFirst", "BadKind", "BadLabel",
-    "BadPattern", "BadRing", "BadSub", "BadVersion", "Behind", "Clash", "Exists", "Full", "GenerationsSpent", "IsClosed", "IsOpen",
-    "Missing", "NoCaller", "NoRoom", "NoSlot", "NotAllowed", "NotFound", "NotOwner", "NotUp", "OldCursor", "OldEndpoint", "OutOfRange",
-    "Refused", "SharedName", "Stale", "TickBack", "Toml", "TooLong", "TooMany", "TwoLabels", "TwoUnits", "UnknownField",
-    "UnknownLabel", "Worn",
+    "Reading", "Subscribed", "Swept", "Version", "read_item", "Ahead", "BadFirst", "BadKind", "BadLabel", "BadPattern", "BadRing",
+    "BadSub", "BadVersion", "Behind", "Clash", "Exists", "Full", "IsClosed", "IsOpen", "NoCaller", "NoRoom", "NotAllowed",
+    "NotFound", "NotOwner", "OldCursor", "Refused", "Stale", "TooLong", "TooMany", "Worn",
 ]

@@ -52,6 +52,7 @@ class BadRing(Refused, ValueError): """A journal keeps 1 to 4096 items."""
 class BadFirst(Refused, ValueError): """The first position is at most 2^62."""
 class IsClosed(Refused, ValueError): """The store or the map is closed."""
 class IsOpen(Refused, ValueError): """The handle is open already."""
+# Those of RS, which no call of this package opens.
 class TickBack(Refused, ValueError): """The tick is below that of the last event that RS took."""
 class UnknownLabel(Refused, LookupError): """No service of RS has the label."""
 class BadCause(Refused, ValueError): """A cause of death is 1 to 6."""

@@ -29,9 +29,6 @@ def opened(*lines, **words):
 LABEL = "publish 0/2 new eth0 label 3.0 = 3/17"
 OTHER = "publish 0/2 new tty label 4.0 = 4/18"
 MTU = "publish 3/17 new mtu u32 3.1 = 1500"
-DISK = 'settings service = [{label = "disk", class = "block", unit = 3}]'
-TWO = 'settings service = [{label = "a", class = "%s"%s}, {label = "%s", class = "%s"%s}]'
-UP = "service up disk 4"
 # A call for each refusal, as docs/reference/refusals.md shows them; the store took the lines before.
 CALLS = {
     "badsub": ([], lambda it: it.subscribe(128, "eth.*")),
@@ -57,19 +54,6 @@ CALLS = {
     "badring": ([], lambda it: Store(ring=4097)),
     "badfirst": ([], lambda it: Store(first=LAST + 1)),
     "isclosed": ([], lambda it: (it.close(), it.snapshot())),
-    "tickback": ([DISK, UP], lambda it: it.line("tick 3")),
-    "unknownlabel": ([], lambda it: it.line(UP)),
-    "badcause": ([DISK, UP], lambda it: it.line("death 1/16 7 4")),
-    "alreadyup": ([DISK, UP], lambda it: it.line(UP)),
-    "notup": ([DISK], lambda it: it.line("service down disk 4")),
-    "oldendpoint": ([DISK, UP], lambda it: it.line("beat 1/17 4")),
-    "toml": ([], lambda it: it.line("settings [[service")),
-    "unknownfield": ([], lambda it: it.line("settings services = []")),
-    "missing": ([], lambda it: it.line('settings service = [{label = "disk", class = "block"}]')),
-    "outofrange": ([], lambda it: it.line("settings slots = 0")),
-    "twolabels": ([], lambda it: it.line(TWO % ("server", "", "a", "server", ""))),
-    "twounits": ([], lambda it: it.line(TWO % ("block", ", unit = 3", "b", "character", ", unit = 3"))),
-    "sharedname": ([], lambda it: it.line(TWO % ("server", ', publishes = ["x"]', "b", "server", ', publishes = ["x"]'))),
 }
 
 
@@ -83,13 +67,13 @@ class Refusals(unittest.TestCase):
                 self.assertIn(type(raised.exception), refusals.NUMBERED.values())
 
     def test_each_is_one_of_the_headers(self):
-        """Compares them with enum ds_refusal. No call of the package opens an open handle, and no line uses up generations or slots."""
+        """Compares them with enum ds_refusal, which numbers them. No call of the package opens an open handle, or RS."""
         text = (support.ROOT / "c" / "ds.h").read_text()
         listed = re.search(r"enum ds_refusal \{(.*?)\};", text, re.DOTALL)[1]
         words = [it.lower() for it in re.findall(r"DS_(\w+)", listed)]
         self.assertEqual([it.word for it in refusals.NUMBERED.values()], words)
         self.assertEqual(list(refusals.NUMBERED), list(range(1, len(words) + 1)))
-        self.assertEqual(set(words) - set(CALLS), {"isopen", "generationsspent", "noslot"})
+        self.assertEqual(set(words) - set(CALLS), set(words[words.index("isopen") :]))
 
     def test_they_are_what_python_calls_them(self):
         self.assertTrue(issubclass(refusals.NoRoom, MemoryError))

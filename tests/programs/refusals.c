@@ -44,7 +44,7 @@ static void numbers(void) {
 }
 
 static void words(void) {
-    for (uint32_t number = 0; number <= DS_BEGUN + 1; number++) {
+    for (uint32_t number = 0; number <= DS_ACTED + 1; number++) {
         printf("word %" PRIu32 " %s\n", number, ds_word_text(number));
     }
     printf("the library's version is %s\n", strcmp(ds_version(), DS_VERSION) ? "another one" : "the header's");
@@ -95,18 +95,25 @@ static void worn(void) {
     ask("publish 0/2 new eth0 label 3.0 = 3/16");
 }
 
+/* Opens RS with a settings text, and prints by what it is refused. */
+static void settle(const char *text, uint32_t next) {
+    struct ds_settings_fault fault;
+    printf("settings: %s\n", ds_refusal_text(ds_rs_open(&store, text, strlen(text), next, 16, &fault)));
+}
+
 /* Each fault of a settings text, and each of an event. */
 static void services(void) {
-    ask("service up disk 0");
-    ask("settings [[service");
-    ask("settings services = []");
-    ask("settings service = [{label = \"disk\", class = \"block\"}]");
-    ask("settings slots = 0");
-    ask("settings service = [{label = \"a\", class = \"server\"}, {label = \"a\", class = \"server\"}]");
-    ask("settings service = [{label = \"a\", class = \"block\", unit = 3}, {label = \"b\", class = \"character\", unit = 3}]");
-    ask("settings service = [{label = \"a\", class = \"server\", publishes = [\"x\", \"x\"]}]");
-    ask("settings service = [{label = \"disk\", class = \"block\", unit = 3}]");
+    settle("[[service", 1);
+    settle("services = []", 1);
+    settle("service = [{label = \"disk\", class = \"block\"}]", 1);
+    settle("slots = 0", 1);
+    settle("service = [{label = \"a\", class = \"server\"}, {label = \"a\", class = \"server\"}]", 1);
+    settle("service = [{label = \"a\", class = \"block\", unit = 3}, {label = \"b\", class = \"character\", unit = 3}]", 1);
+    settle("service = [{label = \"a\", class = \"server\", publishes = [\"x\", \"x\"]}]", 1);
+    settle("service = [{label = \"disk\", class = \"block\", unit = 3}]", 0);
+    settle("service = [{label = \"disk\", class = \"block\", unit = 3}]", 1);
     ask("settings service = []");
+    ask("service up tty 0");
     ask("service down disk 4");
     ask("service up disk 4");
     ask("service up disk 4");
@@ -120,12 +127,10 @@ static void services(void) {
 /* RS with its last generation, and RS with one slot for two services. */
 static void spent(void) {
     static const char few[] = "slots = 1\n[[service]]\nlabel = \"a\"\nclass = \"server\"\n[[service]]\nlabel = \"b\"\nclass = \"server\"\n";
-    struct ds_settings_fault fault;
-    printf("a start of generation 0: %s\n", ds_refusal_text(ds_rs_open(&store, few, sizeof few - 1, 0, 16, &fault)));
-    printf("the last generation:%s\n", ds_refusal_text(ds_rs_open(&store, few, sizeof few - 1, 2097152, 16, &fault)));
+    settle(few, 2097152);
     ask("service up a 0");
     reopen(0, RING);
-    printf("one slot:%s\n", ds_refusal_text(ds_rs_open(&store, few, sizeof few - 1, 1, 16, &fault)));
+    settle(few, 1);
     ask("service up a 0");
     ask("service up b 0");
 }

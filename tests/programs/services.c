@@ -213,8 +213,11 @@ static void line(const char *it) {
 }
 
 static void lines(void) {
+    static const char tty[] = "service = [{label = \"tty\", class = \"character\", unit = 4}]";
     line("tick 1");
-    line("settings service = [{label = \"tty\", class = \"character\", unit = 4}]");
+    line("settings service = []");
+    rs_open("RS", tty, sizeof tty - 1, 1, 16);
+    line("tick 1");
     line("settings service = []");
     line("service up tty 2");
     line("death 1/16 1 3");

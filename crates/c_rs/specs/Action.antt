@@ -16,8 +16,6 @@ use Rattle.rs_store.specs.declared.call.RsReply.TheVariants.{Acted}
 use Rattle.c_values.specs.Answer.{answer_of}
 use Rattle.c_rs.specs.declared.action.RsAction.{RsAction}
 use Rattle.c_rs.specs.declared.session.RsSession.{RsSession}
-use Rattle.c_rs.specs.declared.session.Told.{Told}
-use Rattle.c_rs.specs.declared.session.Told.TheVariants.{Served}
 
 -- the bytes of a name at the front of a block of 64, and zeros
 abbrev pub label_block : List ℕ → List ℕ
@@ -82,9 +80,9 @@ action_at services (Acted actions replies given) index =
 action_at services _ index = None
 
 -- that of the last answer
-abbrev pub action_if : Option RsRecord → Option Told → ℕ → Option RsAction
-action_if services (Some (Served reply)) index = action_at services reply index
-action_if services _ index = None
+abbrev pub action_if : Option RsRecord → Option RsReply → ℕ → Option RsAction
+action_if services (Some reply) index = action_at services reply index
+action_if services None index = None
 
 abbrev pub action_in : RsSession → ℕ → Option RsAction
 action_in s index = action_if s.services s.told index

@@ -1,5 +1,8 @@
 -- What a line does to RS and its store.
-use Rattle.std.specs.Prelude.{◌≡◌, ◌⊎◌, ℕ, Bool, true, false, ◌&&◌, List, Option, None, Some, is_some, MatchOption}
+use Rattle.std.specs.Prelude.{◌⊎◌, ℕ, cond, List, Option, None, Some, MatchOption}
+use Rattle.ds_machine.specs.declared.refusal.Refusal.{Refusal}
+use Rattle.ds_machine.specs.declared.refusal.Refusal.TheVariants.{Exists, NotAllowed}
+use Rattle.rs_core.specs.State.{RsRecord}
 use Rattle.rs_store.specs.ByRs.{is_by_rs}
 use Rattle.script_commands.specs.declared.command.ScriptCommand.{ScriptCommand}
 use Rattle.script_commands.specs.declared.command.ScriptCommand.TheVariants.{Settings, Store}
@@ -12,29 +15,34 @@ use Rattle.c_session.specs.Called.{Rests, RestsForRoom}
 use Rattle.c_line.specs.Calling as lines
 use Rattle.c_line.specs.Line.{IsCommandIn, IsBadIn}
 use Rattle.c_rs.specs.declared.session.RsSession.{RsSession}
-use Rattle.c_rs.specs.Serving.{SessionDoes, Denies, ServesBy, BeginsBy}
+use Rattle.c_rs.specs.Serving.{SessionDoes, Refuses, ServesBy}
 
--- whether the line sends the store a command whose caller is RS
-abbrev pub is_rs_line : ScriptCommand → Bool
-is_rs_line (Store command) = is_by_rs command
-is_rs_line _ = false
+-- why the command is refused once RS is open: it opens RS again, or it is a command of the store whose caller is RS
+abbrev pub refusal_beside_rs : ScriptCommand → Option Refusal
+refusal_beside_rs (Settings text) = Some Exists
+refusal_beside_rs (Store command) = cond (is_by_rs command) (Some NotAllowed) None
+refusal_beside_rs _ = None
 
--- once RS is open, such a line is denied; any other one is carried out as a session does it
-abbrev pub AsksUnlessBarred : Bool → ScriptCommand → RsSession → Answer → RsSession → Type 0
-AsksUnlessBarred true command old answer new = Denies old answer new
-AsksUnlessBarred false command old answer new = SessionDoes (lines.CarriesOut command) old answer new
-
-abbrev pub AsksByLine : ScriptCommand → RsSession → Answer → RsSession → Type 0
-AsksByLine command old answer new = AsksUnlessBarred (is_some old.services && is_rs_line command) command old answer new
-
--- settings open RS, and the other lines that are no events are the store's
+-- the command is carried out as a session does it
 abbrev pub PassesOn : ScriptCommand → RsSession → Answer → RsSession → Type 0
-PassesOn (Settings text) old answer new = BeginsBy text old answer new
-PassesOn command old answer new = AsksByLine command old answer new
+PassesOn command old answer new = SessionDoes (lines.CarriesOut command) old answer new
+
+-- a command that is no event, once RS is open
+abbrev pub CarriesOutBesideRs : ScriptCommand → RsSession → Answer → RsSession → Type 0
+CarriesOutBesideRs command old answer new = MatchOption (refusal_beside_rs command) (PassesOn command old answer new) (λ refusal. Refuses refusal old answer new)
+
+-- a command once RS is open: an event, or another one
+abbrev pub CarriesOutWithRs : ScriptCommand → RsSession → Answer → RsSession → Type 0
+CarriesOutWithRs command old answer new =
+    MatchOption (service_event_of command) (CarriesOutBesideRs command old answer new) (λ event. ServesBy event.0 event.1 old answer new)
 
 -- the command is carried out
+abbrev pub CarriesOutIf : Option RsRecord → ScriptCommand → RsSession → Answer → RsSession → Type 0
+CarriesOutIf None command old answer new = PassesOn command old answer new
+CarriesOutIf (Some rs) command old answer new = CarriesOutWithRs command old answer new
+
 abbrev pub CarriesOutCommand : ScriptCommand → RsSession → Answer → RsSession → Type 0
-CarriesOutCommand command old answer new = MatchOption (service_event_of command) (PassesOn command old answer new) (λ event. ServesBy event.0 event.1 old answer new)
+CarriesOutCommand command old answer new = CarriesOutIf old.services command old answer new
 
 -- the bytes are the line of a command, which is carried out
 pub record CarriesOutLine (bytes : List ℕ) (old : RsSession) (answer : Answer) (new : RsSession) : Type 0 where

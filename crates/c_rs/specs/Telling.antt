@@ -1,12 +1,9 @@
 -- The answers of RS, in numbers.
 use Rattle.std.specs.Prelude.{ℕ, ◌+◌, ◌-◌, ◌^◌, min, List, length, Option, Some, None}
 use Rattle.std.specs.Int.{to_le_bytes, w128}
-use Rattle.ds_machine.specs.declared.refusal.Refusal.TheVariants.{Exists, NotAllowed}
-use Rattle.ds_machine.specs.declared.reply.Reply.TheVariants.{Refused}
 use Rattle.rs_core.specs.declared.action.Action.{Action}
 use Rattle.rs_core.specs.declared.fault.RsFault.{RsFault}
 use Rattle.rs_core.specs.declared.fault.RsFault.TheVariants as faults
-use Rattle.rs_core.specs.declared.fault.NewFault.{NewFault}
 use Rattle.rs_core.specs.declared.fault.NewFault.TheVariants as new_faults
 use Rattle.rs_settings.specs.declared.fault.SettingsCause.{SettingsCause}
 use Rattle.rs_settings.specs.declared.fault.SettingsCause.TheVariants as causes
@@ -15,9 +12,7 @@ use Rattle.rs_store.specs.declared.call.RsReply.{RsReply}
 use Rattle.rs_store.specs.declared.call.RsReply.TheVariants as replies
 use Rattle.c_values.specs.declared.answer.Answer.{Answer}
 use Rattle.c_values.specs.declared.answer.Word.TheVariants as words
-use Rattle.c_values.specs.Answer.{answer_of, told_no_room, worded}
-use Rattle.c_rs.specs.declared.session.Told.{Told}
-use Rattle.c_rs.specs.declared.session.Told.TheVariants.{Served, BadSettings}
+use Rattle.c_values.specs.Answer.{no_request, worded}
 
 -- the number of a fault: those that a store has too have the store's
 abbrev pub rs_fault_number : RsFault → ℕ
@@ -47,31 +42,18 @@ cause_number causes.NoRoom = 20
 abbrev pub told_cause : ℕ → Answer
 told_cause number = record (worded words.Refused) { refusal = number }
 
--- why RS doesn't begin, in the words of a refused settings text
-abbrev pub told_start_fault : NewFault → Answer
-told_start_fault new_faults.OutOfRange = told_cause (cause_number causes.OutOfRange)
-told_start_fault new_faults.NoRoom = told_no_room
-
 -- the number of actions, with that of a service that is given up; a list is never that long
 abbrev pub action_count : List Action → Option ℕ → ℕ
 action_count actions None = length actions
 action_count actions (Some service) = min (length actions + 1) (2 ^ 64 - 1)
 
--- The answer of a reply: how many actions there are, and which notices the store's replies to them owe together; of how many services
--- and slots RS began; or why not.
-abbrev pub told_served : RsReply → Answer
-told_served (replies.Replied reply) = answer_of reply
-told_served replies.NotAllowed = answer_of (Refused NotAllowed)
-told_served (replies.Begun services slots) = record (worded words.Begun) { count = services; value = slots }
-told_served replies.Exists = answer_of (Refused Exists)
-told_served (replies.NotBegun fault) = told_start_fault fault
-told_served (replies.Acted actions given service) =
+-- The answer of a reply to an event: how many actions there are, and which notices the store's replies to them owe together; or why the
+-- event is refused.
+abbrev pub told_answer : RsReply → Answer
+told_answer (replies.Acted actions given service) =
     record (worded words.Acted) { count = action_count actions service; owed = to_le_bytes w128 (owed_in (replies.Acted actions given service)) }
-told_served (replies.Refused fault) = told_cause (rs_fault_number fault)
-
-abbrev pub told_answer : Told → Answer
-told_answer (Served reply) = told_served reply
-told_answer (BadSettings cause) = told_cause (cause_number cause)
+told_answer (replies.Refused fault) = told_cause (rs_fault_number fault)
+told_answer _ = no_request
 
 -- the word of a beginning: 0 for one that succeeds, else the number of the refusal; that of a start that is out of its range is BadFirst
 abbrev pub begun_word : RsReply → ℕ

@@ -4,7 +4,7 @@ ghost use Rattle.std.specs.Prelude.{◌≡◌};
 ghost use Rattle.std.specs.Option.{option_copied};
 ghost use Rattle.c_rs.specs.Action.{action_at, action_in, blank, given_up_action, label_block, told_action, told_change, told_floor, told_part, with_endpoint, with_label};
 
-use crate::session::{RsSession, Told};
+use crate::session::RsSession;
 use c_values::answer_of;
 use ds_entry::{Body, Change, Floor, Value};
 use ds_machine::Reply;
@@ -38,8 +38,8 @@ impl RsSession {
         ensures { result ≡ action_in self.now index }
     {
         match &self.told {
-            Some(Told::Served(reply)) => action_at(&self.services, reply, index),
-            _ => None,
+            Some(reply) => action_at(&self.services, reply, index),
+            None => None,
         }
     }
 }

@@ -6,6 +6,7 @@ ghost use Rattle.c_rs.specs.Requests.{CallsRs, is_for_rs_alone, is_rs_request, a
 
 use crate::session::RsSession;
 use c_values::{Answer, Given, Request};
+use ds_machine::Refusal;
 use std::alloc::Global;
 
 impl RsSession {
@@ -15,7 +16,7 @@ impl RsSession {
         ensures { CallsRs texts.now self.old request.now answer.new self.new }
     {
         if self.is_barred(request) {
-            return self.deny(answer);
+            return self.refuse(Refusal::NotAllowed, answer);
         }
         self.told = None;
         self.session.call(alloc, request, texts, answer);

@@ -22,4 +22,4 @@ pub use event::RsEvent;
 pub use fault::SettingsRefusal;
 pub use running::calls_are_turns;
 pub use service::RsService;
-pub use session::{RsSession, Told};
+pub use session::RsSession;

@@ -8,33 +8,23 @@ ghost use Rattle.ds_names.specs.Limits.{last_place};
 ghost use Rattle.ds_content.specs.Stands.{ContentStands};
 ghost use Rattle.ds_store.specs.Opening.{IsOpenRefusal};
 ghost use Rattle.c_session.specs.declared.last.Last.TheVariants.{Nothing};
-ghost use Rattle.c_rs.specs.Serving.{Denies, KeepsAnswer, ServesBy};
+ghost use Rattle.c_rs.specs.Serving.{Refuses, ServesBy};
 
 use crate::telling::told;
 use c_session::Session;
 use c_values::Answer;
 use ds_machine::{Refusal, Reply};
 use rs_core::{Event, Rs};
-use rs_settings::SettingsCause;
 use rs_store::RsReply;
 use std::alloc::Global;
 use store_answers::Wording;
 
-/// The last answer of RS.
-#[derive(Drop)]
-pub enum Told {
-    /// The reply of RS and its store.
-    Served(RsReply),
-    /// Why a settings text is refused.
-    BadSettings(SettingsCause),
-}
-
-/// A session, RS once it is open, and the last answer, if it is RS's; if not, the session has it.
+/// A session, RS once it is open, and the last reply, if it is RS's; if not, the session has it.
 #[derive(Drop)]
 pub struct RsSession {
     pub(crate) session: Session,
     pub(crate) services: Option<Rs>,
-    pub(crate) told: Option<Told>,
+    pub(crate) told: Option<RsReply>,
 }
 
 impl RsSession {
@@ -64,23 +54,16 @@ impl RsSession {
         ensures { ServesBy event tick self.old answer.new self.new }
     {
         let reply = self.session.serve(alloc, &mut self.services, event, tick);
-        self.keep(Told::Served(reply), answer);
+        *answer = told(&reply);
+        self.told = Some(reply);
     }
 
-    /// Writes an answer of RS, and keeps it.
-    pub(crate) fn keep(&mut self, what: Told, answer: &mut Answer)
-        ensures { KeepsAnswer what self.old answer.new self.new }
-    {
-        *answer = told(&what);
-        self.told = Some(what);
-    }
-
-    /// Answers a command in RS's name: NotAllowed. The store and RS are unchanged.
-    pub(crate) fn deny(&mut self, answer: &mut Answer)
-        ensures { Denies self.old answer.new self.new }
+    /// Refuses a command. The store and RS are unchanged.
+    pub(crate) fn refuse(&mut self, refusal: Refusal, answer: &mut Answer)
+        ensures { Refuses refusal self.old answer.new self.new }
     {
         self.told = None;
-        let reply = Reply::Refused(Refusal::NotAllowed);
+        let reply = Reply::Refused(refusal);
         self.session.tell(Wording::AsMerge, reply, answer);
     }
 }

@@ -1,24 +1,12 @@
 //! Answers of RS, in numbers.
 
 ghost use Rattle.std.specs.Prelude.{◌≡◌};
-ghost use Rattle.c_rs.specs.Telling.{action_count, begun_word, cause_number, rs_fault_number, told_answer, told_cause, told_served, told_start_fault};
+ghost use Rattle.c_rs.specs.Telling.{action_count, begun_word, cause_number, rs_fault_number, told_answer, told_cause};
 
-use crate::session::Told;
-use c_values::{Answer, Word, answer_of, no_room};
-use ds_machine::{Refusal, Reply};
+use c_values::{Answer, Word};
 use rs_core::{Actions, NewFault, RsFault};
 use rs_settings::SettingsCause;
 use rs_store::RsReply;
-
-/// Returns the answer.
-pub(crate) fn told(what: &Told) -> Answer
-    ensures { result ≡ told_answer what.now }
-{
-    match what {
-        Told::Served(reply) => told_served(reply),
-        Told::BadSettings(cause) => refused_by(cause_number(*cause)),
-    }
-}
 
 // A refusal by the number of its cause.
 fn refused_by(number: u32) -> Answer
@@ -30,19 +18,11 @@ fn refused_by(number: u32) -> Answer
     }
 }
 
-fn told_served(reply: &RsReply) -> Answer
-    ensures { result ≡ told_served reply.now }
+/// Returns the answer of a reply to an event.
+pub(crate) fn told(reply: &RsReply) -> Answer
+    ensures { result ≡ told_answer reply.now }
 {
     match reply {
-        RsReply::Replied(reply) => answer_of(reply),
-        RsReply::NotAllowed => answer_of(&Reply::Refused(Refusal::NotAllowed)),
-        RsReply::Begun { services, slots } => Answer {
-            count: *services as u64,
-            value: *slots,
-            ..Answer::of(Word::Begun)
-        },
-        RsReply::Exists => answer_of(&Reply::Refused(Refusal::Exists)),
-        RsReply::NotBegun(fault) => told_start_fault(*fault),
         RsReply::Acted {
             actions,
             given_up,
@@ -53,15 +33,7 @@ fn told_served(reply: &RsReply) -> Answer
             ..Answer::of(Word::Acted)
         },
         RsReply::Refused(fault) => refused_by(rs_fault_number(*fault)),
-    }
-}
-
-fn told_start_fault(fault: NewFault) -> Answer
-    ensures { result ≡ told_start_fault fault }
-{
-    match fault {
-        NewFault::OutOfRange => refused_by(cause_number(SettingsCause::OutOfRange)),
-        NewFault::NoRoom => no_room(),
+        _ => Answer::no_request(),
     }
 }
 

@@ -2,14 +2,16 @@
 
 ghost use Rattle.std.specs.Prelude.{◌≡◌, IfOk};
 ghost use Rattle.c_line.specs.Text.{GivesText};
-ghost use Rattle.c_rs.specs.Text.{text_in, told_text};
+ghost use Rattle.c_rs.specs.Text.{text_in};
+ghost use Rattle.rs_answers.specs.Served.{served_lines};
+ghost use Rattle.store_answers.specs.declared.wording.Wording.TheVariants.{AsMerge};
 
-use crate::session::{RsSession, Told};
+use crate::session::RsSession;
 use c_line::{give_part, give_text, no_text};
 use c_values::Given;
 use ds_names::NoRoom;
 use rs_answers::append_served;
-use service_answers::append_settings_fault;
+use rs_store::RsReply;
 use std::alloc::Global;
 use store_answers::Wording;
 
@@ -22,7 +24,7 @@ impl RsSession {
     {
         match &self.told {
             None => give_text(alloc, &self.session, first, room),
-            Some(what) => match write_told(alloc, what) {
+            Some(reply) => match write_served(alloc, reply) {
                 Ok(text) => give_part(text.as_slice(), first, room),
                 Err(NoRoom) => no_text(),
             },
@@ -30,14 +32,11 @@ impl RsSession {
     }
 }
 
-// The text of an answer of RS.
-fn write_told(alloc: Global, what: &Told) -> Result<Vec<u8>, NoRoom>
-    ensures { IfOk result (λ text. text.items ≡ told_text what.now) }
+// The text of a reply of RS.
+fn write_served(alloc: Global, reply: &RsReply) -> Result<Vec<u8>, NoRoom>
+    ensures { IfOk result (λ text. text.items ≡ served_lines AsMerge reply.now) }
 {
     let mut text = Vec::new(alloc);
-    match what {
-        Told::Served(reply) => append_served(&mut text, Wording::AsMerge, reply)?,
-        Told::BadSettings(cause) => append_settings_fault(&mut text, *cause)?,
-    }
+    append_served(&mut text, Wording::AsMerge, reply)?;
     Ok(text)
 }

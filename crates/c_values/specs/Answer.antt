@@ -57,7 +57,6 @@ word_number words.NoRequest = 13
 word_number words.Shown = 14
 word_number words.BadLine = 15
 word_number words.Acted = 16
-word_number words.Begun = 17
 
 -- a word, and zeros
 abbrev pub worded : Word → Answer

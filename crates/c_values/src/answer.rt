@@ -27,16 +27,14 @@ pub enum Word {
     BadLine,
     /// RS took an event.
     Acted,
-    /// RS began.
-    Begun,
 }
 
 /// An answer. Its text is fetched separately, in pieces.
 #[repr(C)]
 #[derive(Clone, Copy)]
 pub struct Answer {
-    /// The number of puts that a Sweep dropped, of items that a Merge has done or that are shown, of actions or services; or the byte at
-    /// which a line is bad.
+    /// The number of puts that a Sweep dropped, of items that a Merge has done or that are shown, or of actions; or the byte at which a line
+    /// is bad.
     pub count: u64,
     /// The number of a Merge's items that took effect, and of those that were stale.
     pub taken: u64,
@@ -88,7 +86,6 @@ impl Word {
             Word::Shown => 14,
             Word::BadLine => 15,
             Word::Acted => 16,
-            Word::Begun => 17,
         }
     }
 }

@@ -6,7 +6,7 @@ use std::fmt;
 
 macro_rules! refusals {
     ($($name:ident $word:literal $number:literal $said:literal;)*) => {
-        /// Why a store, RS or a map refused a call, in the order in which a store judges, and then RS.
+        /// Why a store or a map refused a call, in the order in which a store judges.
         #[derive(Clone, Copy, Debug, PartialEq, Eq)]
         #[non_exhaustive]
         pub enum Refusal {
@@ -68,21 +68,6 @@ refusals! {
     NoRoom "noroom" 20 "out of memory, or the pattern compiles to too much";
     BadRing "badring" 21 "a journal keeps 1 to 4096 items";
     BadFirst "badfirst" 22 "the first position is at most 2^62";
-    TickBack "tickback" 25 "the tick is below that of the last event that RS took";
-    UnknownLabel "unknownlabel" 26 "no service of RS has the label";
-    BadCause "badcause" 27 "a cause of death is 1 to 6";
-    AlreadyUp "alreadyup" 28 "the service is up, or waits for its next start";
-    NotUp "notup" 29 "the service isn't up";
-    OldEndpoint "oldendpoint" 30 "no instance that is up has the endpoint";
-    GenerationsSpent "generationsspent" 31 "RS has no generation left for a start";
-    NoSlot "noslot" 32 "RS has no slot left for a start";
-    Toml "toml" 33 "the settings aren't TOML";
-    UnknownField "unknownfield" 34 "the settings have an unknown field";
-    Missing "missing" 35 "a service lacks its label, its class or its unit";
-    OutOfRange "outofrange" 36 "a value of the settings is of another type, or out of its range";
-    TwoLabels "twolabels" 37 "two services have one label";
-    TwoUnits "twounits" 38 "two services have one major number, or one port";
-    SharedName "sharedname" 39 "a name is published by two services, or twice by one";
 }
 
 impl fmt::Display for Refusal {
