@@ -15,7 +15,7 @@ use Rattle.c_session.specs.Called.{Rests, RestsForRoom}
 use Rattle.c_line.specs.Calling as lines
 use Rattle.c_line.specs.Line.{IsCommandIn, IsBadIn}
 use Rattle.c_rs.specs.declared.session.RsSession.{RsSession}
-use Rattle.c_rs.specs.Serving.{SessionDoes, Refuses, ServesBy}
+use Rattle.c_rs.specs.Serving.{SessionDoes, RefusesCommand, ServesBy}
 
 -- why the command is refused once RS is open: it opens RS again, or it is a command of the store whose caller is RS
 abbrev pub refusal_beside_rs : ScriptCommand → Option Refusal
@@ -29,7 +29,7 @@ PassesOn command old answer new = SessionDoes (lines.CarriesOut command) old ans
 
 -- a command that is no event, once RS is open
 abbrev pub CarriesOutBesideRs : ScriptCommand → RsSession → Answer → RsSession → Type 0
-CarriesOutBesideRs command old answer new = MatchOption (refusal_beside_rs command) (PassesOn command old answer new) (λ refusal. Refuses refusal old answer new)
+CarriesOutBesideRs command old answer new = MatchOption (refusal_beside_rs command) (PassesOn command old answer new) (λ refusal. RefusesCommand refusal old answer new)
 
 -- a command once RS is open: an event, or another one
 abbrev pub CarriesOutWithRs : ScriptCommand → RsSession → Answer → RsSession → Type 0

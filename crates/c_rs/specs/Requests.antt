@@ -9,7 +9,7 @@ use Rattle.c_values.specs.Asked.{request_text}
 use Rattle.c_session.specs.declared.session.Session.{Session}
 use Rattle.c_session.specs.Called.{Called, pieces_in as session_pieces}
 use Rattle.c_rs.specs.declared.session.RsSession.{RsSession}
-use Rattle.c_rs.specs.Serving.{SessionDoes, Refuses}
+use Rattle.c_rs.specs.Serving.{SessionDoes, RefusesCommand}
 
 -- whether the request is a Publish, a Delete or a Sweep whose caller is 0/2, RS
 abbrev pub is_rs_request : Request → Bool
@@ -21,7 +21,7 @@ is_for_rs_alone services r = is_some services && is_rs_request r
 
 -- such a request is refused; any other one is a session's
 abbrev pub CallsUnlessBarred : Bool → List ℕ → RsSession → Request → Answer → RsSession → Type 0
-CallsUnlessBarred true texts old r answer new = Refuses NotAllowed old answer new
+CallsUnlessBarred true texts old r answer new = RefusesCommand NotAllowed old answer new
 CallsUnlessBarred false texts old r answer new = SessionDoes (λ s a t. Called s r (request_text r texts) a t) old answer new
 
 abbrev pub CallsRs : List ℕ → RsSession → Request → Answer → RsSession → Type 0

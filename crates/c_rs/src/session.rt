@@ -8,7 +8,7 @@ ghost use Rattle.ds_names.specs.Limits.{last_place};
 ghost use Rattle.ds_content.specs.Stands.{ContentStands};
 ghost use Rattle.ds_store.specs.Opening.{IsOpenRefusal};
 ghost use Rattle.c_session.specs.declared.last.Last.TheVariants.{Nothing};
-ghost use Rattle.c_rs.specs.Serving.{Refuses, ServesBy};
+ghost use Rattle.c_rs.specs.Serving.{RefusesCommand, ServesBy};
 
 use crate::telling::told;
 use c_session::Session;
@@ -60,7 +60,7 @@ impl RsSession {
 
     /// Refuses a command. The store and RS are unchanged.
     pub(crate) fn refuse(&mut self, refusal: Refusal, answer: &mut Answer)
-        ensures { Refuses refusal self.old answer.new self.new }
+        ensures { RefusesCommand refusal self.old answer.new self.new }
     {
         self.told = None;
         let reply = Reply::Refused(refusal);
