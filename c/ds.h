@@ -270,7 +270,7 @@ uint32_t ds_close(struct ds_handle *handle);
 
 /* Why a settings text is refused, and where. */
 struct ds_settings_fault {
-    uint64_t line;    /* from 1: where TOML can't be read, or where the service begins by `[[service]]`; 0: not known */
+    uint64_t line;    /* of DS_TOML: from 1, where TOML can't be read. 0: not known, or another cause */
     uint32_t cause;   /* of enum ds_refusal: DS_TOML to DS_SHAREDNAME, or DS_NOROOM */
     uint32_t service; /* from 0, in the order of the text; of a fault between two services, the second. UINT32_MAX: the whole text */
 };

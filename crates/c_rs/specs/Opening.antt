@@ -20,7 +20,7 @@ service_number (Some index) = cond (nat_lt index 64) index 4294967295
 
 -- these are the numbers of a fault of the text
 pub record TellsFault (text : List ℕ) (fault : SettingsFault) (told : SettingsRefusal) : Type 0 where
-  pub line : IsFaultLine text fault told.line
+  pub line : IsFaultLine text fault.cause told.line
   pub cause : told.cause ≡ cause_number fault.cause
   pub service : told.service ≡ service_number fault.index
 

@@ -15,7 +15,7 @@ const WHOLE_TEXT: u32 = 4294967295;
 #[repr(C)]
 #[derive(Clone, Copy)]
 pub struct SettingsRefusal {
-    /// A line, from 1; 0 if it isn't known.
+    /// The line of a text that isn't TOML, from 1; 0 if it isn't known, or for another cause.
     pub line: u64,
     /// The number of the cause.
     pub cause: u32,
