@@ -1,6 +1,6 @@
 //! The line of a fault in a settings text.
 
-ghost use Rattle.std.specs.Prelude.{◌≡◌};
+ghost use Rattle.std.specs.Prelude.{◌≡◌, ◌≤◌, length};
 ghost use Rattle.c_rs.specs.Line.{IsFaultLine, IsTomlLine, line_at};
 
 use rs_settings::{SettingsCause, SettingsFault};
@@ -34,13 +34,10 @@ fn toml_line(alloc: Global, text: &[u8]) -> u64
 
 // The line of the byte at a place, from 1.
 fn line_at(text: &[u8], place: usize) -> u64
+    requires { place ≤ length text.now }
     ensures { result ≡ line_at text.now place }
 {
-    let before = if place < text.len() {
-        &text[..place]
-    } else {
-        text
-    };
+    let before = &text[..place];
     let mut line = 1;
     for byte in before {
         if *byte == b'\n' {
