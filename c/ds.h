@@ -8,7 +8,7 @@
  *
  * The caller keeps these right, since no call can check them:
  *   - a handle begins as DS_CLOSED, and only these calls read, write or copy it;
- *   - the address of a handle, a request, an answer or a struct ds_given is never NULL; that of a buffer of length 0 may be NULL;
+ *   - the address of a handle, a struct or a number is never NULL; that of a buffer of length 0 may be NULL;
  *   - a length is at most that of its buffer, and the buffers of one call don't overlap;
  *   - at most one thread at a time makes a call on a handle.
  * Any other misuse is answered by a word, and changes nothing.
@@ -84,7 +84,8 @@ enum ds_word {
     DS_REFUSED,    /* as refusal says; nothing changed */
     DS_NOREQUEST,  /* no command has such parts, its text is outside the texts, or the line is not of one store; nothing changed */
     DS_SHOWN,      /* answers a line `show` or `all`. count: how many items; a piece of text for each */
-    DS_BADLINE     /* answers a line that can't be read. count: the byte, from 0, where the bad part begins; nothing changed */
+    DS_BADLINE,    /* answers a line that can't be read. count: the byte, from 0, where the bad part begins; nothing changed */
+    DS_ACTED       /* answers an event of RS. count: how many actions ds_rs_action has; owed: the notices of all of them together */
 };
 
 /* Returns a word of enum ds_word in lower case, such as `changed`, and "" for any other number. The text is static. */
@@ -106,17 +107,21 @@ static inline const char *ds_word_text(uint32_t word) {
     case DS_NOREQUEST: return "norequest";
     case DS_SHOWN: return "shown";
     case DS_BADLINE: return "badline";
+    case DS_ACTED: return "acted";
     default: return "";
     }
 }
 
-/* First the refusals of requests, in the order in which the store judges; then those of opening; then those of closed and open handles.
- * docs/reference/refusals.md describes them. */
+/* First the refusals of requests, in the order in which the store judges; then those of opening; then those of closed and open handles;
+ * then those of events, in the order in which RS judges; then those of settings. RS has DS_WORN too, settings DS_EXISTS, and both
+ * DS_NOROOM. docs/reference/refusals.md describes them. */
 enum ds_refusal {
     DS_BADSUB = 1, DS_TOOMANY, DS_TOOLONG, DS_BADPATTERN, DS_BADKIND, DS_BADLABEL, DS_BADVERSION, DS_NOCALLER, DS_NOTALLOWED,
     DS_NOTOWNER, DS_CLASH, DS_STALE, DS_EXISTS, DS_NOTFOUND, DS_OLDCURSOR, DS_AHEAD, DS_BEHIND, DS_FULL, DS_WORN, DS_NOROOM,
     DS_BADRING, DS_BADFIRST,
-    DS_ISCLOSED, DS_ISOPEN
+    DS_ISCLOSED, DS_ISOPEN,
+    DS_TICKBACK, DS_UNKNOWNLABEL, DS_BADCAUSE, DS_ALREADYUP, DS_NOTUP, DS_OLDENDPOINT, DS_GENERATIONSSPENT, DS_NOSLOT,
+    DS_TOML, DS_UNKNOWNFIELD, DS_MISSING, DS_OUTOFRANGE, DS_TWOLABELS, DS_TWOUNITS, DS_SHAREDNAME
 };
 
 /* Returns the word of a refusal of enum ds_refusal, such as `nocaller`, and "" for any other number, 0 too. The text is static. A script
@@ -147,6 +152,21 @@ static inline const char *ds_refusal_text(uint32_t refusal) {
     case DS_BADFIRST: return "badfirst";
     case DS_ISCLOSED: return "isclosed";
     case DS_ISOPEN: return "isopen";
+    case DS_TICKBACK: return "tickback";
+    case DS_UNKNOWNLABEL: return "unknownlabel";
+    case DS_BADCAUSE: return "badcause";
+    case DS_ALREADYUP: return "alreadyup";
+    case DS_NOTUP: return "notup";
+    case DS_OLDENDPOINT: return "oldendpoint";
+    case DS_GENERATIONSSPENT: return "generationsspent";
+    case DS_NOSLOT: return "noslot";
+    case DS_TOML: return "toml";
+    case DS_UNKNOWNFIELD: return "unknownfield";
+    case DS_MISSING: return "missing";
+    case DS_OUTOFRANGE: return "outofrange";
+    case DS_TWOLABELS: return "twolabels";
+    case DS_TWOUNITS: return "twounits";
+    case DS_SHAREDNAME: return "sharedname";
     default: return "";
     }
 }
@@ -217,6 +237,9 @@ uint32_t ds_items(struct ds_handle *handle, size_t first, char *room, size_t roo
  *   - offer, publish, delete, sweep, retrieve, nameof, subscribe, check, since, snapshot, page: the answer is that of ds_call for the
  *     same command; an offer is a merge of one item;
  *   - show, for the puts that are held, and all, for everything held: the answer is DS_SHOWN, or DS_REFUSED by DS_NOROOM.
+ * These are lines of RS, once ds_rs_open has opened it:
+ *   - service, death, beat, tick: the answer is that of ds_rs_event for the same event;
+ *   - settings: the answer is DS_REFUSED by DS_EXISTS.
  * Any other line of a script is answered DS_NOREQUEST. A line that can't be read, or that has more after its newline, is answered
  * DS_BADLINE. A line for which memory runs out is answered DS_REFUSED by DS_NOROOM. In these cases the store is unchanged.
  * Returns 0, or DS_ISCLOSED, and then the answer is unchanged. */
@@ -234,6 +257,133 @@ uint32_t ds_text(struct ds_handle *handle, size_t first, char *room, size_t room
 
 /* Closes the handle, and frees all its memory. Returns 0, or DS_ISCLOSED. */
 uint32_t ds_close(struct ds_handle *handle);
+
+/* The reincarnation server (RS) of MINIX 3, beside a store. It decides which services run, and under which endpoints. A supervisor reports
+ * events, and carries out the actions that answer them: it kills and starts processes, and asks them for heartbeats. RS publishes labels
+ * in the store, takes them back and sweeps it, in the same call.
+ *
+ * Time is counted in ticks of the supervisor's choice. No event has a tick below that of the last accepted event, nor above 2^62.
+ * docs/reference/lines.md describes what each event does, and docs/reference/settings.md the settings.
+ *
+ * Once RS is open, ds_call, ds_run and ds_call_line refuse a publication, a deletion or a sweep whose caller is RS, 0/2, by DS_NOTALLOWED
+ * before any other cause. */
+
+/* Why a settings text is refused, and where. */
+struct ds_settings_fault {
+    uint64_t line;    /* of DS_TOML: from 1, where TOML can't be read. 0: not known, or another cause */
+    uint32_t cause;   /* of enum ds_refusal: DS_TOML to DS_SHAREDNAME, or DS_NOROOM */
+    uint32_t service; /* from 0, in the order of the text; of a fault between two services, the second. UINT32_MAX: the whole text */
+};
+
+enum ds_rs_event_kind {
+    DS_RS_UP,      /* label: starts a service that is down or was given up */
+    DS_RS_DOWN,    /* label: stops a service */
+    DS_RS_REFRESH, /* label: stops a service that is up, and starts it at once */
+    DS_RS_RESTART, /* label: starts a service that waits or was given up */
+    DS_RS_DEATH,   /* generation, slot, cause: an instance died */
+    DS_RS_BEAT,    /* generation, slot: an instance is alive */
+    DS_RS_TICK     /* time passed. Report it again at the same tick until it has no actions */
+};
+
+/* Causes of a death. RS itself finds missing heartbeats. */
+enum ds_rs_cause { DS_RS_EXIT = 1, DS_RS_EXCEPTION, DS_RS_KILLED, DS_RS_SILENT, DS_RS_COMPLAINT, DS_RS_UPDATE };
+
+/* An event. Begin with zeros, and set what the kind needs. */
+struct ds_rs_event {
+    uint64_t tick;
+    uint32_t kind;       /* of enum ds_rs_event_kind */
+    uint32_t cause;      /* of enum ds_rs_cause */
+    uint32_t generation; /* with slot, an instance's endpoint; at most 2097151 */
+    uint16_t slot;       /* at most 1023 */
+    uint8_t label_length;
+    char label[64];
+};
+
+enum ds_rs_action_kind {
+    DS_RS_KILL,  /* generation, slot: kill this instance */
+    DS_RS_START, /* label, generation, slot: start the service with this endpoint */
+    DS_RS_PING,  /* generation, slot: ask this instance for a heartbeat */
+    DS_RS_OFFER, /* label, generation: RS changed the label in the store. With gone 0 it has this endpoint; with gone 1 it is taken back */
+    DS_RS_SWEEP, /* label, generation: RS swept what the service published up to this generation */
+    DS_RS_GIVEUP /* label: the service failed too often. It is down until an event starts it */
+};
+
+/* An action. The supervisor carries out the first three; of an offer and a sweep, word and refusal say what the store answered. */
+struct ds_rs_action {
+    uint32_t kind;          /* of enum ds_rs_action_kind */
+    uint32_t generation;
+    uint32_t word, refusal; /* as in struct ds_answer */
+    uint16_t slot;
+    uint8_t gone;
+    uint8_t label_length;
+    char label[64];
+};
+
+enum ds_rs_class { DS_RS_BLOCK, DS_RS_CHARACTER, DS_RS_NETWORK, DS_RS_SERVER };
+
+enum ds_rs_state {
+    DS_RS_ISDOWN,    /* it was never started, or was stopped */
+    DS_RS_ISUP,      /* generation, slot: its instance; failures */
+    DS_RS_ISWAITING, /* until: the tick of its next start; failures */
+    DS_RS_ISGIVENUP  /* it failed too often */
+};
+
+/* A service: its settings, and its state. What the state doesn't have is 0. */
+struct ds_rs_service {
+    uint64_t until;
+    uint32_t state;         /* of enum ds_rs_state */
+    uint32_t generation;
+    uint32_t failures;      /* in a row, since it was last brought up by DS_RS_UP */
+    uint32_t period, limit;
+    uint16_t slot;
+    uint8_t service_class;  /* of enum ds_rs_class */
+    uint8_t has_unit, unit; /* its major number or port, if has_unit is 1; a server has none */
+    uint8_t label_length;
+    char label[64];
+};
+
+/* Opens RS beside the store of an open handle. Every service is down. settings is the whole text of a TOML file. The first start has the
+ * generation `next`, and slots are counted from `slot` on: 1 and 16 for a first run. Keep ds_rs_next for the next run, so that no
+ * generation comes twice. Hosts that exchange items have slots of their own.
+ * Returns 0; or the first of these that applies, and nothing changes:
+ *   - DS_ISCLOSED, or DS_EXISTS if RS is open. fault is unchanged;
+ *   - the first fault of the text, DS_TOML to DS_SHAREDNAME, and fault says where; or DS_NOROOM, for the text or for its services;
+ *   - DS_BADFIRST, if next isn't 1 to 2097152, slot is below 16, or the last slot is above 1023. fault is unchanged;
+ *   - DS_NOROOM, for the states of the services. fault is unchanged. */
+uint32_t ds_rs_open(struct ds_handle *handle, const char *settings, size_t settings_length, uint32_t next, uint16_t slot,
+                    struct ds_settings_fault *fault);
+
+/* Reports an event, and writes the answer:
+ *   - DS_ACTED: RS took the event, and the store took RS's label changes and sweeps;
+ *   - DS_REFUSED by the first of DS_TICKBACK, DS_WORN, DS_UNKNOWNLABEL, DS_BADCAUSE, DS_ALREADYUP, DS_NOTUP, DS_OLDENDPOINT,
+ *     DS_GENERATIONSSPENT and DS_NOSLOT that applies, or by DS_NOROOM after all of them, and only if the event has actions;
+ *   - DS_NOREQUEST, if no event has such parts.
+ * Unless it is DS_ACTED, nothing changed. Before RS is open there is no service, and a tick does nothing.
+ * Returns 0, or DS_ISCLOSED, and then the answer is unchanged. */
+uint32_t ds_rs_event(struct ds_handle *handle, const struct ds_rs_event *event, struct ds_answer *answer);
+
+/* Writes the action of number `index` of the last answer, counted from 0. Carry them out in order. Only DS_ACTED has actions: at most
+ * five, and DS_RS_GIVEUP after them. They can be fetched until the next request, line or event.
+ * Returns 0; DS_ISCLOSED; or DS_NOTFOUND past the last one. Unless it is 0, the action is unchanged. */
+uint32_t ds_rs_action(struct ds_handle *handle, size_t index, struct ds_rs_action *action);
+
+/* Writes what RS knows of the service of number `index`, counted from 0 in the order of the settings.
+ * Returns 0; DS_ISCLOSED; or DS_NOTFOUND past the last one, or if RS isn't open. Unless it is 0, the service is unchanged. */
+uint32_t ds_rs_service(struct ds_handle *handle, size_t index, struct ds_rs_service *service);
+
+/* Writes the first tick, from the last event's on, at which DS_RS_TICK has actions, and UINT64_MAX if there is none until another event. So
+ * a supervisor sleeps until then.
+ * Returns 0; DS_ISCLOSED; or DS_NOTFOUND if RS isn't open. Unless it is 0, the tick is unchanged. */
+uint32_t ds_rs_due(struct ds_handle *handle, uint64_t *tick);
+
+/* Writes the generation of the next start, 1 to 2097152; no start gets the last one.
+ * Returns 0; DS_ISCLOSED; or DS_NOTFOUND if RS isn't open. Unless it is 0, the generation is unchanged. */
+uint32_t ds_rs_next(struct ds_handle *handle, uint32_t *generation);
+
+/* Judges whether an instance may publish under a key: it is up, the kind isn't DS_LABEL, and its service's settings publish the name.
+ * Returns 0 if it may; DS_ISCLOSED; or DS_NOTALLOWED. The handle is unchanged. */
+uint32_t ds_rs_may_publish(struct ds_handle *handle, uint32_t generation, uint16_t slot, uint8_t kind, const char *name,
+                           size_t name_length);
 
 /* A subscriber's map: what it keeps of the items of stores, for up to 4096 keys and 64 owners. Of each key under its query it keeps the
  * change with the greatest version, and of each owner the highest floor. Items may come from any store, in any order, any number of times:
