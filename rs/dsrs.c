@@ -291,9 +291,9 @@ static bool turn(struct host *host, bool *more) {
     reap(rs);
     rs_bury(rs);
     rs_tick(rs);
-    *more |= rs->ending && rs_go_down(rs);
     instances_turn(&rs->instances);
     rs_bury(rs); /* what couldn't begin */
+    *more |= rs->ending && rs_go_down(rs);
     take_in(rs);
     peers_write(&rs->peers);
     set_timer(host);
