@@ -167,7 +167,7 @@ static bool report(struct rs *rs, struct ds_rs_event *event, struct text *to, st
     keep_generation(rs);
     note_cause(rs, event);
     if (ds_rs_event(&rs->store, event, answer)) return true;
-    bool put = !to || lines_fetch(&rs->store, to) == LINES_ANSWERED;
+    bool put = !to || (answer->word == DS_NOREQUEST ? text_print(to, "norequest\n") : lines_fetch(&rs->store, to) == LINES_ANSWERED);
     while (count < ACTIONS && !ds_rs_action(&rs->store, count, &actions[count])) count++;
     for (size_t i = 0; i < count; i++) act(rs, &actions[i]);
     peers_owe(&rs->peers, answer->owed);

@@ -73,6 +73,7 @@ while some := it.recv(9999): print(some.decode(), end="")
 def complaints(host):
     """A server complains of an instance of a driver, by its endpoint: a late complaint hits no newer instance."""
     server = '''
+while not os.path.exists("../../notes"): time.sleep(0.01)
 note("self " + ask("complain 2/17"))
 note("first " + ask("complain 1/16").replace("\\n", "|"))
 note("late " + ask("complain 1/16"))
@@ -124,8 +125,8 @@ def lines_that_are_none(host):
     equal(host.ask(""), "norequest")
     equal(host.ask("show 1"), "badline 4 4")
     equal(host.ask("service up nobody"), "refused unknownlabel")
-    equal(host.ask("service up " + 65 * "x"), "refused unknownlabel")
-    equal(host.ask("service up a 5"), "refused unknownlabel")
+    equal(host.ask("service up " + 65 * "x"), "norequest")
+    equal(host.ask("service up a 5"), "norequest")
     assert host.ask("service over a").startswith("badline"), "a verb that is none"
     equal(host.ask("retrieve a label"), "found 1/16")
     it = host.client("half")
