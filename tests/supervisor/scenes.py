@@ -514,3 +514,68 @@ def clients_that_read_nothing_cost_little(host):
 def memory(host):
     with open(f"/proc/{host.process.pid}/status") as status:
         return next(int(it.split()[1]) * 1024 for it in status if it.startswith("VmRSS:"))
+
+
+# ---- dsask ----
+
+
+def asked(host, *words, **how):
+    """Status, output and errors of a dsask."""
+    ran = subprocess.run([host.room / "dsask", *words], capture_output=True, text=True, timeout=20, **how)
+    return ran.returncode, ran.stdout, ran.stderr
+
+
+@scene
+def asks_from_a_shell(host):
+    host.start({"a": ({"publishes": ["a.n"]}, 'ask(f"publish {me} new a.n u32 {generation}.1 = 5")\nlive()\n')})
+    until(lambda: host.ask("retrieve a.n u32") == "found 5", "a publishes")
+    socket_path = str(host.path)
+    equal(asked(host, socket_path, "retrieve a.n u32", "retrieve a label"), (0, "found 5\nfound 1/16\n", ""))
+    equal(asked(host, socket_path, "retrieve b u32"), (1, "refused notfound\n", ""))
+    equal(asked(host, socket_path, "retrieve"), (1, "badline 1 8\n", ""))
+    equal(asked(host, socket_path, "-x"), (1, "norequest\n", ""))
+    equal(asked(host, socket_path, input="retrieve a.n u32\nretrieve a label"), (0, "found 5\nfound 1/16\n", ""))
+    equal(asked(host, socket_path, input=""), (0, "", ""))
+    equal(asked(host, socket_path, input="show\n" * 2000)[1].count("shown 2\n"), 2000)
+    head, row = asked(host, socket_path, "status")[1].splitlines()
+    equal(head.split(), ["LABEL", "STATE", "ENDPOINT", "PID", "SINCE", "FAILURES", "LAST", "END", "STATUS"])
+    equal(row.split()[:3] + row.split()[5:], ["a", "up", "1/16", "0", "-", "-"])
+    status, said, wrong = asked(host, f"{socket_path}x", "show")
+    assert status == 1 and not said and "No such file" in wrong, wrong
+    equal(asked(host, "--help")[0], 0)
+    for words in ([], ["--nothing", "s"], ["--watch", "a", "s", "show"], ["--kinds", "16", "s"], ["x" * 200]):
+        status, said, wrong = asked(host, *words)
+        assert status == 2 and not said and wrong.startswith("dsask: "), wrong
+    host.end()
+
+
+@scene
+def watches_from_a_shell(host):
+    """`--watch` prints what is there, then what changes, to a pipe at once; two watch at a time, and nobody else's subscriptions are used up."""
+    host.start({"a": ({}, LIVES), "b": ({}, LIVES)})
+    host.logged("began b")
+    watchers = [subprocess.Popen([host.room / "dsask", "--watch", "a", host.path], stdout=subprocess.PIPE, text=True) for _ in range(2)]
+    try:
+        for it in watchers:
+            equal(it.stdout.readline(), "a label rs 1.0 = 1/16\n")
+        host.ask("service refresh b")
+        host.ask("service refresh a")
+        for it in watchers:  # a sweep is shown under any pattern
+            equal([it.stdout.readline() for _ in range(3)], ["! a 1\n", "! b 2\n", "a label rs 4.0 = 4/16\n"])
+        status, said, wrong = asked(host, "--watch", "[", host.path)
+        assert status == 1 and not said and "badpattern" in wrong, wrong
+    finally:
+        for it in watchers:
+            it.kill()
+            it.wait()
+    host.end()
+
+
+@scene
+def hangs_up_when_the_supervisor_ends(host):
+    host.start({"a": ({}, LIVES)})
+    host.logged("began a")
+    with subprocess.Popen([host.room / "dsask", "--watch", "a", host.path], stdout=subprocess.PIPE, stderr=subprocess.PIPE, text=True) as it:
+        it.stdout.readline()
+        host.end()
+        equal((it.wait(20), "it hung up" in it.stderr.read()), (1, True))
