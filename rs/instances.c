@@ -74,15 +74,15 @@ static bool begin_process(struct instances *all, struct instance *it) {
     return is_watched || give_up(it);
 }
 
-static void fail_to_start(struct instances *all, struct instance *it) {
-    events_tell(all->events, LOG_WARN, "nostart: %s %s %s", it->service->label, it->endpoint, strerror(errno));
+void instances_fail(struct instances *all, struct instance *it, const char *why) {
+    events_tell(all->events, LOG_WARN, "nostart: %s %s %s", it->service->label, it->endpoint, why);
     it->died = true;
     it->cause = CAUSE_EXIT;
 }
 
 static void begin(struct instances *all, struct instance *it) {
     it->state = INSTANCE_RUNS;
-    if (!begin_process(all, it)) fail_to_start(all, it);
+    if (!begin_process(all, it)) instances_fail(all, it, strerror(errno));
     else events_tell(all->events, LOG_INFO, "began: %s %s pid %d", it->service->label, it->endpoint, it->pid);
 }
 
@@ -102,18 +102,19 @@ bool instances_start(struct instances *all, struct service *service, uint32_t ge
     service->since = clock_now();
     *service->status = '\0';
     it->listener = listen_at_endpoint(all, it);
-    if (it->listener < 0) it->state = INSTANCE_RUNS, fail_to_start(all, it);
+    if (it->listener < 0) it->state = INSTANCE_RUNS, instances_fail(all, it, strerror(errno));
     else if (!is_something_left(all, service)) begin(all, it);
     return true;
 }
 
 /* ---- its end ---- */
 
-/* Signals the group. A child that hasn't called setsid yet is in no group of its own, so it is signalled by itself, too. */
+/* Signals the group, unless its first process is reaped: then its number may be another's. A child that hasn't called
+ * setsid yet is in no group of its own, so it is signalled by itself, too. */
 static void signal_group(const struct instance *it, int number) {
-    if (it->pid <= 0) return;
+    if (it->pidfd.file < 0) return;
     kill(-it->pid, number);
-    if (it->pidfd.file >= 0) syscall(SYS_pidfd_send_signal, it->pidfd.file, number, NULL, 0);
+    syscall(SYS_pidfd_send_signal, it->pidfd.file, number, NULL, 0);
 }
 
 void instances_kill(struct instances *all, struct instance *it, bool gently) {
@@ -123,13 +124,6 @@ void instances_kill(struct instances *all, struct instance *it, bool gently) {
     it->state = INSTANCE_ENDS;
     it->died = false;
     it->service->since = clock_now();
-}
-
-void instances_fail(struct instances *all, struct instance *it) {
-    close_endpoint(all, it);
-    signal_group(it, SIGKILL);
-    it->died = true;
-    it->cause = CAUSE_EXIT;
 }
 
 struct instance *instances_at(const struct instances *all, uint32_t generation, uint16_t slot) {

@@ -50,7 +50,7 @@ bool instances_start(struct instances *all, struct service *service, uint32_t ge
 /* Ends an instance, of whose end RS knows. Gently: by SIGTERM, and SIGKILL after the grace. */
 void instances_kill(struct instances *all, struct instance *instance, bool gently);
 /* Takes an instance for dead, as one that couldn't begin. */
-void instances_fail(struct instances *all, struct instance *instance);
+void instances_fail(struct instances *all, struct instance *instance, const char *why);
 /* Returns the instance with this endpoint that RS takes for up, or NULL. */
 struct instance *instances_at(const struct instances *all, uint32_t generation, uint16_t slot);
 /* Returns the running instance with this first process, or NULL. */

@@ -143,17 +143,12 @@ static void put_notices(struct peer *peer) {
     }
 }
 
-/* Gives up what a peer that hung up was to be sent. The lines that it sent before are still carried out. */
-static void hang_up(struct peer *peer) {
-    peer->ended = true;
-    text_free(&peer->out);
-}
-
+/* A peer that hung up is dropped, with lines that weren't answered because it read nothing. */
 static void write_out(struct peer *peer) {
     if (!peer->out.length) return;
     ssize_t put = send(peer->socket.file, peer->out.bytes, peer->out.length, MSG_DONTWAIT | MSG_NOSIGNAL);
     if (put > 0) text_drop(&peer->out, (size_t)put);
-    else if (put < 0 && errno != EAGAIN && errno != EINTR) hang_up(peer);
+    else if (put < 0 && errno != EAGAIN && errno != EINTR) peer->gone = true;
 }
 
 /* One that has ended and isn't written to isn't watched, since its hang-up would be told again and again. */

@@ -127,7 +127,7 @@ static void look_at_offer(struct rs *rs, const struct ds_rs_action *action) {
     const char *why = ds_refusal_text(action->refusal);
     events_tell(&rs->events, LOG_ERROR, "refused: %.*s %u: %s", action->label_length, action->label, action->generation, why);
     struct instance *it = action->gone ? NULL : instances_at(&rs->instances, action->generation, action->slot);
-    if (it) instances_fail(&rs->instances, it);
+    if (it) instances_fail(&rs->instances, it, why);
 }
 
 static void act(struct rs *rs, const struct ds_rs_action *action) {

@@ -1,4 +1,5 @@
 """A dsrs over a folder of its own, with services, for tests/rs: how it is built, started, asked, and what its services do."""
+import fcntl
 import os
 import pathlib
 import re
@@ -130,8 +131,10 @@ class Host:
         self.clients = {}
         words = [*self.words, "--tick", str(tick), *options, self.home / "settings.toml", self.home / "services", self.path]
         with open(self.home / "log", "a") as log:
+            leaked = fcntl.fcntl(log, fcntl.F_DUPFD, 100)
             ignored = lambda: signal.signal(signal.SIGQUIT, signal.SIG_IGN)  # noqa: E731, as a shell's `&` does
-            self.process = subprocess.Popen(words, stdout=log, stderr=log, env={**os.environ, "DS_TEST": str(self.home)}, preexec_fn=ignored)
+            self.process = subprocess.Popen(words, stdout=log, stderr=log, pass_fds=[leaked], env={**os.environ, "DS_TEST": str(self.home)}, preexec_fn=ignored)
+            os.close(leaked)
 
     def kill(self):
         if self.process and self.process.poll() is None:
