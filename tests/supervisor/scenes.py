@@ -76,6 +76,7 @@ def complaints(host):
 while not os.path.exists("../../notes"): time.sleep(0.01)
 note("self " + ask("complain 2/17"))
 note("first " + ask("complain 1/16").replace("\\n", "|"))
+while ask("retrieve d label") != "found 3/16": time.sleep(0.01)
 note("late " + ask("complain 1/16"))
 note("label " + ask("complain d"))
 live()
