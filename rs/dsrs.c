@@ -42,7 +42,8 @@ static const char help[] =
     "  --version           prints the version\n"
     "  -h, --help          prints this\n"
     "\n"
-    "Signals: TERM and INT stop all services, the last one first, and end it; a second one kills them.\n"
+    "Signals: TERM and INT stop all services, the last one first, and end it; a second one kills them. HUP reads the\n"
+    "settings again: unless they have a fault, all services stop, and those of the new settings start.\n"
     "Statuses: 0 ended by a signal, 2 usage, 3 a failure, which standard error tells.\n";
 
 static const char version[] = "dsrs " DS_VERSION "\n";
@@ -55,6 +56,9 @@ struct host {
     struct place place;
     char folder[FOLDER];
     struct watch listener, signals, timer, heard;
+    const char *settings;
+    uint16_t slot;                /* the first one */
+    bool reloads;                 /* all services go down because settings are read again */
     int epoll;
     uint64_t timer_at, admit_at; /* by clock_now: for when the timer is set; when clients are taken in again */
 };
@@ -165,7 +169,7 @@ static int open_place(struct host *host) {
     return watch_open(&host->listener, host->epoll, host->place.listener, EPOLLIN) ? DONE : failed(host, "epoll");
 }
 
-static int open_all(struct host *host, const struct options *options) {
+static int open_all(struct host *host) {
     struct rs *rs = &host->rs;
     if (!place_lock(&host->place)) return FAILED;
     if (!open_folder(host)) return failed(host, "socket");
@@ -176,7 +180,7 @@ static int open_all(struct host *host, const struct options *options) {
     if (!watch_open(&host->timer, host->epoll, timer, EPOLLIN)) return failed(host, "timerfd");
     if (!heard_open(&host->heard, host->epoll, host->folder)) return failed(host, "notify");
     if (prctl(PR_SET_CHILD_SUBREAPER, 1)) return failed(host, "subreaper"); /* what a dead instance leaves is ours */
-    if (!rs_open(rs, options->settings, (uint16_t)options->slot)) return FAILED;
+    if (!rs_open(rs, host->settings, host->slot)) return FAILED;
     return open_place(host);
 }
 
@@ -192,16 +196,29 @@ static void close_all(struct host *host) {
 
 static void begin_end(struct host *host) {
     struct rs *rs = &host->rs;
-    if (!rs->ending) {
-        notify("STOPPING=1");
-        events_tell(&rs->events, LOG_INFO, "ends: all services go down");
-        rs->ending = true;
-        rs->left = rs->services;
-        return;
-    }
-    rs->instances.grace = 0;
+    notify(host->reloads ? "RELOADING=1" : "STOPPING=1");
+    events_tell(&rs->events, LOG_INFO, "ends: all services go down");
+    rs->ending = true;
+    rs->left = rs->services;
+}
+
+/* The first signal stops services with their grace, and a second one without. */
+static void take_end(struct host *host) {
+    struct rs *rs = &host->rs;
+    bool is_second = rs->ending && !host->reloads;
+    host->reloads = false;
+    if (!rs->ending) begin_end(host);
+    if (!is_second) return;
     for (struct instance *it = rs->instances.first; it; it = it->next)
         if (it->kill_at) it->kill_at = clock_now();
+    rs->instances.grace = 0;
+}
+
+/* Settings with a fault change nothing. */
+static void take_reload(struct host *host) {
+    if (host->rs.ending || !rs_judge(&host->rs, host->settings)) return;
+    host->reloads = true;
+    begin_end(host);
 }
 
 static void read_signals(struct host *host) {
@@ -209,7 +226,8 @@ static void read_signals(struct host *host) {
     struct instances *instances = &host->rs.instances;
     host->signals.ready = 0;
     while (read(host->signals.file, &signal, sizeof signal) == sizeof signal) {
-        if (signal.ssi_signo == SIGTERM || signal.ssi_signo == SIGINT) begin_end(host);
+        if (signal.ssi_signo == SIGTERM || signal.ssi_signo == SIGINT) take_end(host);
+        if (signal.ssi_signo == SIGHUP) take_reload(host);
         if (signal.ssi_signo == SIGCHLD && !instances->sweep_at) instances->sweep_at = clock_now();
     }
 }
@@ -301,11 +319,19 @@ static bool turn(struct host *host, bool *more) {
     return !rs->ending || rs->left || rs->instances.first;
 }
 
-static void run(struct host *host) {
+/* Serves until a signal ends it. A reload ends all services, and begins with a new store: RS takes settings once. */
+static int run(struct host *host) {
     bool more = true;
-    rs_begin(&host->rs);
-    notify("READY=1");
-    while (turn(host, &more)) {}
+    do {
+        host->reloads = false;
+        rs_begin(&host->rs);
+        notify("READY=1");
+        while (turn(host, &more)) {}
+        if (!host->reloads) return DONE;
+        peers_close(&host->rs.peers); /* so that clients notice */
+        rs_close(&host->rs);
+    } while (rs_open(&host->rs, host->settings, host->slot));
+    return FAILED;
 }
 
 int main(int count, char **words) {
@@ -319,6 +345,8 @@ int main(int count, char **words) {
     struct rs *rs = &host.rs;
     log_open(&host.log);
     host.place.path = options.socket;
+    host.settings = options.settings;
+    host.slot = (uint16_t)options.slot;
     host.place.log = rs->events.log = &host.log;
     rs->events.begun = clock_now();
     rs->generations.path = options.generations;
@@ -328,8 +356,8 @@ int main(int count, char **words) {
     rs->instances.tick = (uint64_t)options.tick;
     rs->instances.grace = (uint64_t)options.grace;
     ticks_open(&rs->ticks, (uint64_t)options.tick);
-    status = open_all(&host, &options);
-    if (status == DONE) run(&host);
+    status = open_all(&host);
+    if (status == DONE) status = run(&host);
     close_all(&host);
     return status;
 }

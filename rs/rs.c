@@ -10,8 +10,10 @@
 #include <unistd.h>
 
 enum {
-    RING = 4096,
-    ACTIONS = 8,           /* of one event; the library has six at most */
+    RING = 4096,            /* items of the journal */
+    ACTIONS = 8,            /* of one event; the library has six at most */
+    FIRST_GENERATION = 1,
+    FIRST_SLOT = 16,
     SETTINGS_MOST = 1 << 20 /* bytes of a file of settings */
 };
 
@@ -42,39 +44,65 @@ static bool refuse(struct rs *rs, const char *path, uint32_t refusal, const stru
     return failed(rs, what, why);
 }
 
-/* A label with a dot in front would be a folder that isn't a service's, `..` for one. */
-static bool learn_services(struct rs *rs, const char *path) {
+/* A label with a dot in front would name a folder that isn't a service's, `..` for one. */
+static bool are_folders(struct rs *rs, const char *path, struct ds_handle *store) {
     struct ds_rs_service it;
+    for (size_t i = 0; !ds_rs_service(store, i, &it); i++)
+        if (*it.label == '.') return failed(rs, path, "a label begins with a dot");
+    return true;
+}
+
+static void learn_services(struct rs *rs) {
+    struct ds_rs_service it;
+    uint64_t shortest = UINT64_MAX;
     int servers = 0;
-    for (; rs->services < SERVICES && !ds_rs_service(&rs->store, rs->services, &it); rs->services++) {
+    for (rs->services = 0; rs->services < SERVICES && !ds_rs_service(&rs->store, rs->services, &it); rs->services++) {
         struct service *service = &rs->service[rs->services];
-        bool is_server = it.service_class == DS_RS_SERVER;
-        *service = (struct service){.is_server = is_server, .period = it.period, .server = -1};
+        *service = (struct service){.is_server = it.service_class == DS_RS_SERVER, .period = it.period, .server = -1};
         memcpy(service->label, it.label, it.label_length);
-        if (is_server && servers < SERVERS - 1) service->server = servers++; /* the last one's subscriptions are the public's */
-        if (*service->label == '.') return failed(rs, path, "a label begins with a dot");
-        if (it.period && (it.period / 2 < rs->ticks.leap || rs->ticks.leap <= 1)) rs->ticks.leap = it.period / 2 ? it.period / 2 : 1;
+        if (service->is_server && servers < SERVERS - 1) service->server = servers++; /* the last one's are the public's */
+        if (it.period && it.period < shortest) shortest = it.period;
     }
+    rs->ticks.leap = shortest > 3 ? shortest / 2 : 1; /* RS misses nobody before two periods */
+}
+
+/* Opens a store with RS for the settings of a file. Returns false, with the store closed, after a line to the log. */
+static bool open_store(struct rs *rs, const char *path, uint32_t next, uint16_t slot, struct ds_handle *store) {
+    struct ds_settings_fault fault = {.service = UINT32_MAX};
+    struct text text = {0};
+    struct timespec now;
+    bool is_read = read_file(path, &text) || failed(rs, path, strerror(errno));
+    clock_gettime(CLOCK_REALTIME, &now); /* each run has another incarnation */
+    uint64_t incarnation = (uint64_t)now.tv_sec * 1000000000 + (uint64_t)now.tv_nsec;
+    uint32_t refusal = is_read ? ds_open(store, incarnation, 0, RING) : 0;
+    if (is_read && !refusal) refusal = ds_rs_open(store, text.bytes, text.length, next, slot, &fault);
+    text_free(&text);
+    if (refusal) refuse(rs, path, refusal, &fault);
+    bool is_open = is_read && !refusal && are_folders(rs, path, store);
+    if (!is_open) ds_close(store);
+    return is_open;
+}
+
+bool rs_judge(struct rs *rs, const char *path) {
+    struct ds_handle store = DS_CLOSED;
+    if (!open_store(rs, path, FIRST_GENERATION, FIRST_SLOT, &store)) return false;
+    ds_close(&store);
     return true;
 }
 
 bool rs_open(struct rs *rs, const char *path, uint16_t slot) {
-    struct ds_settings_fault fault = {.service = UINT32_MAX};
-    struct text text = {0};
-    struct timespec now;
     uint32_t next = generations_open(&rs->generations, rs->generations.path);
     if (!next) return failed(rs, rs->generations.path, errno == EINVAL ? "it holds no generation" : strerror(errno));
-    if (!read_file(path, &text)) return text_free(&text), failed(rs, path, strerror(errno));
-    clock_gettime(CLOCK_REALTIME, &now); /* each run has another incarnation */
-    uint32_t refusal = ds_open(&rs->store, (uint64_t)now.tv_sec * 1000000000 + (uint64_t)now.tv_nsec, 0, RING);
-    if (!refusal) refusal = ds_rs_open(&rs->store, text.bytes, text.length, next, slot, &fault);
-    text_free(&text);
-    return refusal ? refuse(rs, path, refusal, &fault) : learn_services(rs, path);
+    if (!open_store(rs, path, next, slot, &rs->store)) return false;
+    ticks_open(&rs->ticks, rs->ticks.length);
+    learn_services(rs);
+    rs->ending = false;
+    return true;
 }
 
 void rs_close(struct rs *rs) {
     uint32_t next = 0;
-    ds_rs_next(&rs->store, &next);
+    if (ds_rs_next(&rs->store, &next)) next = 0;
     generations_close(&rs->generations, next);
     ds_close(&rs->store);
 }
