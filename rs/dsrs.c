@@ -305,15 +305,15 @@ static bool turn(struct host *host, bool *more) {
     if (host->signals.ready) read_signals(host);
     if (host->listener.ready) admit(host);
     if (host->heard.ready) heard_read(&host->heard, rs);
-    *more = peers_turn(rs);
+    peers_turn(rs);
     reap(rs);
     rs_bury(rs);
     rs_tick(rs);
     instances_turn(&rs->instances);
     rs_bury(rs); /* what couldn't begin */
-    *more |= rs->ending && rs_go_down(rs);
+    *more = rs->ending && rs_go_down(rs);
     take_in(rs);
-    peers_write(&rs->peers);
+    *more |= peers_write(&rs->peers);
     set_timer(host);
     log_count(&host->log);
     return !rs->ending || rs->left || rs->instances.first;

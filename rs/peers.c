@@ -78,8 +78,13 @@ static void drop_lines(struct peer *peer, size_t done) {
 
 static bool may_answer(const struct peer *peer) { return !peer->gone && peer->out.length < PEER_WAITS; }
 
-/* Answers lines, and returns whether there are more. */
-static bool answer_lines(struct rs *rs, struct peer *peer) {
+/* Whether it has a line that may be answered. */
+static bool is_ready(const struct peer *peer) {
+    size_t length;
+    return may_answer(peer) && next_line(peer, 0, &length) > 0;
+}
+
+static void answer_lines(struct rs *rs, struct peer *peer) {
     size_t done = 0, length = 0, used = 0;
     for (unsigned left = PEER_LINES; left && may_answer(peer) && (used = next_line(peer, done, &length)) > 0; left--) {
         bool is_long = peer->too_long || length > PEER_LINE;
@@ -90,7 +95,6 @@ static bool answer_lines(struct rs *rs, struct peer *peer) {
         done += used;
     }
     drop_lines(peer, done);
-    return may_answer(peer) && next_line(peer, 0, &length) > 0;
 }
 
 static bool is_done(const struct peer *peer) {
@@ -99,15 +103,13 @@ static bool is_done(const struct peer *peer) {
 }
 
 /* A peer that comes meanwhile stands after those that are there, and isn't ready. */
-bool peers_turn(struct rs *rs) {
-    bool more = false;
+void peers_turn(struct rs *rs) {
     for (size_t i = 0; i < rs->peers.count; i++) {
         struct peer *peer = rs->peers.peer[i];
         if (peer->gone) continue;
         if (peer->socket.ready & (EPOLLIN | EPOLLHUP | EPOLLERR)) read_in(peer);
-        more |= answer_lines(rs, peer);
+        answer_lines(rs, peer);
     }
-    return more;
 }
 
 /* A socket holds a few hundred kilobytes at most. */
@@ -118,7 +120,7 @@ void peers_finish(struct rs *rs, struct instance *instance) {
     do {
         before = peer->in.length;
         read_in(peer);
-        while (answer_lines(rs, peer)) {}
+        while (is_ready(peer)) answer_lines(rs, peer);
     } while (may_answer(peer) && !peer->ended && peer->in.length != before);
 }
 
@@ -143,12 +145,17 @@ static void put_notices(struct peer *peer) {
     }
 }
 
-/* A peer that hung up is dropped, with lines that weren't answered because it read nothing. */
+/* Gives up what a peer that hung up was to be sent. The lines that it sent before are still carried out. */
+static void hang_up(struct peer *peer) {
+    peer->ended = true;
+    text_free(&peer->out);
+}
+
 static void write_out(struct peer *peer) {
     if (!peer->out.length) return;
     ssize_t put = send(peer->socket.file, peer->out.bytes, peer->out.length, MSG_DONTWAIT | MSG_NOSIGNAL);
     if (put > 0) text_drop(&peer->out, (size_t)put);
-    else if (put < 0 && errno != EAGAIN && errno != EINTR) peer->gone = true;
+    else if (put < 0 && errno != EAGAIN && errno != EINTR) hang_up(peer);
 }
 
 /* One that has ended and isn't written to isn't watched, since its hang-up would be told again and again. */
@@ -170,14 +177,20 @@ static void limit(struct peers *peers) {
     if (waiting > PEERS_WAIT) most->gone = true;
 }
 
-void peers_write(struct peers *peers) {
+bool peers_write(struct peers *peers) {
+    bool ready = false;
     limit(peers);
     for (size_t i = peers->count; i-- > 0;) {
         struct peer *peer = peers->peer[i];
         if (!peer->gone) put_notices(peer), write_out(peer);
-        if (peer->gone || is_done(peer)) drop(peers, i);
-        else watch_peer(peers, peer);
+        if (peer->gone || is_done(peer)) {
+            drop(peers, i);
+            continue;
+        }
+        watch_peer(peers, peer);
+        ready |= is_ready(peer);
     }
+    return ready;
 }
 
 void peers_close(struct peers *peers) {

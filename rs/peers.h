@@ -44,8 +44,8 @@ struct rs;
 
 /* Takes in a peer by its socket, which is closed with it, or if there is no place or memory for it. */
 void peers_add(struct peers *peers, int socket, struct instance *instance, uid_t user);
-/* Reads what has come, and answers lines. Returns whether some peer has more. */
-bool peers_turn(struct rs *rs);
+/* Reads what has come, and answers lines. */
+void peers_turn(struct rs *rs);
 /* Answers all that an instance sent before it died. */
 void peers_finish(struct rs *rs, struct instance *instance);
 /* Ends an instance's voice, whoever holds its socket. */
@@ -54,8 +54,8 @@ void peers_forget(struct peers *peers, const struct instance *instance);
 void peers_tell(struct peers *peers, const struct instance *instance, const char *line);
 /* Owes the notices of a mask to those who listen. */
 void peers_owe(struct peers *peers, const uint8_t owed[16]);
-/* Writes what can be written, and frees who is gone. */
-void peers_write(struct peers *peers);
+/* Writes what can be written, and frees who is gone. Returns whether some peer has lines that can be answered at once. */
+bool peers_write(struct peers *peers);
 void peers_close(struct peers *peers);
 
 #endif
