@@ -272,7 +272,7 @@ uint32_t ds_close(struct ds_handle *handle);
 
 /* Why a settings text is refused, and where. */
 struct ds_settings_fault {
-    uint64_t line;    /* from 1: where the text is no TOML, or where the service begins by `[[service]]`; 0: not known */
+    uint64_t line;    /* from 1: where the text isn't TOML, or where the service begins by `[[service]]`; 0: not known */
     uint32_t cause;   /* of enum ds_refusal: DS_TOML to DS_SHAREDNAME, or DS_NOROOM */
     uint32_t service; /* from 0, in the order of the text; of a fault between two services, the second. UINT32_MAX: the whole text */
 };

@@ -48,7 +48,7 @@ static void close_endpoint(const struct instances *all, struct instance *it) {
 
 /* ---- its beginning ---- */
 
-/* A process that can't be watched doesn't go on. Returns false, with errno as it was. */
+/* A process that can't be watched doesn't go on. Returns false, with the errno of before. */
 static bool give_up(struct instance *it) {
     int error = errno;
     kill(it->pid, SIGKILL);

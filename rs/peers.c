@@ -102,7 +102,7 @@ static bool is_done(const struct peer *peer) {
     return peer->ended && !peer->out.length && !next_line(peer, 0, &length);
 }
 
-/* A peer that comes meanwhile stands after those that are there, and isn't ready. */
+/* A peer that is added meanwhile comes after those that are there, and isn't ready. */
 void peers_turn(struct rs *rs) {
     for (size_t i = 0; i < rs->peers.count; i++) {
         struct peer *peer = rs->peers.peer[i];
@@ -158,7 +158,7 @@ static void write_out(struct peer *peer) {
     else if (put < 0 && errno != EAGAIN && errno != EINTR) hang_up(peer);
 }
 
-/* One that has ended and isn't written to isn't watched, since its hang-up would be told again and again. */
+/* One that has ended and isn't written to isn't watched, since its hang-up would be reported again and again. */
 static void watch_peer(struct peers *peers, struct peer *peer) {
     bool reads = !peer->ended && may_answer(peer) && peer->in.length < PEER_READS;
     watch_for(&peer->socket, peers->epoll, (reads ? EPOLLIN : 0U) | (peer->out.length ? EPOLLOUT : 0U));

@@ -1,5 +1,5 @@
 /* Who speaks to dsrs by lines: instances, each over the socket that it was given, and the public, over the socket of dsrs.
- * An instance is whoever holds its socket. */
+ * What holds the socket of an instance speaks for it. */
 #ifndef DSRS_PEERS_H
 #define DSRS_PEERS_H
 
@@ -48,7 +48,7 @@ void peers_add(struct peers *peers, int socket, struct instance *instance, uid_t
 void peers_turn(struct rs *rs);
 /* Answers all that an instance sent before it died. */
 void peers_finish(struct rs *rs, struct instance *instance);
-/* Ends an instance's voice, whoever holds its socket. */
+/* Ends an instance's voice, whatever process holds its socket. */
 void peers_forget(struct peers *peers, const struct instance *instance);
 /* Sends an instance a line of dsrs' own. */
 void peers_tell(struct peers *peers, const struct instance *instance, const char *line);

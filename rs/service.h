@@ -9,11 +9,11 @@ enum {
     SERVICES = 64,
     SERVICE_LABEL = 65,  /* bytes of a label, with its zero */
     SERVICE_STATUS = 80, /* bytes that are kept of what a service says of itself */
-    SERVERS = 16,        /* for which the store has subscriptions, */
-    SERVER_SUBS = 8      /* so many each; those of the last one are the public's */
+    SERVERS = 16,        /* that the store has subscriptions for; those of the last one are the public's */
+    SERVER_SUBS = 8      /* subscriptions of each server */
 };
 
-/* Why an instance ended, as RS numbers it; CAUSE_NONE: it was told to go down. */
+/* Why an instance ended, as RS numbers it; CAUSE_NONE: by `service down`. */
 enum cause { CAUSE_NONE, CAUSE_EXIT, CAUSE_EXCEPTION, CAUSE_SIGNAL, CAUSE_HEARTBEAT, CAUSE_COMPLAINT, CAUSE_UPDATE };
 
 struct service {

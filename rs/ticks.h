@@ -1,4 +1,4 @@
-/* RS's clock. It counts ticks, and leaves out time in which dsrs itself stood still, since no heartbeat was heard then. */
+/* RS's clock. It counts ticks, and leaves out time in which dsrs itself was stopped, since no heartbeat was heard then. */
 #ifndef DSRS_TICKS_H
 #define DSRS_TICKS_H
 

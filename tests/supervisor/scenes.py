@@ -460,7 +460,7 @@ def a_file_down_keeps_it_down(host):
 
 @scene
 def a_start_that_is_refused(host):
-    """Bad settings, words and files are told, with a status, and nothing is left."""
+    """Bad settings, words and files are reported, with a status, and nothing is left."""
     cases = (
         ('[[service]]\nlabel = "a"\nclass = "block"\n', "missing"),
         ('[[service]]\nlabel = ".."\nclass = "server"\n', "begins with a dot"),
