@@ -1,12 +1,14 @@
 """What a supervisor must do, a function each. A scene gets a Host, and starts its supervisor."""
 import os
 import pathlib
+import re
+import shutil
 import signal
 import socket
 import subprocess
 import time
 
-from supervisors import Gone, equal, lives, until
+from supervisors import ROOT, equal, lives, until
 
 LIVES = "live()\n"
 SCENES = []
@@ -619,4 +621,28 @@ def reads_its_settings_again(host):
     equal(order, [["began", "a"], ["began", "b"], ["kill", "b"], ["kill", "a"], ["began", "c"], ["began", "b"]])
     settings.write_text(good)
     host.process.send_signal(signal.SIGHUP)
+    host.end()
+
+
+# ---- the guide ----
+
+
+def shape(text):
+    """A text with its process numbers and times left out."""
+    return re.sub(r" +", " ", re.sub(r"(?<=/1[67]) +\d+|\b\d+s\b", "", text)).strip()
+
+
+@scene
+def the_session_of_the_guide(host):
+    """docs/guide/supervise.md: each command prints what the page has."""
+    page = (ROOT / "docs/guide/supervise.md").read_text()
+    session = re.search(r"(?:^    .*\n)+", page[page.index("    $ dsask") :], re.MULTILINE)[0]
+    shutil.copytree(ROOT / "examples/services", host.home / "services")
+    host.start(settings=(host.home / "services/settings.toml").read_text())
+    host.logged("givenup flaky")
+    until(lambda: host.ask("retrieve clock.time u32").startswith("found "), "the clock publishes")
+    for part in re.split(r"^\$ ", re.sub(r"^    ", "", session, flags=re.MULTILINE), flags=re.MULTILINE)[1:]:
+        command, _, wanted = part.partition("\n")
+        ran = subprocess.run(["sh", "-c", command.replace("/tmp/socket", str(host.path)).replace("dsask", f"{host.room}/dsask")], capture_output=True, text=True)
+        equal(shape(ran.stdout + ran.stderr), shape(wanted))
     host.end()
