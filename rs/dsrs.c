@@ -261,6 +261,11 @@ static void reap(struct rs *rs) {
     }
 }
 
+static void pass_output(struct rs *rs) {
+    for (size_t i = 0; i < rs->services; i++)
+        if (rs->service[i].output.from.ready) output_pass(&rs->service[i].output, rs->service[i].label, rs->events.log);
+}
+
 /* Processes that began get their voice. */
 static void take_in(struct rs *rs) {
     for (struct instance *it = rs->instances.first; it; it = it->next) {
@@ -305,6 +310,7 @@ static bool turn(struct host *host, bool *more) {
     if (host->signals.ready) read_signals(host);
     if (host->listener.ready) admit(host);
     if (host->heard.ready) heard_read(&host->heard, rs);
+    pass_output(rs);
     peers_turn(rs);
     reap(rs);
     rs_bury(rs);

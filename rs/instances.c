@@ -64,7 +64,7 @@ static bool begin_process(struct instances *all, struct instance *it) {
     it->socket = pair[0];
     uint64_t silence = 2 * it->service->period * all->tick * 1000; /* RS takes it for dead after two periods */
     struct process process = {.services = all->services, .endpoints = all->endpoints, .label = it->service->label,
-                              .endpoint = it->endpoint, .socket = pair[1], .listener = it->listener, .silence = silence,
+                              .endpoint = it->endpoint, .socket = pair[1], .listener = it->listener, .output = it->service->output.to, .silence = silence,
                               .first_sub = it->service->server < 0 ? -1 : it->service->server * SERVER_SUBS};
     it->pid = process_begin(&process);
     close(pair[1]);

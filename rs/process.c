@@ -49,6 +49,8 @@ static bool set_descriptors(const struct process *process) {
     int null = open("/dev/null", O_RDONLY | O_CLOEXEC);
     int socket = fcntl(process->socket, F_DUPFD_CLOEXEC, SPARE), listener = fcntl(process->listener, F_DUPFD_CLOEXEC, SPARE);
     if (null < 0 || dup2(null, STDIN_FILENO) < 0) return false;
+    bool has_output = process->output >= 0;
+    if (has_output && (dup2(process->output, STDOUT_FILENO) < 0 || dup2(process->output, STDERR_FILENO) < 0)) return false;
     if (dup2(socket, PROCESS_SOCKET) < 0 || dup2(listener, PROCESS_LISTENER) < 0) return false;
     return !close_range(PROCESS_LISTENER + 1, ~0U, 0);
 }

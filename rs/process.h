@@ -11,7 +11,8 @@ struct process {
     const char *services;  /* the folder in which the folder of its label has `run` */
     const char *endpoints; /* the folder of sockets */
     const char *label, *endpoint;
-    int socket, listener;  /* what becomes its descriptors */
+    int socket, listener;  /* what becomes its descriptors; */
+    int output;            /* and its standard output and error, or -1: those of dsrs */
     int first_sub;         /* the first of its subscriptions, or -1 */
     uint64_t silence;      /* for how many microseconds it may be silent; 0: for ever */
 };

@@ -60,6 +60,7 @@ static void learn_services(struct rs *rs) {
         struct service *service = &rs->service[rs->services];
         *service = (struct service){.is_server = it.service_class == DS_RS_SERVER, .period = it.period, .server = -1};
         memcpy(service->label, it.label, it.label_length);
+        output_open(&service->output, rs->instances.epoll);
         if (service->is_server && servers < SERVERS - 1) service->server = servers++; /* the last one's are the public's */
         if (it.period && it.period < shortest) shortest = it.period;
     }
@@ -102,6 +103,9 @@ bool rs_open(struct rs *rs, const char *path, uint16_t slot) {
 
 void rs_close(struct rs *rs) {
     uint32_t next = 0;
+    for (size_t i = 0; i < rs->services; i++)
+        output_close(&rs->service[i].output, rs->instances.epoll, rs->service[i].label, rs->events.log);
+    rs->services = 0;
     if (ds_rs_next(&rs->store, &next)) next = 0;
     generations_close(&rs->generations, next);
     ds_close(&rs->store);

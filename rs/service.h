@@ -2,6 +2,7 @@
 #ifndef DSRS_SERVICE_H
 #define DSRS_SERVICE_H
 
+#include "output.h"
 #include <stdbool.h>
 #include <stdint.h>
 
@@ -24,6 +25,7 @@ struct service {
     uint64_t since;  /* when its last instance was started or ended, by clock_now */
     enum cause cause; /* why the last instance ended */
     char status[SERVICE_STATUS]; /* the last STATUS= of its instance */
+    struct output output;
 };
 
 #endif

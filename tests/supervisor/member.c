@@ -1,5 +1,5 @@
-/* member SEED: a service of the storm. It holds a lock of its label as long as anything of its group lives, notes who finds
- * it held, and then does what chance says. */
+/* member SEED: a service of the storm. It holds a lock of its label as long as anything of its group lives, notes if it
+ * finds it held, and then does what chance says; nothing, if SEED is `quiet`. */
 #include <fcntl.h>
 #include <poll.h>
 #include <signal.h>
@@ -81,7 +81,7 @@ int main(int count, char **words) {
     note(flock(lock, LOCK_EX | LOCK_NB) ? "TWO AT ONCE" : "began");
     srand((unsigned)(atoi(words[1]) * 7919 + atoi(endpoint)));
     publish();
-    int what = rand() % WHATS, after = rand() % LONGEST;
+    int what = strcmp(words[1], "quiet") ? rand() % WHATS : WHATS, after = rand() % LONGEST;
     begin(what, lock);
     for (;;) {
         struct pollfd dsrs = {.fd = DSRS, .events = POLLIN};

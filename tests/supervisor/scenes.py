@@ -646,3 +646,19 @@ def the_session_of_the_guide(host):
         ran = subprocess.run(["sh", "-c", command.replace("/tmp/socket", str(host.path)).replace("dsask", f"{host.room}/dsask")], capture_output=True, text=True)
         equal(shape(ran.stdout + ran.stderr), shape(wanted))
     host.end()
+
+
+# ---- what services print ----
+
+
+@scene
+def labels_stand_before_lines(host):
+    """What services print is in the log line by line, with the label in front, also after the last newline, and however much it is."""
+    flood = "#!/bin/sh\ni=0\nwhile [ $i -lt 3000 ]; do echo \"line $i of many\"; i=$((i + 1)); done\nexec sleep 1000\n"
+    host.start({"a": ({}, "#!/bin/sh\necho one; echo two >&2; printf three\nexit 1\n"), "flood": ({}, flood)})
+    host.logged("givenup a")
+    until(lambda: "flood: line 2999 of many\n" in host.log(), "all lines are there")
+    equal(host.log().count("flood: line "), 3000)
+    host.end()
+    for line in ("a: one\n", "a: two\n", "a: three\n"):
+        assert line in host.log(), host.log()[-500:]

@@ -15,7 +15,8 @@ SIGNALS = (signal.SIGKILL, signal.SIGSTOP, signal.SIGSEGV, signal.SIGTERM, signa
 VERBS = ("up", "up", "down", "refresh", "refresh", "restart", "restart")
 TICK = 5  # milliseconds
 SILENCE = 300  # milliseconds of a period
-FILES = 20  # that a supervisor without services and clients has open, at most
+FILES = 20  # that a supervisor without running services and clients has open, at most, besides two for each service
+MANY = [f"m{i}" for i in range(64)]  # as many services as there may be
 
 
 def build(room):
@@ -62,14 +63,14 @@ def start(host, draw):
     host.start(services, tick=TICK, options=("--grace", "50"))
 
 
-def at_rest(host):
+def at_rest(host, labels=LABELS):
     """Once all services are down, nothing is left: no label, no process, no descriptor."""
-    for label in LABELS:
+    for label in labels:
         host.ask(f"service down {label}")
     until(lambda: not host.processes(), lambda: f"processes are left: {host.processes()}")
     equal(host.ask("show"), "shown 0")
     files = len(os.listdir(f"/proc/{host.process.pid}/fd"))
-    assert files <= FILES, f"{files} descriptors are open"
+    assert files <= FILES + 2 * len(labels), f"{files} descriptors are open"
     zombies = [pid for pid in filter(str.isdigit, os.listdir("/proc")) if parent_of(pid) == host.process.pid and not lives(pid)]
     until(lambda: not any(os.path.exists(f"/proc/{it}") for it in zombies), "zombies are reaped")
 
@@ -89,9 +90,41 @@ def blow(host, seconds, draw: random.Random):
         harm(host, draw)
         time.sleep(draw.random() * 0.02)
     at_rest(host)
-    notes = host.notes().splitlines()
     events = host.ask("log").splitlines()[-1]
+    host.end()
+    return f"{starts(host)} starts, {events}"
+
+
+def starts(host):
+    """How many instances there were, none beside another one of its label."""
+    notes = host.notes().splitlines()
     twice = [it for it in notes if "TWO AT ONCE" in it]
     assert not twice, f"two instances of a label at once: {twice[:3]}"
+    return len(notes)
+
+
+def kill(host, count, draw: random.Random):
+    """As many services as there may be, one of which is killed at a time, COUNT times; each comes back."""
+    run = f"#!/bin/sh\nexec {host.room}/member quiet\n"
+    host.start({label: ({"class": "server", "limit": 1000, "publishes": [f"{label}.pid"]}, run) for label in MANY}, tick=1)
+    until(lambda: host.ask("show").endswith(f"shown {2 * len(MANY)}"), "all are there")
+    begun, killed, memory = time.monotonic(), 0, resident(host)
+    while killed < count:
+        file = victim(host, draw.choice(MANY))
+        if file is None:
+            continue
+        signal.pidfd_send_signal(file, signal.SIGKILL)
+        os.close(file)
+        killed += 1
+    took, grown = time.monotonic() - begun, resident(host) - memory
+    until(lambda: all(it[0] == "up" for it in host.status().values()), lambda: f"all are up: {host.status()}")
+    assert grown < 4 << 20, f"memory grew by {grown >> 10} KB"
+    at_rest(host, MANY)
     host.end()
-    return f"{len(notes)} starts, {events}"
+    return f"{killed} kills in {took:.1f} s, {starts(host)} starts, memory grew by {grown >> 10} KB"
+
+
+def resident(host):
+    """Bytes that the supervisor has in memory."""
+    text = pathlib.Path(f"/proc/{host.process.pid}/status").read_text()
+    return next(int(line.split()[1]) * 1024 for line in text.splitlines() if line.startswith("VmRSS:"))
