@@ -1,5 +1,5 @@
 /* The lines of a client: read, carried out and answered by the store alone, as dsctl answers them. Used by clients.c
- * alone. */
+ * and by rs/. */
 #ifndef DS_FLEET_LINES_H
 #define DS_FLEET_LINES_H
 
@@ -19,6 +19,9 @@ struct lines_said { uint64_t place; bool holds; uint8_t owed[16]; };
  * which is unchanged where it isn't LINES_ANSWERED. Where text is NULL, the answer is left out. */
 enum lines_word lines_answer(struct ds_handle *store, const char *line, size_t length, struct text *text,
                              struct lines_said *said);
+/* Puts the lines of the last answer after the text. Returns LINES_ANSWERED, or LINES_NOROOM, and then the text is
+ * unchanged. */
+enum lines_word lines_fetch(struct ds_handle *store, struct text *text);
 /* Whether a line's answer has no more than a few lines, as that of each change has. */
 bool lines_is_short(const char *line, size_t length);
 

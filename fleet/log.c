@@ -1,4 +1,4 @@
-/* The lines that dsfleet writes to standard error. See log.h. */
+/* The lines that dsfleet and dsrs write to standard error. See log.h. */
 #include "log.h"
 #include "clock.h"
 #include <fcntl.h>
@@ -58,6 +58,13 @@ void log_say(struct log *log, const char *level, const char *format, ...) {
     }
     memcpy(line + length, "\"\n", 2);
     if (!is_due(log, text, event) || !written(log, line, length + 2)) log->left_out++;
+}
+
+void log_pass(struct log *log, const char *name, const char *line, size_t length) {
+    char whole[2 * LOG_LINE + 100];
+    int put = snprintf(whole, sizeof whole, "%s: %.*s\n", name, (int)length, line);
+    bool is_whole = put > 0 && put < (int)sizeof whole;
+    if (!is_whole || !written(log, whole, (size_t)put)) log->left_out++;
 }
 
 void log_count(struct log *log) {

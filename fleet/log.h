@@ -1,10 +1,11 @@
-/* The lines that dsfleet writes to standard error, as `LEVEL event=WORD text="TEXT"`. Writing never waits: a line that
+/* The lines that dsfleet and dsrs write to standard error, as `LEVEL event=WORD text="TEXT"`. Writing never waits: a line that
  * can't be written at once is left out, and counted. Lines of one event are limited, so that a flood of one kind neither
  * fills a disk nor hides the other kinds. */
 #ifndef DS_FLEET_LOG_H
 #define DS_FLEET_LOG_H
 
 #include <stdbool.h>
+#include <stddef.h>
 #include <stdint.h>
 
 #define LOG_INFO "INFO"
@@ -26,6 +27,8 @@ struct log {
 void log_open(struct log *log);
 /* Writes one line, of a text `WORD: TEXT`. */
 void log_say(struct log *log, const char *level, const char *format, ...) __attribute__((format(printf, 3, 4)));
+/* Writes a line of another program, as `NAME: LINE`, without its newline. These aren't limited. */
+void log_pass(struct log *log, const char *name, const char *line, size_t length);
 /* Writes how many lines were left out, each ten seconds at most. */
 void log_count(struct log *log);
 void log_close(struct log *log);

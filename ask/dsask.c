@@ -1,0 +1,222 @@
+/* dsask: sends lines to a dsrs or a dsfleet, and prints the answers. */
+#include "answers.h"
+#include "ds.h"
+#include "text.h"
+#include <errno.h>
+#include <getopt.h>
+#include <poll.h>
+#include <signal.h>
+#include <stdio.h>
+#include <stdlib.h>
+#include <string.h>
+#include <sys/socket.h>
+#include <sys/un.h>
+#include <unistd.h>
+
+enum { DONE = 0, REFUSED = 1, USAGE = 2 }; /* statuses */
+enum { PIECE = 1 << 16 /* bytes that are read at a time */ };
+
+static const char help[] =
+    "usage: dsask SOCKET [LINE ..]\n"
+    "       dsask --watch PATTERN [--kinds KINDS] [--sub SUB] SOCKET\n"
+    "\n"
+    "Sends lines to the dsrs or the dsfleet that serves SOCKET, and prints the answers. Without a LINE they are read from\n"
+    "standard input; at a terminal, `help` lists them, and notices are printed as they come. A last line may lack its\n"
+    "newline. `dsask SOCKET status` prints a table of the services of a dsrs.\n"
+    "\n"
+    "  --watch PATTERN  prints what the store has under a pattern, and then each change, until it is ended\n"
+    "  --kinds KINDS    of these kinds, the sum of 1 label, 2 u32, 4 str and 8 mem: 15\n"
+    "  --sub SUB        by this subscription; else by the first of 120 to 127 that it may use\n"
+    "  --version        prints the version\n"
+    "  -h, --help       prints this\n"
+    "\n"
+    "Statuses: 0 all is answered, 1 a line was refused, or nobody serves SOCKET, or it hung up before it answered, 2 usage.\n";
+
+static const char lines[] =
+    "retrieve NAME KIND        what is published           status                  a dsrs' services\n"
+    "nameof ENDPOINT           who has an endpoint         log                     what happened to them\n"
+    "show, all                 everything                  service up LABEL        starts one\n"
+    "subscribe SUB \"PATTERN\" KINDS first|later new|over    service down LABEL      stops one\n"
+    "check SUB MAX             what is new under it        service refresh LABEL   replaces its process\n"
+    "listen SUB                asks for notices            service restart LABEL   starts one that waits or was given up\n"
+    "state, metrics            how a dsfleet is doing\n";
+
+struct options { struct watching watching; const char *socket; char **line; int count; };
+
+/* A connection, what is still to be sent, and how many answers are missing. */
+struct asking {
+    int socket;
+    bool reads;            /* standard input hasn't ended */
+    bool prompts;
+    size_t owed;
+    char last;             /* the last byte of what was given */
+    struct text unsent, came;
+    struct printing printing;
+    struct watching *watching; /* or NULL */
+};
+
+static int usage(const char *why) {
+    fprintf(stderr, "dsask: %s; see dsask --help\n", why);
+    return USAGE;
+}
+
+static int out_of_memory(void) {
+    fprintf(stderr, "dsask: out of memory\n");
+    return REFUSED;
+}
+
+/* ---- words ---- */
+
+static int shown(const char *text) {
+    fputs(text, stdout);
+    return DONE;
+}
+
+/* Takes an option; -1: continue. */
+static int read_option(int option, char *value, struct watching *watching) {
+    char *end = value;
+    long number = value ? strtol(value, &end, 10) : 0;
+    bool is_number = end != value && !*end;
+    switch (option) {
+    case 'h': return shown(help);
+    case 'v': return shown("dsask " DS_VERSION "\n");
+    case 'w': watching->pattern = value; return -1;
+    case 'k': watching->kinds = (int)number; return is_number && number >= 1 && number <= 15 ? -1 : usage("kinds are 1 to 15");
+    case 's': watching->sub = watching->last_sub = (int)number; return is_number && number >= 0 && number <= 127 ? -1 : usage("a subscription is 0 to 127");
+    default: return usage("no such option, or no value after it");
+    }
+}
+
+/* -1: continue. Lines may begin with a dash, so options come first. */
+static int read_words(int count, char **words, struct options *options) {
+    static const struct option known[] = {
+        {"watch", required_argument, NULL, 'w'}, {"kinds", required_argument, NULL, 'k'}, {"sub", required_argument, NULL, 's'},
+        {"help", no_argument, NULL, 'h'}, {"version", no_argument, NULL, 'v'}, {0},
+    };
+    opterr = 0;
+    for (int option; (option = getopt_long(count, words, "+h", known, NULL)) != -1;) {
+        int status = read_option(option, optarg, &options->watching);
+        if (status >= 0) return status;
+    }
+    if (optind == count) return usage("a socket is wanted");
+    options->socket = words[optind];
+    options->line = words + optind + 1;
+    options->count = count - optind - 1;
+    if (options->watching.pattern && options->count) return usage("no line comes with --watch");
+    if (strlen(options->socket) >= sizeof((struct sockaddr_un *)0)->sun_path) return usage("the socket's path is too long");
+    return -1;
+}
+
+/* ---- asking ---- */
+
+static int connected(const char *path) {
+    struct sockaddr_un address = {.sun_family = AF_UNIX};
+    snprintf(address.sun_path, sizeof address.sun_path, "%s", path);
+    int it = socket(AF_UNIX, SOCK_STREAM | SOCK_CLOEXEC, 0);
+    if (it >= 0 && !connect(it, (struct sockaddr *)&address, sizeof address)) return it;
+    fprintf(stderr, "dsask: %s: %s\n", path, strerror(errno));
+    return -1;
+}
+
+/* Gives lines to be sent, of which each whole one is owed an answer. */
+static bool give(struct asking *asking, const char *bytes, size_t length) {
+    for (size_t i = 0; i < length; i++) asking->owed += bytes[i] == '\n';
+    if (length) asking->last = bytes[length - 1];
+    return text_put(&asking->unsent, bytes, length);
+}
+
+/* At a terminal, `help` is answered here. */
+static bool read_input(struct asking *asking) {
+    char some[PIECE];
+    ssize_t length = read(STDIN_FILENO, some, sizeof some);
+    if (length > 0 && asking->prompts && length == 5 && !memcmp(some, "help\n", 5)) return !fputs(lines, stdout) || !fflush(stdout);
+    if (length > 0) return give(asking, some, (size_t)length);
+    asking->reads = false;
+    return asking->last == '\n' || give(asking, "\n", 1);
+}
+
+/* What it said before it hung up is read all the same. */
+static void send_some(struct asking *asking) {
+    ssize_t put = send(asking->socket, asking->unsent.bytes, asking->unsent.length, MSG_DONTWAIT | MSG_NOSIGNAL);
+    if (put > 0) text_drop(&asking->unsent, (size_t)put);
+    if (put < 0 && errno == EPIPE) text_free(&asking->unsent);
+}
+
+/* Takes the answers that have come whole. */
+static bool take_answers(struct asking *asking) {
+    size_t length;
+    while ((length = answer_length(asking->came.bytes, asking->came.length)) > 0) {
+        struct text next = {0};
+        bool is_notice = answer_is_notice(asking->came.bytes, length);
+        bool fine = asking->watching ? watching_take(asking->watching, asking->came.bytes, length, &next)
+                                     : printing_put(&asking->printing, asking->came.bytes, length);
+        asking->owed -= !is_notice;
+        fine = fine && give(asking, next.bytes, next.length);
+        text_free(&next);
+        if (!fine) return false;
+        text_drop(&asking->came, length);
+    }
+    return true;
+}
+
+/* Returns false where it hung up, memory ran out, or nobody reads what is printed. */
+static bool receive(struct asking *asking) {
+    if (!text_room(&asking->came, PIECE)) return false;
+    ssize_t length = recv(asking->socket, asking->came.bytes + asking->came.length, PIECE, 0);
+    if (length <= 0) return errno = ECONNRESET, false;
+    asking->came.length += (size_t)length;
+    return take_answers(asking);
+}
+
+static void prompt(const struct asking *asking) {
+    if (!asking->prompts || asking->owed) return;
+    fputs("> ", stdout);
+    fflush(stdout);
+}
+
+/* Runs until each line has its answer, and standard input has ended. */
+static bool run(struct asking *asking) {
+    prompt(asking);
+    while (asking->owed || asking->reads || asking->watching) {
+        short events = (short)(POLLIN | (asking->unsent.length ? POLLOUT : 0));
+        struct pollfd polled[] = {{.fd = asking->socket, .events = events}, {.fd = asking->reads ? STDIN_FILENO : -1, .events = POLLIN}};
+        if (poll(polled, 2, -1) < 0) return false;
+        if (polled[0].revents & POLLOUT) send_some(asking);
+        if (polled[0].revents & (POLLIN | POLLHUP | POLLERR)) {
+            if (!receive(asking)) return false;
+            prompt(asking);
+        }
+        if (!polled[1].revents) continue;
+        if (!read_input(asking)) return false;
+        if (asking->reads) prompt(asking);
+    }
+    return true;
+}
+
+static int ask(const struct options *options, struct asking *asking) {
+    bool fine = true;
+    if (options->watching.pattern) fine = watching_begin(asking->watching, &asking->unsent), asking->owed = 1;
+    for (int i = 0; fine && i < options->count; i++) fine = give(asking, options->line[i], strlen(options->line[i])) && give(asking, "\n", 1);
+    if (!fine) return out_of_memory();
+    asking->printing.as_table = options->count == 1 && !strcmp(options->line[0], "status");
+    if (run(asking)) return asking->printing.refused || (asking->watching && asking->watching->refused) ? REFUSED : DONE;
+    if (errno != EPIPE) fprintf(stderr, "dsask: %s: %s\n", options->socket, errno == ECONNRESET ? "it hung up" : strerror(errno));
+    return REFUSED;
+}
+
+int main(int count, char **words) {
+    struct options options = {.watching = {.kinds = 15, .sub = 120, .last_sub = 127}};
+    int status = read_words(count, words, &options);
+    if (status >= 0) return status;
+    signal(SIGPIPE, SIG_IGN);
+    struct asking asking = {.socket = connected(options.socket), .last = '\n'};
+    if (asking.socket < 0) return REFUSED;
+    asking.watching = options.watching.pattern ? &options.watching : NULL;
+    asking.reads = !options.count && !asking.watching;
+    asking.prompts = asking.reads && isatty(STDIN_FILENO) && isatty(STDOUT_FILENO);
+    status = ask(&options, &asking);
+    text_free(&asking.unsent);
+    text_free(&asking.came);
+    close(asking.socket);
+    return status;
+}

@@ -1,0 +1,369 @@
+/* dsrs: a supervisor of processes. RS of the library decides, and dsrs carries it out. docs/guide/supervise.md. */
+#include "clock.h"
+#include "heard.h"
+#include "notify.h"
+#include "place.h"
+#include "rs.h"
+#include <dirent.h>
+#include <errno.h>
+#include <getopt.h>
+#include <signal.h>
+#include <stdio.h>
+#include <stdlib.h>
+#include <string.h>
+#include <sys/epoll.h>
+#include <sys/prctl.h>
+#include <sys/signalfd.h>
+#include <sys/socket.h>
+#include <sys/stat.h>
+#include <sys/timerfd.h>
+#include <unistd.h>
+
+enum { DONE = 0, USAGE = 2, FAILED = 3 }; /* statuses */
+
+enum {
+    TICK = 10, TICK_MOST = 60000,   /* milliseconds */
+    GRACE = 2000, GRACE_MOST = 3600000,
+    SLOT = 16, SLOT_MOST = 1023,
+    REST = 100,                     /* milliseconds before a client is taken in again, where none could be */
+    FOLDER = PLACE_PATH - 16        /* bytes of the folder of sockets: each socket has up to 15 more */
+};
+
+static const char help[] =
+    "usage: dsrs [--tick MS] [--grace MS] [--slot N] [--generations FILE] SETTINGS.toml SERVICES_DIR SOCKET\n"
+    "\n"
+    "Starts the services of the settings, SERVICES_DIR/LABEL/run each, and starts them again when they fail, as RS decides.\n"
+    "A file SERVICES_DIR/LABEL/down keeps a service down until it is asked for. dsask(1) sends lines to SOCKET.\n"
+    "\n"
+    "  --tick MS           milliseconds of one tick: 10\n"
+    "  --grace MS          between SIGTERM and SIGKILL of a service that is to go down: 2000\n"
+    "  --slot N            the first slot of endpoints, so that hosts don't share them: 16\n"
+    "  --generations FILE  keeps the next generation: SERVICES_DIR/.generation\n"
+    "  --version           prints the version\n"
+    "  -h, --help          prints this\n"
+    "\n"
+    "Signals: TERM and INT stop all services, the last one first, and end it; a second one kills them. HUP reads the\n"
+    "settings again: unless they have a fault, all services stop, and those of the new settings start.\n"
+    "Statuses: 0 ended by a signal, 2 usage, 3 a failure, which standard error tells.\n";
+
+static const char version[] = "dsrs " DS_VERSION "\n";
+
+struct options { long tick, grace, slot; const char *settings, *services, *socket; char generations[4096]; };
+
+struct host {
+    struct rs rs;
+    struct log log;
+    struct place place;
+    char folder[FOLDER];
+    struct watch listener, signals, timer, heard;
+    const char *settings;
+    uint16_t slot;                /* the first one */
+    bool reloads;                 /* all services go down because settings are read again */
+    int epoll;
+    uint64_t timer_at, admit_at; /* by clock_now: for when the timer is set; when clients are taken in again */
+};
+
+static int failed(struct host *host, const char *what) {
+    log_say(&host->log, LOG_ERROR, "%s: %s", what, strerror(errno));
+    return FAILED;
+}
+
+/* ---- words ---- */
+
+static int usage(const char *why) {
+    fprintf(stderr, "dsrs: %s; see dsrs --help\n", why);
+    return USAGE;
+}
+
+static int shown(const char *text) {
+    fputs(text, stdout);
+    return DONE;
+}
+
+/* Reads a number of an option; -1: continue. */
+static int read_number(const char *text, long least, long most, long *value, const char *why) {
+    char *end;
+    *value = strtol(text, &end, 10);
+    bool is_number = *text >= '0' && *text <= '9' && !*end;
+    return is_number && *value >= least && *value <= most ? -1 : usage(why);
+}
+
+/* Takes an option; -1: continue. */
+static int read_option(int option, char *value, struct options *options) {
+    switch (option) {
+    case 'h': return shown(help);
+    case 'v': return shown(version);
+    case 't': return read_number(value, 1, TICK_MOST, &options->tick, "a tick has 1 to 60000 milliseconds");
+    case 'g': return read_number(value, 0, GRACE_MOST, &options->grace, "a grace has 0 to 3600000 milliseconds");
+    case 's': return read_number(value, SLOT, SLOT_MOST, &options->slot, "the first slot is 16 to 1023");
+    case 'k': snprintf(options->generations, sizeof options->generations, "%s", value); return -1;
+    default: return usage("no such option, or no value after it");
+    }
+}
+
+/* -1: continue. */
+static int read_words(int count, char **words, struct options *options) {
+    static const struct option known[] = {
+        {"tick", required_argument, NULL, 't'},
+        {"grace", required_argument, NULL, 'g'},
+        {"slot", required_argument, NULL, 's'},
+        {"generations", required_argument, NULL, 'k'},
+        {"help", no_argument, NULL, 'h'},
+        {"version", no_argument, NULL, 'v'},
+        {0},
+    };
+    opterr = 0;
+    for (int option; (option = getopt_long(count, words, "h", known, NULL)) != -1;) {
+        int status = read_option(option, optarg, options);
+        if (status >= 0) return status;
+    }
+    if (count - optind != 3) return usage("settings, a folder of services and a socket are wanted");
+    options->settings = words[optind];
+    options->services = words[optind + 1];
+    options->socket = words[optind + 2];
+    if (strlen(options->socket) >= PLACE_PATH) return usage("the socket's path is too long");
+    if (!*options->generations) snprintf(options->generations, sizeof options->generations, "%s/.generation", options->services);
+    return -1;
+}
+
+/* ---- beginning and ending ---- */
+
+/* Removes the sockets that a dsrs left which ended without a word. */
+static void empty_folder(const char *path) {
+    DIR *folder = opendir(path);
+    for (struct dirent *entry; folder && (entry = readdir(folder));)
+        if (*entry->d_name != '.') unlinkat(dirfd(folder), entry->d_name, 0);
+    if (folder) closedir(folder);
+}
+
+/* Makes the folder of sockets. Its path is absolute, since services have other working directories. Anybody may pass
+ * through it, and nobody else may make files in it. */
+static bool open_folder(struct host *host) {
+    char path[PLACE_PATH + 2], *whole;
+    snprintf(path, sizeof path, "%s.d", host->place.path);
+    if ((mkdir(path, 0711) && errno != EEXIST) || !(whole = realpath(path, NULL))) return false;
+    int length = snprintf(host->folder, sizeof host->folder, "%s", whole);
+    free(whole);
+    errno = ENAMETOOLONG;
+    if (length >= (int)sizeof host->folder) return false;
+    empty_folder(host->folder);
+    return true;
+}
+
+static int open_signals(void) {
+    sigset_t some;
+    sigemptyset(&some);
+    sigaddset(&some, SIGTERM);
+    sigaddset(&some, SIGINT);
+    sigaddset(&some, SIGHUP);
+    sigaddset(&some, SIGCHLD);
+    sigprocmask(SIG_BLOCK, &some, NULL);
+    signal(SIGPIPE, SIG_IGN);
+    return signalfd(-1, &some, SFD_NONBLOCK | SFD_CLOEXEC);
+}
+
+/* All may read; what more somebody may say is judged line by line. */
+static int open_place(struct host *host) {
+    if (!place_serve(&host->place)) return FAILED;
+    if (chmod(host->place.path, 0666)) return failed(host, host->place.path);
+    return watch_open(&host->listener, host->epoll, host->place.listener, EPOLLIN) ? DONE : failed(host, "epoll");
+}
+
+static int open_all(struct host *host) {
+    struct rs *rs = &host->rs;
+    if (!place_lock(&host->place)) return FAILED;
+    if (!open_folder(host)) return failed(host, "socket");
+    host->epoll = rs->peers.epoll = rs->instances.epoll = epoll_create1(EPOLL_CLOEXEC);
+    if (host->epoll < 0) return failed(host, "epoll");
+    if (!watch_open(&host->signals, host->epoll, open_signals(), EPOLLIN)) return failed(host, "signalfd");
+    int timer = timerfd_create(CLOCK_MONOTONIC, TFD_NONBLOCK | TFD_CLOEXEC);
+    if (!watch_open(&host->timer, host->epoll, timer, EPOLLIN)) return failed(host, "timerfd");
+    if (!heard_open(&host->heard, host->epoll, host->folder)) return failed(host, "notify");
+    if (prctl(PR_SET_CHILD_SUBREAPER, 1)) return failed(host, "subreaper"); /* what a dead instance leaves is ours */
+    if (!rs_open(rs, host->settings, host->slot)) return FAILED;
+    return open_place(host);
+}
+
+static void close_all(struct host *host) {
+    peers_close(&host->rs.peers);
+    rs_close(&host->rs);
+    if (host->heard.file >= 0) empty_folder(host->folder), rmdir(host->folder);
+    place_leave(&host->place);
+    log_close(&host->log);
+}
+
+/* ---- a turn ---- */
+
+static void begin_end(struct host *host) {
+    struct rs *rs = &host->rs;
+    notify(host->reloads ? "RELOADING=1" : "STOPPING=1");
+    events_tell(&rs->events, LOG_INFO, "ends: all services go down");
+    rs->ending = true;
+    rs->left = rs->services;
+}
+
+/* The first signal stops services with their grace, and a second one without. */
+static void take_end(struct host *host) {
+    struct rs *rs = &host->rs;
+    bool is_second = rs->ending && !host->reloads;
+    host->reloads = false;
+    if (!rs->ending) begin_end(host);
+    if (!is_second) return;
+    for (struct instance *it = rs->instances.first; it; it = it->next)
+        if (it->kill_at) it->kill_at = clock_now();
+    rs->instances.grace = 0;
+}
+
+/* Settings with a fault change nothing. */
+static void take_reload(struct host *host) {
+    if (host->rs.ending || !rs_judge(&host->rs, host->settings)) return;
+    host->reloads = true;
+    begin_end(host);
+}
+
+static void read_signals(struct host *host) {
+    struct signalfd_siginfo signal;
+    struct instances *instances = &host->rs.instances;
+    host->signals.ready = 0;
+    while (read(host->signals.file, &signal, sizeof signal) == sizeof signal) {
+        if (signal.ssi_signo == SIGTERM || signal.ssi_signo == SIGINT) take_end(host);
+        if (signal.ssi_signo == SIGHUP) take_reload(host);
+        if (signal.ssi_signo == SIGCHLD && !instances->sweep_at) instances->sweep_at = clock_now();
+    }
+}
+
+static void pass_time(struct host *host) {
+    uint64_t left_out = ticks_pass(&host->rs.ticks);
+    if (!left_out) return;
+    events_tell(&host->rs.events, LOG_WARN, "late: %llu ticks aren't counted", (unsigned long long)left_out);
+}
+
+static void admit(struct host *host) {
+    struct peers *peers = &host->rs.peers;
+    host->listener.ready = 0;
+    while (peers->of_public < PEERS_PUBLIC) {
+        struct ucred who = {.uid = (uid_t)-1};
+        socklen_t length = sizeof who;
+        int client = accept4(host->listener.file, NULL, NULL, SOCK_NONBLOCK | SOCK_CLOEXEC);
+        if (client < 0 && errno != EAGAIN) host->admit_at = clock_now() + REST; /* as out of descriptors */
+        if (client < 0) return;
+        getsockopt(client, SOL_SOCKET, SO_PEERCRED, &who, &length);
+        peers_add(peers, client, NULL, who.uid);
+    }
+}
+
+/* The last lines of an instance that died are answered before its death is reported. */
+static void reap(struct rs *rs) {
+    for (struct instance *it = rs->instances.first; it; it = it->next) {
+        if (!it->pidfd.ready) continue;
+        if (it->state == INSTANCE_RUNS) peers_finish(rs, it);
+        instances_reap(&rs->instances, it);
+    }
+}
+
+static void pass_output(struct rs *rs) {
+    for (size_t i = 0; i < rs->services; i++)
+        if (rs->service[i].output.from.ready) output_pass(&rs->service[i].output, rs->service[i].label, rs->events.log);
+}
+
+/* Processes that began get their voice. */
+static void take_in(struct rs *rs) {
+    for (struct instance *it = rs->instances.first; it; it = it->next) {
+        if (it->socket < 0 || it->state != INSTANCE_RUNS) continue;
+        peers_add(&rs->peers, it->socket, it, 0);
+        it->socket = -1;
+    }
+}
+
+/* Orders the next turn for when something is due by the clock. */
+static void set_timer(struct host *host) {
+    struct rs *rs = &host->rs;
+    uint64_t at = instances_due(&rs->instances);
+    bool rests = host->admit_at || rs->peers.of_public >= PEERS_PUBLIC;
+    rs->ticks.due = rs_due(rs);
+    if (rs->ticks.due != TICKS_NEVER) {
+        uint64_t tick = ticks_begin(&rs->ticks, rs->ticks.due > rs->ticks.now ? rs->ticks.due : rs->ticks.now + 1);
+        if (!at || tick < at) at = tick;
+    }
+    if (host->admit_at && (!at || host->admit_at < at)) at = host->admit_at;
+    watch_for(&host->listener, host->epoll, rests ? 0 : EPOLLIN);
+    if (at == host->timer_at) return;
+    struct itimerspec when = {.it_value = {.tv_sec = (time_t)(at / 1000), .tv_nsec = (long)(at % 1000) * 1000000}};
+    timerfd_settime(host->timer.file, TFD_TIMER_ABSTIME, &when, NULL);
+    host->timer_at = at;
+}
+
+static void read_timer(struct host *host) {
+    uint64_t times;
+    host->timer.ready = 0;
+    if (read(host->timer.file, &times, sizeof times) == sizeof times) host->timer_at = 0;
+    if (host->admit_at && clock_now() >= host->admit_at) host->admit_at = 0;
+}
+
+/* What was said is heard before anybody is missed, and what a dead instance said before its death is. Things are freed
+ * after all that an event may point to is done. Returns false once all is down. */
+static bool turn(struct host *host, bool *more) {
+    struct rs *rs = &host->rs;
+    watch_wait(host->epoll, *more);
+    pass_time(host);
+    if (host->timer.ready) read_timer(host);
+    if (host->signals.ready) read_signals(host);
+    if (host->listener.ready) admit(host);
+    if (host->heard.ready) heard_read(&host->heard, rs);
+    pass_output(rs);
+    peers_turn(rs);
+    reap(rs);
+    rs_bury(rs);
+    rs_tick(rs);
+    instances_turn(&rs->instances);
+    rs_bury(rs); /* what couldn't begin */
+    *more = rs->ending && rs_go_down(rs);
+    take_in(rs);
+    *more |= peers_write(&rs->peers);
+    set_timer(host);
+    log_count(&host->log);
+    return !rs->ending || rs->left || rs->instances.first;
+}
+
+/* Serves until a signal ends it. A reload ends all services, and begins with a new store: RS takes settings once. */
+static int run(struct host *host) {
+    bool more = true;
+    do {
+        host->reloads = false;
+        rs_begin(&host->rs);
+        notify("READY=1");
+        while (turn(host, &more)) {}
+        if (!host->reloads) return DONE;
+        peers_close(&host->rs.peers); /* so that clients notice */
+        rs_close(&host->rs);
+    } while (rs_open(&host->rs, host->settings, host->slot));
+    return FAILED;
+}
+
+int main(int count, char **words) {
+    static struct host host = {
+        .rs = {.store = DS_CLOSED, .generations.file = -1}, .place = {.lock = -1, .listener = -1}, .listener.file = -1,
+        .signals.file = -1, .timer.file = -1, .heard.file = -1,
+    };
+    struct options options = {.tick = TICK, .grace = GRACE, .slot = SLOT};
+    int status = read_words(count, words, &options);
+    if (status >= 0) return status;
+    struct rs *rs = &host.rs;
+    log_open(&host.log);
+    host.place.path = options.socket;
+    host.settings = options.settings;
+    host.slot = (uint16_t)options.slot;
+    host.place.log = rs->events.log = &host.log;
+    rs->events.begun = clock_now();
+    rs->generations.path = options.generations;
+    rs->instances.services = options.services;
+    rs->instances.endpoints = host.folder;
+    rs->instances.events = &rs->events;
+    rs->instances.tick = (uint64_t)options.tick;
+    rs->instances.grace = (uint64_t)options.grace;
+    ticks_open(&rs->ticks, (uint64_t)options.tick);
+    status = open_all(&host);
+    if (status == DONE) status = run(&host);
+    close_all(&host);
+    return status;
+}

@@ -1,0 +1,24 @@
+/* What happened: written to standard error, and kept for the line `log`, the last EVENTS of them. */
+#ifndef DSRS_EVENTS_H
+#define DSRS_EVENTS_H
+
+#include "log.h"
+#include "text.h"
+#include <stdbool.h>
+#include <stdint.h>
+
+enum { EVENTS = 1024, EVENT = 160 /* bytes of one, with its zero */ };
+
+struct events {
+    struct log *log;
+    uint64_t begun; /* by clock_now */
+    uint64_t count; /* how many there were */
+    char event[EVENTS][EVENT];
+};
+
+/* Tells an event, of a text `WORD: TEXT`, at a level of log.h. */
+void events_tell(struct events *events, const char *level, const char *format, ...) __attribute__((format(printf, 3, 4)));
+/* Puts the events that are kept, the oldest first, as lines `SECONDS WORD TEXT`. Returns false where memory runs out. */
+bool events_put(const struct events *events, struct text *to);
+
+#endif

@@ -1,0 +1,49 @@
+/* The next generation. See generations.h. */
+#include "generations.h"
+#include <errno.h>
+#include <fcntl.h>
+#include <stdio.h>
+#include <string.h>
+#include <unistd.h>
+
+enum { BLOCK = 64, LINE = 11, MOST = 2097152 /* the generation that no instance gets any more */ };
+
+/* The line always has the same length, and is written in place. */
+static bool write_number(struct generations *generations, uint32_t next) {
+    char line[LINE + 1];
+    snprintf(line, sizeof line, "%010u\n", next);
+    errno = ENOSPC; /* in case that not all of it is written */
+    if (pwrite(generations->file, line, LINE, 0) != LINE || fdatasync(generations->file)) return false;
+    generations->kept = next;
+    return true;
+}
+
+static uint32_t read_number(int file) {
+    char line[LINE + 2] = "";
+    unsigned next = 0;
+    ssize_t length = pread(file, line, LINE + 1, 0);
+    if (length < 0) return 0;
+    if (length == 0) return 1;
+    errno = EINVAL;
+    bool is_number = length == LINE && strspn(line, "0123456789") == LINE - 1 && sscanf(line, "%u\n", &next) == 1;
+    return is_number && next <= MOST ? next : 0;
+}
+
+uint32_t generations_open(struct generations *generations, const char *path) {
+    *generations = (struct generations){.path = path, .file = open(path, O_RDWR | O_CREAT | O_CLOEXEC, 0600)};
+    if (generations->file < 0) return 0;
+    uint32_t next = read_number(generations->file);
+    return next && generations_keep(generations, next) ? next : 0;
+}
+
+bool generations_keep(struct generations *generations, uint32_t next) {
+    if (next < generations->kept || generations->kept == MOST) return true;
+    return write_number(generations, next < MOST - BLOCK ? next + BLOCK : MOST);
+}
+
+void generations_close(struct generations *generations, uint32_t next) {
+    if (generations->file < 0) return;
+    if (next && next < generations->kept) write_number(generations, next);
+    close(generations->file);
+    generations->file = -1;
+}

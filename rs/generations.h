@@ -1,0 +1,19 @@
+/* The next generation, kept in a file beyond the end of dsrs, so no run starts a generation that an earlier one used.
+ * The file always has a number above each that was used: a block of numbers is written before the first is. */
+#ifndef DSRS_GENERATIONS_H
+#define DSRS_GENERATIONS_H
+
+#include <stdbool.h>
+#include <stdint.h>
+
+struct generations { const char *path; int file; uint32_t kept; };
+
+/* Opens the file, or makes it, and returns the generation that comes next. Returns 0, with errno, if the file can't be
+ * read or written; errno is EINVAL if it holds something else. */
+uint32_t generations_open(struct generations *generations, const char *path);
+/* Makes sure that the file has a number above this generation. Returns false, with errno, if it can't be written. */
+bool generations_keep(struct generations *generations, uint32_t next);
+/* Writes which generation comes next, without the rest of the block, and closes the file. */
+void generations_close(struct generations *generations, uint32_t next);
+
+#endif

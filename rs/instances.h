@@ -1,0 +1,66 @@
+/* The instances of services: RS's `start` and `kill`, carried out. An instance is a process group that dsrs began, with
+ * the endpoint that RS gave it. Nothing of an older instance of a label runs when the next one begins. */
+#ifndef DSRS_INSTANCES_H
+#define DSRS_INSTANCES_H
+
+#include "events.h"
+#include "service.h"
+#include "watch.h"
+#include <stdbool.h>
+#include <stdint.h>
+#include <sys/types.h>
+
+enum { ENDPOINT = 16 /* bytes of an endpoint's text, with its zero */ };
+
+enum instance_state {
+    INSTANCE_WAITS, /* until nothing of an older instance of its label is left */
+    INSTANCE_RUNS,
+    INSTANCE_ENDS   /* it was killed or has died, and some process of it isn't reaped yet */
+};
+
+struct instance {
+    struct watch pidfd;   /* of its first process, until that is reaped */
+    struct instance *next;
+    struct service *service;
+    uint32_t generation;
+    uint16_t slot;
+    char endpoint[ENDPOINT];
+    enum instance_state state;
+    pid_t pid;
+    int socket, listener; /* socket: dsrs' end, until a peer has it; listener: where others connect to the instance */
+    uint64_t kill_at;     /* when what is left of it is killed, by clock_now; 0: it is already */
+    bool is_ready;        /* it sent READY=1 */
+    bool died;            /* by itself, or it couldn't begin, and RS isn't told yet */
+    enum cause cause;     /* of that death */
+};
+
+struct instances {
+    struct instance *first;
+    const char *services, *endpoints; /* the folders of the programs and of the sockets */
+    struct events *events;
+    uint64_t tick;        /* milliseconds */
+    uint64_t grace;       /* milliseconds between SIGTERM and SIGKILL */
+    int epoll;
+    uint64_t sweep_at;    /* when strays are looked for, by clock_now; 0: no instance ended since */
+};
+
+/* Carries out RS's `start`: the endpoint's socket listens at once, and the process begins in this turn or a later one.
+ * A start that fails is a death of the instance. Returns false if there is no memory for it. */
+bool instances_start(struct instances *all, struct service *service, uint32_t generation, uint16_t slot);
+/* Ends an instance, of whose end RS knows. Gently: by SIGTERM, and SIGKILL after the grace. */
+void instances_kill(struct instances *all, struct instance *instance, bool gently);
+/* Takes an instance for dead, as one that couldn't begin. */
+void instances_fail(struct instances *all, struct instance *instance, const char *why);
+/* Returns the instance with this endpoint that RS takes for up, or NULL. */
+struct instance *instances_at(const struct instances *all, uint32_t generation, uint16_t slot);
+/* Returns the running instance with this first process, or NULL. */
+struct instance *instances_by_pid(const struct instances *all, pid_t pid);
+bool instances_has(const struct instances *all, const struct service *service);
+/* Reaps the first process of an instance if it has ended, after killing the rest of its group. */
+void instances_reap(struct instances *all, struct instance *instance);
+/* Kills what had its grace, frees instances of which nothing is left, and begins processes that waited for that. */
+void instances_turn(struct instances *all);
+/* Returns when instances_turn has something to do by the clock, or 0. */
+uint64_t instances_due(const struct instances *all);
+
+#endif

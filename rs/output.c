@@ -1,0 +1,43 @@
+/* What a service prints. See output.h. */
+#include "output.h"
+#include <fcntl.h>
+#include <string.h>
+#include <sys/epoll.h>
+#include <unistd.h>
+
+enum { PIECE = 1 << 12 /* bytes that are read at a time */ };
+
+void output_open(struct output *output, int epoll) {
+    int ends[2];
+    *output = (struct output){.from.file = -1, .to = -1};
+    if (pipe2(ends, O_CLOEXEC)) return;
+    output->to = ends[1];
+    if (!fcntl(ends[0], F_SETFL, O_NONBLOCK) && watch_open(&output->from, epoll, ends[0], EPOLLIN)) return;
+    close(ends[0]);
+    close(ends[1]);
+    *output = (struct output){.from.file = -1, .to = -1};
+}
+
+static void put_line(struct output *output, const char *label, struct log *log) {
+    log_pass(log, label, output->line, output->length);
+    output->length = 0;
+}
+
+bool output_pass(struct output *output, const char *label, struct log *log) {
+    char some[PIECE];
+    output->from.ready = 0;
+    ssize_t got = output->from.file < 0 ? 0 : read(output->from.file, some, sizeof some);
+    for (ssize_t i = 0; i < got; i++) {
+        if (some[i] != '\n') output->line[output->length++] = some[i];
+        if (some[i] == '\n' || output->length == OUTPUT_LINE) put_line(output, label, log);
+    }
+    return got > 0;
+}
+
+void output_close(struct output *output, int epoll, const char *label, struct log *log) {
+    if (output->to >= 0) close(output->to);
+    while (output_pass(output, label, log)) {}
+    if (output->length) put_line(output, label, log);
+    watch_close(&output->from, epoll);
+    output->to = -1;
+}

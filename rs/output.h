@@ -1,0 +1,26 @@
+/* What a service prints: each line goes to the log with the label in front. A service that prints faster than it is read
+ * waits at its pipe. */
+#ifndef DSRS_OUTPUT_H
+#define DSRS_OUTPUT_H
+
+#include "log.h"
+#include "watch.h"
+#include <stddef.h>
+
+enum { OUTPUT_LINE = 1024 /* bytes of a line; a longer one is cut into several */ };
+
+struct output {
+    struct watch from;      /* the end that is read here */
+    int to;                 /* the end that instances write to, or -1 */
+    size_t length;          /* bytes of the line that isn't whole yet */
+    char line[OUTPUT_LINE];
+};
+
+/* Opens a pipe. Where there can't be one, instances print to dsrs' own standard error. */
+void output_open(struct output *output, int epoll);
+/* Passes on what has come, up to some kilobytes. Returns whether there was any. */
+bool output_pass(struct output *output, const char *label, struct log *log);
+/* Passes on what is left, and closes the pipe. */
+void output_close(struct output *output, int epoll, const char *label, struct log *log);
+
+#endif

@@ -1,0 +1,61 @@
+/* Who speaks to dsrs by lines: instances, each over the socket that it was given, and the public, over the socket of dsrs.
+ * What holds the socket of an instance speaks for it. */
+#ifndef DSRS_PEERS_H
+#define DSRS_PEERS_H
+
+#include "instances.h"
+#include "text.h"
+#include "watch.h"
+#include <stdbool.h>
+#include <stdint.h>
+#include <sys/types.h>
+
+enum {
+    PEERS = 512,             /* at once, of which two for each service are kept for instances */
+    PEERS_PUBLIC = PEERS - 2 * SERVICES,
+    PEER_LINE = 4096,        /* bytes of a line */
+    PEER_READS = 1 << 16,    /* bytes that are read at a time */
+    PEER_WAITS = 1 << 20,    /* bytes that wait for a peer before more is answered */
+    PEERS_WAIT = 64 << 20,   /* the same for all of the public; then the one with the most is dropped */
+    PEER_LINES = 64          /* that are answered in one turn */
+};
+
+struct peer {
+    struct watch socket;
+    bool is_instance;
+    struct instance *instance; /* until it ends */
+    uid_t user;                /* of one of the public */
+    bool ended;                /* no more comes from it */
+    bool too_long;             /* the line that is being read */
+    bool gone;                 /* it is freed at the end of the turn */
+    uint64_t lines;            /* how many it has sent */
+    struct text in, out;
+    uint8_t listens[16], due[16]; /* the subscriptions whose notices it wants, and those of them that it has to be sent */
+    uint8_t leased[16];           /* the public's subscriptions that are its own as long as it is connected */
+};
+
+struct peers {
+    struct peer *peer[PEERS];
+    size_t count, of_public;
+    int epoll;
+};
+
+struct rs;
+
+/* Takes in a peer by its socket, which is closed with it, or if there is no place or memory for it. */
+void peers_add(struct peers *peers, int socket, struct instance *instance, uid_t user);
+/* Reads what has come, and answers lines. */
+void peers_turn(struct rs *rs);
+/* Answers all that an instance sent before it died. */
+void peers_finish(struct rs *rs, struct instance *instance);
+/* Ends an instance's voice, whatever process holds its socket. */
+void peers_forget(struct peers *peers, const struct instance *instance);
+/* Sends an instance a line of dsrs' own. */
+void peers_tell(struct peers *peers, const struct instance *instance, const char *line);
+/* Owes the notices of a mask to those who listen. */
+void peers_owe(struct peers *peers, const uint8_t owed[16]);
+/* Writes what can be written, and frees who is gone. Returns whether some peer has lines that can be answered at once. */
+bool peers_write(struct peers *peers);
+void peers_close(struct peers *peers);
+
+#endif

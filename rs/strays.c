@@ -1,0 +1,83 @@
+/* Strays. See strays.h. */
+#include "strays.h"
+#include "text.h"
+#include <dirent.h>
+#include <fcntl.h>
+#include <signal.h>
+#include <stdio.h>
+#include <stdlib.h>
+#include <string.h>
+#include <sys/wait.h>
+#include <unistd.h>
+
+enum { PIECE = 1 << 12, ENVIRONMENT = 1 << 22 /* bytes that are read of one */ };
+
+struct seen { pid_t parent, session; char state; };
+
+/* Reads what the kernel says of a process. The name in it, in parentheses, may have any bytes. */
+static bool look_at(pid_t pid, struct seen *seen) {
+    char path[32], line[512];
+    snprintf(path, sizeof path, "/proc/%d/stat", pid);
+    int file = open(path, O_RDONLY | O_CLOEXEC);
+    if (file < 0) return false;
+    ssize_t length = read(file, line, sizeof line - 1);
+    close(file);
+    if (length <= 0) return false;
+    line[length] = '\0';
+    const char *rest = strrchr(line, ')');
+    return rest && sscanf(rest + 1, " %c %d %*d %d", &seen->state, &seen->parent, &seen->session) == 3;
+}
+
+static bool is_of_an_instance(const struct instances *all, pid_t pid, pid_t session) {
+    for (const struct instance *it = all->first; it; it = it->next)
+        if (it->pid == pid || it->pid == session) return true;
+    return false;
+}
+
+/* Reads a file of /proc as a whole, with a zero after it. */
+static bool read_whole(const char *path, struct text *text) {
+    int file = open(path, O_RDONLY | O_CLOEXEC);
+    ssize_t length = -1;
+    if (file < 0) return false;
+    while (text->length < ENVIRONMENT && text_room(text, PIECE)) {
+        length = read(file, text->bytes + text->length, PIECE);
+        if (length <= 0) break;
+        text->length += (size_t)length;
+    }
+    close(file);
+    return length == 0 && text_put(text, "", 1);
+}
+
+/* Whether a stray began with the environment of an instance that is up. */
+static bool has_a_living_instance(const struct instances *all, pid_t pid) {
+    char path[32];
+    unsigned generation = 0, slot = 0;
+    struct text text = {0};
+    snprintf(path, sizeof path, "/proc/%d/environ", pid);
+    bool found = false;
+    if (read_whole(path, &text)) {
+        for (size_t at = 0; at < text.length && !found; at += strlen(text.bytes + at) + 1)
+            found = sscanf(text.bytes + at, "DS_ENDPOINT=%u/%u", &generation, &slot) == 2;
+    }
+    text_free(&text);
+    return found && instances_at(all, generation, (uint16_t)slot);
+}
+
+/* A child of dsrs keeps its number until it is reaped here. */
+bool strays_kill(const struct instances *all) {
+    DIR *folder = opendir("/proc");
+    bool found = false;
+    for (struct dirent *entry; folder && (entry = readdir(folder));) {
+        pid_t pid = atoi(entry->d_name);
+        struct seen seen;
+        if (pid <= 0 || !look_at(pid, &seen) || seen.parent != getpid()) continue;
+        if (is_of_an_instance(all, pid, seen.session)) continue;
+        if (seen.state != 'Z' && has_a_living_instance(all, pid)) continue;
+        if (seen.state != 'Z') events_tell(all->events, LOG_WARN, "stray: pid %d is killed", pid);
+        kill(pid, SIGKILL);
+        waitid(P_PID, (id_t)pid, NULL, WEXITED | WNOHANG);
+        found = true;
+    }
+    if (folder) closedir(folder);
+    return found;
+}

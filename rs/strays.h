@@ -1,0 +1,12 @@
+/* Strays: processes that left the group of their instance by a session of their own, and whose parents have ended. The
+ * kernel made them children of dsrs, which is a subreaper. Used by instances.c alone. */
+#ifndef DSRS_STRAYS_H
+#define DSRS_STRAYS_H
+
+#include "instances.h"
+
+/* Kills and reaps the strays whose instance has ended, and reaps those that have ended themselves. Returns whether there
+ * were any. A stray's instance is known by DS_ENDPOINT in the environment that it began with. */
+bool strays_kill(const struct instances *all);
+
+#endif

@@ -1,0 +1,664 @@
+"""What a supervisor must do, a function each. A scene gets a Host, and starts its supervisor."""
+import os
+import pathlib
+import re
+import shutil
+import signal
+import socket
+import subprocess
+import time
+
+from supervisors import ROOT, equal, lives, until
+
+LIVES = "live()\n"
+SCENES = []
+
+
+def scene(function):
+    SCENES.append(function)
+    return function
+
+
+# ---- who may say what ----
+
+
+@scene
+def who_holds_the_socket_is_the_instance(host):
+    """An instance publishes under its own endpoint, and what its settings name; nobody else publishes; nobody speaks as RS."""
+    body = '''
+note("own " + ask(f"publish {me} new {label}.n u32 {generation}.1 = 5"))
+note("other " + ask("publish 1/16 over a.n u32 1.2 = 6" if label == "b" else "publish 2/17 new b.n u32 2.2 = 6"))
+note("rs " + ask("publish 0/2 new x label 9.0 = 9/20"))
+note("unnamed " + ask(f"publish {me} new {label}.m u32 {generation}.1 = 5"))
+note("label " + ask(f"publish {me} new {label}.n label {generation}.0 = {me}"))
+for line in ("sweep 0/2 a 1", "offer x u32 a 1.5 = 5", "side b", "death 1/16 1 5", "tick 9", "settings slots = 1"):
+    note(line.split()[0] + " " + ask(line))
+note("service " + ask("service down a"))
+live()
+'''
+    host.start({label: ({"publishes": [f"{label}.n"]}, body) for label in "ab"})
+    for of in ("a 1/16", "b 2/17"):
+        host.noted(f"{of} service refused notallowed")
+        for line in ("own taken", "other refused notsender", "rs refused notsender", "unnamed refused notallowed", "label refused notallowed"):
+            assert f"{of} {line}" in host.notes(), f"{of} {line}: {host.notes()}"
+        for word in ("sweep", "offer", "side", "death", "tick", "settings"):
+            assert f"{of} {word} norequest" in host.notes(), host.notes()
+    equal(host.ask("publish 1/16 over a.n u32 1.2 = 6"), "refused notsender")
+    equal(host.ask("retrieve a.n u32"), "found 5")
+    equal(host.ask("beat"), "norequest")
+    host.end()
+
+
+@scene
+def another_user_may_read_and_no_more(host):
+    host.start({"d": ({}, LIVES)})
+    equal(host.ask("retrieve d label"), "found 1/16")
+    if os.geteuid():
+        return
+    script = '''
+import os, socket, sys
+os.setuid(65534)
+it = socket.socket(socket.AF_UNIX)
+it.connect(sys.argv[1])
+it.sendall(b"retrieve d label\\nservice down d\\ncomplain 1/16\\n")
+it.shutdown(1)
+while some := it.recv(9999): print(some.decode(), end="")
+'''
+    os.chmod(host.home, 0o711)
+    said = subprocess.run(["python3", "-c", script, host.path], capture_output=True, text=True)
+    equal(said.stdout, "found 1/16\n\nrefused notallowed\n\nrefused notallowed\n\n")
+    assert host.ask("service down d").startswith("kill 1/16")
+    host.end()
+
+
+@scene
+def complaints(host):
+    """A server complains of an instance of a driver, by its endpoint: a late complaint hits no newer instance."""
+    server = '''
+while not os.path.exists("../../notes"): time.sleep(0.01)
+note("self " + ask("complain 2/17"))
+note("first " + ask("complain 1/16").replace("\\n", "|"))
+while ask("retrieve d label") != "found 3/16": time.sleep(0.01)
+note("late " + ask("complain 1/16"))
+note("label " + ask("complain d"))
+live()
+'''
+    driver = 'if me == "1/16": note("driver " + ask("complain 1/16"))\nlive()\n'
+    host.start({"d": ({"limit": 5}, driver), "f": ({"class": "server"}, server)})
+    host.noted("d 1/16 driver refused notallowed")
+    host.noted("label refused oldendpoint")
+    for line in ("self refused notallowed", "first kill 1/16|offer d label rs 1.1 -|taken", "late refused oldendpoint"):
+        assert f"f 2/17 {line}" in host.notes(), host.notes()
+    host.logged("began d 3/16")
+    equal(host.status()["d"][5], "5")
+    equal(host.ask("complain 3/16"), "refused notallowed")
+    host.end()
+
+
+@scene
+def last_lines_are_answered(host):
+    """What an instance said before it died is carried out, however much it is."""
+    body = 'dsrs.sendall(b"show\\n" * 900 + b"complain 1/16\\n")\nos._exit(0)\n'
+    host.start({"d": ({"limit": 1}, LIVES), "f": ({"class": "server"}, body)})
+    host.logged("complaint d 1/16 by f")
+    host.logged("began d 3/")
+    host.end()
+
+
+@scene
+def notices_and_subscriptions(host):
+    server = '''
+note("other " + ask('subscribe 8 ".*" 15 first new'))
+note("own " + ask('subscribe 0 "d" 1 first new').split("\\n")[0])
+note(ask("listen 0"))
+note("check " + ask("check 0 8").replace("\\n", "|"))
+while True:
+    if hear() == "notice 0": note("noticed " + ask("check 0 8").replace("\\n", "|"))
+'''
+    host.start({"d": ({"limit": 5}, LIVES), "f": ({"class": "server"}, server)})
+    host.noted("check d label rs 1.0 = 1/16|checked 1 1 2")
+    assert "other refused notallowed" in host.notes() and "own subscribed 1" in host.notes(), host.notes()
+    host.ask("service refresh d")
+    host.noted("noticed ! d 1|d label rs 3.0 = 3/16|checked 2 2 3")
+    equal(host.ask('subscribe 120 ".*" 15 later new', 1).split()[0], "subscribed")
+    equal(host.ask('subscribe 120 ".*" 15 later over', 2), "refused notallowed")
+    equal(host.ask('subscribe 0 ".*" 15 later over', 2), "refused notallowed")
+    host.clients.pop(1).close()
+    until(lambda: host.ask('subscribe 120 ".*" 15 later over', 2).startswith("subscribed"), "the lease ends")
+    equal(host.ask("listen 120", 2), "listening 120")
+    equal(host.ask("listen 120 1", 2).split()[0], "badline")
+    host.end()
+
+
+@scene
+def lines_that_are_none(host):
+    host.start({"a": ({}, LIVES)})
+    equal(host.ask("retrieve a"), "badline 1 10")
+    equal(host.ask("x" * 5000), "badline 2 4096")
+    equal(host.ask(""), "norequest")
+    equal(host.ask("show 1"), "badline 4 4")
+    equal(host.ask("service up nobody"), "refused unknownlabel")
+    equal(host.ask("service up " + 65 * "x"), "norequest")
+    equal(host.ask("service up a 5"), "norequest")
+    assert host.ask("service over a").startswith("badline"), "a verb that is none"
+    equal(host.ask("retrieve a label"), "found 1/16")
+    it = host.client("half")
+    it.sendall(b"retrieve a label\nservice down a")
+    it.shutdown(socket.SHUT_WR)
+    said = b""
+    while some := it.recv(9999):
+        said += some
+    equal(said, b"found 1/16\n\n")
+    host.end()
+
+
+# ---- processes ----
+
+
+@scene
+def inherits_nothing(host):
+    body = '''
+note("blocked " + str(signal.pthread_sigmask(signal.SIG_BLOCK, [])))
+note("ignored " + open("/proc/self/status").read().split("SigIgn:")[1].split()[0])
+note("group " + str(os.getpid() == os.getpgid(0) == os.getsid(0)))
+note("files " + " ".join(sorted(it for it in os.listdir("/proc/self/fd") if os.path.exists(f"/proc/self/fd/{it}"))))
+live()
+'''
+    host.start({"a": ({}, body)})
+    host.noted("files 0 1 2 3 4 5")  # 5: Python's own copy of 3
+    for line in ("blocked set()", "ignored 0000000001001000", "group True"):  # Python itself ignores SIGPIPE and SIGXFSZ
+        assert line in host.notes(), host.notes()
+    host.end()
+
+
+@scene
+def tells_how_it_died(host):
+    how = {"exit": "os._exit(7)", "done": "os._exit(0)", "abort": "os.abort()", "segv": "os.kill(os.getpid(), signal.SIGSEGV)",
+           "ill": "os.kill(os.getpid(), signal.SIGILL)", "term": "os.kill(os.getpid(), signal.SIGTERM)", "kill": "os.kill(os.getpid(), signal.SIGKILL)"}
+    causes = {"exit": "1 status 7", "done": "1 status 0", "abort": "1 signal 6", "segv": "2 signal 11", "ill": "2 signal 4", "term": "3 signal 15", "kill": "3 signal 9"}
+    host.start({label: ({}, f"#!/usr/bin/env python3\nimport os, signal\n{body}\n") for label, body in how.items()})
+    for label, cause in causes.items():
+        assert host.logged(f"died {label} ").endswith(f"cause {cause}"), host.log()
+        host.logged(f"givenup {label}")
+        state, *_, number, _ = host.status()[label]
+        equal([state, number], ["givenup", cause[0]])
+    host.end()
+
+
+@scene
+def kills_the_whole_group_and_waits_for_it(host):
+    body = '''
+child = subprocess.Popen(["sh", "-c", "trap '' TERM; sleep 1000 & sleep 1000"])
+time.sleep(0.2)
+note(f"child {child.pid}")
+live()
+'''
+    host.start({"a": ({"limit": 1}, body)}, options=("--grace", "100"))
+    child = int(host.noted("child").split()[-1])
+    group = os.getpgid(child)
+    members = [int(pid) for pid in os.listdir("/proc") if pid.isdigit() and is_in_group(pid, group)]
+    equal(len(members), 4)
+    assert host.ask("service refresh a").endswith("actions 5")
+    host.logged("began a 2/16")
+    assert not any(map(lives, members)), "an older instance runs on"
+    child = int(host.noted("a 2/16 child").split()[-1])
+    os.kill(host.pid("a"), signal.SIGKILL)
+    host.logged("began a 3/16")
+    assert not lives(child), "what a dead process left runs on"
+    host.end()
+
+
+def is_in_group(pid, group):
+    try:
+        return os.getpgid(int(pid)) == group
+    except ProcessLookupError:
+        return False
+
+
+@scene
+def what_is_told_to_go_down_may_end_itself(host):
+    """`service down` sends SIGTERM, and SIGKILL after the grace; a death by a missing heartbeat is SIGKILL at once."""
+    body = '''
+signal.signal(signal.SIGTERM, lambda *_: (note("asked to end"), os._exit(0) if label == "kind" else None))
+note("there")
+while True: time.sleep(1)
+'''
+    host.start({label: ({}, body) for label in ("kind", "rude")}, options=("--grace", "700"))
+    host.noted("kind 1/16 there"), host.noted("rude 2/17 there")
+    for label, least, most in (("kind", 0, 0.6), ("rude", 0.6, 9)):
+        begun = time.monotonic()
+        host.ask(f"service down {label}")
+        host.logged(f"gone {label}")
+        took = time.monotonic() - begun
+        assert least <= took <= most, f"{label} took {took:.2f} s"
+        host.noted(f"{label} {'1/16' if label == 'kind' else '2/17'} asked to end")
+    host.end()
+
+
+@scene
+def who_leaves_the_group_has_no_voice_and_is_killed(host):
+    body = '''
+if me == "1/16":
+    if not os.fork():
+        os.setsid()
+        if not os.fork():
+            note(f"stray {os.getpid()}")
+            time.sleep(0.3)
+            try: said = ask("publish 1/16 new a.late u32 1.7 = 5")
+            except BaseException as why: said = repr(why)
+            note("said " + said)
+            time.sleep(1000)
+        os._exit(0)
+    os.wait()
+    time.sleep(0.1)
+    os._exit(3)
+live()
+'''
+    host.start({"a": ({"limit": 3, "publishes": ["a.late"]}, body)})
+    host.logged("began a 2/16")
+    stray = int(host.noted("stray").split()[-1])
+    until(lambda: not lives(stray), "the stray is killed")
+    host.logged(f"stray pid {stray} is killed")
+    equal(host.ask("retrieve a.late u32"), "refused notfound")
+    assert "said taken" not in host.notes(), host.notes()
+    host.end()
+
+
+@scene
+def a_helper_of_a_living_instance_lives(host):
+    """What a service starts in a session of its own lives as long as its instance, whatever else dies."""
+    helper = '''
+if not os.fork():
+    os.setsid()
+    if not os.fork():
+        note(f"helper {os.getpid()}")
+        time.sleep(1000)
+    os._exit(0)
+os.wait()
+live()
+'''
+    host.start({"a": ({}, helper), "b": ({"limit": 9}, LIVES)})
+    pid = int(host.noted("helper").split()[-1])
+    host.logged("began b 2/17")
+    os.kill(host.pid("b"), signal.SIGKILL)
+    host.logged("began b 3/17")
+    time.sleep(0.7)
+    assert lives(pid), host.log()
+    host.ask("service down a")
+    until(lambda: not lives(pid), "the helper ends with its instance")
+    host.end()
+
+
+@scene
+def a_program_that_is_not_there_is_a_death(host):
+    host.start({"a": ({"limit": 2}, None), "b": ({}, LIVES)})
+    host.logged("died a", 3)
+    host.logged("givenup a")
+    equal(host.status()["a"][0], "givenup")
+    host.service("a", LIVES)
+    assert host.ask("service restart a").startswith("start a")
+    host.logged("began a", 4)
+    equal(host.ask("retrieve b label"), "found 2/17")
+    host.end()
+
+
+@scene
+def an_endpoint_is_connected_to_and_refused_afterwards(host):
+    """Who finds a label may connect at once, and waits until the process accepts; an old endpoint is refused."""
+    body = '''
+time.sleep(0.3)
+listener = socket.socket(fileno=int(os.environ["DS_LISTEN"]))
+it, _ = listener.accept()
+it.sendall(f"here is {me}".encode())
+live()
+'''
+    host.start({"d": ({}, body)})
+    said = host.ask("retrieve d label")
+    equal(said, "found 1/16")
+    it = socket.socket(socket.AF_UNIX, socket.SOCK_SEQPACKET)
+    it.connect(f"{host.path}.d/1.16")
+    it.settimeout(20)
+    equal(it.recv(99), b"here is 1/16")
+    host.ask("service refresh d")
+    old = socket.socket(socket.AF_UNIX, socket.SOCK_SEQPACKET)
+    assert old.connect_ex(f"{host.path}.d/1.16"), "an old endpoint answers"
+    host.end()
+
+
+# ---- time ----
+
+
+@scene
+def heartbeats_by_line_and_by_notify(host):
+    watchdog = '''
+note("watchdog " + os.environ["WATCHDOG_USEC"] + " " + str(os.environ["WATCHDOG_PID"] == str(os.getpid())))
+notify("READY=1")
+while True:
+    time.sleep(int(os.environ["WATCHDOG_USEC"]) / 4e6)
+    notify("STATUS=as ever\\nWATCHDOG=1")
+'''
+    foreign = 'if not os.fork():\n    while True: notify("WATCHDOG=1"), time.sleep(0.05)\ntime.sleep(1000)\n'
+    host.start({"line": ({"period": 60}, LIVES), "notify": ({"period": 80}, watchdog), "mute": ({"period": 60}, "live(False)\n"),
+                "child": ({"period": 60}, foreign)})
+    host.logged("kill mute 3/18 cause 4"), host.logged("kill child 4/19 cause 4")
+    host.noted("watchdog 1600000 True")
+    host.logged("ready notify 2/17")
+    time.sleep(1)
+    assert not host.has_logged("kill line") and not host.has_logged("kill notify"), host.log()
+    status = host.status()
+    equal([status["notify"][0], status["notify"][6], status["line"][0]], ["ready", "as ever", "up"])
+    host.end()
+
+
+@scene
+def a_service_that_stands_still(host):
+    host.start({"a": ({"period": 30, "limit": 5}, LIVES)})
+    host.logged("began a 1/16")
+    os.kill(host.pid("a"), signal.SIGSTOP)
+    host.logged("kill a 1/16 cause 4")
+    host.logged("began a 2/16")
+    host.end()
+
+
+@scene
+def a_supervisor_that_stood_still_kills_nobody(host):
+    host.start({"a": ({"period": 60}, LIVES), "b": ({"period": 70}, LIVES)})
+    host.logged("began b 2/17")
+    time.sleep(0.7)
+    host.process.send_signal(signal.SIGSTOP)
+    time.sleep(2.5)
+    host.process.send_signal(signal.SIGCONT)
+    host.logged("late")
+    time.sleep(1)
+    assert not host.has_logged("kill"), host.log()
+    host.end()
+
+
+@scene
+def idle_is_idle(host):
+    """With nothing due, no time is used."""
+    host.start({f"s{i}": ({}, "#!/bin/sh\nexec sleep 1000\n") for i in range(16)}, tick=1)
+    host.logged("began s15")
+    time.sleep(0.5)
+    before, calls = used(host.process.pid)
+    time.sleep(2)
+    after, more = used(host.process.pid)
+    assert after - before <= 1 and more - calls <= 2, f"{after - before} hundredths of a second, {more - calls} turns"
+    host.end()
+
+
+def used(pid):
+    """Hundredths of a second of the processor, and how often it waited."""
+    parts = pathlib.Path(f"/proc/{pid}/stat").read_text().rpartition(")")[2].split()
+    waits = next(int(it.split()[1]) for it in pathlib.Path(f"/proc/{pid}/status").read_text().splitlines() if it.startswith("voluntary"))
+    return int(parts[11]) + int(parts[12]), waits
+
+
+@scene
+def waits_longer_after_each_failure(host):
+    host.start({"a": ({"limit": 4}, "#!/bin/sh\nexit 1\n")}, tick=50)
+    host.logged("givenup a")
+    began = [float(it.split()[0]) for it in host.ask("log").splitlines() if " began a " in it]
+    died = [float(it.split()[0]) for it in host.ask("log").splitlines() if " died a " in it]
+    pauses = [begin - end for begin, end in zip(began[1:], died)]
+    for ticks, pause in zip((1, 2, 4, 8), pauses):
+        assert 0.05 * (ticks - 1) <= pause < 0.05 * ticks + 0.5, pauses
+    host.end()
+
+
+# ---- its beginning and its end ----
+
+
+@scene
+def goes_down_in_reverse_order(host):
+    host.start({label: ({}, LIVES) for label in "abcd"})
+    for label in "abcd":
+        host.logged(f"began {label}")
+    host.end()
+    order = [it.split()[:2] for it in host.events() if it.startswith(("kill", "gone"))]
+    equal(order, [[verb, label] for label in "dcba" for verb in ("kill", "gone")])
+
+
+@scene
+def a_second_signal_waits_for_nobody(host):
+    host.start({"a": ({}, "signal.signal(signal.SIGTERM, signal.SIG_IGN)\nnote('there')\nwhile True: time.sleep(1)\n")}, options=("--grace", "60000"))
+    host.noted("there")
+    host.process.send_signal(signal.SIGTERM)
+    host.logged("kill a")
+    time.sleep(0.3)
+    assert host.process.poll() is None, "it doesn't wait for its grace"
+    host.end()
+
+
+@scene
+def ends_with_its_supervisor_however_that_ends(host):
+    """SIGKILL of the supervisor ends its services, and the next run's generations are above all that were."""
+    body = "note(f'pid {os.getpid()}')\ntime.sleep(1000)\n"
+    host.start({label: ({"limit": 9}, body) for label in "ab"})
+    pids = [int(host.noted(f"{label} {endpoint} pid").split()[-1]) for label, endpoint in (("a", "1/16"), ("b", "2/17"))]
+    host.ask("service refresh a")
+    equal(host.ask("retrieve a label"), "found 3/16")
+    host.kill()
+    until(lambda: not any(map(lives, pids)), "the services end")
+    host.start()
+    first = int(host.ask("retrieve a label").split()[1].split("/")[0])
+    assert first > 3, f"generation {first} again"
+    host.end()
+    host.start()
+    equal(int(host.ask("retrieve a label").split()[1].split("/")[0]), first + 2)  # an orderly end skips none
+    host.end()
+
+
+@scene
+def a_file_down_keeps_it_down(host):
+    host.service("a", LIVES)
+    (host.home / "services" / "a" / "down").touch()
+    host.start({"a": ({}, LIVES), "b": ({}, LIVES)})
+    equal(host.ask("retrieve b label"), "found 1/16")
+    equal(host.status()["a"][:3], ["down", "-", "-"])
+    assert host.ask("service up a").startswith("start a 2/17")
+    host.end()
+
+
+@scene
+def a_start_that_is_refused(host):
+    """Bad settings, words and files are reported, with a status, and nothing is left."""
+    cases = (
+        ('[[service]]\nlabel = "a"\nclass = "block"\n', "missing"),
+        ('[[service]]\nlabel = ".."\nclass = "server"\n', "begins with a dot"),
+        ("no toml", "toml"),
+    )
+    for text, word in cases:
+        host.start(settings=text)
+        host.ended(3)
+        assert word in host.log().splitlines()[-1], host.log()
+    host.start({"a": ({}, LIVES)})
+    host.ask("status")
+    first = host.process
+    host.start()
+    host.ended(3)
+    assert "another one serves it" in host.log(), host.log()
+    host.process = first
+    host.clients = {}
+    host.end()
+    (host.home / "services" / ".generation").write_text("many\n")
+    host.start()
+    host.ended(3)
+    assert "holds no generation" in host.log(), host.log()
+    for words in (["--tick", "0"], ["--tick", "1x"], ["--slot", "15"], ["--nothing"], ["a", "b"], ["a", "b", "c" * 200]):
+        ran = subprocess.run([*host.words, *words], capture_output=True, text=True)
+        equal((ran.returncode, ran.stdout), (2, ""))
+    for word in ("--help", "--version"):
+        equal(subprocess.run([*host.words, word], capture_output=True).returncode, 0)
+
+
+@scene
+def one_that_talks_without_end_holds_up_nobody(host):
+    flood = 'while True: dsrs.sendall(b"show\\n" * 1000)\n'
+    host.start({"flood": ({"period": 100}, flood), "a": ({"period": 100}, LIVES)})
+    host.logged("kill flood")
+    equal(host.ask("retrieve a label"), "found 2/17")
+    assert not host.has_logged("kill a"), host.log()
+    host.end()
+
+
+@scene
+def clients_that_read_nothing_cost_little(host):
+    """Of a client that asks for ever and reads nothing, about a megabyte is kept; others are served."""
+    host.start({"a": ({}, "#!/bin/sh\nexec sleep 1000\n")}, options=("--grace", "0"))
+    for _ in range(200):
+        host.ask("service refresh a")
+    assert len(host.ask("log")) > 9000
+    before, deaf = memory(host), []
+    for _ in range(12):
+        it = socket.socket(socket.AF_UNIX)
+        it.connect(str(host.path))
+        it.sendall(b"log\n" * 400)
+        deaf.append(it)
+    for _ in range(20):
+        equal(host.ask("retrieve nobody label"), "refused notfound")
+        time.sleep(0.05)
+    grown = memory(host) - before
+    assert grown < 30 << 20, f"{grown >> 20} MB"
+    for it in deaf:
+        it.close()
+    until(lambda: len(os.listdir(f"/proc/{host.process.pid}/fd")) < 20, "the clients' descriptors are closed")
+    host.end()
+
+
+def memory(host):
+    with open(f"/proc/{host.process.pid}/status") as status:
+        return next(int(it.split()[1]) * 1024 for it in status if it.startswith("VmRSS:"))
+
+
+# ---- dsask ----
+
+
+def asked(host, *words, **how):
+    """Status, output and errors of a dsask."""
+    ran = subprocess.run([host.room / "dsask", *words], capture_output=True, text=True, timeout=20, **how)
+    return ran.returncode, ran.stdout, ran.stderr
+
+
+@scene
+def asks_from_a_shell(host):
+    host.start({"a": ({"publishes": ["a.n"]}, 'ask(f"publish {me} new a.n u32 {generation}.1 = 5")\nlive()\n')})
+    until(lambda: host.ask("retrieve a.n u32") == "found 5", "a publishes")
+    socket_path = str(host.path)
+    equal(asked(host, socket_path, "retrieve a.n u32", "retrieve a label"), (0, "found 5\nfound 1/16\n", ""))
+    equal(asked(host, socket_path, "retrieve b u32"), (1, "refused notfound\n", ""))
+    equal(asked(host, socket_path, "retrieve"), (1, "badline 1 8\n", ""))
+    equal(asked(host, socket_path, "-x"), (1, "norequest\n", ""))
+    equal(asked(host, socket_path, input="retrieve a.n u32\nretrieve a label"), (0, "found 5\nfound 1/16\n", ""))
+    equal(asked(host, socket_path, input=""), (0, "", ""))
+    equal(asked(host, socket_path, input="show\n" * 2000)[1].count("shown 2\n"), 2000)
+    head, row = asked(host, socket_path, "status")[1].splitlines()
+    equal(head.split(), ["LABEL", "STATE", "ENDPOINT", "PID", "SINCE", "FAILURES", "LAST", "END", "STATUS"])
+    equal(row.split()[:3] + row.split()[5:], ["a", "up", "1/16", "0", "-", "-"])
+    status, said, wrong = asked(host, f"{socket_path}x", "show")
+    assert status == 1 and not said and "No such file" in wrong, wrong
+    equal(asked(host, "--help")[0], 0)
+    for words in ([], ["--nothing", "s"], ["--watch", "a", "s", "show"], ["--kinds", "16", "s"], ["x" * 200]):
+        status, said, wrong = asked(host, *words)
+        assert status == 2 and not said and wrong.startswith("dsask: "), wrong
+    host.end()
+
+
+@scene
+def watches_from_a_shell(host):
+    """`--watch` prints what is there, then what changes, to a pipe at once; two watch at a time, and nobody else's subscriptions are used up."""
+    host.start({"a": ({}, LIVES), "b": ({}, LIVES)})
+    host.logged("began b")
+    watchers = [subprocess.Popen([host.room / "dsask", "--watch", "a", host.path], stdout=subprocess.PIPE, text=True) for _ in range(2)]
+    try:
+        for it in watchers:
+            equal(it.stdout.readline(), "a label rs 1.0 = 1/16\n")
+        host.ask("service refresh b")
+        host.ask("service refresh a")
+        for it in watchers:  # a sweep is shown under any pattern
+            equal(sorted(it.stdout.readline() for _ in range(3)), ["! a 1\n", "! b 2\n", "a label rs 4.0 = 4/16\n"])
+        status, said, wrong = asked(host, "--watch", "[", host.path)
+        assert status == 1 and not said and "badpattern" in wrong, wrong
+    finally:
+        for it in watchers:
+            it.kill()
+            it.wait()
+    host.end()
+
+
+@scene
+def hangs_up_when_the_supervisor_ends(host):
+    host.start({"a": ({}, LIVES)})
+    host.logged("began a")
+    with subprocess.Popen([host.room / "dsask", "--watch", "a", host.path], stdout=subprocess.PIPE, stderr=subprocess.PIPE, text=True) as it:
+        it.stdout.readline()
+        host.end()
+        equal((it.wait(20), "it hung up" in it.stderr.read()), (1, True))
+
+
+# ---- reload ----
+
+
+@scene
+def reads_its_settings_again(host):
+    """SIGHUP: settings with a fault change nothing; others replace all services, under higher generations."""
+    host.start({"a": ({}, LIVES), "b": ({}, LIVES)})
+    host.logged("began b 2/17")
+    settings = host.home / "settings.toml"
+    good = settings.read_text()
+    settings.write_text(good + "[[service]]\n")
+    host.process.send_signal(signal.SIGHUP)
+    host.logged("settings")
+    assert not host.has_logged("kill"), host.log()
+    settings.write_text(good.replace('label = "a"', 'label = "c"'))
+    host.service("c", LIVES)
+    host.process.send_signal(signal.SIGHUP)
+    host.logged("began b 4/17")
+    host.clients = {}
+    equal(list(host.status()), ["c", "b"])
+    equal([host.ask(f"retrieve {it} label") for it in "abc"], ["refused notfound", "found 4/17", "found 3/16"])
+    order = [it.split()[:2] for it in host.events() if it.startswith(("kill", "began"))]
+    equal(order, [["began", "a"], ["began", "b"], ["kill", "b"], ["kill", "a"], ["began", "c"], ["began", "b"]])
+    settings.write_text(good)
+    host.process.send_signal(signal.SIGHUP)
+    host.end()
+
+
+# ---- the guide ----
+
+
+def shape(text):
+    """A text with its process numbers and times left out."""
+    return re.sub(r" +", " ", re.sub(r"(?<=/1[67]) +\d+|\b\d+s\b", "", text)).strip()
+
+
+@scene
+def the_session_of_the_guide(host):
+    """docs/guide/supervise.md: each command prints what the page has."""
+    page = (ROOT / "docs/guide/supervise.md").read_text()
+    session = re.search(r"(?:^    .*\n)+", page[page.index("    $ dsask") :], re.MULTILINE)[0]
+    shutil.copytree(ROOT / "examples/services", host.home / "services")
+    host.start(settings=(host.home / "services/settings.toml").read_text())
+    host.logged("givenup flaky")
+    until(lambda: host.ask("retrieve clock.time u32").startswith("found "), "the clock publishes")
+    for part in re.split(r"^\$ ", re.sub(r"^    ", "", session, flags=re.MULTILINE), flags=re.MULTILINE)[1:]:
+        command, _, wanted = part.partition("\n")
+        ran = subprocess.run(["sh", "-c", command.replace("/tmp/socket", str(host.path)).replace("dsask", f"{host.room}/dsask")], capture_output=True, text=True)
+        equal(shape(ran.stdout + ran.stderr), shape(wanted))
+    host.end()
+
+
+# ---- what services print ----
+
+
+@scene
+def labels_stand_before_lines(host):
+    """What services print is in the log line by line, with the label in front, also after the last newline, and however much it is."""
+    flood = "#!/bin/sh\ni=0\nwhile [ $i -lt 3000 ]; do echo \"line $i of many\"; i=$((i + 1)); done\nexec sleep 1000\n"
+    host.start({"a": ({}, "#!/bin/sh\necho one; echo two >&2; printf three\nexit 1\n"), "flood": ({}, flood)})
+    host.logged("givenup a")
+    until(lambda: "flood: line 2999 of many\n" in host.log(), "all lines are there")
+    equal(host.log().count("flood: line "), 3000)
+    host.end()
+    for line in ("a: one\n", "a: two\n", "a: three\n"):
+        assert line in host.log(), host.log()[-500:]

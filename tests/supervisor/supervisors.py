@@ -1,0 +1,236 @@
+"""A dsrs over a folder of its own, with services, for tests/rs: how it is built, started, asked, and what its services do."""
+import fcntl
+import os
+import pathlib
+import re
+import shutil
+import signal
+import socket
+import subprocess
+import tempfile
+import time
+
+ROOT = pathlib.Path(__file__).resolve().parent.parent.parent
+PATIENCE = 20  # seconds that anything may take
+PAUSE = 0.01
+SLOW = 10  # milliseconds of a tick
+FAULT = re.compile(r"^.*(ERROR: |runtime error|==\d+== ).*$", re.MULTILINE)  # of a sanitizer, or of valgrind
+EVENT = re.compile(r'^\w+ event=(\w+) text="(.*)"$', re.MULTILINE)
+
+# What a service of a scene begins with.
+SERVICE = '''#!/usr/bin/env python3
+import os, signal, socket, subprocess, sys, time
+dsrs = socket.socket(fileno=os.dup(int(os.environ["DS_FD"])))
+me, label = os.environ["DS_ENDPOINT"], os.environ["DS_LABEL"]
+generation, rest = me.split("/")[0], b""
+def hear():
+    global rest
+    while b"\\n\\n" not in rest:
+        some = dsrs.recv(1 << 16)
+        if not some: sys.exit(9)
+        rest += some
+    said, _, rest = rest.partition(b"\\n\\n")
+    return said.decode()
+def ask(line):
+    dsrs.sendall(line.encode() + b"\\n")
+    while (said := hear()) == "ping" or said.startswith("notice"): pass
+    return said
+def note(text):
+    with open("../../notes", "a") as notes: notes.write(f"{label} {me} {text}\\n")
+def notify(text):
+    it = socket.socket(socket.AF_UNIX, socket.SOCK_DGRAM)
+    it.connect(os.environ["NOTIFY_SOCKET"])
+    it.send(text.encode())
+def live(beats=True):
+    while True:
+        if hear() == "ping" and beats: dsrs.sendall(b"beat\\n")
+'''
+
+
+class Gone(Exception):
+    """The supervisor ended, or hung up, before it answered."""
+
+
+def until(so, what, seconds=PATIENCE):
+    """Waits until it is so, and returns that; else it fails with what was waited for."""
+    end = time.monotonic() + seconds
+    while True:
+        found = so()
+        if found:
+            return found
+        if time.monotonic() > end:
+            raise AssertionError(f"not within {seconds} s: {what() if callable(what) else what}")
+        time.sleep(PAUSE)
+
+
+def equal(got, wanted):
+    assert got == wanted, f"{got!r} instead of {wanted!r}"
+
+
+def lives(pid):
+    try:
+        return pathlib.Path(f"/proc/{pid}/stat").read_text().rpartition(")")[2].split()[0] not in "ZX"
+    except (FileNotFoundError, ProcessLookupError):
+        return False
+
+
+def build(library, room, *flags, folder=ROOT / "rs"):
+    """Builds dsrs and dsask into a folder."""
+    ran = subprocess.run([folder / "build", library, room, *flags], capture_output=True, text=True)
+    if ran.returncode:
+        raise AssertionError(f"rs/build: {ran.stderr[:3000]}")
+    return pathlib.Path(room)
+
+
+def toml(services):
+    """Settings of services, each a label with its fields."""
+    text = ""
+    for unit, (label, fields) in enumerate(services.items()):
+        fields = {"class": "block", **fields}
+        if fields["class"] != "server":
+            fields["unit"] = unit
+        text += f'[[service]]\nlabel = "{label}"\n' + "".join(f"{key} = {value if isinstance(value, int) else repr(value)}\n" for key, value in fields.items())
+    return text.replace("'", '"')
+
+
+class Host:
+    """A supervisor, and all that it started; all of it ends with the `with`."""
+
+    def __init__(self, words, room):
+        self.words, self.room = words, room  # what a supervisor is started by; the folder of what was built
+        self.home = pathlib.Path(tempfile.mkdtemp(prefix="dsrs"))
+        self.path = self.home / "s"
+        self.process, self.clients = None, {}
+
+    def __enter__(self):
+        return self
+
+    def __exit__(self, *_):
+        self.kill()
+        self.kill_leftovers()
+        shutil.rmtree(self.home, ignore_errors=True)
+
+    # ---- services ----
+
+    def service(self, label, body, name="run"):
+        """Writes the program of a service: what it does after SERVICE, or a whole script."""
+        path = self.home / "services" / label / name
+        path.parent.mkdir(parents=True, exist_ok=True)
+        path.write_text(body if body.startswith("#!") else SERVICE + body)
+        path.chmod(0o755)
+
+    def start(self, services=None, settings=None, tick=SLOW, options=()):
+        """Starts a supervisor over services: each label's fields, and its body, unless that is None."""
+        (self.home / "services").mkdir(exist_ok=True)
+        for label, (_, body) in (services or {}).items():
+            if body is not None:
+                self.service(label, body)
+        if services is not None or settings is not None:
+            text = toml({label: fields for label, (fields, _) in services.items()}) if settings is None else settings
+            (self.home / "settings.toml").write_text(text)
+        self.clients = {}
+        words = [*self.words, "--tick", str(tick), *options, self.home / "settings.toml", self.home / "services", self.path]
+        with open(self.home / "log", "a") as log:
+            leaked = fcntl.fcntl(log, fcntl.F_DUPFD, 100)
+            ignored = lambda: signal.signal(signal.SIGQUIT, signal.SIG_IGN)  # noqa: E731, as a shell's `&` does
+            self.process = subprocess.Popen(words, stdout=log, stderr=log, pass_fds=[leaked], env={**os.environ, "DS_TEST": str(self.home)}, preexec_fn=ignored)
+            os.close(leaked)
+
+    def kill(self):
+        if self.process and self.process.poll() is None:
+            self.process.kill()
+            self.process.wait()
+
+    def end(self, status=0, number=signal.SIGTERM):
+        """Ends the supervisor: nothing of it is left, and no sanitizer complained."""
+        self.process.send_signal(number)
+        self.ended(status)
+        left = [it for it in (self.path, f"{self.path}.d", f"{self.path}.lock") if os.path.exists(it)]
+        assert not left, f"files are left: {left}"
+        equal(self.processes(), [])
+
+    def ended(self, status):
+        try:
+            code = self.process.wait(PATIENCE)
+        except subprocess.TimeoutExpired:
+            raise AssertionError(f"it doesn't end: {self.log()[-1000:]}") from None
+        fault = FAULT.search(self.log())
+        assert not fault, self.log()[fault.start() :][:1500] if fault else ""
+        assert code == status, f"it ended with status {code}: {self.log()[-500:]}"
+
+    def processes(self):
+        """The processes that this host started, by a variable of their environment."""
+        found = []
+        for pid in filter(str.isdigit, os.listdir("/proc")):
+            try:
+                given = pathlib.Path(f"/proc/{pid}/environ").read_bytes()
+            except OSError:
+                continue
+            if f"DS_TEST={self.home}".encode() in given.split(b"\0") and lives(pid) and int(pid) != self.process.pid:
+                found.append(int(pid))
+        return found
+
+    def kill_leftovers(self):
+        for pid in self.processes() if self.process else ():
+            os.kill(pid, signal.SIGKILL)
+
+    # ---- what it says ----
+
+    def client(self, name=0):
+        def connected():
+            it = socket.socket(socket.AF_UNIX)
+            try:
+                it.connect(str(self.path))
+                it.settimeout(PATIENCE)
+                return it
+            except OSError:
+                it.close()
+                if self.process.poll() is not None:
+                    raise Gone(self.log()[-500:]) from None
+                return None
+
+        if name not in self.clients:
+            self.clients[name] = until(connected, "it serves")
+        return self.clients[name]
+
+    def ask(self, line, name=0):
+        """The answer to a line, of a client by its name."""
+        it, said = self.client(name), b""
+        it.sendall(line.encode() + b"\n")
+        while not said.endswith(b"\n\n"):
+            some = it.recv(1 << 16)
+            if not some:
+                raise Gone(self.log()[-500:])
+            said += some
+        return said.decode().removesuffix("\n\n")
+
+    def status(self):
+        """Each service's state, endpoint, process, seconds, failures, cause and text, by its label."""
+        return {line.split()[0]: line.split(" ", 7)[1:] for line in self.ask("status").splitlines()[:-1]}
+
+    def pid(self, label):
+        return int(until(lambda: self.status()[label][2].strip("-"), f"{label} runs"))
+
+    def log(self):
+        return (self.home / "log").read_text()
+
+    def events(self):
+        """What it logged: `WORD TEXT` each."""
+        return [" ".join(it) for it in EVENT.findall(self.log())]
+
+    def logged(self, text, times=1):
+        """Waits for events that begin so, and returns the last of them."""
+        found = lambda: [it for it in self.events() if it.startswith(text)]  # noqa: E731
+        return until(lambda: found()[times - 1 :], lambda: f"{times} times `{text}`: {self.log()[-1000:]}")[-1]
+
+    def has_logged(self, text):
+        return any(it.startswith(text) for it in self.events())
+
+    def notes(self):
+        path = self.home / "notes"
+        return path.read_text() if path.exists() else ""
+
+    def noted(self, text):
+        """Waits for a note with this text, and returns its line."""
+        found = lambda: next((it for it in self.notes().splitlines() if text in it), None)  # noqa: E731
+        return until(found, lambda: f"a note `{text}`: {self.notes()[-1000:]} {self.log()[-500:]}")
