@@ -17,7 +17,7 @@ ROOT = pathlib.Path(__file__).resolve().parent.parent.parent
 PATIENCE = 30  # seconds that anything may take
 TICK = 0.005
 FAULT = re.compile(r"^.*(ERROR: |runtime error|==\d+== ).*$", re.MULTILINE)  # of a sanitizer, or of valgrind
-PROGRAM = ("dsfleet", "clients", "figures", "lines", "log", "notify", "place")  # what isn't of the library
+PROGRAM = ("check", "clients", "dsfleet", "figures", "lines", "log", "notify", "options", "place", "rights", "session")  # what isn't of the library
 MEMORY = "/dev/shm"  # where a server that syncs each change isn't held up by a disk
 
 
