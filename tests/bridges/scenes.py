@@ -741,21 +741,6 @@ def a_server_that_is_demoted(fleet, draw):
     names.close()
 
 
-def a_cluster(fleet, draw):
-    """What a cluster refuses is told with what to do about it."""
-    with Fleet(fleet.words, settings=("--cluster-enabled", "yes")) as cluster:
-        cluster.ask("CLUSTER", "ADDSLOTSRANGE", 0, 16383)
-        until(lambda: b"cluster_state:ok" in cluster.ask("CLUSTER", "INFO"), "the cluster is there")
-        plain = cluster.start(wait=False)
-        until(lambda: "give the stream a name in braces, as {ds}" in plain.said(), "keys of two nodes", 10)
-        named = cluster.start("--stream", "{rack1}")
-        offer(named, number("a", 1, 1))
-        slot = cluster.ask("CLUSTER", "KEYSLOT", "{rack1}:items")
-        cluster.ask("CLUSTER", "SETSLOT", slot, "NODE", cluster.ask("CLUSTER", "MYID"))
-        assert named.state()["state"] == "instep"
-        cluster.end()
-
-
 # ---- clients, sockets, words ----
 
 
@@ -975,6 +960,7 @@ def meddled_types(fleet, draw):
 
 
 from client_scenes import *  # those of clients, which use the functions above
+from master_scenes import *
 
 SCENES = [it for it in dict(globals()).values() if callable(it) and getattr(it, "__code__", None) and it.__code__.co_varnames[:2] == ("fleet", "draw")]
 COMPACTED = (  # with few entries kept
