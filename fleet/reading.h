@@ -5,8 +5,7 @@
  *   BEHIND | a full reading                            | BEHIND: its entries are merged
  *   BEHIND | a reading that isn't full                 | END: its entries are merged
  *   END    | entries                                   | END, or BEHIND if it is full: they are merged
- *   any    | .. and the snapshot goes further than     | GAP: they are merged, too
- *          |    the last entry read before             |
+ *   any    | .. and a snapshot that goes further       | GAP: they are merged, too; further than the last entry read before
  *   any    | an error, or out of memory                | BEHIND: denied, or noroom; the entries are asked for again
  *   GAP    | the snapshot is fetched                   | BEHIND: it is merged
  *   GAP    | an error, or out of memory                | GAP: denied, or noroom

@@ -332,8 +332,12 @@ class Proxy:
         self.count, self.open = 0, []
         threading.Thread(target=self.serve, daemon=True).start()
 
+    def port_of(self):
+        """Where bridges call it."""
+        return self.listener.getsockname()[1]
+
     def url(self):
-        return f"redis://127.0.0.1:{self.listener.getsockname()[1]}"
+        return f"redis://127.0.0.1:{self.port_of()}"
 
     def mute(self):
         """Swallows the listeners of all that is connected."""

@@ -961,9 +961,10 @@ def meddled_types(fleet, draw):
 
 from client_scenes import *  # those of clients, which use the functions above
 from master_scenes import *
+from state_scenes import *
 
 SCENES = [it for it in dict(globals()).values() if callable(it) and getattr(it, "__code__", None) and it.__code__.co_varnames[:2] == ("fleet", "draw")]
 COMPACTED = (  # with few entries kept
     "a_start_behind_a_compaction", "a_snapshot_that_is_lost", "paused_and_trimmed_under", "a_clash", "meddled_types", "counts_that_are_forged",
-    "more_than_two_stores_hold", "a_stream_of_another_scope", "a_scope_that_changes",
+    "more_than_two_stores_hold", "a_stream_of_another_scope", "a_scope_that_changes", "states_of_compacting",
 )
