@@ -127,31 +127,31 @@ static bool rewrite(struct text *to, long sub, const char *rest, size_t length, 
     return text_put(to, rest, length - end) && text_put(to, over, strlen(over));
 }
 
-/* Asks for a subscription of this number. It belongs to the client, until that is gone. */
-static bool make_subscription(struct clients *clients, struct client *client, long sub, const char *rest, size_t length, bool *holds) {
-    struct text line = {0};
+/* Asks for a subscription of this number, which belongs to the client from then on. `is_chosen`: a line `sub SUB` names it. */
+static bool make_subscription(struct clients *clients, struct client *client, long sub, const struct text *line, bool is_chosen, bool *holds) {
     size_t before = client->held.length;
-    bool fits = rewrite(&line, sub, rest, length, owns(client, sub)) && put_answer(clients, client, line.bytes, line.length, holds);
-    if (fits && begins(client->held.bytes + before, client->held.length - before, "subscribed ")) client->owns[sub / 8] |= (uint8_t)(1 << sub % 8);
-    text_free(&line);
-    return fits;
+    if (!put_answer(clients, client, line->bytes, line->length, holds)) return false;
+    bool is_made = begins(client->held.bytes + before, client->held.length - before, "subscribed ");
+    if (!is_made) return true;
+    client->owns[sub / 8] |= (uint8_t)(1 << sub % 8);
+    return !is_chosen || text_print(&client->held, "sub %ld\n", sub);
 }
 
-/* `subscribe SUB ..`, or `subscribe ..` for a number that is free, which a line `sub SUB` names before the answer. */
+/* `subscribe SUB ..`, or `subscribe ..` for a number that is free. */
 static bool answer_subscribe(struct clients *clients, struct client *client, const char *line, size_t length, bool *holds) {
     const char *rest = line + strlen(subscribe);
     size_t left = length - strlen(subscribe);
     bool is_chosen = left && *rest == '"';
     long sub = is_chosen ? free_sub(clients) : named_sub(line, length, subscribe);
+    struct text rewritten = {0};
     if (is_chosen && sub < 0) return refuse(client, "toomany");
     if (sub < 0) return put_answer(clients, client, line, length, holds);
     if (is_owned(clients, client, sub)) return refuse(client, "notallowed");
-    if (is_chosen) {
-        bool fits = text_print(&client->held, "sub %ld\n", sub);
-        return fits && make_subscription(clients, client, sub, rest, left, holds);
-    }
-    const char *space = memchr(rest, ' ', left);
-    return make_subscription(clients, client, sub, space + 1, left - (size_t)(space + 1 - rest), holds);
+    const char *query = is_chosen ? rest : (const char *)memchr(rest, ' ', left) + 1;
+    bool fits = rewrite(&rewritten, sub, query, left - (size_t)(query - rest), owns(client, sub));
+    fits = fits && make_subscription(clients, client, sub, &rewritten, is_chosen, holds);
+    text_free(&rewritten);
+    return fits;
 }
 
 bool session_answer(struct clients *clients, struct client *client, const char *line, size_t length, bool *holds) {

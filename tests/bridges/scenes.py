@@ -961,6 +961,7 @@ def meddled_types(fleet, draw):
 
 from client_scenes import *  # those of clients, which use the functions above
 from master_scenes import *
+from right_scenes import *
 from state_scenes import *
 
 SCENES = [it for it in dict(globals()).values() if callable(it) and getattr(it, "__code__", None) and it.__code__.co_varnames[:2] == ("fleet", "draw")]
