@@ -34,7 +34,7 @@ static bool judged(bool is_good, const char *bad, const char *what, const char *
 
 static bool says(const redisReply *info, const char *line) { return is_text(info) && strstr(info->str, line); }
 
-/* Waits for a master, and for the answers to what is asked of it. Returns why there are none, or NULL. */
+/* Waits for a master, and for its answers. Returns why there are none, or NULL. */
 static const char *asked(struct master *master, struct link *link, const char *stream) {
     uint64_t end = clock_now() + LIMIT;
     enum host_found found = HOST_SOUGHT;

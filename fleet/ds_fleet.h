@@ -26,7 +26,7 @@ enum ds_fleet_word {
     DS_FLEET_INSTEP, /* everything that took effect is in the stream, and everything from the stream is merged */
     DS_FLEET_LATE,   /* the patience of a step is over: call it again */
     DS_FLEET_AWAY,   /* there is no server, or the connection broke: a later step connects again, and nothing is lost */
-    DS_FLEET_DENIED, /* the server answered by an error, or too few replicas have what was told: the state has why in `said`. A later step
+    DS_FLEET_DENIED, /* the server answered by an error, or too few replicas have an entry: the state has why in `said`. A later step
                         tries again, and nothing is lost */
     DS_FLEET_NOROOM, /* out of memory: call again, nothing is lost */
     DS_FLEET_CLOSED, /* no store is open in the handle */
@@ -55,7 +55,7 @@ struct ds_fleet_options {
                              server met or lost, and for each compaction; may be NULL */
     void *context;        /* the first argument of tell */
     const char *password; /* instead of the URL's; NULL: the URL's. Less than 256 bytes */
-    int replicas;         /* so many replicas have to have a change before it counts as told; 0: none */
+    int replicas;         /* how many replicas have to have a change before it counts as told; 0: none */
     int within;           /* milliseconds that one round waits for them; 0: DS_FLEET_WITHIN */
 };
 

@@ -9,7 +9,7 @@
 enum {
     SOONEST = 50,  /* milliseconds before a server is called again, */
     LATEST = 1000, /* and then twice as long each time, up to this */
-    PATIENCE = 100 /* before what was denied is asked again */
+    PATIENCE = 100 /* before another try of what was denied */
 };
 
 bool server_is_connected(const struct server *server) { return server->teller.redis && server->listener.redis; }

@@ -25,7 +25,7 @@ enum server_state {
     SERVER_MET     /* the meeting was answered: the other parts may ask */
 };
 
-/* What the teller's connection is asked by, one round at a time. */
+/* The teller's rounds of questions, one at a time. */
 enum round { ROUND_NONE, ROUND_MEETING, ROUND_TELLING, ROUND_FETCHING, ROUND_COMPACTING, ROUND_COMPARING };
 
 struct server {
@@ -38,7 +38,7 @@ struct server {
     bool logs_meeting;                             /* the next meeting is logged: the log's last word on the server is that it went */
     char run[DS_FLEET_ID], history[DS_FLEET_ID];   /* of the server that was met last, or nothing */
     uint64_t pause;                                /* milliseconds of the last pause; 0: the server was of use since */
-    uint64_t call_at, ask_at;                      /* when a server is called, in AWAY; when what was denied is asked again */
+    uint64_t call_at, ask_at;                      /* in AWAY, when a server is called; when what was denied is tried again */
     char password[DS_FLEET_SAID], name[DS_FLEET_ID];
 };
 
@@ -51,7 +51,7 @@ enum ds_fleet_word server_call(struct ds_fleet *fleet);
 /* Opens the listener's connection anew: a reading may wait there for what comes after an entry that is no longer the last one read. */
 void server_reopen_listener(struct ds_fleet *fleet);
 
-/* Both connections end. What no answer came for is asked again of the next server. */
+/* Both connections end. What got no answer is sent to the next server. */
 enum ds_fleet_word server_hang_up(struct ds_fleet *fleet, enum ds_fleet_word word, const char *why);
 enum ds_fleet_word server_went(struct ds_fleet *fleet, const char *why);
 /* The server answered by something that is of no use, or by an error. */

@@ -45,7 +45,7 @@ bool session_is_short(const char *line, size_t length) {
 
 /* ---- what a client may ---- */
 
-/* Whether a line is a change, and of whom: `sender` is its endpoint, or empty for an offer, which has none. */
+/* Whether a line is a change. `sender` is the endpoint of its caller, or empty for an offer, which has none. */
 static bool is_change(const char *line, size_t length, const char **sender, size_t *sender_length) {
     static const char *const changes[] = {"publish ", "delete ", "sweep ", "offer "};
     for (size_t i = 0; i < sizeof changes / sizeof *changes; i++) {

@@ -41,7 +41,7 @@ void telling_ask(struct ds_fleet *fleet) {
     fleet->server.teller.blocks = (unsigned)telling->within;
 }
 
-/* Each part has to be there: else it is told again, with all others. */
+/* Each part has to be there: else all of them are sent again. */
 static enum ds_fleet_word note_added(struct ds_fleet *fleet) {
     struct telling *telling = &fleet->telling;
     struct redisReply **answers = fleet->server.teller.answers;

@@ -883,6 +883,10 @@ def words_of_the_command_line(fleet, draw):
 
     status, out, err = run("--help")
     assert (status, err) == (0, "") and out.startswith("usage: dsfleet"), out
+    for option in set(re.findall(r"--[a-z-]+", out)) - {"--version", "--help"}:
+        for page in ("docs/reference/fleet.md", "man/dsfleet.1", "completions/dsfleet.bash", "completions/_dsfleet", "completions/dsfleet.fish"):
+            text = (ROOT / page).read_text().replace("\\-", "-")
+            assert option in text or f"-l {option[2:]} " in text, f"{page} lacks {option}"
     path = f"{fleet.home}/s"
     for words, said in (
         ([], "wanted"), ([path], "wanted"), ([path, "redis://h", "x"], "wanted"), (["--other", path, "redis://h"], "no such option"),
@@ -890,6 +894,10 @@ def words_of_the_command_line(fleet, draw):
         (["--keep", "0", path, "redis://h"], "1 entry"), ([path, "http://h"], "badurl"), ([path, "redis://"], "badurl"),
         ([path, "redis://h:0"], "badurl"), ([path, "redis://user@h"], "badurl"), ([path, "unix://relative"], "badurl"),
         ([path, "rediss://h"], "notls"), (["--stream", "a b", path, "redis://h"], "badname"), (["--stream", "", path, "redis://h"], "badname"),
+        (["--mode", "9", path, "redis://h"], "octal"), (["--readers", "no such group", path, "redis://h"], "no such group"),
+        (["--replicas", "x", path, "redis://h"], "replicas"), (["--maxclients", "513", path, "redis://h"], "1 to 512"), (["--check"], "wanted"),
+        ([path, "redis-sentinel://h"], "badurl"), ([path, "redis-sentinel://h/"], "badurl"), ([path, "redis://h,"], "badurl"),
+        ([path, "redis://" + ",".join("h" * 9)], "badurl"),
         ([path, "-"], "DSFLEET_URL"), (["x" * 200, "redis://h"], "too long"),
     ):
         status, out, err = run(*words)
