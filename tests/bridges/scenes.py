@@ -968,6 +968,7 @@ def meddled_types(fleet, draw):
 
 
 from client_scenes import *  # those of clients, which use the functions above
+from history_scenes import *
 from master_scenes import *
 from right_scenes import *
 from state_scenes import *
