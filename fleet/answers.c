@@ -50,6 +50,13 @@ bool is_error_of(const redisReply *answer, const char *word) {
 
 bool is_no_stream(const redisReply *answer) { return is_error(answer) && strstr(answer->str, "no such key"); }
 
+const redisReply *error_of(struct redisReply **answers, size_t count) {
+    for (size_t i = 0; i < count; i++) {
+        if (is_error(answers[i])) return answers[i];
+    }
+    return NULL;
+}
+
 struct entry_id id_of(const redisReply *answer) {
     struct entry_id id = NO_ENTRY;
     if (is_text(answer)) read_entry_id(answer->str, &id);

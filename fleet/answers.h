@@ -28,6 +28,9 @@ bool is_error_of(const redisReply *answer, const char *word);
 /* Whether the answer is the error of a stream that doesn't exist. */
 bool is_no_stream(const redisReply *answer);
 
+/* The first error among these answers, or NULL. */
+const redisReply *error_of(struct redisReply **answers, size_t count);
+
 /* The id that an answer is, or 0-0. */
 struct entry_id id_of(const redisReply *answer);
 /* Reads a count from 0 to 2^53, which an integer or a text holds. False: the answer is something else, and the count is 0. */

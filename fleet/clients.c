@@ -1,8 +1,7 @@
 /* The clients of dsfleet. See clients.h. */
 #include "clients.h"
 #include "clock.h"
-#include "figures.h"
-#include "lines.h"
+#include "session.h"
 #include <errno.h>
 #include <linux/sockios.h>
 #include <stdlib.h>
@@ -25,13 +24,15 @@ static void drop(struct clients *clients, size_t at) {
 }
 
 bool clients_add(struct clients *clients, int socket) {
-    struct client *client = clients->count < CLIENTS ? calloc(1, sizeof *client) : NULL;
+    struct client *client = clients->count < clients->limits.clients ? calloc(1, sizeof *client) : NULL;
     if (!client) {
         close(socket);
         return false;
     }
     client->socket = socket;
-    client->moved = clock_now();
+    client->role = rights_of(&clients->rights, socket);
+    client->ended = client->failed = client->role == ROLE_NOBODY;
+    client->moved = client->heard = clock_now();
     clients->client[clients->count++] = client;
     return true;
 }
@@ -40,10 +41,12 @@ bool clients_add(struct clients *clients, int socket) {
 static size_t backlog(const struct client *client) { return client->held.length + client->out.length; }
 
 /* Whether its next lines may be answered: its last ones are, and it reads. */
-static bool is_free(const struct client *client) { return !client->held.length && client->out.length < CLIENT_WAITS; }
+static bool is_free(const struct clients *clients, const struct client *client) {
+    return !client->held.length && client->out.length < clients->limits.output;
+}
 
-struct pollfd clients_watched(const struct client *client) {
-    bool reads = !client->ended && (client->gone || (is_free(client) && client->in.length < CLIENT_READS));
+struct pollfd clients_watched(const struct clients *clients, const struct client *client) {
+    bool reads = !client->ended && (client->gone || (is_free(clients, client) && client->in.length < CLIENT_READS));
     bool writes = client->out.length > 0;
     return (struct pollfd){.fd = client->socket, .events = (short)((reads ? POLLIN : 0) | (writes ? POLLOUT : 0))};
 }
@@ -60,6 +63,7 @@ void clients_read(struct client *client, short events) {
     if (events & (POLLHUP | POLLERR)) hang_up(client);
     if (!(events & (POLLIN | POLLHUP | POLLERR))) return;
     ssize_t got = recv(client->socket, some, sizeof some, MSG_DONTWAIT);
+    if (got > 0) client->heard = clock_now();
     if (got > 0 && !text_put(&client->in, some, (size_t)got)) client->failed = true;
     if (got == 0 || (got < 0 && errno != EAGAIN && errno != EINTR)) client->ended = true;
 }
@@ -85,11 +89,21 @@ static bool drop_slowest(struct clients *clients, bool for_place) {
         places++;
         room += client->out.length;
     }
-    if (for_place ? places <= CLIENTS / 2 : room <= CLIENTS_WAIT / 2) return false;
+    if (for_place ? places <= clients->limits.clients / 2 : room <= clients->limits.all_output / 2) return false;
     const char *needed = for_place ? "place" : "room";
     log_say(clients->log, LOG_WARN, "slow: a client that doesn't read is dropped, since others need its %s", needed);
     drop(clients, slowest);
     return true;
+}
+
+void clients_drop_idle(struct clients *clients) {
+    static const uint8_t nothing[sizeof clients->client[0]->listens];
+    uint64_t now = clock_now(), limit = clients->limits.timeout * 1000;
+    for (size_t i = clients->count; limit && i-- > 0;) {
+        const struct client *client = clients->client[i];
+        bool is_idle = now >= client->heard + limit && !backlog(client) && !memcmp(client->listens, nothing, sizeof nothing);
+        if (is_idle) drop(clients, i);
+    }
 }
 
 bool clients_make_place(struct clients *clients) { return drop_slowest(clients, true); }
@@ -113,65 +127,18 @@ static void drop_lines(struct client *client, size_t done) {
     text_drop(&client->in, client->in.length - 1);
 }
 
-/* The subscription that `listen SUB` names, or -1. */
-static int listened(const char *line, size_t length) {
-    int sub = 0;
-    if (length < 8 || length > 10 || memcmp(line, "listen ", 7)) return -1;
-    for (size_t i = 7; i < length; i++) {
-        if (line[i] < '0' || line[i] > '9' || (i > 7 && !sub)) return -1;
-        sub = sub * 10 + (line[i] - '0');
-    }
-    return sub < 128 ? sub : -1;
-}
-
-static bool is_short(const char *line, size_t length) {
-    return lines_is_short(line, length) || figures_asked(line, length) || listened(line, length) >= 0;
-}
-
 /* Whether a line may be answered now. */
 static bool may_answer(const struct clients *clients, const struct client *client, const char *line, size_t length) {
-    bool fits = is_short(line, length);
+    bool fits = session_is_short(line, length);
     if (client->gone) return true;
-    if (clients->waiting >= CLIENTS_WAIT) return fits && backlog(client) < CLIENT_FEW;
-    return (fits || !clients->hurries) && backlog(client) < CLIENT_WAITS;
-}
-
-/* Puts the lines of an answer. Returns false where memory runs out. */
-static bool answered(struct clients *clients, struct client *client, const char *line, size_t length, bool *holds) {
-    struct lines_said said = {.place = CLIENT_LINE};
-    enum lines_word word = LINES_BAD;
-    struct text *to = &client->held;
-    int sub = client->too_long ? -1 : listened(line, length);
-    if (sub >= 0) {
-        client->listens[sub / 8] |= (uint8_t)(1 << sub % 8);
-        return text_print(to, "listening %d\n", sub);
-    }
-    if (!client->too_long && figures_asked(line, length)) return figures_put(clients, line, to);
-    if (!client->too_long) word = lines_answer(clients->store, line, length, to, &said);
-    client->too_long = false;
-    clients_owe(clients, said.owed);
-    *holds |= said.holds;
-    if (word == LINES_NOREQUEST) return text_print(to, "norequest\n");
-    if (word == LINES_BAD) {
-        return text_print(to, "badline %llu %llu\n", (unsigned long long)client->lines, (unsigned long long)said.place);
-    }
-    return word == LINES_ANSWERED;
-}
-
-/* Carries out a line of a client that hung up. Only lines with short answers may be changes; nobody reads the others. */
-static void carry_out(struct clients *clients, struct client *client, const char *line, size_t length) {
-    struct lines_said said;
-    bool is_whole = !client->too_long;
-    client->too_long = false;
-    if (!is_whole || !lines_is_short(line, length)) return;
-    lines_answer(clients->store, line, length, NULL, &said);
-    clients_owe(clients, said.owed);
+    if (clients->waiting >= clients->limits.all_output) return fits && backlog(client) < CLIENT_FEW;
+    return (fits || !clients->hurries) && backlog(client) < clients->limits.output;
 }
 
 /* Notes that a line isn't answered now. */
 static void refuse(struct clients *clients, const struct client *client) {
     clients->refused = true;
-    clients->crowded |= clients->waiting >= CLIENTS_WAIT && backlog(client) < CLIENT_FEW;
+    clients->crowded |= clients->waiting >= clients->limits.all_output && backlog(client) < CLIENT_FEW;
 }
 
 /* Answers the lines of a client that have come. Where one is answered that a change is held, all these answers wait
@@ -182,13 +149,13 @@ static bool answer_lines(struct clients *clients, struct client *client) {
     while (fine && !alone && (used = next_line(client, done, &length)) > 0) {
         const char *line = client->in.bytes + done;
         bool may = may_answer(clients, client, line, length);
-        alone = !client->gone && !is_short(line, length);
+        alone = !client->gone && !session_is_short(line, length);
         if (!may) refuse(clients, client);
         if (!may || (alone && done)) break;
         size_t before = backlog(client);
         client->lines++;
-        if (client->gone) carry_out(clients, client, line, length);
-        else fine = answered(clients, client, line, length, &holds) && text_put(&client->held, "\n", 1);
+        if (client->gone) session_carry_out(clients, client, line, length);
+        else fine = session_answer(clients, client, line, length, &holds) && text_put(&client->held, "\n", 1);
         clients->waiting += backlog(client) - before;
         clients->long_one |= alone;
         done += used;
@@ -209,7 +176,7 @@ void clients_answer(struct clients *clients) {
         size_t at = clients->newest ? count - 1 - i : (clients->first + i) % count;
         struct client *client = clients->client[at];
         bool was_refused = clients->refused;
-        if (is_free(client) && !answer_lines(clients, client)) client->failed = true;
+        if (is_free(clients, client) && !answer_lines(clients, client)) client->failed = true;
         if (clients->refused && !was_refused && !clients->newest) first = at;
         clients->hurries = clock_now() >= end;
     }
@@ -229,8 +196,8 @@ void clients_owe(struct clients *clients, const uint8_t owed[16]) {
 
 /* A notice says no more than that there is something, so that one of each subscription is enough for a client that
  * doesn't read. */
-static void put_notices(struct client *client) {
-    for (int sub = 0; sub < 128 && client->out.length < CLIENT_WAITS && !client->gone; sub++) {
+static void put_notices(const struct clients *clients, struct client *client) {
+    for (int sub = 0; sub < CLIENT_SUBS && client->out.length < clients->limits.output && !client->gone; sub++) {
         bool is_due = client->due[sub / 8] >> sub % 8 & 1;
         if (is_due && text_print(&client->out, "notice %d\n\n", sub)) client->due[sub / 8] &= (uint8_t)~(1 << sub % 8);
     }
@@ -262,7 +229,7 @@ static bool is_done(const struct client *client) {
 /* Whether a client has a line that may be answered. */
 static bool is_ready(const struct clients *clients, const struct client *client) {
     size_t length;
-    return is_free(client) && next_line(client, 0, &length) && may_answer(clients, client, client->in.bytes, length);
+    return is_free(clients, client) && next_line(client, 0, &length) && may_answer(clients, client, client->in.bytes, length);
 }
 
 bool clients_write(struct clients *clients) {
@@ -271,13 +238,14 @@ bool clients_write(struct clients *clients) {
     for (size_t i = clients->count; i-- > 0;) {
         struct client *client = clients->client[i];
         let_go(clients, client);
-        put_notices(client);
+        put_notices(clients, client);
         write_out(client);
-        if (client->failed) log_say(clients->log, LOG_WARN, "noroom: a client is dropped");
+        if (client->failed && client->role == ROLE_NOBODY) log_say(clients->log, LOG_WARN, "stranger: a process of neither group hangs up");
+        else if (client->failed) log_say(clients->log, LOG_WARN, "noroom: a client is dropped");
         if (is_done(client)) drop(clients, i);
         else clients->waiting += backlog(client);
     }
-    if (clients->crowded && clients->waiting >= CLIENTS_WAIT) ready = drop_slowest(clients, false);
+    if (clients->crowded && clients->waiting >= clients->limits.all_output) ready = drop_slowest(clients, false);
     for (size_t i = 0; i < clients->count && !ready; i++) ready = is_ready(clients, clients->client[i]);
     return ready;
 }

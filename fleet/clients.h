@@ -11,30 +11,45 @@
 
 #include "ds_fleet.h"
 #include "log.h"
+#include "rights.h"
 #include "text.h"
 #include <poll.h>
 
 enum {
-    CLIENTS = 512,           /* at once */
+    CLIENTS = 512,           /* at once, at most */
     CLIENT_LINE = 4096,      /* bytes of a line */
     CLIENT_READS = 1 << 16,  /* bytes that are read at a time */
     CLIENT_WAITS = 1 << 20,  /* bytes that wait for a client before more is answered */
     CLIENT_FEW = 1 << 14,    /* the same, where CLIENTS_WAIT is used up */
     CLIENTS_WAIT = 64 << 20, /* bytes that wait for all clients */
     CLIENT_SLOW = 1000,      /* milliseconds: a client that leaves an answer unread for so long is slow */
-    CLIENTS_TURN = 50        /* milliseconds of one turn after which no long answer begins */
+    CLIENTS_TURN = 50,       /* milliseconds of one turn after which no long answer begins */
+    CLIENT_SUBS = 128,       /* numbers of subscriptions */
+    CLIENT_ENDPOINT = 16     /* bytes of an endpoint, with its zero */
+};
+
+/* What an administrator may set. */
+struct clients_limits {
+    size_t clients;    /* at once */
+    size_t output;     /* bytes that wait for a client before more is answered: CLIENT_WAITS */
+    size_t all_output; /* bytes that wait for all clients: CLIENTS_WAIT */
+    uint64_t timeout;  /* seconds after which a client that sends nothing is dropped; 0: never */
 };
 
 struct client {
     int socket;
+    enum role role;
+    char endpoint[CLIENT_ENDPOINT]; /* the one under which it acts, by `as`; or nothing */
     bool ended;            /* no more comes from it */
     bool gone;             /* it reads no more answers: it hung up */
     bool failed;           /* out of memory for it */
     bool too_long;         /* the line that is being read */
     uint64_t lines;        /* how many it has sent */
+    uint64_t heard;        /* when it last sent something, in milliseconds */
     uint64_t moved;        /* when it last had no answer to read, or read some of one, in milliseconds */
     struct text in, held, out; /* held: answers to what isn't in the stream yet; out: what is to be written */
     uint64_t mark;         /* held may be written once everything before this mark is in the stream */
+    uint8_t owns[16];      /* the subscriptions that it made: their numbers are free once it is gone */
     uint8_t listens[16], due[16]; /* the subscriptions whose notices it wants, and those of them that it has to be sent */
 };
 
@@ -42,6 +57,8 @@ struct clients {
     struct ds_handle *store;
     struct ds_fleet *fleet;
     struct log *log;
+    struct clients_limits limits;
+    struct rights rights;
     struct client *client[CLIENTS];
     size_t count, first; /* first: the one whose lines are answered first */
     size_t waiting;      /* bytes of answers that wait for all of them */
@@ -52,14 +69,16 @@ struct clients {
     bool newest;         /* in this turn the newest client comes first */
 };
 
-/* Takes in a client by its socket, which is closed with it. Returns false, and closes the socket, where there are too
- * many clients or memory runs out. */
+/* Takes in a client by its socket, which is closed with it. Returns false, and closes the socket, if there are too
+ * many clients or memory runs out. A process that may do nothing is taken in for as long as it takes to hang up. */
 bool clients_add(struct clients *clients, int socket);
+/* Drops clients that sent nothing for as long as the limit says, are owed no answer, and listen to nothing. */
+void clients_drop_idle(struct clients *clients);
 /* Drops a slow client for one that waits to be taken in, where slow clients have more than half of the places. */
 bool clients_make_place(struct clients *clients);
 /* How a client is to be watched by poll: for reading while its last lines are answered and it reads its answers, for
  * writing where something is to be written; and always for hanging up, which poll reports by itself. */
-struct pollfd clients_watched(const struct client *client);
+struct pollfd clients_watched(const struct clients *clients, const struct client *client);
 /* Reads what a client has sent, or notes that it hung up, by what poll reported. */
 void clients_read(struct client *client, short events);
 /* Answers the lines of each client whose last ones are answered. Of a client that hung up only the changes are

@@ -26,22 +26,27 @@ enum ds_fleet_word {
     DS_FLEET_INSTEP, /* everything that took effect is in the stream, and everything from the stream is merged */
     DS_FLEET_LATE,   /* the patience of a step is over: call it again */
     DS_FLEET_AWAY,   /* there is no server, or the connection broke: a later step connects again, and nothing is lost */
-    DS_FLEET_DENIED, /* the server answered by an error, which the state has in `said`: a later step tries again, and nothing is lost */
+    DS_FLEET_DENIED, /* the server answered by an error, or too few replicas have an entry: the state has why in `said`. A later step
+                        tries again, and nothing is lost */
     DS_FLEET_NOROOM, /* out of memory: call again, nothing is lost */
     DS_FLEET_CLOSED, /* no store is open in the handle */
-    DS_FLEET_BADURL, DS_FLEET_NOTLS, DS_FLEET_BADNAME, /* of ds_fleet_open alone */
+    DS_FLEET_BADURL, DS_FLEET_NOTLS, /* of ds_fleet_open alone */
+    DS_FLEET_BADNAME,  /* of ds_fleet_open: the stream's name. Of a step: the server is of a cluster, and the name has no {TAG} by which all
+                          keys are on one node; the step tells nothing, and a later one looks again */
     DS_FLEET_BADSCOPE, /* of ds_fleet_open: the scope can't be read. Of a step: the stream has another scope; the step tells nothing, and a
                           later one looks again */
     DS_FLEET_SYSTEM    /* of ds_fleet_open alone; errno says why */
 };
 
-enum { DS_FLEET_KEEP = 1000, DS_FLEET_ID = 48, DS_FLEET_SAID = 256 /* bytes of a text, with its zero */ };
+enum { DS_FLEET_KEEP = 1000, DS_FLEET_WITHIN = 1000, DS_FLEET_ID = 48, DS_FLEET_SAID = 256 /* bytes of a text, with its zero */ };
 
 /* A function that gets one line of the log, without its newline, while a step runs. */
 typedef void ds_fleet_tell(void *context, const char *line);
 
 struct ds_fleet_options {
-    const char *url;      /* redis://[[USER]:PASSWORD@]HOST[:PORT][/DATABASE], or unix://[[USER]:PASSWORD@]/PATH */
+    const char *url;      /* redis://[[USER]:PASSWORD@]HOST[:PORT][,HOST[:PORT]..][/DATABASE]: servers, tried in order;
+                             redis-sentinel://[[USER]:PASSWORD@]HOST[:PORT][,..]/NAME[/DATABASE]: Sentinels, asked for the master NAME;
+                             or unix://[[USER]:PASSWORD@]/PATH. Up to 8 hosts */
     const char *stream;   /* the beginning of the names of its three keys, 1 to 128 bytes; NULL: "ds" */
     const char *pattern;  /* with kinds, the scope: the names that it matches whole. All on one stream need the same scope: else badscope */
     uint8_t kinds;        /* a sum of enum ds_kinds; 0: the scope is everything, and pattern may be anything */
@@ -49,6 +54,9 @@ struct ds_fleet_options {
     ds_fleet_tell *tell;  /* gets a line `WORD: TEXT` for each item that is refused or can't be read, as often as others send it, for each
                              server met or lost, and for each compaction; may be NULL */
     void *context;        /* the first argument of tell */
+    const char *password; /* instead of the URL's; NULL: the URL's. Less than 256 bytes */
+    int replicas;         /* how many replicas have to have a change before it counts as told; 0: none */
+    int within;           /* milliseconds that one round waits for them; 0: DS_FLEET_WITHIN */
 };
 
 /* Joins the store of the handle to a stream, without waiting: the first step connects to the server, and the first steps tell what the
@@ -59,7 +67,7 @@ enum ds_fleet_word ds_fleet_open(struct ds_fleet **fleet, struct ds_handle *stor
 
 /* Tells what is new, and merges what others told. It waits until the store is in step, for at most `patience` milliseconds; with 0 it
  * doesn't wait. The first DS_FLEET_INSTEP means that the store has caught up. Serve no client before that: a publisher that doesn't see its
- * own earlier versions would use their numbers again. DS_FLEET_BADSCOPE ends the step at once. Call it when the bell rings, and after each
+ * own earlier versions would use their numbers again. DS_FLEET_BADSCOPE and DS_FLEET_BADNAME end the step at once. Call it when the bell rings, and after each
  * change of the store. */
 enum ds_fleet_word ds_fleet_step(struct ds_fleet *fleet, unsigned patience);
 

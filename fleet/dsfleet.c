@@ -1,13 +1,13 @@
 /* dsfleet: a store for the programs of one host, in step with those of other hosts over a redis stream.
  * docs/reference/fleet.md. */
+#include "check.h"
 #include "clients.h"
 #include "clock.h"
 #include "ds_fleet.h"
 #include "log.h"
 #include "notify.h"
-#include "place.h"
+#include "options.h"
 #include <errno.h>
-#include <getopt.h>
 #include <malloc.h>
 #include <signal.h>
 #include <stdio.h>
@@ -19,8 +19,6 @@
 #include <time.h>
 #include <unistd.h>
 
-enum { DONE = 0, USAGE = 2, FAILED = 3 }; /* statuses */
-
 enum {
     RING = 4096,
     SECOND = 1000,     /* milliseconds */
@@ -29,30 +27,6 @@ enum {
     DESCRIPTORS = 32,  /* that aren't clients' */
     LARGE = 1 << 20    /* bytes of a large block of memory */
 };
-
-static const char help[] =
-    "usage: dsfleet [--stream NAME] [--scope 'PATTERN KINDS'] [--keep N] SOCKET REDIS-URL\n"
-    "\n"
-    "Keeps a store, answers the script lines that clients send to SOCKET, and keeps it in step with the stores\n"
-    "of all dsfleets that share a stream of one redis server. An empty line ends each answer.\n"
-    "\n"
-    "  SOCKET            a UNIX socket, made once the store has caught up\n"
-    "  REDIS-URL         redis://[[USER]:PASSWORD@]HOST[:PORT][/DATABASE] or unix://[[USER]:PASSWORD@]/PATH;\n"
-    "                    `-` takes it from the environment, DSFLEET_URL, where nobody else sees the password\n"
-    "  --stream NAME     the front of the names of the keys in redis: ds\n"
-    "  --scope 'P K'     shares what the pattern P matches whole, of the kinds K, 1 to 15; else everything\n"
-    "  --keep N          compacts a stream of more than N entries: 1000\n"
-    "  --version         prints the version\n"
-    "  -h, --help        prints this\n"
-    "\n"
-    "Lines: offer publish delete sweep retrieve nameof subscribe check since snapshot page show all, as of dsctl;\n"
-    "`listen SUB`, upon which `notice SUB` comes whenever the subscription is owed one; `state`; `metrics`, for Prometheus.\n"
-    "Statuses: 0 ended by a signal, 2 usage or a stream of another scope, 3 a failure, which standard error tells.\n";
-
-static const char bad_scope[] = "a scope is a pattern, a space, and kinds from 1 to 15";
-static const char version[] = "dsfleet " DS_VERSION "\n";
-
-struct options { struct ds_fleet_options fleet; const char *socket; };
 
 struct host {
     struct ds_handle store;
@@ -76,98 +50,14 @@ static int failed(struct host *host, const char *what) {
     return FAILED;
 }
 
-/* ---- words ---- */
-
-static int usage(const char *why) {
-    fprintf(stderr, "dsfleet: %s; see dsfleet --help\n", why);
-    return USAGE;
-}
-
-/* Cuts the kinds off after the last space. */
-static bool read_scope(char *scope, struct ds_fleet_options *options) {
-    char *space = strrchr(scope, ' '), *end;
-    if (!space) return false;
-    long kinds = strtol(space + 1, &end, 10);
-    if (*end || end == space + 1 || kinds < 1 || kinds > 15) return false;
-    *space = '\0';
-    options->pattern = scope;
-    options->kinds = (uint8_t)kinds;
-    return true;
-}
-
-static bool read_keep(const char *text, long *keep) {
-    char *end;
-    *keep = strtol(text, &end, 10);
-    return !*end && *text >= '0' && *text <= '9' && *keep >= 1 && *keep <= 1000000000;
-}
-
-static int shown(const char *text) {
-    fputs(text, stdout);
-    return DONE;
-}
-
-/* Takes an option; -1: continue. */
-static int read_option(int option, char *value, struct options *options) {
-    switch (option) {
-    case 'h': return shown(help);
-    case 'v': return shown(version);
-    case 's': options->fleet.stream = value; return -1;
-    case 'p': return read_scope(value, &options->fleet) ? -1 : usage(bad_scope);
-    case 'k': return read_keep(value, &options->fleet.keep) ? -1 : usage("a stream keeps 1 entry or more");
-    default: return usage("no such option, or no value after it");
-    }
-}
-
-/* -1: continue. */
-static int read_words(int count, char **words, struct options *options) {
-    static const struct option known[] = {
-        {"stream", required_argument, NULL, 's'},
-        {"scope", required_argument, NULL, 'p'},
-        {"keep", required_argument, NULL, 'k'},
-        {"help", no_argument, NULL, 'h'},
-        {"version", no_argument, NULL, 'v'},
-        {0},
-    };
-    opterr = 0;
-    for (int option; (option = getopt_long(count, words, "h", known, NULL)) != -1;) {
-        int status = read_option(option, optarg, options);
-        if (status >= 0) return status;
-    }
-    if (count - optind != 2) return usage("a socket and an address of redis are wanted");
-    options->socket = words[optind];
-    options->fleet.url = words[optind + 1];
-    if (!strcmp(options->fleet.url, "-")) options->fleet.url = getenv("DSFLEET_URL");
-    if (!options->fleet.url) return usage("DSFLEET_URL isn't set");
-    if (strlen(options->socket) >= PLACE_PATH) return usage("the socket's path is too long");
-    return -1;
-}
-
-/* What a fault of usage is, that the carrier reports by a word. */
-static const char *explained(enum ds_fleet_word word) {
-    switch (word) {
-    case DS_FLEET_BADURL:
-        return "an address is redis://[[USER]:PASSWORD@]HOST[:PORT][/DATABASE] or unix://[[USER]:PASSWORD@]/PATH";
-    case DS_FLEET_NOTLS:
-        return "TLS isn't spoken: an address begins with redis:// or unix://, and a tunnel leads to other sites";
-    case DS_FLEET_BADNAME:
-        return "the name of a stream is 1 to 128 printable characters of ASCII and no space";
-    case DS_FLEET_BADSCOPE:
-        return "the pattern of the scope can't be read, or isn't the one that the stream has";
-    case DS_FLEET_NOROOM:
-        return "out of memory";
-    default:
-        return "no store is open";
-    }
-}
-
 /* ---- a turn ---- */
 
-/* Takes in the clients that wait, up to CLIENTS. Where one can't be, as out of descriptors, the listener rests, since
+/* Takes in the clients that wait, up to the limit. Where one can't be, as out of descriptors, the listener rests, since
  * poll would report it again and again. */
 static void admit(struct host *host) {
     struct pollfd waiting = {.fd = host->place.listener, .events = POLLIN};
     while (poll(&waiting, 1, 0) > 0) {
-        bool is_full = host->clients.count == CLIENTS && !clients_make_place(&host->clients);
+        bool is_full = host->clients.count == host->clients.limits.clients && !clients_make_place(&host->clients);
         int client = is_full ? -1 : accept4(host->place.listener, NULL, NULL, SOCK_NONBLOCK | SOCK_CLOEXEC);
         if (client >= 0 && clients_add(&host->clients, client)) continue;
         host->admit_at = clock_now() + REST;
@@ -183,7 +73,7 @@ static void wait_and_read(struct host *host, bool ready) {
     polled[0] = (struct pollfd){.fd = host->signals, .events = POLLIN};
     polled[1] = (struct pollfd){.fd = ds_fleet_bell(host->fleet), .events = POLLIN};
     polled[2] = (struct pollfd){.fd = rests ? -1 : host->place.listener, .events = POLLIN};
-    for (size_t i = 0; i < count; i++) polled[i + 3] = clients_watched(host->clients.client[i]);
+    for (size_t i = 0; i < count; i++) polled[i + 3] = clients_watched(&host->clients, host->clients.client[i]);
     if (poll(polled, count + 3, ready ? 0 : rests ? REST : SECOND) <= 0) return;
     struct signalfd_siginfo signal;
     host->ended |= polled[0].revents && read(host->signals, &signal, sizeof signal) > 0;
@@ -213,6 +103,7 @@ static void look_after(struct host *host, enum ds_fleet_word word) {
     if (now < host->looked_at + SECOND) return;
     host->looked_at = now;
     place_keep(&host->place);
+    clients_drop_idle(&host->clients);
     log_count(&host->log);
     notify("STATUS=%s, %zu clients\nWATCHDOG=1", ds_fleet_word(word), host->clients.count);
 }
@@ -232,9 +123,10 @@ static int turn(struct host *host, bool *ready) {
     }
     tell_waiting(host, word);
     look_after(host, word);
-    bool is_misused = word == DS_FLEET_BADSCOPE && host->place.listener < 0; /* one that serves may find its scope again */
+    bool is_unfit = word == DS_FLEET_BADSCOPE || word == DS_FLEET_BADNAME;
+    bool is_misused = is_unfit && host->place.listener < 0; /* one that serves may find its scope again */
     if (word != DS_FLEET_CLOSED && !is_misused) return -1;
-    log_say(&host->log, LOG_ERROR, "%s: %s", ds_fleet_word(word), explained(word));
+    log_say(&host->log, LOG_ERROR, "%s: %s", ds_fleet_word(word), options_explained(word));
     return is_misused ? USAGE : FAILED;
 }
 
@@ -262,14 +154,14 @@ static void give_memory_back(void) {
 /* Allows as many descriptors as there may be clients, if the system does. */
 static void allow_descriptors(struct host *host) {
     struct rlimit limit;
-    rlim_t wanted = CLIENTS + DESCRIPTORS;
+    rlim_t wanted = host->clients.limits.clients + DESCRIPTORS;
     if (getrlimit(RLIMIT_NOFILE, &limit) || limit.rlim_cur >= wanted) return;
     rlim_t allowed = limit.rlim_cur;
     limit.rlim_cur = limit.rlim_max < wanted ? limit.rlim_max : wanted;
     if (!setrlimit(RLIMIT_NOFILE, &limit)) allowed = limit.rlim_cur;
     if (allowed == wanted) return;
-    log_say(&host->log, LOG_WARN, "descriptors: %llu are allowed, so fewer than %d clients are served at once",
-            (unsigned long long)allowed, CLIENTS);
+    log_say(&host->log, LOG_WARN, "descriptors: %llu are allowed, so fewer than %zu clients are served at once",
+            (unsigned long long)allowed, host->clients.limits.clients);
 }
 
 /* Lets signals be read from a descriptor. A write to a client that hung up raises none. */
@@ -288,6 +180,9 @@ static bool hold_signals(struct host *host) {
 static int open_all(struct host *host, const struct options *options) {
     struct timespec it;
     give_memory_back();
+    if (options->shows_password) {
+        log_say(&host->log, LOG_WARN, "password: other users saw it in the URL until now: use --password-file, or DSFLEET_PASSWORD");
+    }
     allow_descriptors(host);
     clock_gettime(CLOCK_REALTIME, &it); /* each run has another incarnation */
     if (ds_open(&host->store, (uint64_t)it.tv_sec * 1000000000 + (uint64_t)it.tv_nsec, 0, RING)) {
@@ -297,7 +192,7 @@ static int open_all(struct host *host, const struct options *options) {
     enum ds_fleet_word word = ds_fleet_open(&host->fleet, &host->store, &options->fleet);
     if (word == DS_FLEET_SYSTEM) return failed(host, ds_fleet_word(word));
     if (word != DS_FLEET_INSTEP) {
-        log_say(&host->log, LOG_ERROR, "%s: %s", ds_fleet_word(word), explained(word));
+        log_say(&host->log, LOG_ERROR, "%s: %s", ds_fleet_word(word), options_explained(word));
         return word == DS_FLEET_NOROOM ? FAILED : USAGE;
     }
     host->clients.store = &host->store;
@@ -320,11 +215,15 @@ static void close_all(struct host *host) {
 int main(int count, char **words) {
     struct options options = {.fleet = {.tell = tell}};
     struct host host = {.store = DS_CLOSED, .place = {.lock = -1, .listener = -1}, .signals = -1};
-    int status = read_words(count, words, &options);
+    int status = options_read(count, words, &options);
     if (status >= 0) return status;
+    if (options.checks) return check_server(&options.fleet) ? DONE : UNFIT;
     log_open(&host.log);
     host.place.path = options.socket;
+    host.place.access = options.access;
     host.place.log = &host.log;
+    host.clients.limits = options.limits;
+    host.clients.rights = options.rights;
     host.url = options.fleet.url;
     options.fleet.context = &host.log;
     status = open_all(&host, &options);

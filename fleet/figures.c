@@ -12,7 +12,13 @@ static bool put_count(struct text *to, const char *name, uint64_t count) {
     return text_print(to, "%s %llu\n", name, (unsigned long long)count);
 }
 
-static bool put_state(const struct ds_fleet_state *state, struct text *to) {
+static bool put_limits(const struct clients *clients, struct text *to) {
+    const struct clients_limits *limits = &clients->limits;
+    return put_count(to, "clients", clients->count) && put_count(to, "maxclients", limits->clients) && put_count(to, "timeout", limits->timeout) &&
+           put_count(to, "client-output-buffer-limit", limits->output) && put_count(to, "maxmemory-clients", limits->all_output);
+}
+
+static bool put_state(const struct clients *clients, const struct ds_fleet_state *state, struct text *to) {
     const char *server = *state->server ? state->server : "-", *said = *state->said ? state->said : "-";
     const struct { const char *name; uint64_t count; } counts[] = {
         {"behind", state->behind}, {"position", state->position}, {"untold", state->untold},
@@ -24,7 +30,7 @@ static bool put_state(const struct ds_fleet_state *state, struct text *to) {
     for (uint32_t i = 0; put && i <= DS_NOROOM; i++) {
         if (state->refused[i]) put = text_print(to, "refused ") && put_count(to, ds_fleet_refusal(i), state->refused[i]);
     }
-    return put && text_print(to, "said %s\n", said);
+    return put && put_limits(clients, to) && text_print(to, "said %s\n", said);
 }
 
 static bool put_heads(struct text *to, const char *name, const char *help) {
@@ -75,5 +81,5 @@ static bool put_metrics(const struct clients *clients, const struct ds_fleet_sta
 bool figures_put(const struct clients *clients, const char *line, struct text *to) {
     struct ds_fleet_state state;
     ds_fleet_state(clients->fleet, &state);
-    return *line == 's' ? put_state(&state, to) : put_metrics(clients, &state, to);
+    return *line == 's' ? put_state(clients, &state, to) : put_metrics(clients, &state, to);
 }

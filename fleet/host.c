@@ -89,7 +89,7 @@ static bool begin_lookup(struct host *host, uint64_t now) {
 }
 
 static enum host_found use(struct host *host, const char *address) {
-    snprintf(host->address, sizeof host->address, "%s", address);
+    snprintf(host->address, sizeof host->address, "%.*s", HOST_TEXT - 1, address);
     return HOST_FOUND;
 }
 
@@ -126,15 +126,10 @@ static bool is_in_digits(const char *name) {
     return strlen(name) < HOST_TEXT;
 }
 
-bool host_open(struct host *host, const char *name) {
-    *host = (struct host){.name = name, .is_address = is_in_digits(name), .said = ""};
-    host->bell = eventfd(0, EFD_NONBLOCK | EFD_CLOEXEC);
-    return host->bell >= 0;
-}
-
-void host_hear(struct host *host) {
-    eventfd_t rung;
-    eventfd_read(host->bell, &rung);
+void host_open(struct host *host, const char *name, int bell) {
+    *host = (struct host){.bell = bell, .said = ""};
+    snprintf(host->name, sizeof host->name, "%s", name);
+    host->is_address = is_in_digits(host->name);
 }
 
 void host_worked(struct host *host) { snprintf(host->worked, sizeof host->worked, "%s", host->address); }
@@ -143,7 +138,5 @@ void host_failed(struct host *host) { host->turn++; }
 
 void host_close(struct host *host) {
     if (host->lookup) let_go(host->lookup);
-    if (host->name && host->bell >= 0) close(host->bell);
     host->lookup = NULL;
-    host->name = NULL;
 }

@@ -1,26 +1,30 @@
-/* The addresses of a server's host. A name is looked up by a thread, so that nobody waits for a name server that doesn't answer. Used by
- * ds_fleet.c alone. */
+/* The addresses of a host. A name is looked up by a thread, so no caller waits for a name server. Used by master.c alone. */
 #ifndef DS_FLEET_HOST_H
 #define DS_FLEET_HOST_H
 
 #include <stdbool.h>
 #include <stdint.h>
 
-enum { HOST_ADDRESSES = 8, HOST_TEXT = 64 /* bytes of an address in digits, with its zero */ };
+enum {
+    HOST_ADDRESSES = 8,
+    HOST_TEXT = 64,      /* bytes of an address in digits, with its zero */
+    HOST_NAME = 256,     /* bytes of a name, with its zero */
+    HOST_PATIENCE = 1000 /* milliseconds, after which the address that worked last is called */
+};
 
 struct lookup;
 
 /* A host. It begins with zeros. */
 struct host {
-    const char *name;           /* as in the URL, whose text outlives the host */
-    bool is_address;            /* the name is an address in digits, and nothing is looked up */
-    int bell;                   /* can be read when a look-up has ended */
-    struct lookup *lookup;      /* the one that runs, or NULL; there is one at a time */
-    uint64_t asked_at;          /* when it began, in milliseconds */
-    unsigned turn;              /* which of several addresses is called: the next one after each failure */
-    char address[HOST_TEXT];    /* the one that is called */
-    char worked[HOST_TEXT];     /* the last one at which a server was met, or nothing */
-    const char *said;           /* why there is none */
+    char name[HOST_NAME];
+    bool is_address;         /* the name is an address in digits, and nothing is looked up */
+    int bell;                /* an eventfd of the caller's, which rings when a look-up has ended */
+    struct lookup *lookup;   /* the one that runs, or NULL; there is one at a time */
+    uint64_t asked_at;       /* when it began, in milliseconds */
+    unsigned turn;           /* which of several addresses is called: the next one after each failure */
+    char address[HOST_TEXT]; /* the one that is called */
+    char worked[HOST_TEXT];  /* the last one at which a server was met, or nothing */
+    const char *said;        /* why there is none */
 };
 
 enum host_found {
@@ -29,14 +33,10 @@ enum host_found {
     HOST_UNKNOWN /* no address is known; `said` says why */
 };
 
-enum { HOST_PATIENCE = 1000 /* milliseconds, after which the address that worked last is called */ };
-
-/* False: there is no descriptor for the bell; errno says why. */
-bool host_open(struct host *host, const char *name);
-/* Finds an address to call. A name is looked up anew for each call; where it isn't answered, the address that worked last is called. */
+/* Names the host. A longer name than fits is cut. */
+void host_open(struct host *host, const char *name, int bell);
+/* Finds an address to call. A name is looked up for each call. If no name server answers, the address that worked last is called. */
 enum host_found host_find(struct host *host, uint64_t now);
-/* Silences the bell. */
-void host_hear(struct host *host);
 /* A server was met at the address, or wasn't. */
 void host_worked(struct host *host);
 void host_failed(struct host *host);

@@ -1,5 +1,5 @@
 /* The store's side of a fleet: what took effect in it as lines for the stream, and the lines of others merged into it. Lines are read by the
- * store alone; here their newlines are counted, and the spaces that end their key. Used by ds_fleet.c alone. */
+ * store alone; here their newlines are counted, and the spaces that end their key. Used within the library. */
 #ifndef DS_FLEET_ITEMS_H
 #define DS_FLEET_ITEMS_H
 

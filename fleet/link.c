@@ -8,6 +8,14 @@
 #include <stdlib.h>
 #include <string.h>
 
+enum {
+    SERVER_PORT = 6379,
+    SENTINEL_PORT = 26379,
+    LAST_PORT = 65535,
+    LAST_DATABASE = 1 << 20,
+    MOST_READS = 64 /* of one turn, of 16 KB each */
+};
+
 /* ---- addresses ---- */
 
 static int digit(char byte) {
@@ -44,7 +52,7 @@ static int number(const char *text, int most) {
 }
 
 /* Cuts off what is before the last `@`, and returns what is after it. NULL: it can't be read. */
-static char *behind_user(struct link_address *address, char *text) {
+static char *past_user(struct link_address *address, char *text) {
     char *at = *text == '/' ? NULL : strrchr(text, '@');
     if (!at) return text;
     *at = '\0';
@@ -57,39 +65,77 @@ static char *behind_user(struct link_address *address, char *text) {
     return at + 1;
 }
 
-static bool read_host(struct link_address *address, char *text) {
-    char *slash = strchr(text, '/');
-    if (slash) {
-        *slash = '\0';
-        if (slash[1] && (address->database = number(slash + 1, 1 << 20)) < 0) return false;
-    }
+/* Reads one address of the list, HOST[:PORT]. */
+static bool read_place(struct link_address *address, char *text, int port) {
     char *bracket = *text == '[' ? strchr(text, ']') : NULL;
     char *colon = strrchr(bracket ? bracket : text, ':');
+    if (address->count == LINK_ADDRESSES) return false;
     if (bracket) {
         *bracket = '\0';
         text++;
     }
-    address->port = colon ? number(colon + 1, 65535) : 6379;
-    if (colon) *colon = '\0';
-    address->host = text;
-    return *text && address->port > 0;
+    if (colon) {
+        port = number(colon + 1, LAST_PORT);
+        *colon = '\0';
+    }
+    address->at[address->count].host = text;
+    address->at[address->count].port = port;
+    address->count++;
+    return *text && port > 0;
 }
 
-/* Whether the text begins so: returns what is after it, or NULL. */
-static char *behind(char *text, const char *front) {
-    return strncmp(text, front, strlen(front)) ? NULL : text + strlen(front);
+static bool read_places(struct link_address *address, char *text, int port) {
+    bool good = true;
+    for (char *comma; good && (comma = strchr(text, ',')); text = comma + 1) {
+        *comma = '\0';
+        good = read_place(address, text, port);
+    }
+    return good && read_place(address, text, port);
+}
+
+static char *cut_at_slash(char *text) {
+    char *slash = strchr(text, '/');
+    if (!slash) return NULL;
+    *slash = '\0';
+    return slash + 1;
+}
+
+static bool read_database(struct link_address *address, const char *text) {
+    if (text && *text) address->database = number(text, LAST_DATABASE);
+    return address->database >= 0;
+}
+
+static bool read_servers(struct link_address *address, char *text) {
+    return read_database(address, cut_at_slash(text)) && read_places(address, text, SERVER_PORT);
+}
+
+static bool read_sentinels(struct link_address *address, char *text) {
+    address->master = cut_at_slash(text);
+    if (!address->master) return false;
+    bool good = read_database(address, cut_at_slash(address->master)) && *address->master;
+    return good && read_places(address, text, SENTINEL_PORT);
+}
+
+static bool read_path(struct link_address *address, char *text) {
+    address->path = text;
+    return *text == '/';
 }
 
 enum link_url link_read(struct link_address *address, const char *url) {
-    *address = (struct link_address){.text = strdup(url)};
-    if (!address->text) return LINK_NOROOM;
-    char *redis = behind(address->text, "redis://"), *path = behind(address->text, "unix://"), *rest = NULL;
-    bool tls = behind(address->text, "rediss://"), good = false;
-    if (redis && (rest = behind_user(address, redis))) good = read_host(address, rest);
-    if (path && (rest = behind_user(address, path))) good = *(address->path = rest) == '/';
-    if (good) return LINK_GOOD;
-    link_forget(address);
-    return tls ? LINK_TLS : LINK_BAD;
+    static const struct { const char *front; bool (*read)(struct link_address *, char *); } kinds[] = {
+        {"redis://", read_servers}, {"redis-sentinel://", read_sentinels}, {"unix://", read_path},
+    };
+    if (!strncmp(url, "rediss://", strlen("rediss://"))) return LINK_TLS;
+    for (size_t i = 0; i < sizeof kinds / sizeof *kinds; i++) {
+        size_t front = strlen(kinds[i].front);
+        if (strncmp(url, kinds[i].front, front)) continue;
+        *address = (struct link_address){.text = strdup(url)};
+        if (!address->text) return LINK_NOROOM;
+        char *rest = past_user(address, address->text + front);
+        if (rest && kinds[i].read(address, rest)) return LINK_GOOD;
+        link_forget(address);
+    }
+    return LINK_BAD;
 }
 
 void link_forget(struct link_address *address) {
@@ -103,10 +149,13 @@ static void note(struct link *link, const char *words) {
     snprintf(link->said, sizeof link->said, "%s", words);
 }
 
-static void greet(struct link *link, const struct link_address *address) {
-    if (address->password && address->user) link_ask(link, "AUTH %s %s", address->user, address->password);
-    else if (address->password) link_ask(link, "AUTH %s", address->password);
-    if (address->database) link_ask(link, "SELECT %d", address->database);
+/* The name comes last: a server that doesn't let it be set, serves all the same. */
+static void greet(struct link *link, const struct link_call *call) {
+    if (call->password && call->user) link_ask(link, "AUTH %s %s", call->user, call->password);
+    else if (call->password) link_ask(link, "AUTH %s", call->password);
+    if (call->database) link_ask(link, "SELECT %d", call->database);
+    if (call->name) link_ask(link, "CLIENT SETNAME %s", call->name);
+    link->names = call->name != NULL;
     link->greetings = link->asked;
     link->asked = 0;
 }
@@ -118,17 +167,18 @@ static void set_up(redisContext *redis, bool is_local) {
     if (!is_local) redisEnableKeepAlive(redis);
 }
 
-bool link_open(struct link *link, const struct link_address *address, const char *host, uint64_t now) {
+bool link_open(struct link *link, const struct link_call *call, uint64_t now) {
     link_close(link);
-    link->redis = address->path ? redisConnectUnixNonBlock(address->path) : redisConnectNonBlock(host, address->port);
-    if (link->redis && !link->redis->err) set_up(link->redis, address->path);
+    link->redis = call->path ? redisConnectUnixNonBlock(call->path) : redisConnectNonBlock(call->host, call->port);
+    if (link->redis && !link->redis->err) set_up(link->redis, call->path);
     if (!link->redis || link->redis->err) {
         note(link, link->redis ? link->redis->errstr : "no memory");
         link_close(link);
         return false;
     }
     link->heard = now;
-    greet(link, address);
+    link->watched = 0;
+    greet(link, call);
     return true;
 }
 
@@ -145,7 +195,7 @@ void link_ask(struct link *link, const char *format, ...) {
     va_end(given);
 }
 
-/* Keeps an answer of the round; one to a greeting has to be good. */
+/* Keeps an answer of the round; one to a greeting has to be good, but for that to the name. */
 static bool kept(struct link *link, redisReply *answer) {
     if (!link->greetings && link->came < link->asked) {
         link->answers[link->came++] = answer;
@@ -156,7 +206,8 @@ static bool kept(struct link *link, redisReply *answer) {
         freeReplyObject(answer);
         return false;
     }
-    bool good = answer->type != REDIS_REPLY_ERROR;
+    bool is_name = link->names && link->greetings == 1;
+    bool good = answer->type != REDIS_REPLY_ERROR || is_name;
     if (!good) note(link, answer->str);
     freeReplyObject(answer);
     link->greetings--;
@@ -182,7 +233,7 @@ static bool write_some(struct link *link, uint64_t now) {
 /* Reads what has come, up to a megabyte, unless it is known that nothing has. */
 static bool fill(struct link *link, uint64_t now) {
     redisReader *reader = link->redis->reader;
-    for (int times = 0; times < 64 && !link->quiet; times++) {
+    for (int times = 0; times < MOST_READS && !link->quiet; times++) {
         size_t before = reader->len;
         if (redisBufferRead(link->redis) != REDIS_OK) return broken(link);
         link->quiet = reader->len < before + REDIS_READER_MAX_BUF; /* it reads so much at a time */

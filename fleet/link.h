@@ -1,5 +1,5 @@
 /* One connection to a redis server, over hiredis: it takes rounds of questions and never waits. A server that answers nothing for
- * LINK_SILENCE is taken for gone. Used by ds_fleet.c alone. */
+ * LINK_SILENCE is taken for gone. Used within the library. */
 #ifndef DS_FLEET_LINK_H
 #define DS_FLEET_LINK_H
 
@@ -12,35 +12,50 @@ struct redisReply;
 
 enum {
     LINK_MOST = 40,      /* questions of one round */
+    LINK_ADDRESSES = 8,  /* in one URL */
     LINK_WORDS = 256,    /* bytes of what a server said, with its zero */
     LINK_SILENCE = 5000  /* milliseconds in which something of an answer has to come */
 };
 
 /* Where a server is, and the user and password for it. */
 struct link_address {
-    char *text;     /* what the others point into; to be freed by link_forget */
-    char *host;     /* or NULL, and then */
-    char *path;     /* the socket's */
+    char *text; /* what the others point into; to be freed by link_forget */
+    struct { char *host; int port; } at[LINK_ADDRESSES]; /* servers to be tried in order, or Sentinels */
+    size_t count;   /* of these; 0: */
+    char *path;     /* the server's socket */
+    char *master;   /* the name by which the Sentinels know the server; NULL: there are none */
     char *user;     /* or NULL */
     char *password; /* or NULL */
-    int port, database;
+    int database;
 };
 
 enum link_url { LINK_GOOD, LINK_BAD, LINK_TLS, LINK_NOROOM };
 
-/* Reads redis://[[USER]:PASSWORD@]HOST[:PORT][/DATABASE] or unix://[[USER]:PASSWORD@]/PATH; %XX stands for a byte of USER and PASSWORD.
- * LINK_TLS: it is rediss://. If it isn't LINK_GOOD there is nothing to forget. */
+/* Reads redis://[[USER]:PASSWORD@]HOST[:PORT][,HOST[:PORT]..][/DATABASE], redis-sentinel://[[USER]:PASSWORD@]HOST[:PORT][,..]/NAME[/DATABASE]
+ * or unix://[[USER]:PASSWORD@]/PATH; %XX is a byte of USER and PASSWORD. LINK_TLS: it is rediss://. If it isn't LINK_GOOD there is
+ * nothing to forget. */
 enum link_url link_read(struct link_address *address, const char *url);
 void link_forget(struct link_address *address);
+
+/* How a server is called. */
+struct link_call {
+    const char *path;                   /* its socket; NULL: */
+    const char *host;                   /* its address in digits, */
+    int port;                           /* and its port */
+    const char *user, *password, *name; /* NULL: there is none. name: of the connection, in CLIENT LIST */
+    int database;
+};
 
 /* A connection, and the round that it was asked. It begins with zeros. */
 struct link {
     struct redisContext *redis;            /* NULL: there is none */
     struct redisReply *answers[LINK_MOST]; /* those of this round that came */
     unsigned asked, came, greetings;       /* greetings: how many answers come before this round's */
+    bool names;                            /* the last greeting is the connection's name */
     bool writes;                           /* not all that was asked could be written yet */
     bool quiet;                            /* all that had come is read; who hears that more came clears it */
     uint64_t heard;                        /* when bytes last went or came, or nothing was asked, in milliseconds */
+    uint32_t watched;                      /* for what a poller watches it; 0: it doesn't yet */
     unsigned blocks;                       /* for how many of them this round may wait at the server before it is answered */
     char said[LINK_WORDS];                 /* why the connection went, or the error of a greeting */
 };
@@ -52,9 +67,8 @@ enum link_state {
     LINK_LOST      /* the connection is gone, or there was none; link->said says why */
 };
 
-/* Begins to connect, and asks what an address needs to be let in. Nothing is waited for: `host` is the host's address in digits, or NULL
- * where there is a path. */
-bool link_open(struct link *link, const struct link_address *address, const char *host, uint64_t now);
+/* Begins to connect, and asks what a server needs to let the caller in. It waits for nothing. */
+bool link_open(struct link *link, const struct link_call *call, uint64_t now);
 /* Asks one question of a round, in the format of redisAppendCommand. What is given is copied. */
 void link_ask(struct link *link, const char *format, ...);
 /* Writes and reads what can be without waiting. */

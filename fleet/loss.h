@@ -1,5 +1,5 @@
-/* How a bridge notices that a server no longer has what it had: by what the server counts, and by entries that have to be there. Used by
- * ds_fleet.c alone. */
+/* How a bridge notices that a server no longer has what it had: by what the server counts, and by entries that have to be there. Used within the
+ * library. */
 #ifndef DS_FLEET_LOSS_H
 #define DS_FLEET_LOSS_H
 

@@ -1,4 +1,4 @@
-/* The other bridges of a stream, compared by digests of what they hold. Used by ds_fleet.c alone.
+/* The other bridges of a stream, compared by digests of what they hold. Used within the library.
  *
  * Two digests say something only where both were taken when the same entries were read, and nothing else was held: so each digest goes
  * with the entry at which it was taken, and a bridge keeps some of its own for those that others took a little earlier. */

@@ -84,6 +84,13 @@ bool place_lock(struct place *place) {
     return true;
 }
 
+/* Nobody can connect before the socket listens, so not before it has its mode. */
+static bool has_access(const struct place *place) {
+    const struct place_access *access = &place->access;
+    if (access->has_group && lchown(place->path, (uid_t)-1, access->group)) return false;
+    return !access->has_mode || !chmod(place->path, access->mode);
+}
+
 bool place_serve(struct place *place) {
     struct sockaddr_un address = address_of(place);
     struct stat it;
@@ -92,7 +99,7 @@ bool place_serve(struct place *place) {
     if (listener < 0) return failed(place, place->path, strerror(errno));
     unlink(place->path); /* of one that ended without a word */
     bool is_bound = !bind(listener, (struct sockaddr *)&address, sizeof address);
-    if (!is_bound || listen(listener, BACKLOG) || lstat(place->path, &it)) {
+    if (!is_bound || !has_access(place) || listen(listener, BACKLOG) || lstat(place->path, &it)) {
         const char *why = strerror(errno);
         close(listener);
         return failed(place, place->path, why);

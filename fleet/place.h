@@ -11,8 +11,12 @@
 
 enum { PLACE_PATH = sizeof((struct sockaddr_un *)0)->sun_path /* bytes of a path, with its zero */ };
 
+/* Who may connect: else the umask and this process's group say it. */
+struct place_access { bool has_mode, has_group; mode_t mode; gid_t group; };
+
 struct place {
     const char *path;
+    struct place_access access;
     struct log *log;
     int lock, listener; /* -1: there is none */
     dev_t device;       /* with inode: the socket that was made */

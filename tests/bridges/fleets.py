@@ -17,7 +17,7 @@ ROOT = pathlib.Path(__file__).resolve().parent.parent.parent
 PATIENCE = 30  # seconds that anything may take
 TICK = 0.005
 FAULT = re.compile(r"^.*(ERROR: |runtime error|==\d+== ).*$", re.MULTILINE)  # of a sanitizer, or of valgrind
-PROGRAM = ("dsfleet", "clients", "figures", "lines", "log", "notify", "place")  # what isn't of the library
+PROGRAM = ("check", "clients", "dsfleet", "figures", "lines", "log", "notify", "options", "place", "rights", "session")  # what isn't of the library
 MEMORY = "/dev/shm"  # where a server that syncs each change isn't held up by a disk
 
 
@@ -332,8 +332,12 @@ class Proxy:
         self.count, self.open = 0, []
         threading.Thread(target=self.serve, daemon=True).start()
 
+    def port_of(self):
+        """Where bridges call it."""
+        return self.listener.getsockname()[1]
+
     def url(self):
-        return f"redis://127.0.0.1:{self.listener.getsockname()[1]}"
+        return f"redis://127.0.0.1:{self.port_of()}"
 
     def mute(self):
         """Swallows the listeners of all that is connected."""

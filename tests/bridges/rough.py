@@ -67,7 +67,7 @@ class Rude(threading.Thread):
     def __init__(self, bridge, number, seed):
         super().__init__(daemon=True)
         self.bridge, self.number, self.draw = bridge, number, random.Random(seed)
-        self.sent, self.hung_up, self.asked, self.deaf = [], [], 0, collections.deque()
+        self.sent, self.hung_up, self.asked, self.deaf, self.events = [], [], 0, collections.deque(), []
         self.ended = self.rests = False
 
     def run(self):
@@ -88,6 +88,7 @@ class Rude(threading.Thread):
             lines = [self.item(len(self.sent) + it) for it in range(1, count + 1)]
             self.sent += lines
             for line in lines:
+                self.events.append({"store": self.bridge.socket, "run": run, "text": line, "asked": time.monotonic(), "answered": None})
                 client.send(f"offer {line}")
                 time.sleep(self.draw.choice((0, self.draw.uniform(0, 0.01))))  # so that some come after one that waits for the server
         self.hung_up.append((run, lines))

@@ -741,21 +741,6 @@ def a_server_that_is_demoted(fleet, draw):
     names.close()
 
 
-def a_cluster(fleet, draw):
-    """What a cluster refuses is told with what to do about it."""
-    with Fleet(fleet.words, settings=("--cluster-enabled", "yes")) as cluster:
-        cluster.ask("CLUSTER", "ADDSLOTSRANGE", 0, 16383)
-        until(lambda: b"cluster_state:ok" in cluster.ask("CLUSTER", "INFO"), "the cluster is there")
-        plain = cluster.start(wait=False)
-        until(lambda: "give the stream a name in braces, as {ds}" in plain.said(), "keys of two nodes", 10)
-        named = cluster.start("--stream", "{rack1}")
-        offer(named, number("a", 1, 1))
-        slot = cluster.ask("CLUSTER", "KEYSLOT", "{rack1}:items")
-        cluster.ask("CLUSTER", "SETSLOT", slot, "NODE", cluster.ask("CLUSTER", "MYID"))
-        assert named.state()["state"] == "instep"
-        cluster.end()
-
-
 # ---- clients, sockets, words ----
 
 
@@ -898,6 +883,10 @@ def words_of_the_command_line(fleet, draw):
 
     status, out, err = run("--help")
     assert (status, err) == (0, "") and out.startswith("usage: dsfleet"), out
+    for option in set(re.findall(r"--[a-z-]+", out)) - {"--version", "--help"}:
+        for page in ("docs/reference/fleet.md", "man/dsfleet.1", "completions/dsfleet.bash", "completions/_dsfleet", "completions/dsfleet.fish"):
+            text = (ROOT / page).read_text().replace("\\-", "-")
+            assert option in text or f"-l {option[2:]} " in text, f"{page} lacks {option}"
     path = f"{fleet.home}/s"
     for words, said in (
         ([], "wanted"), ([path], "wanted"), ([path, "redis://h", "x"], "wanted"), (["--other", path, "redis://h"], "no such option"),
@@ -905,6 +894,10 @@ def words_of_the_command_line(fleet, draw):
         (["--keep", "0", path, "redis://h"], "1 entry"), ([path, "http://h"], "badurl"), ([path, "redis://"], "badurl"),
         ([path, "redis://h:0"], "badurl"), ([path, "redis://user@h"], "badurl"), ([path, "unix://relative"], "badurl"),
         ([path, "rediss://h"], "notls"), (["--stream", "a b", path, "redis://h"], "badname"), (["--stream", "", path, "redis://h"], "badname"),
+        (["--mode", "9", path, "redis://h"], "octal"), (["--readers", "no such group", path, "redis://h"], "no such group"),
+        (["--replicas", "x", path, "redis://h"], "replicas"), (["--maxclients", "513", path, "redis://h"], "1 to 512"), (["--check"], "wanted"),
+        ([path, "redis-sentinel://h"], "badurl"), ([path, "redis-sentinel://h/"], "badurl"), ([path, "redis://h,"], "badurl"),
+        ([path, "redis://" + ",".join("h" * 9)], "badurl"),
         ([path, "-"], "DSFLEET_URL"), (["x" * 200, "redis://h"], "too long"),
     ):
         status, out, err = run(*words)
@@ -975,9 +968,13 @@ def meddled_types(fleet, draw):
 
 
 from client_scenes import *  # those of clients, which use the functions above
+from history_scenes import *
+from master_scenes import *
+from right_scenes import *
+from state_scenes import *
 
 SCENES = [it for it in dict(globals()).values() if callable(it) and getattr(it, "__code__", None) and it.__code__.co_varnames[:2] == ("fleet", "draw")]
 COMPACTED = (  # with few entries kept
     "a_start_behind_a_compaction", "a_snapshot_that_is_lost", "paused_and_trimmed_under", "a_clash", "meddled_types", "counts_that_are_forged",
-    "more_than_two_stores_hold", "a_stream_of_another_scope", "a_scope_that_changes",
+    "more_than_two_stores_hold", "a_stream_of_another_scope", "a_scope_that_changes", "states_of_compacting",
 )

@@ -4,12 +4,15 @@ A rough storm has failovers, swallowed connections, bridges of another scope, an
 """
 import collections
 import contextlib
+import itertools
+import json
 import os
 import random
 import threading
 import time
 
 from fleets import Fleet, Gone, until
+from history import History
 from rough import Prober, Rapids, Rude
 
 from model import lines as reader
@@ -35,6 +38,46 @@ HANDS = (
 LOSSES = [it for it in HANDS if it[0] in ("XTRIM", "FLUSHALL", "DEL", "HDEL") or it[1] == "ds:snapshot"]
 
 
+class Reader(threading.Thread):
+    """Reads pages at its bridge, from a key by chance on."""
+
+    clients = itertools.count()
+    WINDOW, REST = 20, 0.05  # changes of a page; seconds between two reads
+
+    def __init__(self, bridge, seed, publishers):
+        super().__init__(daemon=True)
+        self.bridge, self.draw, self.publishers = bridge, random.Random(seed), publishers
+        self.events, self.ended = [], False
+
+    def run(self):
+        while not self.ended:
+            try:
+                run = self.bridge.starts
+                with self.bridge.client() as client:
+                    if run == self.bridge.starts:
+                        self.read(client, next(self.clients), run)
+            except (OSError, Gone):
+                time.sleep(self.REST)
+
+    def read(self, client, number, run):
+        while not self.ended:
+            asked = time.monotonic()
+            after = f"host{self.draw.randrange(self.publishers)}.n{self.draw.randrange(NAMES)} u32"
+            lines = client.ask(f"page * {after} {self.WINDOW}")
+            self.events.append(read_event(self.bridge, run, number, asked, lines[:-1]))
+            time.sleep(self.REST)
+
+
+def read_event(bridge, run, client, asked, lines, **more):
+    """A read of a history."""
+    return {"store": bridge.socket, "run": run, "client": client, "asked": asked, "answered": time.monotonic(), "shown": lines, **more}
+
+
+def change_event(bridge, run, item):
+    """A change of a history, that waits for its answer."""
+    return {"store": bridge.socket, "run": run, "text": item, "asked": time.monotonic(), "answered": None}
+
+
 class Lost(AssertionError):
     """What was answered isn't there."""
 
@@ -51,6 +94,7 @@ class Publisher(threading.Thread):
         self.bridge, self.number, self.draw = bridge, number, random.Random(seed)
         self.owner, self.endpoint = f"host{number}.drv", f"/{16 + number}"
         self.sent, self.answered, self.ended, self.rests, self.wrong = [], [], False, False, None
+        self.events, self.run_of_bridge = [], 0
 
     def run(self):
         try:
@@ -62,7 +106,10 @@ class Publisher(threading.Thread):
     def serve(self):
         """One connection, until the bridge hangs up or all is over."""
         try:
+            self.run_of_bridge = self.bridge.starts
             with self.bridge.client() as client:
+                if self.run_of_bridge != self.bridge.starts:
+                    return
                 self.begin(client)
                 while not self.ended:
                     if self.rests:
@@ -71,8 +118,9 @@ class Publisher(threading.Thread):
                     for _ in range(self.draw.choice((1, 1, 1, 8))):
                         for line, item in self.drawn():
                             self.sent.append(item)
+                            self.events.append(change_event(self.bridge, self.run_of_bridge, item))
                             client.send(line)
-                            self.waits.append(item)
+                            self.waits.append(self.events[-1])
                     self.hear(client)
                     time.sleep(REST)
         except (OSError, Gone):
@@ -126,11 +174,14 @@ class Publisher(threading.Thread):
 
     def hear(self, client):
         while self.waits:
-            answer, item = client.answer(), self.waits.pop(0)
+            answer, event = client.answer(), self.waits.pop(0)
+            item = event["text"]
             if answer[0] == "refused notfound" and item.endswith(" -"):
                 self.sent.remove(item)  # it ends what is ended
+                self.events.remove(event)
             elif answer[0] in ("taken", "known") or answer[0].startswith("swept"):
                 self.answered.append(item)
+                event["answered"] = time.monotonic()
             else:
                 raise AssertionError(f"{item}: {answer}")
 
@@ -166,7 +217,8 @@ class Storm:
         self.meddles, self.is_rough = self.kind != PLAIN, self.kind == ROUGH
         self.draw = random.Random(seed)
         self.done, self.is_fragile = collections.Counter(), False
-        self.publishers, self.rude, self.probers, self.master, self.replica, self.rapids = [], [], [], None, None, None
+        self.log = None  # a file for the history, or None
+        self.publishers, self.readers, self.rude, self.probers, self.master, self.replica, self.rapids = [], [], [], [], None, None, None
 
     def run(self, seconds):
         """A line of what was done and seen; it raises AssertionError where stores differ, or something is missing."""
@@ -195,9 +247,10 @@ class Storm:
         for at, bridge in enumerate(fleet.bridges):
             self.publishers.append(Publisher(bridge, at, self.seed * 100 + at))
             self.probers.append(Prober(bridge))
+            self.readers.append(Reader(bridge, self.seed * 100 + at, self.count))
             if self.is_rough:
                 self.rude.append(Rude(bridge, at, self.seed * 100 + at))
-        for it in (*self.publishers, *self.probers, *self.rude):
+        for it in (*self.publishers, *self.probers, *self.readers, *self.rude):
             it.start()
 
     def grave(self):
@@ -330,9 +383,10 @@ class Storm:
 
     def judged(self, fleet):
         self.rest(True)
-        for it in (*self.publishers, *self.rude):
+        clients = (*self.publishers, *self.readers, *self.rude)
+        for it in clients:
             it.ended = True
-        for it in (*self.publishers, *self.rude):
+        for it in clients:
             it.join(60)
             if it.is_alive():
                 raise AssertionError(f"a client of {it.bridge.socket} waits for an answer for ever")
@@ -347,8 +401,22 @@ class Storm:
         sent = [line for it in (*self.publishers, *self.rude) for line in it.sent]
         answered = [line for it in self.publishers for line in it.answered]
         self.compare(view, sent, answered + [line for it in self.rude for line in it.kept()])
+        self.judge_history(fleet)
         changes = f"{len(answered)} changes answered of {len(sent)}, {len(view) - 1} held"
         return f"{changes}, {self.report()}; all agree {took:.2f} s after the last"
+
+    def judge_history(self, fleet):
+        """What each client asked and was answered has a legal order."""
+        events = [event for it in (*self.publishers, *self.readers, *self.rude) for event in it.events]
+        for bridge in fleet.bridges:
+            asked = time.monotonic()
+            events.append(read_event(bridge, bridge.starts, next(Reader.clients), asked, bridge.all()[:-1], final=True))
+        if self.log:
+            with open(self.log, "w", encoding="utf-8") as log:
+                log.writelines(json.dumps(it) + "\n" for it in events)
+        faults = History(events).judge()
+        self.done["reads of a legal history"] = sum("shown" in it for it in events)
+        assert not faults, f"{len(faults)} faults of the history: {faults[:5]}"
 
     def report(self):
         """What was done, and how long an answer took at most."""

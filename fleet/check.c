@@ -1,0 +1,107 @@
+/* Whether a server will do. See check.h. */
+#include "check.h"
+#include "answers.h"
+#include "clock.h"
+#include "master.h"
+#include <poll.h>
+#include <stdio.h>
+#include <stdlib.h>
+#include <string.h>
+
+static const char version_name[] = "redis_version:";
+
+enum {
+    LEAST_VERSION = 7,
+    TURN = 20,      /* milliseconds between two looks at a connection */
+    LIMIT = 5000    /* that all of it may take */
+};
+
+/* The commands that a bridge sends, each with words that are as good as any: they are queued, and then discarded. */
+static const char *const commands[] = {
+    "XADD %s:items * from check items x", "XLEN %s:items", "XREAD COUNT 1 STREAMS %s:items 0-0", "XINFO STREAM %s:items",
+    "XRANGE %s:items - +", "XTRIM %s:items MINID 0", "HSETNX %s:snapshot scope x", "HGET %s:snapshot at", "HMGET %s:snapshot at",
+    "HSET %s:snapshot at x", "HSTRLEN %s:snapshot items", "HINCRBY %s:snapshot trimmed 0", "HGETALL %s:digests", "HDEL %s:digests x",
+};
+
+static const char fault[] = "fault", warning[] = "warning";
+
+/* Prints a line; `todo` says what is wrong, or what to do. */
+static bool judged(bool is_good, const char *bad, const char *what, const char *todo) {
+    if (is_good) printf("good %s\n", what);
+    else printf("%s %s: %s\n", bad, what, todo);
+    return is_good;
+}
+
+static bool says(const redisReply *info, const char *line) { return is_text(info) && strstr(info->str, line); }
+
+/* Waits for a master, and for its answers. Returns why there are none, or NULL. */
+static const char *asked(struct master *master, struct link *link, const char *stream) {
+    uint64_t end = clock_now() + LIMIT;
+    enum host_found found = HOST_SOUGHT;
+    while ((found = master_find(master, clock_now())) == HOST_SOUGHT) {
+        if (clock_now() > end) return "no address was found in time";
+        poll(NULL, 0, TURN);
+        master->sentinel.quiet = false;
+    }
+    if (found == HOST_UNKNOWN) return master->said;
+    if (!link_open(link, &master->call, clock_now())) return link->said;
+    link_ask(link, "INFO");
+    link_ask(link, "WATCH %s:snapshot", stream);
+    link_ask(link, "MULTI");
+    for (size_t i = 0; i < sizeof commands / sizeof *commands; i++) link_ask(link, commands[i], stream);
+    link_ask(link, "EVAL %s 1 %s:items", "return 0", stream);
+    link_ask(link, "DISCARD");
+    for (;;) {
+        enum link_state state = link_turn(link, clock_now());
+        if (state == LINK_ANSWERED) return NULL;
+        if (state != LINK_WAITS) return link->said;
+        if (clock_now() > end) return "the server answers nothing";
+        poll(NULL, 0, TURN);
+        link->quiet = false;
+    }
+}
+
+static bool judge_rights(const struct link *link) {
+    bool is_good = true;
+    for (size_t i = 0; i < link->came; i++) {
+        if (is_error(link->answers[i])) is_good = judged(false, fault, "rights", link->answers[i]->str);
+    }
+    return is_good && judged(true, fault, "rights", "");
+}
+
+static bool judge(const struct link *link, const char *stream) {
+    const redisReply *info = link->answers[0];
+    const char *version = is_text(info) ? strstr(info->str, version_name) : NULL;
+    const char *open = strchr(stream, '{'), *close = open ? strchr(open, '}') : NULL;
+    bool is_new = version && atoi(version + strlen(version_name)) >= LEAST_VERSION;
+    bool is_alone = !says(info, "cluster_enabled:1"), is_kept = !says(info, "maxmemory_policy:allkeys") || says(info, "maxmemory:0\r");
+    bool is_good = judged(is_new, fault, "version", "redis 7 or newer is needed");
+    is_good &= judged(says(info, "role:master"), fault, "role", "it is a replica");
+    is_good &= judged(is_alone || (close && close > open + 1), fault, "cluster", "give the stream a name in braces, as {ds}");
+    is_good &= judge_rights(link);
+    judged(says(info, "aof_enabled:1"), warning, "append-only file", "without one a crash loses everything, once no store lives");
+    judged(is_kept, warning, "eviction", "the server may delete the stream: set maxmemory-policy to noeviction");
+    return is_good;
+}
+
+bool check_server(const struct ds_fleet_options *options) {
+    struct link_address address;
+    struct master master = {.bell = -1};
+    struct link link = {0};
+    const char *stream = options->stream ? options->stream : "ds";
+    bool is_good = false;
+    if (!options->url || link_read(&address, options->url) != LINK_GOOD) return judged(false, fault, "address", "it can't be read");
+    if (options->password) address.password = (char *)options->password;
+    bool is_open = master_open(&master, &address);
+    const char *why = is_open ? asked(&master, &link, stream) : "out of descriptors";
+    for (size_t tries = 1; why && tries < address.count; tries++) {
+        judged(false, warning, "server", why);
+        master_failed(&master);
+        why = asked(&master, &link, stream);
+    }
+    if (judged(!why, fault, "server", why)) is_good = judge(&link, stream);
+    link_close(&link);
+    master_close(&master);
+    link_forget(&address);
+    return is_good;
+}

@@ -1,0 +1,191 @@
+/* Comparing. See comparing.h. */
+#include "bridge.h"
+#include "clock.h"
+#include <string.h>
+
+enum { LONGEST_REST = 32 /* comparings between two tellings of all to others that go on differing */ };
+
+static const uint64_t not_digested = UINT64_MAX;
+
+/* The questions of a comparing, in their order; up to two more come after them. One transaction looks at the stream before anything is
+ * written, so that a replica is looked at, too. */
+enum {
+    ASKED_REPLICATION, ASKED_MULTI, ASKED_STREAM, ASKED_SNAPSHOT, ASKED_BYTES, ASKED_ENTRIES, ASKED_EXEC,
+    ASKED_DIGESTS, ASKED_CLAIM
+};
+enum { LOOKED_STREAM, LOOKED_SNAPSHOT, LOOKED_BYTES, LOOKED_ENTRIES, LOOKED_AT };
+enum { SNAPSHOT_AT, SNAPSHOT_TRIMMED, SNAPSHOT_SCOPE, SNAPSHOT_FIELDS };
+
+/* ---- digests ---- */
+
+/* Takes a digest of what is held at the last entry read. If own news isn't in an entry up to there, others hold something else at that
+ * entry, and nothing is taken. */
+static enum ds_fleet_word keep_digest(struct ds_fleet *fleet) {
+    struct comparing *comparing = &fleet->comparing;
+    const struct reading *reading = &fleet->reading;
+    struct entry_id at = is_above(reading->read_up_to, reading->last) ? reading->read_up_to : reading->last;
+    enum ds_fleet_word word = items_gather(&fleet->items);
+    if (word != DS_FLEET_INSTEP) return word;
+    if (fleet->items.untold.length || is_above(fleet->telling.trail.last, at)) return DS_FLEET_INSTEP;
+    if (comparing->digested != fleet->items.position) word = items_digest(&fleet->items, &comparing->digest);
+    if (word != DS_FLEET_INSTEP) return word;
+    comparing->digested = fleet->items.position;
+    peers_keep(&comparing->peers, (struct digest){at, comparing->digest});
+    return DS_FLEET_INSTEP;
+}
+
+void comparing_next(struct ds_fleet *fleet, struct entry_id next) {
+    bool is_same_second = next.first / PERIOD == fleet->reading.last.first / PERIOD;
+    if (!fleet->state.caught_up || is_same_second || clock_now() < fleet->comparing.digest_at) return;
+    fleet->comparing.digest_at = clock_now() + PERIOD / 2; /* a bridge that reads old entries needn't take one for each second of them */
+    keep_digest(fleet);
+}
+
+/* ---- asking ---- */
+
+/* How many entries each of some ids has: one, or none. */
+static const char presence[] =
+    "local there = {} for i, id in ipairs(ARGV) do there[i] = #redis.call('XRANGE', KEYS[1], id, id) end return there";
+
+static void ask_for_witnesses(struct ds_fleet *fleet) {
+    char text[WITNESSES][DS_FLEET_ID];
+    struct trail *told = &fleet->telling.trail, *read = &fleet->reading.trail;
+    const struct entry_id ids[WITNESSES] = {told->sure, told->first, read->sure, read->first};
+    memcpy(fleet->comparing.witnesses, ids, sizeof ids);
+    for (int i = 0; i < WITNESSES; i++) write_entry_id(text[i], ids[i]);
+    link_ask(&fleet->server.teller, "EVAL %s 1 %s:items %s %s %s %s", presence, fleet->stream, text[0], text[1], text[2], text[3]);
+    trail_ask(told);
+    trail_ask(read);
+}
+
+enum ds_fleet_word comparing_ask(struct ds_fleet *fleet) {
+    struct comparing *comparing = &fleet->comparing;
+    struct link *teller = &fleet->server.teller;
+    char digest[DIGEST_TEXT];
+    bool is_at_rest = is_same_entry(comparing->asked, fleet->reading.last); /* no entry came since the comparing before */
+    comparing->due_at = clock_now() + PERIOD;
+    enum ds_fleet_word word = items_retry(&fleet->items);
+    if (word == DS_FLEET_INSTEP && is_at_rest) word = keep_digest(fleet);
+    if (word != DS_FLEET_INSTEP) return word;
+    fleet->server.round = ROUND_COMPARING;
+    comparing->asked = fleet->reading.last;
+    link_ask(teller, "INFO replication");
+    link_ask(teller, "MULTI");
+    link_ask(teller, "XINFO STREAM %s:items", fleet->stream);
+    link_ask(teller, "HMGET %s:snapshot at trimmed scope", fleet->stream);
+    link_ask(teller, "HSTRLEN %s:snapshot items", fleet->stream);
+    ask_for_witnesses(fleet);
+    link_ask(teller, "EXEC");
+    link_ask(teller, "HGETALL %s:digests", fleet->stream);
+    link_ask(teller, "HSETNX %s:snapshot scope %s", fleet->stream, fleet->scope); /* somebody may have deleted it */
+    const char *gone = peers_gone(&comparing->peers);
+    if (peers_write(&comparing->peers, ++comparing->beat, digest)) {
+        link_ask(teller, "HSET %s:digests %s %s", fleet->stream, fleet->me, digest);
+    }
+    if (gone) link_ask(teller, "HDEL %s:digests %s", fleet->stream, gone);
+    return DS_FLEET_INSTEP;
+}
+
+/* ---- what the stream has ---- */
+
+/* Whether an entry told or read is neither in the stream nor in the snapshot. */
+static bool lacks_witness(const struct comparing *comparing, const redisReply *there, const struct stock *stock) {
+    for (size_t i = 0; i < WITNESSES; i++) {
+        struct entry_id id = comparing->witnesses[i];
+        if (is_above(id, stock->snapshot) && is_list_of(there, WITNESSES) && !count_of(there->element[i])) return true;
+    }
+    return false;
+}
+
+/* A bridge tells again what the server lost. A stream that took the place of another one is read whole, too: one of another history, one that
+ * ends before what was read or has had fewer entries, and one that lacks a witness. */
+static void look_for_loss(struct ds_fleet *fleet, const struct stock *stock, bool is_replaced) {
+    struct comparing *comparing = &fleet->comparing;
+    struct reading *reading = &fleet->reading;
+    fleet->state.behind = stock->newest.first > reading->last.first ? stock->newest.first - reading->last.first : 0;
+    is_replaced = is_replaced || is_above(comparing->asked, stock->generated) || stock->added < comparing->stock.added;
+    if (is_replaced || (comparing->state == COMPARING_LOOKED && has_lost(&comparing->stock, stock))) {
+        items_say(&fleet->items, "lost: the server no longer has what it had, all is told again");
+        fleet->telling.owes_all = true;
+    }
+    if (is_replaced) {
+        bridge_begin_anew(fleet);
+        server_reopen_listener(fleet);
+    } else {
+        trail_looked(&fleet->telling.trail);
+        trail_looked(&reading->trail);
+        if (!is_above(stock->newest, reading->last)) reading->read_up_to = stock->generated;
+    }
+    comparing->stock = *stock;
+    comparing->state = COMPARING_LOOKED;
+}
+
+/* Whether an entry that was there a second ago hasn't come: the connection that waits for it may be dead, and nobody told us. */
+static bool is_deaf(const struct ds_fleet *fleet) {
+    if (fleet->comparing.state != COMPARING_LOOKED || fleet->reading.state != READING_END) return false;
+    return is_above(fleet->comparing.stock.newest, fleet->reading.last) && clock_now() > fleet->server.listener.heard + PERIOD;
+}
+
+/* Looks at the answers to what was asked in one transaction. */
+static enum ds_fleet_word look_at_stream(struct ds_fleet *fleet, struct redisReply **looked, const redisReply *replication) {
+    struct redisReply *stream = looked[LOOKED_STREAM], *snapshot = looked[LOOKED_SNAPSHOT];
+    const redisReply *error = is_error(stream) && !is_no_stream(stream) ? stream : error_of(looked + 1, LOOKED_AT - 1);
+    if (error) return server_denied(fleet, error);
+    if (!is_list_of(snapshot, SNAPSHOT_FIELDS)) return server_puzzles(fleet, "no snapshot");
+    fleet->compacting.length = (long)count_of(field_of(stream, "length"));
+    if (is_deaf(fleet)) return server_went(fleet, "what was there a second ago didn't come");
+    struct stock stock = read_stock(stream, snapshot->element[SNAPSHOT_AT], snapshot->element[SNAPSHOT_TRIMMED], looked[LOOKED_BYTES]);
+    bool is_replaced = server_changed_history(&fleet->server, replication);
+    is_replaced |= lacks_witness(&fleet->comparing, looked[LOOKED_ENTRIES], &stock);
+    look_for_loss(fleet, &stock, is_replaced);
+    const redisReply *scope = snapshot->element[SNAPSHOT_SCOPE];
+    return server_has_other_scope(fleet, scope) ? server_refuse_scope(fleet, scope) : DS_FLEET_INSTEP;
+}
+
+/* ---- what others hold ---- */
+
+/* If others differ, the first of those that hold the same tells everything. If they still differ, as after a clash, it does less and less
+ * often. */
+static void judge_peers(struct ds_fleet *fleet, const redisReply *digests) {
+    struct comparing *comparing = &fleet->comparing;
+    peers_compare(&comparing->peers, fleet->me, digests);
+    unsigned differing = comparing->peers.differing;
+    if (differing && !fleet->state.differing) items_say(&fleet->items, "differs: %u hold something else", differing);
+    fleet->state.differing = differing;
+    if (!differing) {
+        comparing->rest = comparing->wait = 0;
+    } else if (comparing->rest) {
+        comparing->rest--;
+    } else if (comparing->peers.is_first) {
+        fleet->telling.owes_all = true;
+        comparing->wait = comparing->wait ? 2 * comparing->wait : 1;
+        if (comparing->wait > LONGEST_REST) comparing->wait = LONGEST_REST;
+        comparing->rest = comparing->wait;
+    }
+}
+
+enum ds_fleet_word comparing_answered(struct ds_fleet *fleet) {
+    struct link *teller = &fleet->server.teller;
+    struct redisReply **answers = teller->answers, *looked = answers[ASKED_EXEC], *digests = answers[ASKED_DIGESTS];
+    const redisReply *error = error_of(answers, ASKED_DIGESTS);
+    if (error) return server_denied(fleet, error);
+    if (!is_list_of(looked, LOOKED_AT)) return server_puzzles(fleet, "no transaction");
+    enum ds_fleet_word word = look_at_stream(fleet, looked->element, answers[ASKED_REPLICATION]);
+    if (word != DS_FLEET_INSTEP) return word;
+    error = error_of(answers + ASKED_DIGESTS, teller->came - ASKED_DIGESTS);
+    if (error) return server_denied(fleet, error);
+    if (digests->type == REDIS_REPLY_ARRAY) judge_peers(fleet, digests);
+    fleet->server.pause = 0;
+    if (!items_may_regain(&fleet->items)) return DS_FLEET_INSTEP;
+    bridge_read_from_start(fleet);
+    server_reopen_listener(fleet);
+    return DS_FLEET_INSTEP;
+}
+
+void comparing_forget(struct comparing *comparing) {
+    comparing->state = COMPARING_BLIND;
+    comparing->asked = NO_ENTRY;
+    comparing->stock = (struct stock){.bytes = 0};
+    comparing->digested = not_digested;
+    peers_forget_own(&comparing->peers);
+}

@@ -1,0 +1,102 @@
+/* Reading. See reading.h. */
+#include "bridge.h"
+#include <stdio.h>
+#include <string.h>
+
+enum {
+    BLOCKS = 10000, /* milliseconds that a reading may wait at the server for entries */
+    ENTRIES = 64    /* of one reading */
+};
+
+enum { READING_STREAMS, READING_AT };      /* the questions of a reading */
+enum { FETCHING_STREAM, FETCHING_SNAPSHOT }; /* and of a fetching; the fields of the snapshot: */
+enum { FETCHED_AT, FETCHED_ITEMS, FETCHED_FIELDS };
+enum { STREAM_NAME, STREAM_ENTRIES, STREAM_PARTS };
+enum { ENTRY_NAME, ENTRY_FIELDS, ENTRY_PARTS };
+
+/* The snapshot is asked for after the entries, so that none that it took the place of is missed. */
+void reading_ask(struct ds_fleet *fleet) {
+    struct link *listener = &fleet->server.listener;
+    char last[DS_FLEET_ID];
+    write_entry_id(last, fleet->reading.last);
+    listener->blocks = fleet->reading.state == READING_END ? BLOCKS : 0;
+    if (listener->blocks) {
+        link_ask(listener, "XREAD COUNT %d BLOCK %d STREAMS %s:items %s", ENTRIES, BLOCKS, fleet->stream, last);
+    } else {
+        link_ask(listener, "XREAD COUNT %d STREAMS %s:items %s", ENTRIES, fleet->stream, last);
+    }
+    link_ask(listener, "HGET %s:snapshot at", fleet->stream);
+}
+
+static enum ds_fleet_word take_entry(struct ds_fleet *fleet, const redisReply *entry) {
+    struct reading *reading = &fleet->reading;
+    const redisReply *name = is_list_of(entry, ENTRY_PARTS) ? entry->element[ENTRY_NAME] : NULL;
+    struct entry_id id;
+    if (!is_text(name) || !read_entry_id(name->str, &id)) return server_puzzles(fleet, "no entry of a stream");
+    const redisReply *from = field_of(entry->element[ENTRY_FIELDS], "from"), *lines = field_of(entry->element[ENTRY_FIELDS], "items");
+    enum ds_fleet_word word = DS_FLEET_INSTEP;
+    comparing_next(fleet, id);
+    if (!is_text(lines)) {
+        items_unread_entry(&fleet->items, name->str);
+    } else if (!is_text(from) || strcmp(from->str, fleet->me)) {
+        word = items_take(&fleet->items, name->str, lines->str, lines->len);
+        fleet->state.entries_read++;
+    }
+    if (word != DS_FLEET_INSTEP || !is_above(id, reading->last)) return word;
+    reading->last = id;
+    trail_add(&reading->trail, id);
+    return word;
+}
+
+enum ds_fleet_word reading_answered(struct ds_fleet *fleet) {
+    struct reading *reading = &fleet->reading;
+    const redisReply *streams = fleet->server.listener.answers[READING_STREAMS], *at = fleet->server.listener.answers[READING_AT];
+    if (is_error(streams)) return server_denied(fleet, streams);
+    if (is_error(at)) return server_denied(fleet, at);
+    /* Judged by the last entry before this reading, which may begin past what was trimmed. */
+    bool has_gap = is_above(id_of(at), reading->last) && strcmp(at->str, reading->passed);
+    const redisReply *stream = streams->type == REDIS_REPLY_ARRAY && streams->elements ? streams->element[0] : NULL;
+    const redisReply *entries = is_list_of(stream, STREAM_PARTS) ? stream->element[STREAM_ENTRIES] : NULL;
+    size_t count = entries && entries->type == REDIS_REPLY_ARRAY ? entries->elements : 0;
+    reading->state = has_gap ? READING_GAP : READING_BEHIND;
+    for (size_t i = 0; i < count; i++) {
+        enum ds_fleet_word word = take_entry(fleet, entries->element[i]);
+        if (word != DS_FLEET_INSTEP) return word;
+    }
+    if (!has_gap && count < ENTRIES) reading->state = READING_END;
+    return DS_FLEET_INSTEP;
+}
+
+void fetching_ask(struct ds_fleet *fleet) {
+    fleet->server.round = ROUND_FETCHING;
+    link_ask(&fleet->server.teller, "XINFO STREAM %s:items", fleet->stream);
+    link_ask(&fleet->server.teller, "HMGET %s:snapshot at items", fleet->stream);
+}
+
+/* Merges the snapshot, whatever entry it says that it is of. If there was such an entry, everything up to it is read then. */
+enum ds_fleet_word fetching_answered(struct ds_fleet *fleet) {
+    struct reading *reading = &fleet->reading;
+    struct entry_id generated = id_of(field_of(fleet->server.teller.answers[FETCHING_STREAM], "last-generated-id"));
+    const redisReply *snapshot = fleet->server.teller.answers[FETCHING_SNAPSHOT];
+    if (is_error(snapshot)) return server_denied(fleet, snapshot);
+    bool is_snapshot = is_list_of(snapshot, FETCHED_FIELDS);
+    const redisReply *at = is_snapshot ? snapshot->element[FETCHED_AT] : NULL;
+    const redisReply *lines = is_snapshot ? snapshot->element[FETCHED_ITEMS] : NULL;
+    if (is_text(at) && is_text(lines)) {
+        enum ds_fleet_word word = items_take(&fleet->items, "of the snapshot", lines->str, lines->len);
+        if (word != DS_FLEET_INSTEP) return word;
+    }
+    reading->state = READING_BEHIND;
+    if (!is_text(at)) return DS_FLEET_INSTEP;
+    struct entry_id id = id_of(at);
+    if (!is_text(lines) || is_above(id, generated)) {
+        snprintf(reading->passed, sizeof reading->passed, "%s", at->str);
+    } else if (is_above(id, reading->last)) {
+        reading->last = id;
+    }
+    return DS_FLEET_INSTEP;
+}
+
+void reading_cut(struct reading *reading) {
+    if (reading->state == READING_END) reading->state = READING_BEHIND;
+}

@@ -1,0 +1,38 @@
+/* Who may do what. See rights.h. */
+#include "rights.h"
+#include <grp.h>
+#include <stdlib.h>
+#include <sys/socket.h>
+#include <unistd.h>
+
+#ifndef SO_PEERGROUPS
+#define SO_PEERGROUPS 59
+#endif
+
+enum { MOST_GROUPS = 1024 };
+
+bool rights_read_group(const char *name, gid_t *group) {
+    char *end;
+    const struct group *known = getgrnam(name);
+    unsigned long number = strtoul(name, &end, 10);
+    *group = known ? known->gr_gid : (gid_t)number;
+    return known || (*name >= '0' && *name <= '9' && !*end);
+}
+
+enum role rights_of(const struct rights *rights, int socket) {
+    struct ucred peer;
+    gid_t groups[MOST_GROUPS + 1];
+    socklen_t length = sizeof peer, room = MOST_GROUPS * sizeof *groups;
+    enum role role = ROLE_NOBODY;
+    if (!rights->has_readers) return ROLE_WRITER;
+    if (getsockopt(socket, SOL_SOCKET, SO_PEERCRED, &peer, &length)) return ROLE_NOBODY;
+    if (!peer.uid || peer.uid == geteuid()) return ROLE_WRITER;
+    if (getsockopt(socket, SOL_SOCKET, SO_PEERGROUPS, groups, &room)) room = 0;
+    size_t count = room / sizeof *groups;
+    groups[count++] = peer.gid;
+    for (size_t i = 0; i < count; i++) {
+        if (groups[i] == rights->writers) return ROLE_WRITER;
+        if (groups[i] == rights->readers) role = ROLE_READER;
+    }
+    return role;
+}

@@ -1,0 +1,234 @@
+/* The server comes and goes. See server.h. */
+#include "bridge.h"
+#include "clock.h"
+#include <stdio.h>
+#include <stdlib.h>
+#include <string.h>
+#include <sys/random.h>
+
+enum {
+    SOONEST = 50,  /* milliseconds before a server is called again, */
+    LATEST = 1000, /* and then twice as long each time, up to this */
+    PATIENCE = 100 /* before another try of what was denied */
+};
+
+bool server_is_connected(const struct server *server) { return server->teller.redis && server->listener.redis; }
+
+/* ---- it goes, or denies ---- */
+
+static void keep_words(struct ds_fleet *fleet, const char *words) {
+    if (words != fleet->state.said) snprintf(fleet->state.said, sizeof fleet->state.said, "%s", words);
+}
+
+/* Twice as long as the pause before, and not at the same time as all others that lost the same server. */
+static void lengthen_pause(struct server *server) {
+    uint64_t chance = 0;
+    server->pause = server->pause ? 2 * server->pause : SOONEST;
+    if (server->pause > LATEST) server->pause = LATEST;
+    if (getrandom(&chance, sizeof chance, GRND_NONBLOCK) != sizeof chance) chance = 0;
+    server->call_at = clock_now() + server->pause - chance % (server->pause / 2);
+}
+
+/* The same reason is logged again only once a server was of use. */
+enum ds_fleet_word server_hang_up(struct ds_fleet *fleet, enum ds_fleet_word word, const char *why) {
+    struct server *server = &fleet->server;
+    if (!server->pause || strcmp(fleet->state.said, why)) {
+        items_say(&fleet->items, "%s: %s", ds_fleet_word(word), why);
+        server->logs_meeting = true;
+    }
+    keep_words(fleet, why);
+    link_close(&server->teller);
+    link_close(&server->listener);
+    master_failed(&server->master);
+    server->state = SERVER_AWAY;
+    server->round = ROUND_NONE;
+    server->parted = word;
+    telling_cut(&fleet->telling);
+    reading_cut(&fleet->reading);
+    fleet->compacting.state = COMPACTING_RESTS;
+    lengthen_pause(server);
+    return word;
+}
+
+enum ds_fleet_word server_went(struct ds_fleet *fleet, const char *why) { return server_hang_up(fleet, DS_FLEET_AWAY, why); }
+
+enum ds_fleet_word server_puzzles(struct ds_fleet *fleet, const char *why) {
+    if (strcmp(fleet->state.said, why)) items_say(&fleet->items, "denied: %s", why);
+    keep_words(fleet, why);
+    fleet->server.ask_at = clock_now() + PATIENCE;
+    return DS_FLEET_DENIED;
+}
+
+/* Whether an error says that this server can't be the right one now: a replica, one that isn't ready, or that became a replica while a
+ * reading waited. Another one may have its name by now. */
+static bool is_demoted(const redisReply *error) {
+    static const char *const words[] = {"READONLY ", "LOADING ", "MASTERDOWN ", "UNBLOCKED "};
+    for (size_t i = 0; i < sizeof words / sizeof *words; i++) {
+        if (is_error_of(error, words[i])) return true;
+    }
+    return false;
+}
+
+/* Leaves a node of a cluster for the one that it names: `MOVED SLOT HOST:PORT`. */
+static enum ds_fleet_word follow_move(struct ds_fleet *fleet, const char *error) {
+    char why[DS_FLEET_SAID], place[DS_FLEET_SAID];
+    snprintf(why, sizeof why, "%.160s", error);
+    snprintf(place, sizeof place, "%.160s", strrchr(error, ' ') + 1);
+    server_hang_up(fleet, DS_FLEET_DENIED, why); /* which frees the error */
+    master_moved(&fleet->server.master, place);
+    return DS_FLEET_DENIED;
+}
+
+enum ds_fleet_word server_denied(struct ds_fleet *fleet, const redisReply *error) {
+    char why[DS_FLEET_SAID];
+    if (is_error_of(error, "MOVED ")) return follow_move(fleet, error->str);
+    snprintf(why, sizeof why, "%.160s", error->str);
+    return is_demoted(error) ? server_hang_up(fleet, DS_FLEET_DENIED, why) : server_puzzles(fleet, why);
+}
+
+/* ---- it is called ---- */
+
+static bool opens(struct ds_fleet *fleet, struct link *link) {
+    return link_open(link, &fleet->server.master.call, clock_now());
+}
+
+enum ds_fleet_word server_call(struct ds_fleet *fleet) {
+    struct server *server = &fleet->server;
+    uint64_t time = clock_now();
+    if (server_is_connected(server)) return DS_FLEET_INSTEP;
+    const struct link *lost = server->teller.redis ? &server->listener : &server->teller;
+    if (server->state != SERVER_AWAY) return server_went(fleet, lost->said);
+    if (time < server->call_at) return server->parted;
+    switch (master_find(&server->master, time)) {
+    case HOST_FOUND: break;
+    case HOST_UNKNOWN: return server_went(fleet, server->master.said);
+    case HOST_SOUGHT: server->call_at = time + HOST_PATIENCE; return server->parted; /* or when a bell rings */
+    }
+    if (!opens(fleet, &server->teller)) return server_went(fleet, server->teller.said);
+    if (!opens(fleet, &server->listener)) return server_went(fleet, server->listener.said);
+    server->state = SERVER_CALLED;
+    return DS_FLEET_INSTEP;
+}
+
+void server_reopen_listener(struct ds_fleet *fleet) { opens(fleet, &fleet->server.listener); }
+
+/* ---- meeting ---- */
+
+/* The questions of a meeting, in their order. */
+enum { MEETING_INFO, MEETING_CLAIM, MEETING_SCOPE };
+
+void meeting_ask(struct ds_fleet *fleet) {
+    struct link *teller = &fleet->server.teller;
+    fleet->server.round = ROUND_MEETING;
+    link_ask(teller, "INFO");
+    link_ask(teller, "HSETNX %s:snapshot scope %s", fleet->stream, fleet->scope);
+    link_ask(teller, "HGET %s:snapshot scope", fleet->stream);
+}
+
+bool server_changed_history(struct server *server, const redisReply *replication) {
+    char history[DS_FLEET_ID];
+    copy_hex_of(replication, "master_replid:", history);
+    bool is_another = strcmp(history, server->history) != 0;
+    snprintf(server->history, sizeof server->history, "%s", history);
+    return is_another;
+}
+
+/* A server process that wasn't met, or that took over another one's history, may have lost its end: everything is read again, and then
+ * told again. Returns whether it is such a one. */
+static bool note_server(struct ds_fleet *fleet, const redisReply *info) {
+    struct server *server = &fleet->server;
+    char run[DS_FLEET_ID];
+    copy_hex_of(info, "run_id:", run);
+    bool is_another = server_changed_history(server, info) || !*run || strcmp(run, server->run);
+    if (!is_another) return false;
+    server->logs_meeting = true;
+    fleet->telling.owes_all |= *server->run != '\0'; /* the first one gets only what is untold */
+    snprintf(server->run, sizeof server->run, "%s", *run ? run : "unknown");
+    return true;
+}
+
+static bool says(const redisReply *info, const char *line) { return is_text(info) && strstr(info->str, line); }
+
+/* Whether all keys of a stream are on one node of a cluster: `{TAG}` in its name decides which. */
+static bool has_tag(const char *stream) {
+    const char *open = strchr(stream, '{'), *close = open ? strchr(open, '}') : NULL;
+    return close && close > open + 1;
+}
+
+bool server_has_other_scope(const struct ds_fleet *fleet, const redisReply *scope) {
+    return is_text(scope) && strcmp(scope->str, fleet->scope);
+}
+
+/* A snapshot from here would lack what isn't under this bridge's scope, so it tells and compacts nothing. */
+enum ds_fleet_word server_refuse_scope(struct ds_fleet *fleet, const redisReply *scope) {
+    char why[DS_FLEET_SAID];
+    snprintf(why, sizeof why, "the stream's scope is `%.100s`, and not `%.100s`", scope->str, fleet->scope);
+    return server_hang_up(fleet, DS_FLEET_BADSCOPE, why);
+}
+
+static void log_meeting(struct ds_fleet *fleet, bool may_evict) {
+    struct server *server = &fleet->server;
+    if (server->logs_meeting) items_say(&fleet->items, "met: server %s", server->run);
+    if (server->logs_meeting && may_evict) {
+        items_say(&fleet->items, "evicts: the server may delete the stream when memory is short: set its maxmemory-policy to noeviction");
+    }
+    server->logs_meeting = false;
+}
+
+/* A replica takes no scope. If it has the right one, and no other server is known, it is met: a bridge sees what becomes of the stream. */
+enum ds_fleet_word meeting_answered(struct ds_fleet *fleet) {
+    struct server *server = &fleet->server;
+    struct redisReply **answers = server->teller.answers, *info = answers[MEETING_INFO], *scope = answers[MEETING_SCOPE];
+    if (is_error(info)) return server_denied(fleet, info);
+    bool may_evict = says(info, "maxmemory_policy:allkeys") && !says(info, "maxmemory:0\r");
+    if (says(info, "cluster_enabled:1") && !has_tag(fleet->stream)) {
+        return server_hang_up(fleet, DS_FLEET_BADNAME, "the server is of a cluster: give the stream a name in braces, as {ds}");
+    }
+    if (says(info, "role:slave") && master_has_others(&server->master)) return server_hang_up(fleet, DS_FLEET_DENIED, "it is a replica");
+    if (note_server(fleet, info)) bridge_begin_anew(fleet);
+    if (is_error(scope)) return server_denied(fleet, scope);
+    if (server_has_other_scope(fleet, scope)) return server_refuse_scope(fleet, scope);
+    if (!is_text(scope) && is_error(answers[MEETING_CLAIM])) return server_denied(fleet, answers[MEETING_CLAIM]);
+    server->state = SERVER_MET;
+    server->parted = DS_FLEET_AWAY;
+    master_worked(&server->master);
+    fleet->state.connections++;
+    log_meeting(fleet, may_evict);
+    return DS_FLEET_INSTEP;
+}
+
+/* ---- opening and closing ---- */
+
+static enum ds_fleet_word read_address(struct link_address *address, const char *url) {
+    switch (url ? link_read(address, url) : LINK_BAD) {
+    case LINK_BAD: return DS_FLEET_BADURL;
+    case LINK_TLS: return DS_FLEET_NOTLS;
+    case LINK_NOROOM: return DS_FLEET_NOROOM;
+    case LINK_GOOD: break;
+    }
+    return DS_FLEET_INSTEP;
+}
+
+enum ds_fleet_word server_open(struct ds_fleet *fleet, const struct ds_fleet_options *options) {
+    struct server *server = &fleet->server;
+    enum ds_fleet_word word = read_address(&server->address, options->url);
+    if (word != DS_FLEET_INSTEP) return word;
+    server->parted = DS_FLEET_AWAY;
+    server->logs_meeting = true;
+    if (options->password) {
+        if (strlen(options->password) >= sizeof server->password) return DS_FLEET_BADURL;
+        snprintf(server->password, sizeof server->password, "%s", options->password);
+        server->address.password = server->password;
+    }
+    if (!master_open(&server->master, &server->address)) return DS_FLEET_SYSTEM;
+    snprintf(server->name, sizeof server->name, "dsfleet-%.8s", fleet->me);
+    server->master.call.name = server->name;
+    return DS_FLEET_INSTEP;
+}
+
+void server_close(struct server *server) {
+    link_close(&server->teller);
+    link_close(&server->listener);
+    master_close(&server->master);
+    link_forget(&server->address);
+}

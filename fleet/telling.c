@@ -1,0 +1,83 @@
+/* Telling. See telling.h. */
+#include "bridge.h"
+#include <stdio.h>
+#include <string.h>
+
+enum {
+    PARTS = 32,    /* entries told at a time, */
+    PART = 1 << 16 /* and bytes of lines in one of them, unless one line has more */
+};
+
+/* How many bytes of the lines one entry tells. */
+static size_t part_of(const char *lines, size_t length) {
+    unsigned count = ITEMS_MOST;
+    size_t part = first_lines(lines, length, count);
+    while (part > PART && count > 1) {
+        count /= 2;
+        part = first_lines(lines, part, count);
+    }
+    return part;
+}
+
+static void ask_to_add(struct ds_fleet *fleet) {
+    struct telling *telling = &fleet->telling;
+    const struct text *untold = &fleet->items.untold;
+    for (telling->sent = 0; telling->parts < PARTS && telling->sent < untold->length; telling->parts++) {
+        const char *lines = untold->bytes + telling->sent;
+        size_t length = part_of(lines, untold->length - telling->sent);
+        link_ask(&fleet->server.teller, "XADD %s:items * from %s items %b", fleet->stream, fleet->me, lines, length);
+        telling->sent += length;
+    }
+    link_ask(&fleet->server.teller, "XLEN %s:items", fleet->stream);
+}
+
+void telling_ask(struct ds_fleet *fleet) {
+    struct telling *telling = &fleet->telling;
+    fleet->server.round = ROUND_TELLING;
+    telling->parts = 0;
+    if (telling->state == TELLING_NEWS) ask_to_add(fleet);
+    if (!telling->replicas) return;
+    link_ask(&fleet->server.teller, "WAIT %d %d", telling->replicas, telling->within);
+    fleet->server.teller.blocks = (unsigned)telling->within;
+}
+
+/* Each part has to be there: else all of them are sent again. */
+static enum ds_fleet_word note_added(struct ds_fleet *fleet) {
+    struct telling *telling = &fleet->telling;
+    struct redisReply **answers = fleet->server.teller.answers;
+    for (unsigned i = 0; i < telling->parts; i++) {
+        if (is_error(answers[i])) return server_denied(fleet, answers[i]);
+        if (!is_text(answers[i])) return server_puzzles(fleet, "no entry was added");
+        trail_add(&telling->trail, id_of(answers[i]));
+    }
+    fleet->state.entries_told += telling->parts;
+    fleet->compacting.length = (long)count_of(answers[telling->parts]);
+    return DS_FLEET_INSTEP;
+}
+
+static enum ds_fleet_word lacks_replicas(struct ds_fleet *fleet, const redisReply *have) {
+    char why[DS_FLEET_SAID];
+    fleet->telling.state = TELLING_ADDED;
+    if (is_error(have)) return server_denied(fleet, have);
+    snprintf(why, sizeof why, "%d replicas are to have each change, and %lld have the last one", fleet->telling.replicas, count_of(have));
+    return server_puzzles(fleet, why);
+}
+
+enum ds_fleet_word telling_answered(struct ds_fleet *fleet) {
+    struct telling *telling = &fleet->telling;
+    const struct link *teller = &fleet->server.teller;
+    enum ds_fleet_word word = telling->state == TELLING_NEWS ? note_added(fleet) : DS_FLEET_INSTEP;
+    if (word != DS_FLEET_INSTEP) return word;
+    const redisReply *have = teller->answers[teller->came - 1];
+    if (telling->replicas && count_of(have) < telling->replicas) return lacks_replicas(fleet, have);
+    text_drop(&fleet->items.untold, telling->sent);
+    telling->told += telling->sent;
+    telling_cut(telling);
+    fleet->server.pause = 0;
+    return DS_FLEET_INSTEP;
+}
+
+void telling_cut(struct telling *telling) {
+    telling->state = TELLING_NEWS;
+    telling->sent = 0;
+}

@@ -1,0 +1,129 @@
+#!/usr/bin/env python3
+"""tests/bridges/history.py [--bound SECONDS] LOG ..: whether what the clients of bridges were answered has a legal order.
+
+A log has a JSON object a line, with times in seconds of one clock, and `store` and `run` of the bridge that was asked. A change: `text`, its line;
+`asked`; `answered`, or null if no answer came. A read: `client`, which is one connection; `asked`, `answered`; `shown`, the lines of changes and
+floors. A read that is `final` was made after all changes and shows all that its store holds. The rules, of each key:
+
+    invented   a read shows what nobody had asked for by then
+    back       a later read of one client shows an older version
+    forgotten  a read shows an older version than its own store, in the same run, had answered for before
+    late       a read shows an older version than any store had answered for, SECONDS before: 30
+    lost       a final read has neither an answered version, nor a newer one, nor a floor that covers it
+
+Prints the first faults, and a line of counts. Status 1: there is a fault.
+"""
+import argparse
+import bisect
+import collections
+import json
+import sys
+
+BOUND = 30
+SHOWN = 20  # faults that are printed
+
+
+class Rising:
+    """The highest of some versions by a time."""
+
+    def __init__(self, pairs):
+        self.times, self.highest = [], []
+        for time, version in sorted(pairs):
+            self.times.append(time)
+            self.highest.append(max(version, self.highest[-1]) if self.highest else version)
+
+    def before(self, time):
+        """The highest one of those before a time, or None."""
+        at = bisect.bisect_left(self.times, time)
+        return self.highest[at - 1] if at else None
+
+
+def parsed(text):
+    """The key of a change, its owner, and its version; of a floor the owner is the key."""
+    name, kind, *rest = text.split()
+    if name == "!":
+        return f"! {kind}", kind, (int(rest[0]),)
+    return f"{name} {kind}", rest[0], tuple(map(int, rest[1].split(".")))
+
+
+class History:
+    """Changes by their keys, and reads."""
+
+    def __init__(self, events, bound=BOUND):
+        self.bound, self.faults, self.reads, self.changes = bound, [], [], 0
+        self.asked, self.newest = {}, {}  # by a line: when; by a key: its newest answered version, and the owner of that
+        self.answered, self.own = collections.defaultdict(list), collections.defaultdict(list)
+        for event in events:
+            if "shown" in event:
+                self.reads.append(event)
+            else:
+                self.take(event)
+        self.answered = {key: Rising(pairs) for key, pairs in self.answered.items()}
+        self.own = {key: Rising(pairs) for key, pairs in self.own.items()}
+        self.reads.sort(key=lambda it: it["asked"])
+
+    def take(self, change):
+        text, answered = change["text"], change["answered"]
+        key, owner, version = parsed(text)
+        self.changes += 1
+        self.asked[text] = min(change["asked"], self.asked.get(text, change["asked"]))
+        if answered is None:
+            return
+        self.answered[key].append((answered, version))
+        self.own[key, change["store"], change["run"]].append((answered, version))
+        self.newest[key] = max((version, owner), self.newest.get(key, (version, owner)))
+
+    def fault(self, rule, read, key, what):
+        self.faults.append(f"{rule}: {key} at {read['store']}, {read['asked']:.3f} s: {what}")
+
+    def judge(self):
+        """Returns the faults."""
+        seen = {}
+        for read in self.reads:
+            held = {}
+            for text in read["shown"]:
+                key, _, version = parsed(text)
+                held[key] = version
+                if self.asked.get(text, read["answered"] + 1) > read["answered"]:
+                    self.fault("invented", read, key, f"nobody had asked for {text}")
+                self.compare("back", read, key, version, seen.get((read["client"], key)))
+                self.compare("forgotten", read, key, version, self.highest(self.own, (key, read["store"], read["run"]), read["asked"]))
+                self.compare("late", read, key, version, self.highest(self.answered, key, read["asked"] - self.bound))
+                seen[read["client"], key] = version
+            if read.get("final"):
+                self.judge_final(read, held)
+        return self.faults
+
+    @staticmethod
+    def highest(versions, key, time):
+        return versions[key].before(time) if key in versions else None
+
+    def compare(self, rule, read, key, version, least):
+        if least is not None and version < least:
+            self.fault(rule, read, key, f"{version}, and not {least} or newer")
+
+    def judge_final(self, read, held):
+        for key, (version, owner) in self.newest.items():
+            is_covered = version[0] <= held.get(f"! {owner}", (0,))[0] and key.split()[1] != "label"
+            if not is_covered and held.get(key, (0,)) < version:
+                self.fault("lost", read, key, f"{held.get(key)}, and {version} was answered")
+
+
+def main():
+    words = argparse.ArgumentParser(usage=__doc__)
+    words.add_argument("--bound", type=float, default=BOUND)
+    words.add_argument("logs", nargs="+")
+    given = words.parse_args()
+    count = 0
+    for name in given.logs:
+        with open(name, encoding="utf-8") as log:
+            history = History(map(json.loads, log), given.bound)
+        faults = history.judge()
+        print("".join(f"{it}\n" for it in faults[:SHOWN]), end="")
+        print(f"{name}: {history.changes} changes, {len(history.reads)} reads, {len(faults)} faults")
+        count += len(faults)
+    return count > 0
+
+
+if __name__ == "__main__":
+    sys.exit(main())

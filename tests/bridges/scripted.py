@@ -1,0 +1,115 @@
+"""A redis server whose answers a scene may script: a proxy that reads what a bridge asks and what the server answers, question by question."""
+import collections
+import queue
+import socket
+import threading
+
+from fleets import Proxy, shut, until
+
+CUT = object()  # instead of an answer: the connection ends
+SWALLOW = object()  # nothing comes, and the connection stays
+
+
+class Rule:
+    """The next `times` answers to a question that begins so are made by a function of what the server answered."""
+
+    def __init__(self, question, made, times):
+        self.question, self.made, self.left = question, made, times
+
+    def is_used(self):
+        return self.left == 0
+
+
+class Scripted(Proxy):
+    """Passes everything on, but for what rules say. `asked` counts questions by their first two words."""
+
+    def __init__(self, port):
+        self.rules, self.asked, self.lock = [], collections.Counter(), threading.RLock()
+        super().__init__(port)
+
+    def script(self, question, made, times=1):
+        """Scripts answers to `question`, the beginning of its words; `made` is bytes, CUT, SWALLOW, or a function from what the server answered."""
+        rule = Rule(question, made, times)
+        with self.lock:
+            self.rules.append(rule)
+        return rule
+
+    def script_and_wait(self, question, made, times=1):
+        rule = self.script(question, made, times)
+        until(rule.is_used, f"the answer to {question} is scripted", 10)
+
+    def join(self, near):
+        try:
+            far = socket.create_connection(("127.0.0.1", self.port))
+        except OSError:
+            near.close()
+            return
+        self.open += [near, far]
+        self.count += 1
+        questions = queue.Queue()
+        threading.Thread(target=self.carry_questions, args=(near, far, questions), daemon=True).start()
+        threading.Thread(target=self.carry_answers, args=(far, near, questions), daemon=True).start()
+
+    def carry_questions(self, near, far, questions):
+        try:
+            with near.makefile("rb") as stream:
+                while True:
+                    raw, words = question_of(stream)
+                    self.asked[" ".join(words.split()[:2])] += 1
+                    questions.put(words)
+                    far.sendall(raw)
+        except (OSError, ValueError):
+            pass
+        for it in (near, far):
+            shut(it)
+
+    def carry_answers(self, far, near, questions):
+        try:
+            with far.makefile("rb") as stream:
+                while True:
+                    answer = self.scripted(raw_answer(stream), questions.get())
+                    if answer is CUT:
+                        break
+                    if answer is not SWALLOW:
+                        near.sendall(answer)
+        except (OSError, ValueError):
+            pass
+        for it in (near, far):
+            shut(it)
+
+    def scripted(self, raw, words):
+        with self.lock:
+            for rule in self.rules:
+                if rule.left and words.startswith(rule.question):
+                    rule.left -= 1
+                    return rule.made(raw) if callable(rule.made) else rule.made
+        return raw
+
+
+def line_of(stream):
+    line = stream.readline()
+    if not line.endswith(b"\r\n"):
+        raise ValueError("it hung up")
+    return line
+
+
+def question_of(stream):
+    """A question as it is sent, and its words with a space between two."""
+    raw = line_of(stream)
+    words = []
+    for _ in range(int(raw[1:])):
+        head = line_of(stream)
+        body = stream.read(int(head[1:]) + 2)
+        raw += head + body
+        words.append(body[:-2].decode("latin1"))
+    return raw, " ".join(words)
+
+
+def raw_answer(stream):
+    """An answer as it is sent."""
+    raw = line_of(stream)
+    if raw[:1] == b"$" and raw[1:3] != b"-1":
+        raw += stream.read(int(raw[1:]) + 2)
+    elif raw[:1] == b"*":
+        raw += b"".join(raw_answer(stream) for _ in range(max(0, int(raw[1:]))))
+    return raw

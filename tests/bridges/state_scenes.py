@@ -1,0 +1,400 @@
+"""The tables of fleet/*.h, row by row: each state of a part of a bridge meets each event, over a scripted server. scenes.py lists these.
+
+A table has lines ` *   STATE | event | becomes, and does`. A scene names each row that it walks, and fails if the header has another one.
+"""
+import contextlib
+import re
+import time
+
+from fleets import ROOT, free_port, until
+from scenes import number, numbers, offer, shows
+from scripted import CUT, SWALLOW, Scripted
+
+ERROR, TYPE, DEMOTED = b"-ERR scripted\r\n", b"*1\r\n:1\r\n", b"-READONLY scripted\r\n"
+NOTHING = b"*-1\r\n"
+REST = 1.2  # seconds in which a bridge compares
+ROW = re.compile(r"^ \*   ([A-Z, ]+|any) +\| (.+?) *\|", re.MULTILINE)
+
+
+class Walk:
+    """The rows of a table, and those of them that were walked."""
+
+    def __init__(self, name, fleet):
+        self.name, self.fleet = name, fleet
+        self.rows = {f"{it[1].strip()} | {it[2]}" for it in ROW.finditer((ROOT / "fleet" / f"{name}.h").read_text())}
+        page = (ROOT / "docs" / "design" / "bridge.md").read_text().partition(f"`fleet/{name}.h`")[2].partition("\n## ")[0]
+        assert self.rows == {" | ".join(it.split(" | ")[:2]).removeprefix("| ") for it in page.splitlines()[4:] if it.startswith("| ")}, f"docs/design/bridge.md has other rows than fleet/{name}.h"
+        self.walked = set()
+
+    def __call__(self, row):
+        assert row in self.rows, f"fleet/{self.name}.h has no row `{row}`"
+        self.walked.add(row)
+
+    def ends(self):
+        assert self.rows, f"fleet/{self.name}.h has no table"
+        assert self.rows == self.walked, f"fleet/{self.name}.h has rows that aren't walked: {self.rows - self.walked}"
+
+
+@contextlib.contextmanager
+def walking(fleet, name, *options):
+    """A walk, a scripted server and a bridge of it; at the end the bridge is in step, and all rows were walked."""
+    walk, script = Walk(name, fleet), Scripted(fleet.port)
+    bridge = fleet.start(*options, url=script.url())
+    yield walk, script, bridge
+    in_step(bridge)
+    walk.ends()
+    script.close()
+
+
+def in_step(bridge):
+    until(lambda: bridge.state()["state"] == "instep", "it is in step", 10)
+
+
+def connections(bridge):
+    return int(bridge.state()["connections"])
+
+
+def says(bridge, words, count=1):
+    until(lambda: bridge.said().count(words) >= count, f"it says {words}", 10)
+
+
+def reconnects(bridge, work):
+    """The work costs the bridge its connections, and it comes back."""
+    before = connections(bridge)
+    work()
+    until(lambda: connections(bridge) > before, "it connects anew", 15)
+    in_step(bridge)
+
+
+def told(fleet, *lines):
+    until(lambda: {it.encode() for it in lines} <= set(fleet.told()), "it is told", 10)
+
+
+def states_of_the_server(fleet, draw):
+    with walking(fleet, "server") as (walk, script, bridge):
+        line = iter(numbers("n", 99))
+        assert connections(bridge) == 1
+        walk("AWAY | the pause is over, master found")
+        walk("CALLED | a meeting answered, as it should")
+
+        nobody = Scripted(fleet.port)  # asked as a Sentinel, it knows no master
+        nobody.script("SENTINEL", NOTHING, 1000)
+        lost = fleet.start(url=nobody.url().replace("redis", "redis-sentinel", 1) + "/ds", wait=False)
+        says(lost, "the Sentinel knows no such master")
+        until(lambda: nobody.asked["SENTINEL get-master-addr-by-name"] >= 3, "it tries again")
+        lost.kill()
+        fleet.bridges.remove(lost)
+        walk("AWAY | no master is found")
+
+        offer(bridge, *(kept := [next(line) for _ in range(3)]))
+        entries = fleet.entries()
+        script.script("INFO", lambda raw: raw.replace(b"run_id:", b"run_id:0", 1).replace(b"\r\nredis_git_sha1:00000000", b"\r\nredis_git_sha1:0000000", 1))
+        reconnects(bridge, script.cut)
+        until(lambda: fleet.entries() > entries, "everything is told again", 5)
+        walk("CALLED | .. by another server or history")
+
+        script.script("HGET ds:snapshot scope", b"$1\r\nx\r\n")
+        script.cut()
+        says(bridge, "event=badscope")
+        in_step(bridge)
+        walk("CALLED | .. with another scope")
+
+        script.script("INFO", lambda raw: raw.replace(b"cluster_enabled:0", b"cluster_enabled:1"))
+        script.cut()
+        says(bridge, "event=badname")
+        in_step(bridge)
+        walk("CALLED | .. by a cluster, keys on many nodes")
+
+        two = Scripted(fleet.port)
+        two.script("INFO", lambda raw: raw.replace(b"role:master", b"role:slave "))
+        other = fleet.start(url=f"{two.url()},127.0.0.1:{fleet.port}")
+        says(other, "it is a replica")
+        offer(other, kept_by_other := next(line))
+        assert two.count == 2, "it calls the replica again"
+        walk("CALLED | .. by a replica, others are listed")
+
+        script.script("INFO", ERROR)
+        reconnects(bridge, script.cut)
+        says(bridge, 'event=denied text="ERR scripted"')
+        script.script_and_wait("INFO replication", ERROR)
+        in_step(bridge)
+        walk("any | an error")
+
+        script.script("XADD", DEMOTED)
+        reconnects(bridge, lambda: offer(bridge, kept.append(next(line)) or kept[-1]))
+        walk("any | an error of a demoted server")
+
+        reconnects(bridge, script.cut)
+        script.script("XREAD", CUT)
+        reconnects(bridge, lambda: fleet.ask("XADD", "ds:items", "*", "from", "x", "items", next(line) + "\n"))
+        walk("any | a connection is lost, or is silent")
+
+        script.script("XADD", f"-MOVED 1 127.0.0.1:{fleet.port}\r\n".encode())
+        before = script.count
+        reconnects(bridge, lambda: offer(bridge, kept.append(next(line)) or kept[-1]))
+        assert script.count == before, "it calls the first node again"
+        told(fleet, *kept, kept_by_other)
+        walk("any | MOVED")
+
+
+def states_of_the_master(fleet, draw):
+    """Where the master is, by scripted Sentinels."""
+    walk, script = Walk("master", fleet), Scripted(fleet.port)
+    closed = free_port()
+
+    def named(host, port):
+        return f"*2\r\n${len(host)}\r\n{host}\r\n${len(str(port))}\r\n{port}\r\n".encode()
+
+    script.script("SENTINEL", NOTHING)
+    script.script("SENTINEL", CUT)
+    script.script("SENTINEL", named("127.0.0.1", closed))
+    script.script("SENTINEL", named("nobody.invalid", fleet.port))
+    script.script("SENTINEL", named("127.0.0.1", fleet.port), 1000)
+    bridge = fleet.start(url=f"redis-sentinel://127.0.0.1:{closed},127.0.0.1:{script.port_of()}/ds")
+    said = bridge.said()
+    assert "the Sentinel knows no such master" in said and "Connection refused" in said, said
+    walk("LISTED | a Sentinel's is found")
+    walk("ASKED | it names the master")
+    walk("ASKED | it knows none, or is lost")
+    walk("NAMED | the address is found")
+    walk("NAMED | no address")
+    walk("any | no server was met there")
+    plain = fleet.start(url=f"redis://nobody.invalid,127.0.0.1:{fleet.port}")
+    walk("LISTED | no address")
+    walk("LISTED | a server's address is found")
+    moving = Scripted(fleet.port)
+    moving.script("HGET ds:snapshot at", f"-MOVED 1 127.0.0.1:{fleet.port}\r\n".encode())
+    moved = fleet.start(url=moving.url())
+    says(moved, "MOVED")
+    offer(moved, number("a", 1, 1))
+    shows(plain, [number("a", 1, 1)])
+    walk("any | a node names another one")
+    walk.ends()
+    script.close()
+
+
+def states_of_telling(fleet, draw):
+    with walking(fleet, "telling", "--replicas", "1", "--within", "50") as (walk, script, bridge):
+        enough = script.script("WAIT", b":1\r\n", 1 << 30)
+        lines = numbers("a", 20)
+
+        offer(bridge, *lines[:3])
+        told(fleet, *lines[:3])
+        walk("NEWS | asked")
+        walk("NEWS | each part was added, replicas enough")
+
+        for made in (ERROR, TYPE):
+            script.script("XADD", made)
+            offer(bridge, lines[3])
+            told(fleet, lines[3])
+            lines[3] = number("other", 1, 1)
+        says(bridge, "event=denied", 2)
+        walk("NEWS | a part wasn't added")
+
+        enough.left = 0
+        entries = fleet.entries()
+        with bridge.client() as client:
+            client.send(f"offer {lines[4]}")
+            until(lambda: fleet.entries() == entries + 1, "it is added")
+            says(bridge, "1 replicas are to have each change, and 0 have the last one")
+            assert not client.has_answer(0.3), "it is answered with too few replicas"
+            walk("NEWS | each part was added, too few replicas")
+            script.script_and_wait("WAIT", b":0\r\n", 2)
+            script.script_and_wait("WAIT", ERROR)
+            assert fleet.entries() == entries + 1, "it is added again"
+            walk("ADDED | asked")
+            walk("ADDED | too few replicas, or an error")
+            script.script("WAIT", b":1\r\n")
+            assert client.answer() == ["taken"]
+            walk("ADDED | replicas enough")
+
+        entries = fleet.entries()
+        with bridge.client() as client:
+            client.send(f"offer {lines[5]}")
+            until(lambda: fleet.entries() == entries + 1, "it is added")
+            script.script("WAIT", CUT)
+            until(lambda: fleet.entries() == entries + 2, "the next server is told again", 10)
+            script.script("WAIT", b":1\r\n", 1 << 30)
+            assert client.answer() == ["taken"]
+        walk("any | the connection ends")
+
+
+def states_of_reading(fleet, draw):
+    with walking(fleet, "reading") as (walk, script, bridge):
+        lines = []
+
+        def add(count, front):
+            for line in (more := numbers(front, count)):
+                fleet.ask("XADD", "ds:items", "*", "from", "x", "items", line + "\n")
+            lines.extend(more)
+
+        add(3, "a")
+        shows(bridge, lines)
+        walk("END | entries")
+        bridge.pause()
+        add(150, "b")
+        bridge.resume()
+        shows(bridge, lines)
+        walk("BEHIND | a full reading")
+        walk("BEHIND | a reading that isn't full")
+
+        for made in (ERROR, b"*1\r\n*2\r\n$8\r\nds:items\r\n*1\r\n:1\r\n"):
+            before = bridge.said().count("event=denied")
+            script.script("XREAD", made)
+            add(1, f"c{before}.")
+            shows(bridge, lines)
+            says(bridge, "event=denied", before + 1)
+        walk("any | an error, or out of memory")
+
+        def snapshot(front):
+            """Somebody compacts what this bridge hasn't read."""
+            more = numbers(front, 2)
+            entry = fleet.ask("XADD", "ds:items", "*", "from", "x", "items", "".join(f"{it}\n" for it in more)).decode()
+            fleet.ask("HSET", "ds:snapshot", "at", entry, "items", "".join(f"{it}\n" for it in lines + more))
+            fleet.ask("XTRIM", "ds:items", "MAXLEN", 0)
+            lines.extend(more)
+
+        def gap(front):
+            bridge.pause()
+            add(1, f"{front}.seen")
+            snapshot(front)
+            bridge.resume()
+
+        gap("d")
+        shows(bridge, lines)
+        walk("any | .. and a snapshot that goes further")
+        walk("GAP | the snapshot is fetched")
+        script.script("HMGET ds:snapshot at items", ERROR)
+        gap("e")
+        shows(bridge, lines)
+        walk("GAP | an error, or out of memory")
+        script.script("HMGET ds:snapshot at items", CUT)
+        gap("f")
+        shows(bridge, lines)
+        walk("GAP | the connections end")
+        reconnects(bridge, script.cut)
+        add(1, "g")
+        shows(bridge, lines)
+        walk("BEHIND, END | the connections end")
+        asked = script.asked["XREAD COUNT"]
+        fleet.ask("DEL", "ds:items", "ds:snapshot")
+        told(fleet, *lines)
+        assert script.asked["XREAD COUNT"] > asked
+        walk("any | everything is to be read once more")
+
+
+def states_of_compacting(fleet, draw):
+    with walking(fleet, "compacting") as (walk, script, bridge):
+        lines = []
+
+        def grow():
+            lines.extend(more := numbers(f"n{len(lines)}.", 22))
+            offer(bridge, *more)
+            for _ in range(22):
+                fleet.ask("XADD", "ds:items", "*", "from", "x", "items", more[0] + "\n")
+
+        def compacts():
+            """The stream grows, and is compacted, be it late."""
+            before = int(bridge.state()["compactions"])
+            grow()
+            until(lambda: int(bridge.state()["compactions"]) > before, "the stream is compacted", 10)
+            told(fleet, *lines)
+
+        compacts()
+        walk("RESTS | it is due")
+        walk("WATCHES | good answers")
+        walk("WRITES | it is written")
+        for made, row in (
+            (ERROR, "WATCHES | an error, or out of memory"),
+            (b"*3\r\n$-1\r\n$1\r\nx\r\n$-1\r\n", "WATCHES | another scope"),
+        ):
+            script.script("HMGET ds:snapshot at scope", made)
+            compacts()
+            walk(row)
+
+        def goes_further(raw):
+            """The snapshot of another one, which has read an entry that this one hasn't."""
+            script.script("XINFO STREAM", b"*2\r\n$17\r\nlast-generated-id\r\n$16\r\n99999999999999-5\r\n")
+            return b"*3\r\n$16\r\n99999999999999-0\r\n$10\r\neverything\r\n$-1\r\n"
+
+        unwatched = script.asked["UNWATCH"]
+        script.script("HMGET ds:snapshot at scope", goes_further)
+        compacts()
+        assert script.asked["UNWATCH"] > unwatched
+        walk("WATCHES | another bridge's snapshot goes further")
+        script.script("EXEC", CUT)
+        reconnects(bridge, compacts)
+        walk("any | the connection ends")
+
+        def written_by_another(raw):
+            """Another one writes the snapshot once it is watched."""
+            fleet.ask("HSET", "ds:snapshot", "other", "1")
+            return raw
+
+        script.script("WATCH", written_by_another)
+        compacts()
+        walk("WRITES | another bridge wrote meanwhile")
+        script.script("EVAL return redis.call('HINCRBY'", ERROR)
+        denied = bridge.said().count("event=denied")
+        grow()
+        says(bridge, "event=denied", denied + 1)
+        walk("WRITES | an error")
+
+
+def states_of_comparing(fleet, draw):
+    with walking(fleet, "comparing") as (walk, script, bridge):
+        lines = numbers("a", 9)
+        for line in lines:
+            offer(bridge, line)
+        time.sleep(2 * REST)
+        assert "event=lost" not in bridge.said()
+        walk("BLIND | good answers")
+        walk("LOOKED | good answers")
+        fleet.ask("XDEL", "ds:items", fleet.ask("XRANGE", "ds:items", "-", "+")[4][0])
+        says(bridge, "event=lost")
+        told(fleet, *lines)
+        walk("LOOKED | .. of a server that has less than before")
+        fleet.ask("DEL", "ds:items")
+        says(bridge, "event=lost", 2)
+        told(fleet, *lines)
+        walk("any | .. of a stream in place of another one")
+        walk("any | the server or its stream is another one")
+        fleet.ask("HSET", "ds:snapshot", "scope", "x")
+        says(bridge, "event=badscope")
+        fleet.ask("HSET", "ds:snapshot", "scope", "everything")
+        in_step(bridge)
+        walk("any | .. with another scope")
+        script.script_and_wait("HGETALL ds:digests", ERROR)
+        says(bridge, "event=denied")
+        in_step(bridge)
+        walk("any | an error")
+        entries = fleet.entries()
+        differs = script.script("HGETALL ds:digests", differing(bridge), 4)
+        says(bridge, "event=differs")
+        until(lambda: fleet.entries() > entries, "everything is told again", 10)
+        until(differs.is_used, "it is compared", 20)
+        walk("any | others differ, and this is the first of its kind")
+        in_step(bridge)
+        lines.append(number("late", 1, 1))
+        script.script("XREAD COUNT 64 BLOCK", SWALLOW)
+        fleet.ask("XADD", "ds:items", "*", "from", "x", "items", lines[-1] + "\n")
+        reconnects(bridge, lambda: says(bridge, "what was there a second ago didn't come"))
+        shows(bridge, lines)
+        walk("LOOKED | an entry of a second ago hasn't come")
+
+
+def differing(bridge):
+    """The digests of all, and one more that is another one at the same entry, by a beat that rises."""
+    beats = iter(range(1, 1000))
+
+    def made(raw):
+        texts = re.findall(rb"[0-9a-f]{16}-\d+-\d+-\d+", raw)
+        if not texts:
+            return raw
+        _, _, first, second = texts[0].split(b"-")
+        text = b"0123456789abcdef-%d-%s-%s" % (next(beats), first, second)
+        count = int(raw[1 : raw.index(b"\r\n")])
+        name = b"f" * 32
+        return b"*%d%s$%d\r\n%s\r\n$%d\r\n%s\r\n" % (count + 2, raw[raw.index(b"\r\n") :], len(name), name, len(text), text)
+
+    return made
