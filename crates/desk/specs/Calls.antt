@@ -99,10 +99,11 @@ module _ {M C R : Type 0} {G : Ghosts (View M C R)} where
   abbrev pub HasSeenNote : Note M C R G → Pass M C R G → Type 0
   HasSeenNote n p = IsPrefix (told_by n) (history p) × IsPrefix (order_told_by n) (order p)
 
-  -- Of what two passes have seen, one is a prefix of the other: of the history, and of the order of all notices.
+  -- Whether two passes agree: of the histories that they have seen one is a prefix of the other, and likewise of the
+  -- orders of all notices.
   abbrev pub PassesAgree : Pass M C R G → Pass M C R G → Type 0
   PassesAgree p q = OneBegins (history p) (history q) × OneBegins (order p) (order q)
 
-  -- The same for a note and a pass.
+  -- Like `PassesAgree`, for a note and a pass.
   abbrev pub NoteAgrees : Note M C R G → Pass M C R G → Type 0
   NoteAgrees n p = OneBegins (told_by n) (history p) × OneBegins (order_told_by n) (order p)

@@ -111,8 +111,10 @@ impl<M: Machine> Desk<M> {
         })
     }
 
-    /// Learns a note: from now on the pass has seen all that the note carries. Of the note's history and the pass's,
-    /// one was a prefix of the other. It never waits. Refuses Worn after 2^62 notes, and hands the note back.
+    /// Learns a note, without waiting: from now on the pass has seen all that the note carries. Note and pass agreed:
+    /// of their histories one was a prefix of the other, and likewise of their orders of notices.
+    ///
+    /// Refuses Worn after 2^62 notes. The pass is then unchanged, and the note is handed back.
     pub fn learn(&self, pass: &mut Pass<M>, note: Note<M>) -> Result<(), LearnStop<Note<M>>>
         requires pass { desk_of pass.old ≡ identity self.now }
         requires note { desk_of_note note ≡ identity self.now }

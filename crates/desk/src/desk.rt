@@ -26,7 +26,7 @@ pub struct DeskOf<S, V, K: Made, Q: TableRule<S, V, K>> {
     ghost counted: { K.passes table.shared.key ≡ made },
 }
 
-/// A machine that threads call in turns.
+/// A desk: a machine that threads share, one call at a time.
 pub type Desk<M> = DeskOf<Slot<M>, DeskView<M>, Opening<M>, DeskRule<M>>;
 
 /// The result of a call.

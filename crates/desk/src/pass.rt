@@ -62,5 +62,5 @@ pub struct NoteOf<S, V: Sight> {
 /// The right to call a desk. It knows how far it has seen the history, and which entries are its own.
 pub type Pass<M> = PassOf<Slot<M>, DeskView<M>>;
 
-/// What one pass had seen of the history and of the order of notices, for another pass to learn.
+/// A note: as much of the history, and of the order of notices, as one pass had seen, for another pass to learn.
 pub type Note<M> = NoteOf<Slot<M>, DeskView<M>>;

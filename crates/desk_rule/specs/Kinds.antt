@@ -24,7 +24,8 @@ abbrev pub AtSeat : Type 0 → Type 0 → Type 0 → Type 0
 AtSeat M C R = Me (Option (Home M C R)) (View M C R)
 
 module _ {M C R : Type 0} where
-  -- The view that has seen this much of the history and of the order of notices, which include all that reached it by notes.
+  -- The view after it has seen the history up to `es` and the order of notices up to `ns`, which include all that
+  -- notes brought it.
   abbrev pub after_look : View M C R → Bool → List (Entry C R) → List Notice → View M C R
   after_look v holding es ns = record {
     opening = v.opening;
@@ -37,7 +38,7 @@ module _ {M C R : Type 0} where
     passes = v.passes;
   }
 
-  -- The view that has seen this much of the history.
+  -- The view after it has seen the history up to `es`, which includes the histories that notes brought it.
   abbrev pub with_seen : View M C R → List (Entry C R) → View M C R
   with_seen v es = record {
     opening = v.opening;
@@ -235,7 +236,7 @@ module _ {M C R : Type 0} where
   end_of_turn st m r m' = (h : Home M C R) (l : LastCall C R) (c : List (ℕ × Option (Home M C R))) → m.1 ≡ (0, Some h) ∷ c → h.last ≡ Some l
       → (m' ≡ (after_turn m.0 l.command.value l.reply.value, c)) × OwnCalls m'.0.seen m'.0.passes
 
-  -- The same, if nothing else is out with the seat.
+  -- Like `end_of_turn`, for a seat with nothing else out.
   abbrev pub EntersCall : AtSeat M C R → AtSeat M C R → Type 0
   EntersCall m m' = (h : Home M C R) (l : LastCall C R) → m.1 ≡ (0, Some h) ∷ [] → h.last ≡ Some l
       → (m' ≡ (after_turn m.0 l.command.value l.reply.value, [])) × OwnCalls m'.0.seen m'.0.passes

@@ -17,14 +17,15 @@ module _ {M C R : Type 0} (steps : M → C → R → M → Type 0) (owes : R →
   abbrev TableState : Type 0
   TableState = State (Option (Home M C R)) (View M C R)
 
-  -- Of what two seats have seen, one is a prefix of the other, and each is legal.
+  -- Of the histories that two seats have seen, one is a prefix of the other, and both are legal.
   abbrev pub HistoriesAgree : Type 0
   HistoriesAgree =
       (opening : M) (first passes : ℕ) (s : TableState) → RuleHolds steps owes opening first passes s → (i j : ℕ) (v w : View M C R) →
       get_elem? s.views i ≡ some v → get_elem? s.views j ≡ some w
       → OneBegins v.seen w.seen × IsLegal steps opening v.seen × IsLegal steps opening w.seen
 
-  -- The same for the notices that they have seen, each of which found its word as the earlier ones left it.
+  -- Of the orders of notices that two seats have seen, one is a prefix of the other, and each notice found its word
+  -- as the earlier ones left it.
   abbrev pub NoticesAgree : Type 0
   NoticesAgree =
       (opening : M) (first passes : ℕ) (s : TableState) → RuleHolds steps owes opening first passes s → (i j : ℕ) (v w : View M C R) →

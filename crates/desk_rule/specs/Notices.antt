@@ -78,12 +78,12 @@ raised_in ns s b = total_of (raised_at s b) ns
 abbrev pub taken_in : List Notice → ℕ → ℕ → ℕ
 taken_in ns s b = total_of (taken_at s b) ns
 
--- Whether it sets bits.
+-- Whether the act sets bits.
 abbrev pub IsPost : Act → Type 0
 IsPost (Post bits place) = Unit {0}
 IsPost Take = ⊥
 
--- Whether it sets bits that the call at this place owes.
+-- Whether the act sets bits for the call at this place.
 abbrev pub IsPostAt : ℕ → Act → Type 0
 IsPostAt at (Post bits place) = place ≡ at
 IsPostAt at Take = ⊥
@@ -97,8 +97,8 @@ abbrev pub notices_by : ℕ → List Notice → List Notice
 notices_by p ns = filter (λ (n : Notice). n.pass == p) ns
 
 module _ {C R : Type 0} (owes : R → ℕ) where
-  -- A take; or a post of exactly the bits that a call owes the server: that of the pass at this place, which is in the
-  -- history.
+  -- Whether the act is owed. A take always is. A post must set exactly the bits that a call of the pass, at that
+  -- place of the history, owes the server.
   abbrev pub IsActOwed : ℕ → List (Entry C R) → ℕ → ℕ → Act → Type 0
   IsActOwed first history pass server (Post bits place) =
       (i : ℕ) × (e : Entry C R) × (get_elem? history i ≡ some e) × (e.pass ≡ pass) × (place ≡ first + i) ×
@@ -108,7 +108,7 @@ module _ {C R : Type 0} (owes : R → ℕ) where
   abbrev pub IsOwed : ℕ → List (Entry C R) → Notice → Type 0
   IsOwed first history n = IsActOwed first history n.pass n.server n.act
 
-  -- An entry of the history owes the bit.
+  -- Whether an entry of the history owes bit `b` of server `s`.
   abbrev pub OwedIn : ℕ → ℕ → List (Entry C R) → Type 0
   OwedIn s b history = (i : ℕ) × (e : Entry C R) × (get_elem? history i ≡ some e) × (bit_at (bits_for (owes e.reply) s) b ≡ 1)
 

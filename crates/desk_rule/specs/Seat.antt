@@ -71,6 +71,6 @@ pub record IsClosed {M C R : Type 0} (steps : M → C → R → M → Type 0) (o
   pub own_notices : OwnNotices order v.passes
   pub no_other_notices : (weigh : Notice → ℕ) → total_of weigh order ≡ weigh_notices weigh v.passes
 
--- The same, by the parameters of the table.
+-- `IsClosed`, for the parameters of a table.
 abbrev pub LeavesTable : {M C R : Type 0} → (M → C → R → M → Type 0) → (R → ℕ) → Opening M → View M C R → M → List ℕ → Type 0
 LeavesTable steps owes key v machine pending = IsClosed steps owes key.machine.value key.first v machine pending

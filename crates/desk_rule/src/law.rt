@@ -6,13 +6,14 @@ ghost use Rattle.desk_rule.specs.Laws.{OneSeatHolds, PostedBitsStay, PostsAreOwe
 
 use history::Machine;
 
-/// A law: there is one history. Of what any two seats have seen, one is a prefix of the other, and each is legal.
+/// A law: there is one history. Of the parts that any two seats have seen, one is a prefix of the other, and both are
+/// legal.
 pub fn histories_agree<M: Machine>()
     ensures { HistoriesAgree (Stepped M.stands M.steps) M.owes }
 {}
 
-/// A law: all notices have one order. Of what any two seats have seen of it, one is a prefix of the other, and each
-/// notice found its word as the earlier ones left it.
+/// A law: all notices have one order. Of the parts that any two seats have seen, one is a prefix of the other, and
+/// each notice found its word as the earlier ones left it.
 pub fn notices_agree<M: Machine>()
     ensures { NoticesAgree (Stepped M.stands M.steps) M.owes }
 {}

@@ -72,8 +72,8 @@ pub type DeskShared<M> = Shared<Slot<M>, DeskView<M>, Opening<M>, DeskRule<M>>;
 /// A seat at the table. It has no bytes.
 pub type DeskSeat<M> = Seat<Slot<M>, DeskView<M>>;
 
-/// Returns a table with the machine in its slot and no pending notice, and the one seat, at which all passes sit. If
-/// memory runs out, hands the machine back.
+/// Returns a table and the seat at which all passes sit. The machine is in the table's slot, no notice is pending,
+/// and the first call gets the place `first`. If memory runs out, hands the machine back.
 pub fn new_table<M: Machine>(
     alloc: Global,
     machine: M,

@@ -117,8 +117,8 @@ impl Content {
         self.held.held().get(key)
     }
 
-    /// Returns the index of a key's change in key order, or the index that it would get. Calls that take a place don't
-    /// search again.
+    /// Searches for a key's change: `Ok` is its index in key order, `Err` the index at which it would be inserted.
+    /// Calls that take a place don't search again.
     pub fn place(&self, key: &Key) -> Result<usize, usize>
         ensures { IsPlace (changes_in self.now.held) key.now result }
     {
@@ -159,8 +159,8 @@ impl Content {
         self.held.held().floor_count()
     }
 
-    /// Returns the index of an owner's floor in name order, or the index that it would get. Calls that take a floor's
-    /// place don't search again.
+    /// Searches for an owner's floor: `Ok` is its index in name order, `Err` the index at which it would be inserted.
+    /// Calls that take a floor's place don't search again.
     pub fn floor_place(&self, owner: &Name) -> Result<usize, usize>
         ensures { IsFloorPlace (floors_in self.now.held) owner.now result }
     {

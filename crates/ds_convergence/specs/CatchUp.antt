@@ -14,9 +14,9 @@ pub record MapHolds (query : Key → Bool) (items : List Sent) (held : List Item
   pub sent : (s : Sent) → Contains items s → IsSent s
   pub top : IsTop held (learnt query items)
 
--- A law: a map whose items are whole up to the store's position, and teach it nothing that isn't covered by what the
--- store holds, holds exactly what the store holds under its query. That is the top of everything that the store
--- accepted under it.
+-- A law: a map whose items are whole up to the store's position holds exactly what the store holds under the map's
+-- query. The premises: what the store holds covers all that the items teach the map, and no two of these contradict
+-- each other. What is held is then the top of everything that the store accepted under the query.
 abbrev pub HoldsTheStores : Type 0
 HoldsTheStores =
     (f : Feed) (query : Key → Bool) (items : List Sent) (stored held : List Item) → IsTop stored f.accepted → MapHolds query items held →
@@ -44,8 +44,8 @@ HoldsAtLeast =
     (f : Feed) (query : Key → Bool) (items : List Sent) (stored held : List Item) → IsTop stored f.accepted → MapHolds query items held →
     IsWhole f query items (position f) → CoversAll held (under query stored)
 
--- A law: `HoldsTheStores`, for any holder that knows everything that the store accepted under a query, and nothing
--- under it that isn't covered by what the store holds.
+-- A law: `HoldsTheStores`, for any holder that knows everything that the store accepted under a query. What the store
+-- holds must cover all that the holder knows under it.
 abbrev pub AnyHolderHoldsTheStores : Type 0
 AnyHolderHoldsTheStores =
     (f : Feed) (query : Key → Bool) (known stored held : List Item) → IsTop stored f.accepted → IsTop held known →

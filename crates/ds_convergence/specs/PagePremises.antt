@@ -26,7 +26,8 @@ pub record PagesNeed : Type 0 where
       KeepsQuery scope query → KeepsQuery other query →
       ArePages f scope None 0 (first ∷ pages) → AreSince f other (last_cursor first.page.cursor pages) turns →
       IsWhole f query (page_items (first ∷ pages) ++ since_items turns) (cursor_after (last_cursor first.page.cursor pages) turns).position)
-  -- It is read up to the last page's cursor: a floor between the pages may have dropped what they hadn't reached.
+  -- The journal is read up to the last page's cursor: a floor between the pages may have dropped what they hadn't
+  -- reached.
   pub to_last : ¬ ((f : Feed) (scope other query : Key → Bool) (first : PageTurn) (pages : List PageTurn) (turns : List SinceTurn) →
       KeepsQuery scope query → KeepsQuery other query →
       ArePages f scope None 0 (first ∷ pages) → AreSince f other first.page.cursor turns →

@@ -50,8 +50,9 @@ pub fn taking_laws()
 
 /// The laws of catching up.
 ///
-/// A map that took everything that a store accepted, and nothing that isn't covered by what the store holds, holds
-/// exactly what the store holds under its query. If it took more, it holds at least that.
+/// A map that took everything that a store accepted under the map's query holds exactly what the store holds under
+/// it, if two premises hold: the store's items cover all else that the map took, and no two items contradict each
+/// other. A map that took more holds at least that.
 pub fn catch_up_laws()
     ensures exact { HoldsTheStores }
     ensures alike { HoldsAlike }
@@ -99,10 +100,10 @@ pub fn check_laws()
 
 /// The laws of a reader that continues check by check, reply by reply or page by page.
 ///
-/// Its calls remain valid for the store as it is later, and one more can be added at the end. What they returned was
-/// accepted, and may be returned by a store that knows more. A reply of the journal with fewer items than were asked
-/// for reaches the store's position. So everything that they returned is whole where the laws of checks and of pages
-/// say so.
+/// A list of such calls is still one after the store accepted more, and after one more call at its end. The items
+/// that the calls returned were accepted. If a reply of the journal has fewer items than were asked for, it reaches
+/// the store's position. The items of all checks are whole if the last check returned fewer than it asked for. So are
+/// those of all pages together with the journal's, from the first page's cursor to the last page's.
 pub fn turn_laws()
     ensures checks { ChecksGrow }
     ensures sinces { SincesGrow }

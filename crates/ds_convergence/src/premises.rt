@@ -5,19 +5,21 @@ ghost use Rattle.ds_convergence.specs.PagePremises.{PagesNeed};
 ghost use Rattle.ds_convergence.specs.HolderPremises.{CatchUpNeeds, AgreementNeeds, LabelsNeed};
 ghost use Rattle.ds_convergence.specs.CheckPremises.{ChecksNeed};
 
-/// The laws of wholeness are false without any one of their premises, as stores that accepted one item show.
+/// Each premise of the laws of wholeness is needed: without it the law is false. Stores that accepted one item show
+/// this.
 pub fn whole_premises()
     ensures snapshot { SnapshotNeeds }
     ensures since { SinceNeeds }
     ensures whole { WholeNeeds }
 {}
 
-/// The law of pages is false without any one of its premises.
+/// Each premise of the law of pages is needed: without it the law is false.
 pub fn page_premises()
     ensures { PagesNeed }
 {}
 
-/// The laws of catching up, of agreement, of labels and of checks are false without any one of their premises.
+/// Each premise of the laws of catching up, of agreement, of labels and of checks is needed: without it the law is
+/// false.
 pub fn holder_premises()
     ensures catch_up { CatchUpNeeds }
     ensures agreement { AgreementNeeds }

@@ -14,7 +14,7 @@ CoversIsReflexive = (i : Item) → covers i i ≡ true
 abbrev pub CoversIsTransitive : Type 0
 CoversIsTransitive = (k j i : Item) → covers k j ≡ true → covers j i ≡ true → covers k i ≡ true
 
--- A law: what covers an item under a query is under it too.
+-- A law: if an item is under a query, so is each item that covers it.
 abbrev pub CoversKeepsQueries : Type 0
 CoversKeepsQueries = (query : Key → Bool) (j i : Item) → covers j i ≡ true → passes query i ≡ true → passes query j ≡ true
 
@@ -24,7 +24,7 @@ CoversIsExact =
     (items : List Item) → AreSingleNumbered items → (i j : Item) → Contains items i → Contains items j → covers j i ≡ true →
     covers i j ≡ true → i ≡ j
 
--- A law: of items in order, none of them void, none covers another.
+-- A law: in a sorted list without void items, no item covers another.
 abbrev pub CoversNoneHeld : Type 0
 CoversNoneHeld =
     (held : List Item) → IsStrictlySortedBy item_cmp held → NoneVoid held → (i j : Item) → Contains held i → Contains held j →

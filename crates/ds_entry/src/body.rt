@@ -21,7 +21,7 @@ pub enum Value {
     Mem(Blob),
 }
 
-/// What a change leaves under its key: a value, or the tombstone of a delete (of this project).
+/// What a change leaves under its key: a value, or the tombstone of a delete (not part of MINIX 3).
 #[derive(Debug, PartialEq, Eq, Drop)]
 pub enum Body {
     Put(Value),
@@ -80,7 +80,8 @@ impl Body {
         }
     }
 
-    /// Whether a key of the kind may have it: a put's value must be of that kind.
+    /// Whether a change of a key of this kind may have the body. A value must be of that kind; a tombstone fits every
+    /// kind.
     pub fn is_of_kind(&self, kind: Kind) -> bool
         ensures value { result ≡ is_of_kind kind self.now }
         ensures kind { IsTrue result ↔ IsOfKind kind self.now }
@@ -92,8 +93,8 @@ impl Body {
         }
     }
 
-    /// Whether a label may have it at the version. A label is put with number 0, in its endpoint's generation, and
-    /// ends with number 1.
+    /// Whether a label's change of this version may have the body: with number 0 an endpoint of the version's
+    /// generation, with number 1 a tombstone.
     pub fn fits_label(&self, version: &Version) -> bool
         ensures value { result ≡ is_label_body version.now self.now }
         ensures rule { IsTrue result ↔ IsLabelBody version.now self.now }

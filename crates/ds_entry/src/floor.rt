@@ -10,7 +10,7 @@ use crate::change::Change;
 use ds_names::{Generation, Name};
 use std::cmp::Ordering;
 
-/// A floor under an owner's entries (of this project): it voids what the owner published in generations up to this
+/// A floor under an owner's entries (not part of MINIX 3): it voids what the owner published in generations up to this
 /// one, labels aside.
 ///
 /// In MINIX 3 the entries of a dead driver stay in the data store. A floor ends them, even those that arrive late.

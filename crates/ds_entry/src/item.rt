@@ -15,7 +15,7 @@ use ds_names::{Key, NoRoom};
 use std::alloc::Global;
 use std::cmp::Ordering;
 
-/// What replicas send each other (of this project): a change of one entry, or a floor under all entries of an owner.
+/// What replicas send each other (not part of MINIX 3): a change of one entry, or a floor under all entries of an owner.
 #[derive(Debug, PartialEq, Eq, Drop)]
 pub enum Item {
     Change(Change),

@@ -4,10 +4,10 @@ ghost use Rattle.std.specs.Cmp.{IsTotalOrder};
 ghost use Rattle.ds_entry.specs.CoverLaws.{CoversIsReflexive, CoversIsTransitive, CoversKeepsQueries, CoversIsExact, CoversNoneHeld};
 ghost use Rattle.ds_entry.specs.Item.{item_cmp};
 
-/// A law of covering.
+/// The laws of covering.
 ///
-/// An item covers itself. Covering is transitive. What covers an item under a query of keys is under the query too.
-/// Two single-numbered items that cover each other are equal. Of items in order, none of them void, none covers
+/// An item covers itself. Covering is transitive. If an item is under a query of keys, so is each item that covers
+/// it. Two single-numbered items that cover each other are equal. In a sorted list without void items, no item covers
 /// another.
 pub fn items_cover_one_another()
     ensures reflexive { CoversIsReflexive }

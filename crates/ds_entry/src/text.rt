@@ -78,7 +78,7 @@ impl Text {
         }
     }
 
-    /// Returns its bytes, 0 to 256 of printable ASCII.
+    /// Returns its bytes: printable ASCII, at most 256.
     pub fn bytes(&self) -> &[u8]
         ensures value { result.now ≡ self.now }
         ensures valid { IsText self.now }

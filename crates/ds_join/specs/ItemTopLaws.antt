@@ -46,6 +46,6 @@ abbrev pub TopOfUnion : Type 0
 TopOfUnion =
     (xs ys top joined : List Item) → AreSingleNumbered (xs ++ ys) → IsTop top xs → IsTop joined (xs ++ ys) → IsTop joined (top ++ ys)
 
--- A law: the top of all known items that a known one covers is that one alone.
+-- A law: of a known item and all known items that it covers, the top is that item alone.
 abbrev pub TopOfCovered : Type 0
 TopOfCovered = (i : Item) (known : List Item) → Contains known i → IsTop (i ∷ []) (covered_by i known)

@@ -37,10 +37,11 @@ pub fn read_item(alloc: Global, bytes: &[u8]) -> Result<(Item, usize), LineFault
     }
 }
 
-/// Like `read_item`, but stores the item in `slot` and returns the line's length. A result would be copied from each
-/// reader to its caller.
+/// Like `read_item`, but stores the item in `slot` and returns the line's length. This saves a copy of the item in
+/// each caller.
 ///
-/// It notes the part that it reads next: at BadLine, the part that begins at the place.
+/// `expected` is set to the part that is read next. After BadLine it is the part that should begin at the fault's
+/// place.
 #[inline(always)]
 pub fn read_item_into(
     alloc: Global,

@@ -58,8 +58,7 @@ fn any_decimal(bytes: &[u8]) -> Option<(u64, &[u8])>
 
 /// Reads the decimal number at the front, and returns it with the rest after its digits.
 ///
-/// The number is the longest run of digits, without leading zeros. `None` if there is no such number of at most
-/// `most`.
+/// The number is the longest run of digits. `None` if there is none, or if it has leading zeros or exceeds `most`.
 pub fn read_decimal(bytes: &[u8], most: u64) -> Option<(u64, &[u8])>
     ensures found { IfSome result (λ r. Begins is_ascii_digit bytes.now (decimal r.0) r.1.now) }
     ensures limit { IfSome result (λ r. r.0 ≤ most) }

@@ -88,7 +88,7 @@ impl PartialOrd for Kind {
     }
 }
 
-/// A set of at least one kind, as a mask (of this project): the sum of 1, 2, 4 and 8 for label, u32, str and mem.
+/// A set of at least one kind, as a mask (not part of MINIX 3): the sum of 1, 2, 4 and 8 for label, u32, str and mem.
 #[derive(Clone, Copy, Debug, PartialEq, Eq)]
 pub struct Kinds {
     mask: u8,

@@ -3,10 +3,10 @@
 /// The greatest generation.
 pub const LAST_GENERATION: u32 = 2097151;
 
-/// The most items of a Merge, a Check, a Since or a Page.
+/// The greatest number of items in a Merge, a Check, a Since or a Page.
 pub const MOST_ITEMS: usize = 256;
 
-/// The most floors that are held.
+/// The greatest number of floors that a holder holds.
 pub const MOST_FLOORS: usize = 64;
 
 /// The last sequence number, which no caller uses.
@@ -15,5 +15,5 @@ pub const LAST_SEQ: u32 = u32::MAX;
 /// The greatest position, and the greatest stamp.
 pub const LAST_PLACE: u64 = 1 << 62;
 
-/// The most items that the ring of a journal keeps.
+/// The greatest number of items that the ring of a journal keeps.
 pub const LARGEST_RING: u32 = 4096;

@@ -8,7 +8,7 @@ ghost use Rattle.ds_names.specs.Version.{version_cmp};
 use crate::endpoint::Generation;
 use std::cmp::Ordering;
 
-/// The version of a change (of this project): of two changes of one key, the greater version wins.
+/// The version of a change (not part of MINIX 3): of two changes of one key, the greater version wins.
 ///
 /// Versions are compared by epoch, the generation of the process that made the change, and within an epoch by
 /// sequence number, 0 to 4294967295.

@@ -14,7 +14,7 @@ SameAscii rs ss = (c : ℕ) → c ≤ 0x7F → in_ranges rs c ≡ in_ranges ss c
 abbrev pub HoldsInAscii : Look → Look → Type 0
 HoldsInAscii a b = (text : List ℕ) → IsAscii text → (i : ℕ) → holds a text i ≡ holds b text i
 
--- Whether, in a text of ASCII, both patterns match at the same places, whatever follows.
+-- Whether both patterns match at the same places of each ASCII text, whatever must follow the match.
 abbrev pub SameInAscii : Re → Re → Type 0
 SameInAscii a b =
     (text : List ℕ) → IsAscii text → (k l : Rest) → ((i : ℕ) → is_some (k i) ≡ is_some (l i)) →

@@ -70,11 +70,12 @@ impl From<regex_syntax::Error> for PatternFault {
     }
 }
 
-/// The most bytes of a pattern.
+/// The greatest length of a pattern, in bytes.
 pub const LONGEST_PATTERN: usize = 128;
 
-/// The most bytes of a compiled pattern's table: 12 for each state of its automaton, and 8 for each range of bytes
-/// that leads from one state to another. A table exceeds it by at most 24 bytes. `bench/README.md` has measurements.
+/// The limit on the size of a compiled pattern's table, in bytes: 12 for each state of its automaton, and 8 for each
+/// range of bytes that leads from one state to another. A table exceeds the limit by at most 24 bytes.
+/// `bench/README.md` has measurements.
 pub const SIZE_LIMIT: usize = 12 << 10;
 
 /// A pattern over names: at most 128 bytes of printable ASCII that `regex` accepts, alone and within `^(?:` and `)$`.

@@ -25,7 +25,7 @@ impl Model for PatternText {
 }
 
 impl PatternText {
-    /// Copies the bytes.
+    /// Returns a text with a copy of these bytes, which aren't checked. Fails only if memory runs out.
     pub fn of(alloc: Global, bytes: &[u8]) -> Result<PatternText, NoRoom>
         ensures { IfOk result (λ text. text ≡ bytes.now) }
     {

@@ -32,6 +32,6 @@ IsLastBehind {S} calls last n old new = (mid : S) × CallsLead calls n old mid �
 abbrev pub HasFailedRead : {R : Type 0} → (reads fails : R → R → Type 0) → (old new : R) → Type 0
 HasFailedRead reads fails old new = (n : ℕ) × (IsLastBehind reads fails n old new ⊎ ((n ≡ 2 ^ 32) × CallsLead reads n old new))
 
--- The writes that ended in a fault: the last one failed; or at least 2^64 - 1 were made, and none failed.
+-- Whether the writes ended in a fault: the last one failed; or at least 2^64 - 1 were made, and none failed.
 abbrev pub HasFailedWrite : {W : Type 0} → (writes fails : W → W → Type 0) → W → Type 0
 HasFailedWrite {W} writes fails now = IsLeft fails now ⊎ ((first : W) × (n : ℕ) × (2 ^ 64 - 1 ≤ n) × CallsLead writes n first now)

@@ -8,7 +8,7 @@ use crate::lines::Lines;
 use crate::streams::Source;
 use crate::transfer::Filled;
 
-/// The most bytes of a line, without its newline.
+/// The greatest length of a line, in bytes, without its newline.
 pub const LONGEST_LINE: usize = 4096;
 
 /// The outcome of a move to the next line.

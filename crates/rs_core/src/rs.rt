@@ -67,7 +67,7 @@ impl Rs {
         Rs::from_slot(alloc, settings, next, 16)
     }
 
-    /// As `new`, with slots from `first` on. Also refuses as OutOfRange if `first` is below 16, or the last slot above
+    /// Like `new`, with slots from `first` on. Also refuses as OutOfRange if `first` is below 16, or the last slot above
     /// 1023.
     ///
     /// Two hosts whose slots don't overlap never use the same endpoint.

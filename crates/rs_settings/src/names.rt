@@ -8,7 +8,7 @@ use ds_names::{Name, NoRoom};
 use std::alloc::{AllocFailed, Global};
 use std::marker::Model;
 
-/// Names in order.
+/// A list of names.
 #[derive(Debug, Drop)]
 pub struct Names {
     names: Vec<Name>,

@@ -8,7 +8,7 @@ use ds_names::NoRoom;
 use std::alloc::{AllocFailed, Global};
 use std::marker::Model;
 
-/// Services in order.
+/// A list of services.
 #[derive(Debug, Drop)]
 pub struct Services {
     services: Vec<Service>,

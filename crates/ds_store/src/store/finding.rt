@@ -15,7 +15,8 @@ use ds_machine::{Command, Refusal, Reply};
 use ds_names::{Endpoint, Key, NoRoom};
 
 impl Store {
-    /// Answers as `apply` does a Retrieve of the key, which is only lent. It takes memory only to copy a string or memory.
+    /// Answers a Retrieve of the key as `apply` does, and leaves the key with the caller. It takes memory only to
+    /// copy a `str` or `mem` value.
     #[inline(always)]
     pub fn fast_retrieve(&self, key: &Key) -> Reply
         ensures step { ContentSteps self.now (λ s t. Step s (Command.Retrieve key.now) result t) self.now }
@@ -36,7 +37,7 @@ impl Store {
         }
     }
 
-    /// Answers as `apply` does a NameOf. It takes no memory.
+    /// Answers a NameOf as `apply` does. It takes no memory.
     #[inline(always)]
     pub fn fast_name_of(&self, endpoint: Endpoint) -> Reply
         ensures step { ContentSteps self.now (λ s t. Step s (Command.NameOf endpoint) result t) self.now }
