@@ -109,7 +109,7 @@ impl Content {
         self.held.held()
     }
 
-    /// Returns the change held for a key.
+    /// Returns the change held for a key, or `None` if none is.
     pub fn get(&self, key: &Key) -> Option<&Change>
         ensures value { option_copied result ≡ held_at self.now.held key.now }
         ensures change { IfSome (option_copied result) IsChange }
@@ -125,7 +125,7 @@ impl Content {
         self.held.held().place(key)
     }
 
-    /// Returns the change held for the key with this place.
+    /// Returns the change held for the key with this place, or `None` if none is.
     pub fn get_at(&self, place: Result<usize, usize>) -> Option<&Change>
         ensures value { (key : Key) → IsPlace (changes_in self.now.held) key place → option_copied result ≡ held_at self.now.held key }
         ensures change { IfSome (option_copied result) IsChange }
@@ -167,7 +167,7 @@ impl Content {
         self.held.held().floor_place(owner)
     }
 
-    /// Returns the generation of the floor of the owner with this place.
+    /// Returns the generation of the floor of the owner with this place, or `None` if the owner has none.
     pub fn floor_at(&self, place: Result<usize, usize>) -> Option<Generation>
         ensures { (owner : List ℕ) → IsFloorPlace (floors_in self.now.held) owner place
             → result ≡ option_map (λ (f : Floor). f.generation) (floor_at self.now.held owner) }
@@ -180,7 +180,7 @@ impl Content {
         Some(floor.generation)
     }
 
-    /// Returns the generation of an owner's floor.
+    /// Returns the generation of an owner's floor, or `None` if the owner has none.
     pub fn floor(&self, owner: &Name) -> Option<Generation>
         ensures { result ≡ option_map (λ (f : Floor). f.generation) (floor_at self.now.held owner.now) }
     {

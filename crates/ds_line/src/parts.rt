@@ -21,7 +21,7 @@ pub fn name_at(bytes: &[u8]) -> Option<Name>
     Name::front(bytes)
 }
 
-/// Returns the rest after a name at the front.
+/// Returns the rest after a name at the front, which isn't checked to be this name.
 pub fn behind_name<'a>(bytes: &'a [u8], name: &Name) -> &'a [u8]
     requires { length name.now ≤ length bytes.now }
     ensures { result.now ≡ drop (length name.now) bytes.now }

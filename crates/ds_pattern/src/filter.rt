@@ -29,7 +29,7 @@ impl Model for Filter {
 }
 
 impl Filter {
-    /// Compiles a query. It is refused as its pattern is.
+    /// Compiles a query. Refuses with the fault of its pattern.
     pub fn read(alloc: Global, query: &Query) -> Result<Filter, PatternFault>
         ensures read { IfOk result (λ filter. filter ≡ query.now) }
         ensures pattern { IfOk result (λ filter. IsPattern filter.text) }

@@ -14,7 +14,8 @@ pub struct Masks {
 }
 
 impl Masks {
-    /// Returns the masks of what just took effect: no subscription that it is owed to has been shown it.
+    /// Returns the masks of an item that just took effect: it is still to be shown to each subscription that it is
+    /// owed to.
     pub fn fresh(under: Mask) -> Masks
         ensures { result ≡ fresh under }
     {
@@ -24,14 +25,14 @@ impl Masks {
         }
     }
 
-    /// Returns the subscriptions to which it is owed.
+    /// Returns the subscriptions to which the item is owed.
     pub fn under(self) -> Mask
         ensures { result ≡ self.under }
     {
         self.under
     }
 
-    /// Whether the subscription with this number is still to be shown it.
+    /// Whether the item is still to be shown to the subscription with this number.
     pub fn is_unseen(self, sub: usize) -> bool
         requires { sub < 128 }
         ensures { result ≡ slice_index_or self.unseen sub false }
@@ -39,7 +40,7 @@ impl Masks {
         self.unseen.has(sub)
     }
 
-    /// Returns the masks after it was shown to the subscription with this number.
+    /// Returns the masks after the item was shown to the subscription with this number.
     pub fn shown_to(self, sub: usize) -> Masks
         requires { sub < 128 }
         ensures { result ≡ shown_to sub self }

@@ -44,7 +44,7 @@ impl Subscriptions {
         }
     }
 
-    /// Returns the subscription with this number.
+    /// Returns the subscription with this number, or `None` if its place is empty.
     pub fn get(&self, sub: usize) -> Option<&Subscription>
         requires { sub < length self.now }
         ensures { option_copied result ≡ slice_index_or self.now sub None }

@@ -5,7 +5,7 @@ ghost use Rattle.line_io.specs.Lines.{IsUnbroken, BreaksAt, EndsLine};
 
 use memchr::memchr;
 
-/// Returns the index of the first newline.
+/// Returns the index of the first newline, or `None` if there is none.
 pub fn newline_place(text: &[u8]) -> Option<usize>
     ensures { MatchOption result (IsUnbroken text.now) (BreaksAt text.now) }
 {

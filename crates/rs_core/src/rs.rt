@@ -139,8 +139,8 @@ impl Rs {
         self.place(Sought::Label(*label))
     }
 
-    /// Returns the first fault that applies to an event at a tick. `event` is refused by it; without one, only by lack
-    /// of memory.
+    /// Returns the first fault that applies to an event at a tick, or `None`. With a fault, `event` is refused by it;
+    /// without one, only lack of memory can refuse it.
     pub fn refusal(&self, event: &Event, tick: u64) -> Option<RsFault>
         ensures { result ≡ refusal self.now event.now tick }
     {
