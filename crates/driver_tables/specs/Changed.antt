@@ -32,7 +32,7 @@ settled Block id None = None
 settled Block id (Some e) = Some (Send id e)
 settled _ id state = Some (Answer id Fault)
 
--- As `settled`, if the driver has the label.
+-- Like `settled`, if the driver has the label.
 abbrev pub settled_of : List ℕ → Option EndpointRecord → ℕ → Driver → Option Move
 settled_of label state id d = if is_same_name label d.label then settled d.class id state else None
 

@@ -18,7 +18,7 @@ status_of (Some u) = (u.1.endpoint, u.1.newest)
 abbrev pub device_with : Option EndpointRecord → Device → Device
 device_with state d = record { class = d.class; label = d.label; endpoint = state; newest = newer d.newest state }
 
--- The unit after a new state of the label.
+-- The unit after this label got a new state. Only a unit of the label changes.
 abbrev pub noted : List ℕ → Option EndpointRecord → ℕ × Device → ℕ × Device
 noted label state u = (u.0, if is_same_name label u.1.label then device_with state u.1 else u.1)
 

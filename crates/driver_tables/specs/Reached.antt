@@ -35,6 +35,6 @@ pub record IsTableReached (t : DriverTable) : Type 0 where
   pub current : (label : List ℕ) (e : EndpointRecord) → endpoint_now t.states label ≡ Some e → newest t.states label ≡ Some e.generation
   -- no two requests have the same id
   pub distinct : IsDistinct (λ (r s : Request). r.id == s.id) t.requests
-  -- an id of no request was neither sent nor answered
+  -- an id that no request has was never sent or answered
   pub unasked : (id : ℕ) → is_requested t.requests id ≡ false → (values_of id t.sends ≡ []) × (values_of id t.answers ≡ [])
   pub served : AllByRecursion (IsRequestServed t) t.requests

@@ -20,7 +20,7 @@ submitted class id (Some e) = Send id e
 submitted Block id None = Held id
 submitted _ id None = Answer id Fault
 
--- The move of a request to a driver.
+-- The move when a request is submitted to a driver.
 abbrev pub move_of : DriverTable → Request → Driver → Move
 move_of t r d = submitted d.class r.id (endpoint_now t.states d.label)
 

@@ -13,7 +13,7 @@ use Rattle.ds_content.specs.Content.{ContentRecord}
 abbrev pub content_page : ContentRecord → (Item → Bool) → Option Key → ℕ → Page
 content_page content test after max = page_of test after max content.held (cursor_of content.journal)
 
--- As `content_page`, for a state.
+-- Like `content_page`, for a state.
 abbrev pub state_page : State → (Item → Bool) → Option Key → ℕ → Page
 state_page s test after max = page_of test after max (held_in s) (cursor_behind s)
 
@@ -21,6 +21,6 @@ state_page s test after max = page_of test after max (held_in s) (cursor_behind 
 abbrev pub content_snapshot : ContentRecord → (Item → Bool) → Snapshot
 content_snapshot content test = snapshot_of test content.held (cursor_of content.journal)
 
--- As `content_snapshot`, for a state.
+-- Like `content_snapshot`, for a state.
 abbrev pub state_snapshot : State → (Item → Bool) → Snapshot
 state_snapshot s test = snapshot_of test (held_in s) (cursor_behind s)

@@ -19,7 +19,7 @@ pub record IsRemarked (old new : MarkedHolding Masks) (index : ℕ) (f : Masks �
   pub here : (i : Item) → slice_get (held_items old.held) index ≡ Some i → masks_at new i ≡ option_map f (masks_at old i)
   pub others : (i : Item) (k : ℕ) → slice_get (held_items old.held) k ≡ Some i → (k ≡ index → ⊥) → masks_at new i ≡ masks_at old i
 
--- As `IsRemarked`, for the first `count` items.
+-- Like `IsRemarked`, for the first `count` items.
 pub record AreRemarked (old new : MarkedHolding Masks) (count : ℕ) (f : ℕ → Masks → Masks) : Type 0 where
   pub held : new.held ≡ old.held
   pub first : (k : ℕ) (i : Item) → slice_get (held_items old.held) k ≡ Some i → k < count →

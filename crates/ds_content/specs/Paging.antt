@@ -10,7 +10,7 @@ use Rattle.ds_join.specs.Reading.{comes_after}
 abbrev pub admitted : (Key → Bool) → List ChangeRecord → List ChangeRecord
 admitted keep changes = filter (λ (c : ChangeRecord). keep c.key) changes
 
--- Those of them after the key.
+-- The changes under the scope that come after the key.
 abbrev pub to_come : (Key → Bool) → Option Key → List ChangeRecord → List ChangeRecord
 to_come keep after changes = admitted keep (filter (comes_after after) changes)
 
@@ -22,7 +22,7 @@ more_after keep left = cond keep (cond (left == 0) None (Some (left - 1))) (Some
 abbrev pub given_change : Bool → ℕ → ChangeRecord → List ChangeRecord
 given_change keep left c = cond (keep && not (left == 0)) (c ∷ []) []
 
--- As `given_change`, for items.
+-- Like `given_change`, for items.
 abbrev pub given_items : Bool → ℕ → ChangeRecord → List Item
 given_items keep left c = map change_item (given_change keep left c)
 

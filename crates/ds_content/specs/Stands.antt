@@ -20,11 +20,12 @@ pub record ContentStands (content : ContentRecord) (state : State) : Type 0 wher
   pub reached : IsReached state
   pub within : IsWithin state
 
--- It holds in each state that the content stands for.
+-- Whether `holds` is true of each state that the content stands for.
 abbrev pub InEachState : ContentRecord → (State → Type 0) → Type 0
 InEachState content holds = (s : State) → ContentStands content s → holds s
 
--- It holds, in each such state, for the subscription with this number, if there is one.
+-- Whether, in each state that the content stands for, `holds` is true of the subscription with this number, if there
+-- is one.
 abbrev pub InEachWith : ContentRecord → ℕ → (State → Subscription → Type 0) → Type 0
 InEachWith content sub holds = (s : State) (x : Subscription) → ContentStands content s → subscription_at s sub ≡ Some x → holds s x
 

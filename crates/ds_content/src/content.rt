@@ -109,7 +109,7 @@ impl Content {
         self.held.held()
     }
 
-    /// Returns the change held for a key.
+    /// Returns the change held for a key, or `None` if none is.
     pub fn get(&self, key: &Key) -> Option<&Change>
         ensures value { option_copied result ≡ held_at self.now.held key.now }
         ensures change { IfSome (option_copied result) IsChange }
@@ -117,15 +117,15 @@ impl Content {
         self.held.held().get(key)
     }
 
-    /// Returns the index of a key's change in key order, or the index that it would get. Calls that take a place don't
-    /// search again.
+    /// Searches for a key's change: `Ok` is its index in key order, `Err` the index at which it would be inserted.
+    /// Calls that take a place don't search again.
     pub fn place(&self, key: &Key) -> Result<usize, usize>
         ensures { IsPlace (changes_in self.now.held) key.now result }
     {
         self.held.held().place(key)
     }
 
-    /// Returns the change held for the key with this place.
+    /// Returns the change held for the key with this place, or `None` if none is.
     pub fn get_at(&self, place: Result<usize, usize>) -> Option<&Change>
         ensures value { (key : Key) → IsPlace (changes_in self.now.held) key place → option_copied result ≡ held_at self.now.held key }
         ensures change { IfSome (option_copied result) IsChange }
@@ -159,15 +159,15 @@ impl Content {
         self.held.held().floor_count()
     }
 
-    /// Returns the index of an owner's floor in name order, or the index that it would get. Calls that take a floor's
-    /// place don't search again.
+    /// Searches for an owner's floor: `Ok` is its index in name order, `Err` the index at which it would be inserted.
+    /// Calls that take a floor's place don't search again.
     pub fn floor_place(&self, owner: &Name) -> Result<usize, usize>
         ensures { IsFloorPlace (floors_in self.now.held) owner.now result }
     {
         self.held.held().floor_place(owner)
     }
 
-    /// Returns the generation of the floor of the owner with this place.
+    /// Returns the generation of the floor of the owner with this place, or `None` if the owner has none.
     pub fn floor_at(&self, place: Result<usize, usize>) -> Option<Generation>
         ensures { (owner : List ℕ) → IsFloorPlace (floors_in self.now.held) owner place
             → result ≡ option_map (λ (f : Floor). f.generation) (floor_at self.now.held owner) }
@@ -180,7 +180,7 @@ impl Content {
         Some(floor.generation)
     }
 
-    /// Returns the generation of an owner's floor.
+    /// Returns the generation of an owner's floor, or `None` if the owner has none.
     pub fn floor(&self, owner: &Name) -> Option<Generation>
         ensures { result ≡ option_map (λ (f : Floor). f.generation) (floor_at self.now.held owner.now) }
     {

@@ -107,7 +107,7 @@ impl Held {
         self.limits
     }
 
-    /// Returns the generation of an owner's floor.
+    /// Returns the generation of an owner's floor, or `None` if the owner has none.
     pub fn floor(&self, owner: &Name) -> Option<Generation>
         ensures value { result ≡ floor_for self.now owner.now }
         ensures sound { IsSound self.now }
@@ -138,7 +138,7 @@ impl Held {
         is_void(&self.floors, change)
     }
 
-    /// Returns the change that is held for a key.
+    /// Returns the change that is held for a key, or `None` if none is.
     pub fn get(&self, key: &Key) -> Option<&Change>
         ensures value { option_copied result ≡ held_for self.now key.now }
         ensures sound { IsSound self.now }
@@ -166,7 +166,7 @@ impl Held {
         self.changes.get(index)
     }
 
-    /// Returns the change of the least key, or of the least key after `after`.
+    /// Returns the change of the least key, or of the least key after `after`; `None` if there is no such key.
     pub fn first_after(&self, after: Option<&Key>) -> Option<&Change>
         ensures value { option_copied result ≡ find (comes_after (option_copied after.entry)) (held_changes self.now) }
         ensures change { IfSome (option_copied result) IsChange }

@@ -5,8 +5,8 @@ ghost use Rattle.ds_held.specs.Limits.{IsLimits, larger, limits_for, smaller};
 
 use std::marker::Model;
 
-/// The most subscriptions of a store and the most keys of a holder: 128 and 4096, or, in old traces, 64 and 1024.
-/// There are no others.
+/// The greatest numbers of subscriptions of a store and of keys of a holder: 128 and 4096, or, in old traces, 64 and
+/// 1024. There are no other limits of this type.
 #[derive(Clone, Copy, Debug, PartialEq, Eq)]
 pub struct Limits {
     subs: u32,

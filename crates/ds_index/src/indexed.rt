@@ -71,9 +71,10 @@ impl<M: Drop> Indexed<M> {
         &self.marked
     }
 
-    /// Returns the least name whose live label has the endpoint. It allocates nothing, and looks at no other key.
+    /// Returns the least name whose live label has the endpoint, or `None` if no label does. It allocates nothing,
+    /// and looks at no other key.
     ///
-    /// MINIX 3's DS returns whichever label it finds first. To return the least one is this project's.
+    /// MINIX 3's DS returns whichever label it finds first. The choice of the least one is this project's.
     #[inline(always)]
     pub fn name_of(&self, endpoint: Endpoint) -> Option<&Name>
         ensures { option_copied result ≡ first_name_of endpoint (held_changes self.now.held) }

@@ -52,8 +52,8 @@ IsKindInPlace U32 = Unit {0}
 IsKindInPlace Str = ⊥
 IsKindInPlace Mem = ⊥
 
--- The item takes memory when it takes effect: a change if its key isn't held or if its body is a text or a blob, a
--- floor if its owner has none.
+-- Whether the item takes memory when it takes effect. A change does if its key isn't held, or if its body is a text
+-- or a blob; a floor does if its owner has none yet.
 abbrev pub MergeTakesMemory : State → Item → Type 0
 MergeTakesMemory s (Changed c) = (held_at (held s) c.key ≡ None) ⊎ (¬ IsBodyInPlace c.body)
 MergeTakesMemory s (Floored f) = floor_at (held s) f.owner ≡ None

@@ -53,7 +53,7 @@ pub fn scope_of_since(alloc: Global, scope: &Scope, max: u32) -> Result<ScopeFil
     scope_of_page(alloc, scope, max)
 }
 
-/// Refuses a Merge of more than 256 items, as TooMany.
+/// Returns the refusal of a Merge of this many items: TooMany above 256, otherwise `None`.
 pub fn refusal_of_merge(count: usize) -> Option<Refusal>
     ensures first { result ≡ first_refusal (against_merge count) }
     ensures few { IfNone result (count ≤ most_items) }

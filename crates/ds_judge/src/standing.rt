@@ -3,7 +3,7 @@
 use ds_entry::Change;
 use ds_names::Generation;
 
-/// What a change meets.
+/// What a store holds that bears on a change.
 #[derive(Clone, Copy)]
 pub struct Standing<'a> {
     /// The change held for its key.
@@ -18,7 +18,7 @@ pub struct Standing<'a> {
     pub position: u64,
 }
 
-/// What a floor meets.
+/// What a store holds that bears on a floor.
 #[derive(Clone, Copy)]
 pub struct FloorStanding {
     /// The generation of its owner's held floor.

@@ -25,7 +25,7 @@ brought_by s (Sweep caller owner generation) = Floored (floor_of owner generatio
 brought_by s (Merge items) = items
 brought_by s _ = []
 
--- Those of the items that the store knows after this reply: none if refused, those done if a merge was stopped.
+-- As many of the items as the store knows after this reply: none if refused, those done if a merge was stopped.
 abbrev pub known_after : Reply → List Item → List Item
 known_after (Accepted owed) items = items
 known_after Known items = items

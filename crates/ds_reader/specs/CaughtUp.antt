@@ -8,8 +8,8 @@ use Rattle.ds_convergence.specs.Journaled.{SinceTurn, AreSince, cursor_after}
 use Rattle.ds_convergence.specs.Gathered.{journaled}
 use Rattle.ds_machine.specs.State.{State, next_position}
 
--- The items grew by replies of the journal up to the store's cursor. The first was read from this cursor, each later
--- one from the cursor of the reply before it.
+-- Whether `more` is `items` followed by the journal's replies up to the store's cursor. The first reply was read from
+-- `from`, each later one from the cursor of the reply before it.
 pub record IsCaughtUp (t : State) (query : Query) (from : Cursor) (items more : List Item) : Type 0 where
   pub turns : List SinceTurn
   pub are : AreSince t.feed (is_under query) from turns

@@ -15,14 +15,15 @@ use ds_entry::Items;
 use std::alloc::Global;
 
 /// Reads a store by a subscription while others use the store. It subscribes with INITIAL, over any earlier
-/// subscription of this number, and checks until a Check shows fewer items than it asked for. The items are all under
-/// the query, and leave out nothing that took effect under it up to the store's cursor at the end. Stamps reveal
-/// whether another took the subscription over. The store gets this Subscribe and these Checks, and nothing else.
+/// subscription of this number, and checks until a Check shows fewer items than it asked for. Each item is under the
+/// query. Everything that took effect under it, up to the store's cursor at the end, is among the items or covered by
+/// one of them. Stamps reveal whether another took the subscription over. The store gets the Subscribe and the
+/// Checks, and nothing else.
 ///
 /// Errors: `Refused` if the store refused the Subscribe or the next Check, by this cause; `Unfinished` if the allowed
 /// number of Checks, each full, wasn't enough; `Overtaken` if a Check reported another stamp than the one that the
-/// reader had left; `NoRoom` if memory ran out, before the first command or for the items; `Worn` if no command can be
-/// sent any more. After an error, the store has still advanced by the reader's commands and those of others.
+/// reader had left; `NoRoom` if memory ran out before the first command or for the items; `Worn` if no further
+/// command can be sent. What the reader and others did to the store until then remains.
 pub fn read_by_checks<A: Asks>(
     alloc: Global,
     asked: &mut A,

@@ -46,14 +46,14 @@ fn catch_up<A: Asks>(
     Err(ReadFault::Unfinished)
 }
 
-/// Reads a store by pages, and then by the journal from the first page's cursor on, while others use the store. The
-/// items are all under the query, and leave out nothing that took effect under it up to the store's cursor at the end.
-/// The store gets these Pages and Sinces, and nothing else.
+/// Reads a store by pages, and then by the journal from the first page's cursor on, while others use the store. Each
+/// item is under the query. Everything that took effect under it, up to the store's cursor at the end, is among the
+/// items or covered by one of them. No page is older than the call. The store gets Pages and Sinces of this query,
+/// and nothing else.
 ///
 /// Errors: `Refused` if the store refused the next Page or Since, by this cause; `Unfinished` if the allowed number of
-/// Pages had no last one, or that of Sinces were all full; `NoRoom` if memory ran out, for the next command or for the
-/// items; `Worn` if no command can be sent any more. After an error, the store has still advanced by the commands of
-/// others. No page is older than the call.
+/// Pages didn't reach the last page, or as many Sinces were all full; `NoRoom` if memory ran out for the next command
+/// or for the items; `Worn` if no further command can be sent. What others did to the store meanwhile remains.
 pub fn read_by_pages<A: Asks>(
     alloc: Global,
     asked: &mut A,

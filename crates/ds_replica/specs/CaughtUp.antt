@@ -18,7 +18,8 @@ use Rattle.ds_replica.specs.Fits.{Fits}
 use Rattle.ds_names.specs.Key.{label_key}
 use Rattle.ds_entry.specs.Under.{under, entries_of}
 
--- This is the map's account, and what it was given is whole for the store up to the store's present position.
+-- Whether map `j`, whose account is `m`, has all of a store: what it was given is whole up to the store's present
+-- position.
 pub record HasAll (account : Account) (j : ℕ) (m : MapAccount) (side : Side) : Type 0 where
   pub there : slice_get account.maps j ≡ Some m
   pub whole : IsWhole (store_of account side).state.feed (is_under m.query) m.taken (position (store_of account side).state.feed)

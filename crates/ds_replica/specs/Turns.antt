@@ -58,7 +58,7 @@ WholeStaysInWorlds =
     r ≤ position (store_of account side).state.feed → IsWhole (store_of account side).state.feed query items r →
     IsWhole (store_of (extended_all account events) side).state.feed query items r
 
--- A law: a holder knows what it knows over any events, until it is emptied.
+-- A law: a holder forgets nothing over any events, until it is emptied.
 abbrev pub KnownStays : Type 0
 KnownStays =
     (account : Account) (h : Holder) (events : List (Event × Outcome)) → Stays h events →
@@ -71,7 +71,7 @@ NothingBelowFloorsInWorlds =
     (account : Account) (w : World) (h : Holder) (f : Floor) (c : ChangeRecord) → Fits account w →
     Contains (known_at account h) (Floored f) → Contains (held_by w h) (Changed c) → voids f c ≡ false
 
--- A law: no event brings such a change, until the holder is emptied.
+-- A law: no event brings in a change that a known floor makes void, until the holder is emptied.
 abbrev pub FloorsStandInWorlds : Type 0
 FloorsStandInWorlds =
     (account : Account) (old new : World) (h : Holder) (events : List (Event × Outcome)) (f : Floor) (c : ChangeRecord) → Fits account old →

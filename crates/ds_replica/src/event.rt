@@ -17,7 +17,7 @@ pub enum Holder {
     Map(usize),
 }
 
-/// An event of a world. Maps and messages are numbered from 0 in the order of their making. Of this project.
+/// An event of a world. Maps and messages are numbered from 0 in the order of their making. Not part of MINIX 3.
 #[derive(Drop)]
 pub enum Event {
     /// Sends a command to a store. A reply with items (to a Check, Since, Snapshot or Page) is kept as the next

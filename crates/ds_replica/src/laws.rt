@@ -66,8 +66,8 @@ pub fn stores_grow()
     ensures front { LaterIsFront }
 {}
 
-/// A law: a holder knows what it knows until it is emptied. If it knows a floor, it holds nothing that the floor makes
-/// void, and no event brings such a change.
+/// A law: a holder forgets nothing until it is emptied. If it knows a floor, it holds nothing that the floor makes
+/// void, and no event brings such a change in.
 pub fn floors_stand()
     ensures known { KnownStays }
     ensures below { NothingBelowFloorsInWorlds }

@@ -8,7 +8,7 @@ use ds_names::NoRoom;
 use std::alloc::Global;
 use thiserror::Error;
 
-/// The outcome of an event. Of this project.
+/// The outcome of an event. Not part of MINIX 3.
 #[derive(Drop)]
 pub enum Outcome {
     /// The store's reply.

@@ -1,6 +1,6 @@
 //! What a world's stores are opened with.
 
-/// What a store is opened with. Of this project.
+/// What a store is opened with. Not part of MINIX 3.
 #[derive(Clone, Copy, Debug, PartialEq, Eq)]
 pub struct Seed {
     /// The number of this run of the store.

@@ -91,7 +91,7 @@ items_of_map session map = map_items (slice_get session.world.maps map)
 abbrev pub AnswersRing : ℕ → SessionContent → List ℕ → SessionContent → Type 0
 AnswersRing ring old out new = IsOpened ring new × (out ≡ ring_line ring)
 
--- Whether this side's store is the current one from now on.
+-- Whether the side's store becomes the current one.
 abbrev pub AnswersSide : Side → SessionContent → List ℕ → SessionContent → Type 0
 AnswersSide side old out new = (new ≡ turned old side) × (out ≡ side_line side)
 
@@ -151,31 +151,31 @@ AnswersLine before old line out new =
 abbrev pub AppendsCommand : ScriptCommand → (before after : List ℕ) → (old new : SessionContent) → Type 0
 AppendsCommand command before after old new = (out : List ℕ) × (after ≡ before ++ out) × AnswersOrRefuses command old out new
 
--- Likewise for `ring`, or its refusal.
+-- Like `AppendsCommand`, for `ring`, or its refusal.
 abbrev pub AppendsRing : ℕ → (before after : List ℕ) → (old new : SessionContent) → Type 0
 AppendsRing ring before after old new =
     (out : List ℕ) × (after ≡ before ++ out) × (AnswersRing ring old out new ⊎ IsLineRefused old out new)
 
--- Likewise for `side`, whose store is the current one from now on.
+-- Like `AppendsCommand`, for `side`, whose store is the current one from now on.
 abbrev pub AppendsSide : Side → (before after : List ℕ) → (old new : SessionContent) → Type 0
 AppendsSide side before after old new = (after ≡ before ++ side_line side) × (new ≡ turned old side)
 
--- Likewise for a command that is an event, or its refusal.
+-- Like `AppendsCommand`, for a command that is an event, or its refusal.
 abbrev pub AppendsEvent : ScriptCommand → (before after : List ℕ) → (old new : SessionContent) → Type 0
 AppendsEvent command before after old new =
     (out : List ℕ) × (after ≡ before ++ out)
     × (AnswersAsEvent command old out new ⊎ (AnswerTakesRoom command old × IsLineRefused old out new))
 
--- Likewise for a step of RS and the tables.
+-- Like `AppendsCommand`, for a step of RS and the tables.
 abbrev pub AppendsByServers : (Servers → List ℕ → Servers → Type 0) → (before after : List ℕ) → (old new : SessionContent) → Type 0
 AppendsByServers R before after old new = (out : List ℕ) × (after ≡ before ++ out) × AnswersByServers R old out new
 
--- Likewise for settings, or their refusal.
+-- Like `AppendsCommand`, for settings, or their refusal.
 abbrev pub AppendsSettings : List ℕ → (before after : List ℕ) → (old new : SessionContent) → Type 0
 AppendsSettings text before after old new =
     (out : List ℕ) × (after ≡ before ++ out) × (AnswersByServers (AnswersSettings text) old out new ⊎ IsLineRefused old out new)
 
--- Likewise for an event of RS.
+-- Like `AppendsCommand`, for an event of RS.
 abbrev pub AppendsByServices : services.Event → ℕ → (before after : List ℕ) → (old new : SessionContent) → Type 0
 AppendsByServices event tick before after old new = (out : List ℕ) × (after ≡ before ++ out) × AnswersByServices event tick old out new
 

@@ -13,13 +13,13 @@ HasCause r w ReadFault old new writer = HasFailedRead r.reads r.fails old new
 HasCause r w WriteFault old new writer = HasFailedWrite w.writes w.fails writer
 HasCause r w _ old new writer = Unit {0}
 
--- Likewise where nothing is read: no fault blames the reader.
+-- Like `HasCause` where nothing is read: no fault blames the reader.
 abbrev pub HasWriteCause : {W : Type 0} → Writer W → ReplayFault → W → Type 0
 HasWriteCause w ReadFault writer = ⊥
 HasWriteCause w WriteFault writer = HasFailedWrite w.writes w.fails writer
 HasWriteCause w _ writer = Unit {0}
 
--- Likewise for one read, which is the one that ReadFault blames.
+-- Like `HasCause`, for one read, which is the one that ReadFault blames.
 abbrev pub HasTurnCause : {R W : Type 0} → Reader R → Writer W → ReplayFault → (old new : R) → W → Type 0
 HasTurnCause r w ReadFault old new writer = r.fails old new
 HasTurnCause r w WriteFault old new writer = HasFailedWrite w.writes w.fails writer

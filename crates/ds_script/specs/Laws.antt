@@ -146,7 +146,7 @@ ShowsAgree =
     HoldSame world (λ key. true) (Store A) (Store B) →
     AnswersCommand lines.Show (turned session A) out after → AnswersCommand lines.Show (turned session B) out (turned session B)
 
--- No line is bad where a bad line ends the script.
+-- A law: if a bad line is to end the script, no answered line is bad.
 abbrev pub NoneIsBadWhereOneEnds : Type 0
 NoneIsBadWhereOneEnds =
     (before : ℕ) (old new : SessionContent) (lines : List (List ℕ)) (out : List ℕ) (bad : ℕ) →

@@ -30,7 +30,7 @@ reached it = record {
 abbrev pub written : {W B : Type 0} → Writer W → Replay W B → Option (List ℕ)
 written w it = w.contents it.writer.now
 
--- Whether it is still the same writer.
+-- Whether the replay still has the same writer.
 abbrev pub KeepsWriter : {W B : Type 0} → Replay W B → Replay W B → Type 0
 KeepsWriter old new = new.writer.ghost_name ≡ old.writer.ghost_name
 
@@ -96,7 +96,7 @@ abbrev pub TakesUnended : {W B T : Type 0} → Writer W → Replay W B → Repla
 TakesUnended w old new pending result =
     MatchResult result (λ _. Takes w old (unended pending) new) (λ fault. IsCaused w new fault × StopsAtLast w old new pending fault)
 
--- Likewise, and no answer waits afterwards.
+-- Like `TakesUnended`, and no answer waits afterwards.
 abbrev pub TakesLast : {W B T : Type 0} → Writer W → Replay W B → Replay W B → List ℕ → Result T ReplayFault → Type 0
 TakesLast w old new pending result =
     MatchResult result (λ _. Takes w old (unended pending) new × (new.output.items ≡ []))
@@ -111,7 +111,7 @@ TurnsBy r w from to old new pending rest more =
     r.reads from to
     × Turns more (r.remaining from) (r.remaining to) (written w old) (written w new) (reached old) pending (reached new) rest
 
--- Whether that turn stopped.
+-- Whether the replay stopped in a turn, with this fault.
 abbrev pub StopsInTurn : {R W B : Type 0} → Reader R → Writer W → (from to : R) → Replay W B → Replay W B → List ℕ → ReplayFault → Type 0
 StopsInTurn r w from to old new pending fault =
     HasTurnCause r w fault from to new.writer.now
@@ -128,7 +128,7 @@ pub record KeepsCount {W B : Type 0} (replay : Replay W B) (old new : LinesConte
   pub count : replay.tally.lines ≡ new.count
   pub reads : new.reads ≡ suc old.reads
 
--- Whether nothing is read or answered yet.
+-- Whether nothing has been read or answered yet.
 pub record IsAtStart {W B : Type 0} (replay : Replay W B) (at : LinesContent) : Type 0 where
   pub opened : IsOpened 256 replay.session.now
   pub waiting : replay.output.items ≡ []

@@ -13,7 +13,7 @@ pub fn scripts_are_events()
     ensures shows { ShowsAgree }
 {}
 
-/// A law: where a bad line ends the script, no answered line is bad.
+/// A law: if a bad line is to end the script, no answered line is bad.
 pub fn none_is_bad_where_one_ends()
     ensures { NoneIsBadWhereOneEnds }
 {}

@@ -11,7 +11,7 @@ use Rattle.ds_machine.specs.declared.refusal.Refusal.{Refusal}
 use Rattle.ds_machine.specs.declared.refusal.Refusal.TheVariants as refusals
 use Rattle.ds_judge.specs.Passed.{passed_as}
 
--- This refusal applies to the item, and stops the merge.
+-- Whether this refusal applies to the item, and stops the merge.
 pub record StopsMerge (s : State) (i : Item) (fault : Refusal) : Type 0 where
   pub stands : cause_of s i ≡ Some (causes.Refused fault)
   pub refuses : passed_as (causes.Refused fault) ≡ Err fault

@@ -80,7 +80,7 @@ impl Store {
         Store::open_with(alloc, incarnation, first, ring, Limits::larger())
     }
 
-    /// As `open`, with other limits.
+    /// Like `open`, with other limits.
     pub fn open_with(
         alloc: Global,
         incarnation: u64,

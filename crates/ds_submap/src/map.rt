@@ -105,7 +105,7 @@ impl SubMap {
         take_packed(alloc, &self.filter, &mut self.held, items)
     }
 
-    /// Returns the change that is held for a key. It allocates nothing.
+    /// Returns the change that is held for a key, or `None` if none is. It allocates nothing.
     pub fn get(&self, key: &Key) -> Option<&Change>
         ensures value { option_copied result ≡ held_for self.now.held key.now }
         ensures change { IfSome (option_copied result) IsChange }

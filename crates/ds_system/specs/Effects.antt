@@ -25,7 +25,8 @@ abbrev pub AskedIfAny : Side → Option Command → (before after : List Reply) 
 AskedIfAny side None before after old new = (after ≡ before) × (new ≡ old)
 AskedIfAny side (Some command) before after old new = (reply : Reply) × (after ≡ before ++ reply ∷ []) × IsProper command × EventLeads (Ask side command) (Replied reply) old new
 
--- These commands went to it, in order, with these replies.
+-- Whether these commands went to the side's store, in order, with these replies, and led from the old world to the
+-- new.
 pub record AllAsked (side : Side) (commands : List Command) (replies : List Reply) (old new : WorldRecord) : Type 0 where
   pub one_each : length replies ≡ length commands
   pub proper : AreProper (asks_replied side commands replies)

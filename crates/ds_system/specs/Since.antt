@@ -83,8 +83,8 @@ pub record HoldsOfPast (past : SystemPast) : Type 0 where
   pub turns : (front back : List SystemEntry) (entry : SystemEntry) → past.entries ≡ front ++ entry ∷ back → IsRightAmong past front entry back
   pub apart : (label : List ℕ) → has_label past.now.file.units label ≡ true → has_label past.now.net.units label ≡ true → ⊥
 
--- These events, with these outcomes, led from a past to a longer one of a system that the value stands for, and the
--- laws hold of all of it, from the first event on.
+-- Whether these events, with these outcomes, continued the past to that of a system that the value stands for, and
+-- the laws hold of the whole past, from the first event on.
 pub record LawfulSince (past : SystemPast) (events : List SystemEvent) (outcomes : List SystemOutcome) (value : SystemRecord) : Type 0 where
   pub entries : List SystemEntry
   pub are : AreEntriesOf events outcomes entries
@@ -93,6 +93,6 @@ pub record LawfulSince (past : SystemPast) (events : List SystemEvent) (outcomes
   pub stands : SystemStands value later.now
   pub holds : HoldsOfPast later
 
--- The same, for every past that the old value may have.
+-- Whether `LawfulSince` holds for every past that the old value may have.
 abbrev pub SystemLawsHold : List SystemEvent → List SystemOutcome → SystemRecord → SystemRecord → Type 0
 SystemLawsHold events outcomes old new = (past : SystemPast) → SystemStands old past.now → LawfulSince past events outcomes new

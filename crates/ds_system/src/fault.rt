@@ -2,7 +2,7 @@
 
 use thiserror::Error;
 
-/// Why a system can't begin, in the order in which the causes are judged. Of this project.
+/// Why a system can't begin, in the order in which the causes are judged. Not part of MINIX 3.
 #[derive(Clone, Copy, Debug, PartialEq, Eq, Error)]
 pub enum BeginFault {
     /// The generation of the first start isn't 1 to 2097152.

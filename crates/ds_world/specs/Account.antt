@@ -98,7 +98,7 @@ NothingBelowFloors account value =
     (h : Holder) (f : Floor) (c : ChangeRecord) → Contains (known_at account h) (Floored f) → Contains (held_in value h) (Changed c) →
     voids f c ≡ false
 
--- These events bring nothing that a floor known before them makes void, unless they empty the holder.
+-- *floors*: the events bring in nothing that a floor known before them makes void, unless they empty the holder.
 abbrev pub FloorsStand : Account → List (Event × Outcome) → WorldRecord → Type 0
 FloorsStand account events new =
     (h : Holder) (f : Floor) (c : ChangeRecord) → Stays h events → Contains (known_at account h) (Floored f) →

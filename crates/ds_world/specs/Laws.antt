@@ -9,8 +9,8 @@ use Rattle.ds_world.specs.Messages.{SnapshotsAreWhole, SincesAreTurns, SinceMess
 use Rattle.ds_world.specs.Pages.{AllPagesAreWhole}
 use Rattle.ds_world.specs.Told.{AreTold}
 
--- These events with these outcomes, in any number of runs, led here from a value that the account fitted. With no
--- events, the account fits this value.
+-- Whether these events with these outcomes, in any number of runs, led to this value from one that the account
+-- fitted. With no events, the account fits this value itself.
 pub record CameSince (known : Account) (told : List (Event × Outcome)) (value : WorldRecord) : Type 0 where
   pub first : WorldRecord
   pub fits : IsFor known first

@@ -61,7 +61,7 @@ pub record IsAnswered (side : Side) (command : Command) (outcome : Outcome) (rep
       WorldStands new after
   pub last : (w : World) → WorldStands old w → IsLast (store_at w side) command reply
 
--- The reply is kept whole as the message of this number, after the others.
+-- Whether the command's reply was kept, whole, as message `k`, after all other messages.
 pub record IsMessageKept (side : Side) (command : Command) (k : ℕ) (old new : WorldRecord) : Type 0 where
   pub reply : Reply
   pub answered : IsAnswered side command (Made k) reply old new

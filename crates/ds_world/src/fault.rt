@@ -2,7 +2,7 @@
 
 use thiserror::Error;
 
-/// Why a world can't be made from two seeds, in the order of judgement. Of this project.
+/// Why a world can't be made from two seeds, in the order of judgement. Not part of MINIX 3.
 #[derive(Clone, Copy, Debug, PartialEq, Eq, Error)]
 pub enum SeedFault {
     /// A ring isn't 1 to 4096.
@@ -19,7 +19,7 @@ pub enum SeedFault {
     NoRoom,
 }
 
-/// Why a list of events can't be run. Nothing happened. Of this project.
+/// Why a list of events can't be run. Nothing happened. Not part of MINIX 3.
 #[derive(Clone, Copy, Debug, PartialEq, Eq, Error)]
 pub enum WorldFault {
     /// The list has more than 65536 events.

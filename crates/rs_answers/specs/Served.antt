@@ -28,7 +28,7 @@ acted_lines [] replies = []
 acted_lines (action ∷ actions) [] = action_line action ++ acted_lines actions []
 acted_lines (action ∷ actions) (reply ∷ replies) = action_line action ++ (reply_lines_if (Some reply) ++ acted_lines actions replies)
 
--- These lines, and then the number of actions.
+-- The actions' lines, each followed by the store's reply, and then the number of actions.
 abbrev pub all_acted_lines : List Action → List (Option Reply) → List ℕ
 all_acted_lines actions replies = acted_lines actions replies ++ action_count_line (length actions)
 

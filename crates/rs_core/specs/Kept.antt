@@ -38,7 +38,7 @@ times_given given key = if nat_lt key given then 1 else 0
 pub record SlotsFit (slots : SlotsRecord) (states : List State) : Type 0 where
   -- a key that was ever taken is either free or has one instance; no other key is
   pub once : (key : ℕ) → count_by (λ k. k == key) slots.freed + count_by (is_at slots.first key) states ≡ times_given slots.given key
-  -- of the keys ever taken, as many aren't free as services are up
+  -- the keys that were taken and not freed are as many as the services that are up
   pub taken : length slots.freed + up_count states ≡ slots.given
   -- no more keys were ever taken than there are services
   pub few : slots.given ≤ length states

@@ -42,7 +42,7 @@ impl Action {
     }
 }
 
-/// Actions in order.
+/// A list of actions.
 #[derive(Debug, Drop)]
 pub struct Actions {
     actions: Vec<Action>,

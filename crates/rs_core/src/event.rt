@@ -16,7 +16,7 @@ pub enum Event {
     Refresh(Name),
     /// Start a service that waits or was given up.
     Restart(Name),
-    /// An instance died. The numbers of causes are of this project: 1 exit or panic, 2 CPU or MMU exception, 3 killed
+    /// An instance died. The numbers of causes are this project's own: 1 exit or panic, 2 CPU or MMU exception, 3 killed
     /// by a user, 4 missing heartbeat, 5 complaint by another component, 6 dynamic update.
     Death(Endpoint, u64),
     /// An instance reports that it is alive.

@@ -67,7 +67,7 @@ impl Rs {
         Rs::from_slot(alloc, settings, next, 16)
     }
 
-    /// As `new`, with slots from `first` on. Also refuses as OutOfRange if `first` is below 16, or the last slot above
+    /// Like `new`, with slots from `first` on. Also refuses as OutOfRange if `first` is below 16, or the last slot above
     /// 1023.
     ///
     /// Two hosts whose slots don't overlap never use the same endpoint.
@@ -139,8 +139,8 @@ impl Rs {
         self.place(Sought::Label(*label))
     }
 
-    /// Returns the first fault that applies to an event at a tick. `event` is refused by it; without one, only by lack
-    /// of memory.
+    /// Returns the first fault that applies to an event at a tick, or `None`. With a fault, `event` is refused by it;
+    /// without one, only lack of memory can refuse it.
     pub fn refusal(&self, event: &Event, tick: u64) -> Option<RsFault>
         ensures { result ≡ refusal self.now event.now tick }
     {

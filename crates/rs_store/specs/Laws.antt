@@ -78,7 +78,7 @@ RsAloneIsRs =
 
 -- ---- what replies settle
 
--- From each state that the first content stands for, the other two stand for one state.
+-- Whether some state is one that both `a` and `b` stand for, provided that `old` stands for any.
 abbrev pub StandAlike : ContentRecord → ContentRecord → ContentRecord → Type 0
 StandAlike old a b = (s : State) → ContentStands old s → (t : State) × ContentStands a t × ContentStands b t
 

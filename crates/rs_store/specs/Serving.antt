@@ -68,7 +68,7 @@ TurnFor old (Some command) (Some reply) new = Turn old command reply new
 TurnFor old None (Some reply) new = ⊥
 TurnFor old (Some command) None new = ⊥
 
--- As `TurnFor`, for each of the actions in order.
+-- Like `TurnFor`, for each of the actions in order.
 abbrev pub TurnsFor : ContentRecord → List Action → List (Option Reply) → ContentRecord → Type 0
 TurnsFor old [] [] new = new ≡ old
 TurnsFor old (action ∷ actions) (reply ∷ replies) new =

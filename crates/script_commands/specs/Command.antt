@@ -107,7 +107,7 @@ ReadsAs May bytes (Err NoRoom) =
 abbrev pub IsCommandFault : List ℕ → ℕ → Type 0
 IsCommandFault bytes place = IsFaultAmong IsCommand bytes place
 
--- As `ReadsAs`, for any command.
+-- Like `ReadsAs`, for any command.
 abbrev pub ReadsCommand : List ℕ → Result ScriptCommand CommandFault → Type 0
 ReadsCommand bytes result = ReadsAs IsCommand bytes result
 

@@ -7,17 +7,18 @@ use Rattle.script_commands.specs.Pieces.{a_pattern}
 use Rattle.script_commands.specs.Query.{IsWrittenText, unescaped}
 use Rattle.script_commands.specs.Scope.{a_scope, IsWrittenScope, written_scope}
 
--- The piece is at the front, followed by the rest; or it can't be read from some part on; or memory runs out for it.
+-- Whether the result of reading a piece is right. Either the piece is at the front, followed by `rest`; or it can't
+-- be read from some part on; or memory ran out, which is possible only if `Wants` holds.
 pub record Reading (Wants : Type 0) (p : Piece) (bytes : List ℕ) (result : Result p.Of PartFault) (rest : List ℕ) : Type 0 where
   pub found : IfOk result (λ (thing : p.Of). Found p thing bytes rest)
   pub stop : IfErr result (λ (stop : PartFault). StopsIn p stop bytes)
   pub room : IfErr result (λ (stop : PartFault). stop ≡ NoRoom → Wants)
 
--- The same, folded, so that the readers of lines needn't look into it.
+-- `Reading`, folded, so that the readers of lines needn't look into it.
 unfoldable pub ReadsOr : Type 0 → (p : Piece) → List ℕ → Result p.Of PartFault → List ℕ → Type 0
 ReadsOr Wants p bytes result rest = Reading Wants p bytes result rest
 
--- As `ReadsOr`, for a piece that takes no memory.
+-- Like `ReadsOr`, for a piece that takes no memory.
 abbrev pub Reads : (p : Piece) → List ℕ → Result p.Of PartFault → List ℕ → Type 0
 Reads p bytes result rest = ReadsOr ⊥ p bytes result rest
 

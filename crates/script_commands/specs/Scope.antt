@@ -17,7 +17,7 @@ abbrev pub IsScope : Scope → Type 0
 IsScope All = Unit {0}
 IsScope (Under query) = IsQuery query
 
--- Whether it has a pattern.
+-- Whether the scope has a pattern.
 abbrev pub ScopeTakesMemory : Scope → Type 0
 ScopeTakesMemory All = ⊥
 ScopeTakesMemory (Under query) = Unit {0}

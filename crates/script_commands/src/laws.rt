@@ -18,8 +18,8 @@ pub fn lines_are_proper()
     ensures { LinesAreProper }
 {}
 
-/// A law of the table: whatever the slots of a word may hold, some command of the word holds it. So the lines of a
-/// word's commands are exactly those that its row of slots makes.
+/// A law of the table: for each word, and all contents that its row of slots allows, there is a command with that
+/// word and these contents. So each line that the table allows is some command's.
 pub fn rows_are_commands()
     ensures { (word : Word) (fields : (line_of word).Of) → (line_of word).Can fields
         → (command : ScriptCommand) × IsCommand command × (row_for command ≡ (word, fields)) }

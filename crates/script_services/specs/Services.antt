@@ -68,7 +68,7 @@ RsAnswers rs event tick (Ok actions) after = RsStep rs event tick actions after
 RsAnswers rs event tick (Err NoRoom) after = (refusal rs event tick ≡ None) × (asks has_actions (asked rs event tick) ≡ true) × (after ≡ rs)
 RsAnswers rs event tick (Err fault) after = (refusal rs event tick ≡ Some fault) × (after ≡ rs)
 
--- As `RsAnswers`, whether or not RS has begun.
+-- Like `RsAnswers`, whether or not RS has begun.
 abbrev pub ServicesAnswer : Option RsRecord → services.Event → ℕ → Result (List Action) RsFault → Option RsRecord → Type 0
 ServicesAnswer None event tick answer after = (answer ≡ without_settings event) × (after ≡ None)
 ServicesAnswer (Some rs) event tick answer after = (new : RsRecord) × RsAnswers rs event tick answer new × (after ≡ Some new)
@@ -83,7 +83,7 @@ pub record AsksStore (side : Side) (command : Command) (old : WorldRecord) (out 
   pub lines : out ≡ reply_lines AsMerge reply larger
   pub event : events ≡ (Ask side command, Replied reply) ∷ []
 
--- As `AsksStore`, if there is a command.
+-- Like `AsksStore`, if there is a command.
 abbrev pub AsksIfAny : Side → Option Command → WorldRecord → List ℕ → List (Event × Outcome) → WorldRecord → Type 0
 AsksIfAny side None old out events new = (out ≡ []) × (events ≡ []) × (new ≡ old)
 AsksIfAny side (Some command) old out events new = AsksStore side command old out events new
@@ -96,7 +96,8 @@ AnswersActions side (action ∷ actions) old out events new =
     × AsksIfAny side (command_of action) old first one mid × AnswersActions side actions mid rest more new
     × (out ≡ action_line action ++ (first ++ rest)) × (events ≡ one ++ more)
 
--- These lines and then the number of actions, without the store's answers; or RS's refusal.
+-- Whether a step of RS is answered: by the actions' lines, with the store's replies, and then the number of actions,
+-- which doesn't count the replies; or by RS's refusal.
 abbrev pub TellsActions : Side → Result (List Action) RsFault → WorldRecord → List ℕ → List (Event × Outcome) → WorldRecord → Type 0
 TellsActions side (Ok actions) old out events new =
     (lines : List ℕ) × AnswersActions side actions old lines events new × (out ≡ lines ++ action_count_line (length actions))

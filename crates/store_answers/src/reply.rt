@@ -23,7 +23,7 @@ use std::alloc::Global;
 /// A change that took effect is `taken`. An offer, which is a Merge of one item, is answered by the outcome of that
 /// item; any other Merge by the numbers of items done, taken and stale. The items of a check, of the journal, of a
 /// snapshot and of a page come first, each on its line. If notices are owed, the last line is the mask of their
-/// subscriptions: a byte for eight of the limits, the greatest byte first. The lines are of this project.
+/// subscriptions: a byte for eight of the limits, the greatest byte first. The lines are this project's own.
 pub fn write_reply(
     alloc: Global,
     wording: Wording,

@@ -36,7 +36,7 @@ use Rattle.system_model.specs.Steps.{Steps, WorldEvents, no_steps, events_alone,
 
 -- ---- what goes to the stores
 
--- These events of the world happened, and led to the world of `t`.
+-- Whether these events of the world happened, without a turn of a table, and led to the world of `t`.
 pub record WorldDoes (s : System) (steps : Steps) (events : WorldEvents) (t : System) : Type 0 where
   pub steps_are : steps ≡ events_alone events
   pub proper : AreProper events

@@ -66,7 +66,7 @@ pub record SystemLaws (account : Account) (entries : List SystemEntry) (t : Syst
   -- both tables were reached by calls
   pub tables : (table : Table) → IsCalled (table_at t table)
 
--- These laws hold over every list of events of a new system.
+-- A law: `SystemLaws` holds over every list of events of a new system.
 abbrev pub SystemsKeepLaws : Type 0
 SystemsKeepLaws =
     (settings : SettingsRecord) (a b : Seed) (next : ℕ) (s t : System) (entries : List SystemEntry) → IsNew settings a b next s → SystemRun s entries t → SystemLaws (account_since a b entries) entries t

@@ -30,7 +30,7 @@ no_steps = record { events = []; file = None; net = None }
 abbrev pub events_alone : WorldEvents → Steps
 events_alone events = record no_steps { events = events }
 
--- A turn of one table, and nothing else.
+-- The steps in which one table has this turn, and nothing else happens.
 abbrev pub turn_alone : Table → TableTurn → Steps
 turn_alone File turn = record no_steps { file = Some turn }
 turn_alone Net turn = record no_steps { net = Some turn }

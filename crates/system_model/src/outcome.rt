@@ -13,7 +13,7 @@ use rs_core::{Actions, RsFault};
 use std::alloc::Global;
 use thiserror::Error;
 
-/// The outcome of a system's event. Of this project.
+/// The outcome of a system's event. Not part of MINIX 3.
 #[derive(Drop)]
 pub enum SystemOutcome {
     /// RS's actions, and the store's reply to each offered change and each sweep.

@@ -3,7 +3,7 @@
 use ds_names::Name;
 use std::str::{FromStr, Split};
 
-/// Parses the next word as a number.
+/// Parses the next word as a number. `None` if there is no word, or if it isn't a number.
 pub fn number_at<T: FromStr>(words: &mut Split<'_, char>) -> Option<T>
 where
     T::Err: Drop,
@@ -11,7 +11,7 @@ where
     words.next()?.parse().ok()
 }
 
-/// Parses the next word as a name.
+/// Parses the next word as a name. `None` if there is no word, or if it isn't a name.
 pub fn name_at(words: &mut Split<'_, char>) -> Option<Name> {
     Name::read(words.next()?.as_bytes()).ok()
 }

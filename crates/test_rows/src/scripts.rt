@@ -55,7 +55,7 @@ pub(crate) fn tell_reads(text: &mut Vec<u8>, alloc: Global) -> Option<()> {
     tell(text, &[b"each read failed in turn\n"])
 }
 
-/// Likewise for each write, of at most five bytes.
+/// Like `tell_reads`, for failed writes, each of at most five bytes.
 pub(crate) fn tell_writes(text: &mut Vec<u8>, alloc: Global) -> Option<()> {
     go_through_all(alloc, Failing::Write)?;
     tell(text, &[b"each write failed in turn\n"])

@@ -11,7 +11,7 @@ IsOfLine (verdicts.IllegalAt line) number wanted = (number ≡ line) × (wanted 
 IsOfLine (verdicts.BadLineAt line) number wanted = (number ≡ line) × (wanted ≢ Reply)
 IsOfLine _ number wanted = ⊥
 
--- Whether it names no line.
+-- Whether the verdict names no line.
 abbrev pub TellsNoLine : Verdict → Type 0
 TellsNoLine (verdicts.IllegalAt line) = ⊥
 TellsNoLine (verdicts.BadLineAt line) = ⊥

@@ -49,7 +49,7 @@ Refuses ReadFault bytes output = IsUpgradedSoFar bytes output
 Refuses WriteFault bytes output = IsUpgradedInPart bytes output
 Refuses NoRoom bytes output = IsUpgradedSoFar bytes output
 
--- Whether this is the fault, and this is what was written in format 2.
+-- Whether the fault is right, and what was written in format 2 fits it.
 abbrev pub UpgradesInPart : List ℕ → (had has : Option (List ℕ)) → UpgradeFault → Type 0
 UpgradesInPart bytes had has fault = (output : List ℕ) × Appends had has output × Refuses fault bytes output
 
@@ -77,7 +77,7 @@ StopsUpgrading old from had has fault =
     (b : Spot) (before : List ℕ) → WalksAt b old from → Upgrades b old.header before 0 →
     (more : List ℕ) × Appends had has more × Refuses fault b.bytes (before ++ more)
 
--- Likewise when only the header was read.
+-- Like `EndsUpgraded`, when only the header was read.
 abbrev pub EndsBehindHeader : Walk → Option (List ℕ) → (had has : Option (List ℕ)) → ℕ → Type 0
 EndsBehindHeader old from had has count = (bytes : List ℕ) → WalksAt (first_spot bytes old.header) old from → UpgradesAll bytes had has count
 

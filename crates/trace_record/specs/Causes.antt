@@ -13,12 +13,12 @@ IsToBlame r w ReadFault old new writer = HasFailedRead r.reads r.fails old new
 IsToBlame r w WriteFault old new writer = HasFailedWrite w.writes w.fails writer
 IsToBlame r w _ old new writer = Unit {0}
 
--- Likewise where nothing is written.
+-- Like `IsToBlame` where nothing is written.
 abbrev pub IsReadCause : {R : Type 0} → Reader R → RecordFault → (old new : R) → Type 0
 IsReadCause r ReadFault old new = HasFailedRead r.reads r.fails old new
 IsReadCause r _ old new = Unit {0}
 
--- Likewise, whichever reader the reads began with.
+-- Like `IsReadCause`, whichever reader the reads began with.
 abbrev pub IsCausedOn : {R : Type 0} → Reader R → RecordFault → (old new : R) → ℕ → Type 0
 IsCausedOn {R} r fault old new made = (first : R) → CallsLead r.reads made first old → IsReadCause r fault first new
 
@@ -27,11 +27,11 @@ abbrev pub ReadsLead : {R T : Type 0} → Reader R → Result T RecordFault → 
 ReadsLead r (Ok x) first now reads = CallsLead r.reads reads first now
 ReadsLead r (Err fault) first now reads = IsReadCause r fault first now
 
--- Likewise, whichever reader the reads began with.
+-- Like `ReadsLead`, whichever reader the reads began with.
 abbrev pub ReadsOn : {R T : Type 0} → Reader R → Result T RecordFault → (old new : R) → (made reads : ℕ) → Type 0
 ReadsOn {R} r result old new made reads = (first : R) → CallsLead r.reads made first old → ReadsLead r result first new reads
 
--- Likewise from one result to the next, whichever reader the reads began with.
+-- Like `ReadsLead` from one result to the next, whichever reader the reads began with.
 abbrev pub LeadsFrom : {R T : Type 0} → Reader R → (before : Result T RecordFault) (old : R) (made : ℕ) (after : Result T RecordFault) (new : R) (reads : ℕ) → Type 0
 LeadsFrom {R} r before old made after new reads = (first : R) → ReadsLead r before first old made → ReadsLead r after first new reads
 

@@ -11,7 +11,7 @@ use Rattle.trace_record.specs.declared.fault.RecordFault.{RecordFault}
 use Rattle.trace_record.specs.declared.fault.RecordFault.TheVariants.{BadLine, WriteFault, NoRoom}
 use Rattle.trace_record.specs.Asking.{OpensWith, IsFirstLines, IsRingLine, AsksNothing, ring_text}
 
--- Whether it is a fault of the input, or out of memory.
+-- Whether the fault is one of the input, or out of memory.
 abbrev pub IsOfInput : RecordFault → Type 0
 IsOfInput WriteFault = ⊥
 IsOfInput _ = Unit {0}

@@ -53,7 +53,7 @@ RunsTo known first had h waits has (Ok count) = HasRun known first had h waits h
 RunsTo known first had h waits has (Err WriteFault) = HasFailed known first had h has
 RunsTo known first had h waits has (Err fault) = (count : ℕ) × HasRun known first had h waits has (IsBeforeFault h.format fault) count
 
--- Likewise, whatever was recorded before.
+-- Like `RunsTo`, whatever was recorded before.
 abbrev pub RunsOn : Recorder → Option (List ℕ) → Option (List ℕ) → Result Bool RecordFault → Recorder → Option (List ℕ) → Result ℕ RecordFault → Type 0
 RunsOn old from has next new now ran =
     (known : Option (List ℕ)) (first : List ℕ) (had : Option (List ℕ)) (h : Header) → Runs known first had h old from has next 0 → RunsTo known first had h new.output.items now ran

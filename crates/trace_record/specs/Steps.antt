@@ -38,7 +38,7 @@ KeepsOutput old new = (new.header ≡ old.header) × (new.output.items ≡ old.o
 abbrev pub KeepsRun : Recorder → Recorder → Type 0
 KeepsRun old new = (new.header ≡ old.header) × (new.output.items ≡ old.output.items) × (new.store ≡ old.store)
 
--- Whether these lines were passed.
+-- Whether the lines of `more` were passed.
 abbrev pub GoesOver : LinesContent → Option (List ℕ) → List ℕ → LinesContent → Option (List ℕ) → Type 0
 GoesOver old from more new to = (bytes front : List ℕ) → IsAt bytes front old from → IsAt bytes (front ++ more) new to
 
@@ -63,7 +63,8 @@ pub record HeadsFrom (old new : Recorder) (head : Head) : Type 0 where
   pub keeps : KeepsRun old new
   pub stays : new.lines ≡ old.lines
 
--- Whether it isn't.
+-- Whether the line isn't the first of an entry, and this is the fault. The waiting entries and the store are
+-- unchanged.
 abbrev pub FailsAtHead : Recorder → Recorder → RecordFault → Type 0
 FailsAtHead old new fault = IsBadHead old.header.format old.lines.line old.lines.count fault × KeepsRun old new
 
@@ -132,7 +133,7 @@ pub record AddedLines (old : Recorder) (from : Option (List ℕ)) (pass : ℕ) (
 abbrev pub AddsLines : Recorder → Option (List ℕ) → Head → Recorder → Option (List ℕ) → Asked → Type 0
 AddsLines old from head new to asked = (pass : ℕ) → IsHeadOf old.header.format pass head old.entry.items → IsShort old.entry.items → AddedLines old from pass new to asked
 
--- Whether it isn't: an item of a Merge is missing.
+-- Whether the rest of the command isn't read, because an item of a Merge is missing.
 abbrev pub MissesLines : Recorder → Option (List ℕ) → Head → Recorder → RecordFault → Type 0
 MissesLines old from head new fault = (count : ℕ) × (head ≡ heads.Merge count) × MissesItems old from count new fault
 

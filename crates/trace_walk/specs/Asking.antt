@@ -14,8 +14,8 @@ use Rattle.trace_model.specs.Legal.{StepOf}
 use Rattle.trace_model.specs.OneReply.{IsTraced}
 use Rattle.trace_model.specs.Text.{command_asked}
 
--- Whether the store takes the step of a trace's store for the entry's command, with this reply, in each state that a
--- trace of the format may lead to.
+-- Whether the store answers the entry's command with this reply, as a trace's store does, from each state that it may
+-- be in and that a trace of the format leads to.
 abbrev pub StepsBy : ContentRecord → Format → Asked → Reply → ContentRecord → Type 0
 StepsBy old format asked reply new =
     (s : State) → ContentStands old s → IsTraced format s →

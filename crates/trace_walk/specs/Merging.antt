@@ -17,12 +17,12 @@ told_merge pass items reply = record { pass = pass; asked = Merge items; reply =
 abbrev pub taking_entry : ℕ → List Item → ℕ → TraceEntry
 taking_entry pass items owed = told_merge pass items (Merged (length items) (length items) 0 owed)
 
--- Whether there are none.
+-- Whether there are no merges.
 pub record IsEmpty (merges : Merges) : Type 0 where
   pub text : merges.text.items ≡ []
   pub count : merges.count ≡ 0
 
--- Whether they are these entries, and their text.
+-- Whether the merges are these entries, as text, and counted.
 pub record AreEntries (limits : LimitsRecord) (merges : Merges) (entries : List TraceEntry) : Type 0 where
   pub text : merges.text.items ≡ flat_map (entry_text limits) entries
   pub counted : merges.count ≡ length entries

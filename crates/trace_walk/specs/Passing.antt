@@ -18,12 +18,12 @@ use Rattle.trace_walk.specs.declared.walk.Walk.{Walk}
 use Rattle.trace_walk.specs.Merging.{AreEntries}
 use Rattle.trace_walk.specs.Walking.{Spot, Walks, spot_behind}
 
--- Whether this is the entry in format 2.
+-- Whether what was passed is the entry in format 2.
 abbrev pub BecomesBy : State → LimitsRecord → TraceEntry → Passed → Type 0
 BecomesBy s limits e AsItStands = BecomesAs s e e.asked (e ∷ [])
 BecomesBy s limits e (Swept merges) = (entries : List TraceEntry) × BecomesAs s e e.asked entries × AreEntries limits merges entries
 
--- Whether this is an entry of format 1, refused for lack of memory, in format 2.
+-- Whether an entry of format 1 that was refused for lack of memory becomes this in format 2.
 abbrev pub IsRefusedAs : Format → Asked → Passed → Type 0
 IsRefusedAs format asked passed =
     format ≡ One → (s : State) (limits : LimitsRecord) (pass : ℕ) → BecomesBy s limits (record { pass = pass; asked = asked; reply = Refused NoRoom }) passed

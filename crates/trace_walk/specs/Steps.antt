@@ -59,7 +59,7 @@ SaysAll old from new to text =
     (bytes base here : List ℕ) → HasLine bytes base here old from → old.line ≡ with_newline here → IsEnded text → 0 < length text →
     IsAt bytes (base ++ marked text) new to
 
--- Whether they aren't.
+-- Whether the fault is the verdict on the input if some line of the text isn't there.
 abbrev pub MissesReply : LinesContent → Option (List ℕ) → List ℕ → WalkFault → Type 0
 MissesReply old from text fault =
     (start bytes base here : List ℕ) → HasLine bytes base here old from → old.line ≡ with_newline here → IsToBeSaid start base here text → IsFault start bytes fault
@@ -70,13 +70,13 @@ SaysRest old from new to text =
     (bytes base whole given : List ℕ) → whole ≡ (given ++ 10 ∷ []) ++ text → IsEnded whole → IsAt bytes (base ++ marked (given ++ 10 ∷ [])) old from →
     IsAt bytes (base ++ marked whole) new to
 
--- Whether it doesn't.
+-- Whether the fault is the verdict on the input if the rest of the text doesn't follow.
 abbrev pub MissesRest : LinesContent → Option (List ℕ) → List ℕ → WalkFault → Type 0
 MissesRest old from text fault =
     (start bytes base whole given : List ℕ) → whole ≡ (given ++ 10 ∷ []) ++ text → GoesOnSaying start base whole → IsAt bytes (base ++ marked (given ++ 10 ∷ [])) old from →
     IsFault start bytes fault
 
--- Whether another line is there.
+-- Whether the fault is the verdict on the input if the reply line `line` must be here, and another line is.
 abbrev pub MissesSaid : LinesContent → List ℕ → WalkFault → Type 0
 MissesSaid lines line fault =
     (start bytes base here : List ℕ) (remaining : Option (List ℕ)) → HasLine bytes base here lines remaining → lines.line ≡ with_newline here →
@@ -130,7 +130,7 @@ AsksAt b w remaining pass asked = HasAsked b w.lines w.store w.header remaining 
 abbrev pub HearsAt : Spot → Walk → Option (List ℕ) → ℕ → Asked → Type 0
 HearsAt b w remaining pass asked = Hears b w.lines w.store w.header remaining pass asked w.asked.items
 
--- Whether the first line of one more entry is read.
+-- Whether the walk read the first line of the next entry.
 abbrev pub ReadsHead : Walk → Option (List ℕ) → Walk → Option (List ℕ) → ℕ × Head → Type 0
 ReadsHead old from new to r = (new.header ≡ old.header) × ((b : Spot) → WalksAt b old from → HeadsAt b new to r.0 r.1)
 
@@ -173,7 +173,7 @@ pub record HasSaid (old : Walk) (from : Option (List ℕ)) (text : List ℕ) (ne
   pub asked : new.asked.items ≡ old.asked.items
   pub reply : new.reply.items ≡ text
 
--- Likewise for the text of a reply.
+-- Like `HasSaid`, for the text of a reply.
 abbrev pub SaysReply : Wording → Reply → Walk → Option (List ℕ) → Walk → Option (List ℕ) → Type 0
 SaysReply wording reply old from new to = HasSaid old from (reply_lines wording reply old.header.limits) new to
 
@@ -196,36 +196,36 @@ GoesBehind old from pass asked new to passed = (b : Spot) → AsksAt b old from 
 abbrev pub FailsBehind : Walk → Option (List ℕ) → ℕ → Asked → WalkFault → Type 0
 FailsBehind old from pass asked fault = (b : Spot) → AsksAt b old from pass asked → IsFault b.front b.bytes fault
 
--- Likewise from the first line of the reply.
+-- Like `GoesBehind`, from the first line of the reply.
 abbrev pub GoesPastReply : Walk → Option (List ℕ) → ℕ → Asked → Walk → Option (List ℕ) → Passed → Type 0
 GoesPastReply old from pass asked new to passed = (b : Spot) → HearsAt b old from pass asked → HasPassed b old.header new to passed
 
 abbrev pub FailsAtReply : Walk → Option (List ℕ) → ℕ → Asked → WalkFault → Type 0
 FailsAtReply old from pass asked fault = (b : Spot) → HearsAt b old from pass asked → IsFault b.front b.bytes fault
 
--- Likewise for a command on one line.
+-- Like `GoesPastReply`, for a command on one line.
 abbrev pub PassesLine : Walk → Option (List ℕ) → ℕ → ScriptCommand → Walk → Option (List ℕ) → Passed → Type 0
 PassesLine old from pass command new to passed = GoesPastReply old from pass (askeds.Line command) new to passed
 
--- Likewise, whatever its pass.
+-- Like `PassesLine`, whatever the entry's pass.
 abbrev pub PassesPlain : Walk → Option (List ℕ) → ScriptCommand → Walk → Option (List ℕ) → Passed → Type 0
 PassesPlain old from command new to passed = (b : Spot) (pass : ℕ) → HearsAt b old from pass (askeds.Line command) → HasPassed b old.header new to passed
 
 abbrev pub FailsAtPlain : Walk → Option (List ℕ) → ScriptCommand → WalkFault → Type 0
 FailsAtPlain old from command fault = (b : Spot) (pass : ℕ) → HearsAt b old from pass (askeds.Line command) → IsFault b.front b.bytes fault
 
--- Likewise for a sweep.
+-- Like `GoesPastReply`, for a sweep.
 abbrev pub PassesSweep : Walk → Option (List ℕ) → ℕ → Sweep → Walk → Option (List ℕ) → Passed → Type 0
 PassesSweep old from pass swept new to passed = GoesPastReply old from pass (swept_line swept) new to passed
 
--- Likewise for a Merge, whatever its pass.
+-- Like `GoesPastReply`, for a Merge, whatever the entry's pass.
 abbrev pub PassesMerge : Walk → Option (List ℕ) → List Item → Walk → Option (List ℕ) → Passed → Type 0
 PassesMerge old from items new to passed = (b : Spot) (pass : ℕ) → HearsAt b old from pass (askeds.Merge items) → HasPassed b old.header new to passed
 
 abbrev pub FailsAtMerge : Walk → Option (List ℕ) → List Item → WalkFault → Type 0
 FailsAtMerge old from items fault = (b : Spot) (pass : ℕ) → HearsAt b old from pass (askeds.Merge items) → IsFault b.front b.bytes fault
 
--- Likewise for any entry that has this command of the store.
+-- Like `GoesPastReply`, for any entry that has this command of the store.
 abbrev pub PassesFor : Wording → Command → Walk → Option (List ℕ) → Walk → Option (List ℕ) → Passed → Type 0
 PassesFor wording command old from new to passed =
     (b : Spot) (pass : ℕ) (asked : Asked) → IsForStore old.header.format asked wording command old.lines.line → HearsAt b old from pass asked → HasPassed b old.header new to passed
@@ -250,7 +250,7 @@ StopsMidway old items done reply new =
 abbrev pub EndsMidway : Reply → ℕ → Reply → Type 0
 EndsMidway reply done stopped = (count taken stale owed : ℕ) × (reply ≡ replies.Merged count taken stale owed) × (stopped ≡ replies.MergeStopped done refusals.NoRoom owed)
 
--- Whether that Merge didn't take them all.
+-- Whether the reply isn't `Merged`.
 abbrev pub IsUnmerged : Reply → Type 0
 IsUnmerged reply = (count taken stale owed : ℕ) → reply ≢ replies.Merged count taken stale owed
 

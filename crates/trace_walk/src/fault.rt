@@ -10,9 +10,9 @@ use trace_model::{AskedFault, Verdict};
 /// Why a walk through a trace ended before its input did.
 #[derive(Clone, Copy, Debug, PartialEq, Eq)]
 pub enum WalkFault {
-    /// This line, from 1, must be a reply line, and isn't one that a legal trace has there.
+    /// The line with this number, from 1, must be a reply line, and no legal trace has it there.
     IllegalAt(u64),
-    /// Likewise for a header, a `>` or a `+` line.
+    /// The line with this number, from 1, must be a header, a `>` or a `+` line, and no legal trace has it there.
     BadLineAt(u64),
     /// The reader failed, or 2^32 reads were made.
     ReadFault,

@@ -29,14 +29,14 @@ impl<'a> Search<'a> {
         }
     }
 
-    /// Returns the nearest known word, if at most half of its bytes differ.
+    /// Returns the nearest known word, if at most half of that word's bytes differ.
     pub fn found(&self) -> Option<&'static str> {
         let fewest = self.fewest;
         self.best.filter(|it| fewest <= it.len() / 2)
     }
 }
 
-/// Returns the nearest of these words, if at most half of its bytes differ.
+/// Returns the nearest of these words, if at most half of the nearest one's bytes differ.
 pub fn nearest(word: &[u8], known: &[&'static str]) -> Option<&'static str> {
     let mut search = Search::to(word);
     for it in known {

@@ -19,8 +19,8 @@ impl Content {
         self.held.name_of(endpoint)
     }
 
-    /// Returns the name of an endpoint: `rs` for RS, otherwise the least name whose live label holds it. Takes no
-    /// memory.
+    /// Returns the name of an endpoint: `rs` for RS, otherwise the least name whose live label holds it. `None` if no
+    /// label does. Takes no memory.
     pub fn name_of(&self, endpoint: Endpoint) -> Option<Name>
         ensures { result ≡ name_of self.now.held endpoint }
     {

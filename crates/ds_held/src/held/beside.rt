@@ -18,8 +18,8 @@ use ds_entry::{Change, Floor};
 use ds_names::{Key, Name, NoRoom};
 
 impl Held {
-    /// Returns the index of a key's change in key order, or the index that it would get. The guessed place is checked
-    /// first; otherwise one search finds it.
+    /// Searches for a key's change: `Ok` is its index in key order, `Err` the index at which it would be inserted.
+    /// The guessed place is checked first; otherwise one search finds it.
     pub fn place(&self, key: &Key) -> Result<usize, usize>
         ensures { IsPlace (held_changes self.now) key.now result }
     {
@@ -46,8 +46,8 @@ impl Held {
         answer
     }
 
-    /// Returns the index of an owner's floor in the order of the owners' names, or the index that it would get. One
-    /// search finds it.
+    /// Searches for an owner's floor: `Ok` is its index in the order of the owners' names, `Err` the index at which
+    /// it would be inserted. One search finds it.
     pub fn floor_place(&self, owner: &Name) -> Result<usize, usize>
         ensures { IsFloorPlace (held_floors self.now) owner.now result }
     {
