@@ -83,11 +83,13 @@ module _ {M C R : Type 0} {G : Ghosts (View M C R)} where
       }
 
   -- a history that extends what the last one and the others have seen
-  pub all_seen : (h : List (Entry C R)) (all ps : List (Pass M C R G)) (p : Pass M C R G) (es : List (Entry C R)) → all ≡ ps ++ p ∷ [] → IsPrefix es h → IsPrefix p.seat.me.0.seen es → AllByRecursion (λ (x : Pass M C R G). IsPrefix (history x) es) ps → HasAllSeen h all
+  pub all_seen : (h : List (Entry C R)) (all ps : List (Pass M C R G)) (p : Pass M C R G) (es : List (Entry C R)) → all ≡ ps ++ p ∷ [] → IsPrefix es h →
+      IsPrefix p.seat.me.0.seen es → AllByRecursion (λ (x : Pass M C R G). IsPrefix (history x) es) ps → HasAllSeen h all
   all_seen h all ps p es is begins last others = subst (HasAllSeen h) (sym is)
       (all_append (λ (x : Pass M C R G). IsPrefix (history x) h) ps (p ∷ []) (all_map _ _ (λ x b. prefix_trans _ _ _ b begins) ps others) (prefix_trans _ _ _ last begins, tt))
 
-  pub all_noticed : (ns : List Notice) (all ps : List (Pass M C R G)) (p : Pass M C R G) (seen : List Notice) → all ≡ ps ++ p ∷ [] → IsPrefix seen ns → IsPrefix p.seat.me.0.notices seen → AllByRecursion (λ (x : Pass M C R G). IsPrefix (order x) seen) ps → HasAllNoticed ns all
+  pub all_noticed : (ns : List Notice) (all ps : List (Pass M C R G)) (p : Pass M C R G) (seen : List Notice) → all ≡ ps ++ p ∷ [] → IsPrefix seen ns →
+      IsPrefix p.seat.me.0.notices seen → AllByRecursion (λ (x : Pass M C R G). IsPrefix (order x) seen) ps → HasAllNoticed ns all
   all_noticed ns all ps p seen is begins last others = subst (HasAllNoticed ns) (sym is)
       (all_append (λ (x : Pass M C R G). IsPrefix (order x) ns) ps (p ∷ []) (all_map _ _ (λ x b. prefix_trans _ _ _ b begins) ps others) (prefix_trans _ _ _ last begins, tt))
 
@@ -123,7 +125,9 @@ module _ {M C R : Type 0} {G : Ghosts (View M C R)} where
       let one = weigh_one_notices weigh p.seat.me.0.passes (rests_facts p.seat.me.0 (tells p.seat.me.0 p.resting)).1 in omega arith
 
   -- the history of a closed table, and the order of its notices, are those of the passes
-  pub left_of_passes : {S : Type 0} → Tells G → (stands : M → S → Type 0) (steps : S → C → R → S → Type 0) (owes : R → ℕ) (opened m : M) (first : ℕ) (ps : List (Pass M C R G)) (v : View M C R) (pending raises takes' : List ℕ) (rows : List Row)
+  pub left_of_passes : {S : Type 0} → Tells G →
+      (stands : M → S → Type 0) (steps : S → C → R → S → Type 0) (owes : R → ℕ) (opened m : M) (first : ℕ) (ps : List (Pass M C R G)) (v : View M C R)
+      (pending raises takes' : List ℕ) (rows : List Row)
       → IsClosed (Stepped stands steps) owes opened first v m pending → v.passes ≡ gathered [] ps
       → ((h : List (Entry C R)) → IsPrefix v.seen h → HasAllSeen h ps) → ((ns : List Notice) → IsPrefix v.notices ns → HasAllNoticed ns ps) → ((k : ℕ) → k < 128 → IsRow pending raises takes' rows k)
       → LeavesHistory stands steps owes opened first ps record { machine = m; account = rows }

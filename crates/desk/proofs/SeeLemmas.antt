@@ -33,7 +33,8 @@ told_seen {M} {C} {R} steps v u n w found holding is l = (
 module _ {M C R S : Type 0} {G : Ghosts (View M C R)} (stands : M → S → Type 0) (steps : S → C → R → S → Type 0) where
   -- the pass p, whose view became u by other steps, and then looked
   pub sees : (p q : Pass M C R G) (u : View M C R) (found : ℕ) (holding : Bool) → Looks (Stepped stands steps) u found holding q.seat.me.0 → u.opening ≡ p.seat.me.0.opening → u.first ≡ p.seat.me.0.first
-      → number_of u.passes ≡ number_of p.seat.me.0.passes → calls_of u.passes ≡ calls_of p.seat.me.0.passes → IsPrefix p.seat.me.0.seen u.seen → IsPrefix p.seat.me.0.notices u.notices → desk_of q ≡ desk_of p → length u.passes ≡ 1 → Sees stands steps p q
+      → number_of u.passes ≡ number_of p.seat.me.0.passes → calls_of u.passes ≡ calls_of p.seat.me.0.passes → IsPrefix p.seat.me.0.seen u.seen →
+      IsPrefix p.seat.me.0.notices u.notices → desk_of q ≡ desk_of p → length u.passes ≡ 1 → Sees stands steps p q
   sees p q u found holding l opened first numbers calls begins noticed table one =
       let v : View M C R = p.seat.me.0 in let w : View M C R = q.seat.me.0 in
       let opened_w : w.opening ≡ v.opening = ap (λ (x : View M C R). x.opening) l.is ∙ opened in
@@ -80,7 +81,8 @@ module _ {M C R S : Type 0} {G : Ghosts (View M C R)} (stands : M → S → Type
       table (ap (λ (x : View M C R). length x.passes) is ∙ one)
 
   -- the pass took what is pending, and then looked
-  pub sees_taken : (owes : R → ℕ) (p q : Pass M C R G) (u : View M C R) (server n found : ℕ) (holding : Bool) → TakesBits owes p.seat.me.0 server n u → Looks (Stepped stands steps) u found holding q.seat.me.0 → desk_of q ≡ desk_of p → length p.seat.me.0.passes ≡ 1
+  pub sees_taken : (owes : R → ℕ) (p q : Pass M C R G) (u : View M C R) (server n found : ℕ) (holding : Bool) → TakesBits owes p.seat.me.0 server n u →
+      Looks (Stepped stands steps) u found holding q.seat.me.0 → desk_of q ≡ desk_of p → length p.seat.me.0.passes ≡ 1
       → Sees stands steps p q
   sees_taken owes p q u server n found holding h l table one =
       let v : View M C R = p.seat.me.0 in let t = h.notices in
@@ -91,7 +93,8 @@ module _ {M C R S : Type 0} {G : Ghosts (View M C R)} (stands : M → S → Type
       (prefix_trans v.notices t.before u.notices t.seen (take_of v server n ∷ [], sym (ap (λ (x : View M C R). x.notices) t.is)))
       table (ap length passes ∙ added.0)
 
-  pub takes_pending : (owes : R → ℕ) (p q : Pass M C R G) (u : View M C R) (server n bits found : ℕ) (holding : Bool) → TakesBits owes p.seat.me.0 server n u → Looks (Stepped stands steps) u found holding q.seat.me.0 → length p.seat.me.0.passes ≡ 1 → n ≡ bits
+  pub takes_pending : (owes : R → ℕ) (p q : Pass M C R G) (u : View M C R) (server n bits found : ℕ) (holding : Bool) → TakesBits owes p.seat.me.0 server n u →
+      Looks (Stepped stands steps) u found holding q.seat.me.0 → length p.seat.me.0.passes ≡ 1 → n ≡ bits
       → TakesPending p q server bits
   takes_pending owes p q u server n bits found holding h l one same =
       let v : View M C R = p.seat.me.0 in let t = h.notices in let taken : Notice = take_of v server n in

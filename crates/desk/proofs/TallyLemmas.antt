@@ -17,7 +17,8 @@ pub record CountsBelow (old : List ℕ) (server bits k : ℕ) (new : List ℕ) :
 pub counts_none : (old : List ℕ) (server bits : ℕ) → CountsBelow old server bits 0 old
 counts_none old server bits = record { long = refl; others = λ s b _ _ _. refl; done = λ b _ h. absurd (omega arith); undone = λ b _ _. refl }
 
-pub counts_more : (old new : List ℕ) (server bits k k' x : ℕ) → server < 16 → k < 8 → length old ≡ 128 → k' ≡ k + 1 → x ≡ row_at new server k + bit_at bits k → CountsBelow old server bits k new → CountsBelow old server bits k' (set new (8 * server + k) x)
+pub counts_more : (old new : List ℕ) (server bits k k' x : ℕ) → server < 16 → k < 8 → length old ≡ 128 → k' ≡ k + 1 → x ≡ row_at new server k + bit_at bits k →
+    CountsBelow old server bits k new → CountsBelow old server bits k' (set new (8 * server + k) x)
 counts_more old new server bits k k' x small low long next is c =
     let at : ℕ = 8 * server + k in
     let wide : at < length new = (let e = c.long in omega arith) in record {

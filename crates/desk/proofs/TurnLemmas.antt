@@ -158,7 +158,8 @@ module _ {M C R : Type 0} where
   put_back p q q' h out back = back ∙ ap (λ (m : AtSeat M C R). (m.0, (0, Some h) ∷ [])) out
 
   -- the effect of the end of the turn
-  pub ended : (p q q' : SeatOf M C R) (n : M) (said : Snapshot C) (told : Snapshot R) (c : C) (r : R) → q.me ≡ (p.me.0, (0, Some record { machine = n; last = Some record { command = said; reply = told } }) ∷ []) → said.value ≡ c → told.value ≡ r
+  pub ended : (p q q' : SeatOf M C R) (n : M) (said : Snapshot C) (told : Snapshot R) (c : C) (r : R) →
+      q.me ≡ (p.me.0, (0, Some record { machine = n; last = Some record { command = said; reply = told } }) ∷ []) → said.value ≡ c → told.value ≡ r
       → ((h : Home M C R) (l : LastCall C R) → q.me.1 ≡ (0, Some h) ∷ [] → h.last ≡ Some l → (q'.me ≡ (after_turn q.me.0 l.command.value l.reply.value, [])) × OwnCalls q'.me.0.seen q'.me.0.passes)
       → (q'.me ≡ (after_turn p.me.0 c r, [])) × OwnCalls q'.me.0.seen q'.me.0.passes
   ended p q q' n said told c r back is_c is_r did =

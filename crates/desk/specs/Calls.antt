@@ -56,7 +56,8 @@ module _ {M C R : Type 0} {G : Ghosts (View M C R)} where
 
   -- The pass made one call: the history that it has seen extends the earlier one, ends with the call, is legal, and its
   -- entries of the pass are exactly the pass's calls, one more than before.
-  pub record Calls {S : Type 0} (stands : M → S → Type 0) (steps : S → C → R → S → Type 0) (p q : Pass M C R G) (command : C) (reply : R) (place : ℕ) : Type 0 where
+  pub record Calls {S : Type 0} (stands : M → S → Type 0) (steps : S → C → R → S → Type 0) (p q : Pass M C R G) (command : C) (reply : R)
+      (place : ℕ) : Type 0 where
     pub same : IsSamePass p q
     pub between : List (Entry C R)
     pub ends : history q ≡ (history p ++ between) ++ entry (number p) command reply ∷ []

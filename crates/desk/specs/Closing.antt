@@ -35,7 +35,8 @@ pending_bit r = if r.pending then 1 else 0
 
 -- The row k is that of bit k % 8 of server k / 8.
 abbrev pub IsRow : List ℕ → List ℕ → List ℕ → List Row → ℕ → Type 0
-IsRow words raises takes rows k = (r : Row) × (get_elem? rows k ≡ some r) × (r.raises ≡ slice_index raises k) × (r.takes ≡ slice_index takes k)
+IsRow words raises takes rows k =
+    (r : Row) × (get_elem? rows k ≡ some r) × (r.raises ≡ slice_index raises k) × (r.takes ≡ slice_index takes k)
     × (pending_bit r ≡ bit_at (slice_index words (k / 8)) (k % 8))
 
 module _ {M C R : Type 0} {G : Ghosts (View M C R)} where
@@ -57,7 +58,8 @@ module _ {M C R : Type 0} {G : Ghosts (View M C R)} where
 
   -- The machine is that after one legal history, which extends all that each pass has seen, and whose entries are
   -- exactly the passes' calls.
-  pub record IsHistory {S : Type 0} (stands : M → S → Type 0) (steps : S → C → R → S → Type 0) (opened : M) (passes : List (Pass M C R G)) (machine : M) (history : List (Entry C R)) : Type 0 where
+  pub record IsHistory {S : Type 0} (stands : M → S → Type 0) (steps : S → C → R → S → Type 0) (opened : M) (passes : List (Pass M C R G))
+      (machine : M) (history : List (Entry C R)) : Type 0 where
     pub leads : LeadsTo stands steps opened history machine
     pub begins : HasAllSeen history passes
     pub own : AllByRecursion (λ p. calls_by (number p) history ≡ calls p) passes
@@ -66,13 +68,15 @@ module _ {M C R : Type 0} {G : Ghosts (View M C R)} where
   -- One order of all notices, which extends all that each pass has seen of it, and has exactly the passes' notices.
   -- Each found its word as the earlier ones left it; each post is exactly what a call of its pass in the history owes;
   -- what they left is pending in the rows.
-  pub record IsOrderOf (owes : R → ℕ) (first : ℕ) (passes : List (Pass M C R G)) (rows : List Row) (history : List (Entry C R)) (order : List Notice) : Type 0 where
+  pub record IsOrderOf (owes : R → ℕ) (first : ℕ) (passes : List (Pass M C R G)) (rows : List Row) (history : List (Entry C R))
+      (order : List Notice) : Type 0 where
     pub found : IsOrder order
     pub owed : AllByRecursion (IsOwed owes first history) order
     pub begins : HasAllNoticed order passes
     pub own : AllByRecursion (λ p. notices_by (number p) order ≡ notices p) passes
     pub no_others : (weigh : Notice → ℕ) → total_of weigh order ≡ total_of (λ p. total_of weigh (notices p)) passes
-    pub left : (s b : ℕ) → s < 16 → b < 8 → (r : Row) × (get_elem? rows (8 * s + b) ≡ some r) × (pending_bit r ≡ bit_at (pending_after order s) b)
+    pub left : (s b : ℕ) → s < 16 → b < 8 →
+        (r : Row) × (get_elem? rows (8 * s + b) ≡ some r) × (pending_bit r ≡ bit_at (pending_after order s) b)
 
   -- One such history left the machine, and one such order the account.
   abbrev pub LeavesHistory : {S : Type 0} → (M → S → Type 0) → (S → C → R → S → Type 0) → (R → ℕ) → M → ℕ → List (Pass M C R G)

@@ -80,8 +80,10 @@ module _ {M C R : Type 0} (steps : M → C → R → M → Type 0) (owes : R →
         home = r.home;
         holder = λ j e. holder_stays steps owes opening first passes s.views id j v w at (λ h _. (same_holding ∙ h, omega arith)) (r.holder j e);
         all_passes = (let t = total_set pass_count s.views id v w at in let all = r.all_passes in omega arith);
-        all_calls = λ weigh. (let t = total_set (weight_of weigh) s.views id v w at in let e : weigh_all weigh w.passes ≡ weigh_all weigh v.passes = ap (weigh_all weigh) more ∙ no_call_more v.passes n weigh in let all = r.all_calls weigh in omega arith);
-        all_notices = λ weigh. (let t = total_set (notice_weight_of weigh) s.views id v w at in let e : weigh_notices weigh w.passes ≡ weigh_notices weigh v.passes + weigh n = ap (weigh_notices weigh) more ∙ one_notice_more v.passes n weigh some_pass in
+        all_calls = λ weigh. (let t = total_set (weight_of weigh) s.views id v w at in
+            let e : weigh_all weigh w.passes ≡ weigh_all weigh v.passes = ap (weigh_all weigh) more ∙ no_call_more v.passes n weigh in let all = r.all_calls weigh in omega arith);
+        all_notices = λ weigh. (let t = total_set (notice_weight_of weigh) s.views id v w at in
+            let e : weigh_notices weigh w.passes ≡ weigh_notices weigh v.passes + weigh n = ap (weigh_notices weigh) more ∙ one_notice_more v.passes n weigh some_pass in
             let all = r.all_notices weigh in let a = total_append weigh r.order (n ∷ []) in omega arith);
         found = found_push none_pending r.order n r.found (found ∙ r.pending n.server small);
         pending = λ k below. dite (ℕ_discrete n.server k)
@@ -112,7 +114,8 @@ module _ {M C R : Type 0} (steps : M → C → R → M → Type 0) (owes : R →
   some_called (p ∷ others) called = omega arith
 
   -- no bit was raised more often than the seat called, if at the notice's server it was raised less often before
-  few_more : (at_seat : List (PassLog C R)) (n : Notice) (most : ℕ) → 0 < length at_seat → ((b : ℕ) → raised_by at_seat n.server b < most) → ((s b : ℕ) → raised_by at_seat s b ≤ most) → (s b : ℕ) → raised_by (add_notice at_seat n) s b ≤ most
+  few_more : (at_seat : List (PassLog C R)) (n : Notice) (most : ℕ) → 0 < length at_seat → ((b : ℕ) → raised_by at_seat n.server b < most) →
+      ((s b : ℕ) → raised_by at_seat s b ≤ most) → (s b : ℕ) → raised_by (add_notice at_seat n) s b ≤ most
   few_more at_seat n most some_pass room few s b =
       let all = one_notice_more at_seat n (raised_at s b) some_pass in
       dite (ℕ_discrete n.server s)

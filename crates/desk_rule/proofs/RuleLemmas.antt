@@ -190,7 +190,8 @@ module _ {M C R : Type 0} (steps : M → C → R → M → Type 0) (owes : R →
     holder = λ j e. holder_stays s.views id j v w at (λ h some_pass. (same_holding ∙ h, subst (λ l. 0 < length l) (sym same_passes) some_pass)) (r.holder j e);
     all_passes = (let t = total_set pass_count s.views id v w at in let e : length w.passes ≡ length v.passes = ap length same_passes in let all = r.all_passes in omega arith);
     all_calls = λ weigh. (let t = total_set (weight_of weigh) s.views id v w at in let e : weigh_all weigh w.passes ≡ weigh_all weigh v.passes = ap (weigh_all weigh) same_passes in let all = r.all_calls weigh in omega arith);
-    all_notices = λ weigh. (let t = total_set (notice_weight_of weigh) s.views id v w at in let e : weigh_notices weigh w.passes ≡ weigh_notices weigh v.passes = ap (weigh_notices weigh) same_passes in let all = r.all_notices weigh in omega arith);
+    all_notices = λ weigh. (let t = total_set (notice_weight_of weigh) s.views id v w at in
+        let e : weigh_notices weigh w.passes ≡ weigh_notices weigh v.passes = ap (weigh_notices weigh) same_passes in let all = r.all_notices weigh in omega arith);
     found = r.found;
     pending = λ k small. ap (λ l. get_or l (k + 1) 0) same ∙ r.pending k small;
     owed = r.owed;

@@ -68,7 +68,18 @@ module _ {M C R : Type 0} (steps : M → C → R → M → Type 0) (owes : R →
     owed = tt;
     eight_bits = λ k below. subst (λ n. n < 256) (sym (zeros k below)) (omega arith);
     seated = λ j u e. only_view (opening_view opening first passes) u j (Sits steps owes opening first passes [] [] none (λ _. 0))
-        (record { opened = λ m e. (some_same m e, refl); seen = prefix_nil []; told = prefix_nil []; holds = λ no. absurd (true≢false (sym no)); notices = prefix_nil []; told_notices = prefix_nil []; own = fresh_own passes (omega arith); differ = fresh_differ C R passes; few = λ t b. (let none = weigh_fresh_notices C R (raised_at t b) passes in omega arith) }) e;
+        (record {
+          opened = λ m e. (some_same m e, refl);
+          seen = prefix_nil [];
+          told = prefix_nil [];
+          holds = λ no. absurd (true≢false (sym no));
+          notices = prefix_nil [];
+          told_notices = prefix_nil [];
+          own = fresh_own passes (omega arith);
+          differ = fresh_differ C R passes;
+          few = λ t b.
+              (let none = weigh_fresh_notices C R (raised_at t b) passes in omega arith);
+        }) e;
   }
 
   -- the passes of a view that holds the turn
@@ -195,7 +206,8 @@ words_more words pending n n' word small next long at read = (
 )
 
 -- the machine from the slot
-pub closed_machine : {M C R : Type 0} (steps : M → C → R → M → Type 0) (owes : R → ℕ) (opening : M) (first : ℕ) (v : View M C R) (slot : Option (Home M C R)) (m : M) (pending : List ℕ) → ((h : Home M C R) × (slot ≡ Some h) × IsClosed steps owes opening first v h.machine pending)
+pub closed_machine : {M C R : Type 0} (steps : M → C → R → M → Type 0) (owes : R → ℕ) (opening : M) (first : ℕ) (v : View M C R) (slot : Option (Home M C R)) (m : M)
+    (pending : List ℕ) → ((h : Home M C R) × (slot ≡ Some h) × IsClosed steps owes opening first v h.machine pending)
     → IfSome slot (λ h. m ≡ h.machine) → IsClosed steps owes opening first v m pending
 closed_machine steps owes opening first v (Some k) m pending e is = let same : e.0 ≡ k = cc in subst (λ x. IsClosed steps owes opening first v x pending) (ap (λ h. h.machine) same ∙ sym is) e.2
 closed_machine steps owes opening first v None m pending e is = absurd (cc)

@@ -69,7 +69,9 @@ module _ {M C R : Type 0} (steps : M → C → R → M → Type 0) (owes : R →
     after_look v v.holding r.history r.order,
     keeps,
     tt,
-    stays steps owes opening first passes s r id v (after_look v v.holding r.history r.order) at (sits_looked steps owes opening first passes r.history r.order r.turn r.seat_of id v v.holding f (λ h. (f.holds h).0)) refl refl _ (word_same steps owes opening first passes s),
+    stays steps owes opening first passes s r id v (after_look v v.holding r.history r.order) at
+        (sits_looked steps owes opening first passes r.history r.order r.turn r.seat_of id v v.holding f (λ h. (f.holds h).0)) refl refl _
+        (word_same steps owes opening first passes s),
     (
       (looked steps owes opening first passes s r id v v.holding at, refl),
       word_small steps owes opening first passes s r,
@@ -87,7 +89,8 @@ module _ {M C R : Type 0} (steps : M → C → R → M → Type 0) (owes : R →
     turn = some id;
     seat_of = r.seat_of;
     wide = length-set s.words 0 _ ∙ r.wide;
-    word = get_or-set_same s.words 0 (word + 1) 0 (let l = r.wide in omega arith) ∙ (let n : ℕ = length r.history in let e : word ≡ 2 * (first + n) + turn_bit r.turn = r.word in let z : turn_bit r.turn ≡ 0 = ap turn_bit free in omega arith);
+    word = get_or-set_same s.words 0 (word + 1) 0 (let l = r.wide in omega arith) ∙
+        (let n : ℕ = length r.history in let e : word ≡ 2 * (first + n) + turn_bit r.turn = r.word in let z : turn_bit r.turn ≡ 0 = ap turn_bit free in omega arith);
     room = (let n : ℕ = length r.history in omega arith);
     legal = r.legal;
     home = out;
@@ -101,7 +104,17 @@ module _ {M C R : Type 0} (steps : M → C → R → M → Type 0) (owes : R →
     eight_bits = λ k small. subst (λ n. n < 256) (sym (get_or-set_other s.words 0 (k + 1) (word + 1) 0 (λ e. omega arith))) (r.eight_bits k small);
     seated = all_views steps owes opening first passes (Sits steps owes opening first passes r.history r.order (some id) r.seat_of) s.views id w
         (record { opened = f.opened; seen = prefix_refl r.history; told = prefix_nil r.history; holds = λ _. (refl, refl); notices = prefix_refl r.order; told_notices = prefix_nil r.order; own = f.own; differ = f.differ; few = f.few })
-        (λ j u _ e. let g = r.seated j u e in record { opened = g.opened; seen = g.seen; told = g.told; holds = λ h. absurd (some-ne-none j (sym (g.holds h).0 ∙ free)); notices = g.notices; told_notices = g.told_notices; own = g.own; differ = g.differ; few = g.few });
+        (λ j u _ e. let g = r.seated j u e in record {
+          opened = g.opened;
+          seen = g.seen;
+          told = g.told;
+          holds = λ h. absurd (some-ne-none j (sym (g.holds h).0 ∙ free));
+          notices = g.notices;
+          told_notices = g.told_notices;
+          own = g.own;
+          differ = g.differ;
+          few = g.few;
+        });
   }
 
   pub hold_allowed : (slots id : ℕ) (me : AtSeat M C R) (word new k : ℕ) → word ≡ 2 * k → new ≡ word + 1 → k < 2 ^ 62 → 0 < length me.0.passes

@@ -19,38 +19,54 @@ module _ {M C R : Type 0} (steps : M → C → R → M → Type 0) (owes : R →
 
   -- Of what two seats have seen, one is a prefix of the other, and each is legal.
   abbrev pub HistoriesAgree : Type 0
-  HistoriesAgree = (opening : M) (first passes : ℕ) (s : TableState) → RuleHolds steps owes opening first passes s → (i j : ℕ) (v w : View M C R) → get_elem? s.views i ≡ some v → get_elem? s.views j ≡ some w
+  HistoriesAgree =
+      (opening : M) (first passes : ℕ) (s : TableState) → RuleHolds steps owes opening first passes s → (i j : ℕ) (v w : View M C R) →
+      get_elem? s.views i ≡ some v → get_elem? s.views j ≡ some w
       → OneBegins v.seen w.seen × IsLegal steps opening v.seen × IsLegal steps opening w.seen
 
   -- The same for the notices that they have seen, each of which found its word as the earlier ones left it.
   abbrev pub NoticesAgree : Type 0
-  NoticesAgree = (opening : M) (first passes : ℕ) (s : TableState) → RuleHolds steps owes opening first passes s → (i j : ℕ) (v w : View M C R) → get_elem? s.views i ≡ some v → get_elem? s.views j ≡ some w
+  NoticesAgree =
+      (opening : M) (first passes : ℕ) (s : TableState) → RuleHolds steps owes opening first passes s → (i j : ℕ) (v w : View M C R) →
+      get_elem? s.views i ≡ some v → get_elem? s.views j ≡ some w
       → OneBegins v.notices w.notices × IsOrder v.notices × IsOrder w.notices
 
   -- Two seats that hold the turn are the same.
   abbrev pub OneSeatHolds : Type 0
-  OneSeatHolds = (opening : M) (first passes : ℕ) (s : TableState) → RuleHolds steps owes opening first passes s → (i j : ℕ) (v w : View M C R) → get_elem? s.views i ≡ some v → get_elem? s.views j ≡ some w
+  OneSeatHolds =
+      (opening : M) (first passes : ℕ) (s : TableState) → RuleHolds steps owes opening first passes s → (i j : ℕ) (v w : View M C R) →
+      get_elem? s.views i ≡ some v → get_elem? s.views j ≡ some w
       → v.holding ≡ true → w.holding ≡ true → i ≡ j
 
   -- The pending words are what the notices left, in their one order.
   abbrev pub WordsFollow : Type 0
-  WordsFollow = (opening : M) (first passes : ℕ) (s : TableState) → (r : RuleHolds steps owes opening first passes s) → IsOrder r.order × ((server : ℕ) → server < 16 → slice_index s.words (server + 1) ≡ pending_after r.order server)
+  WordsFollow =
+      (opening : M) (first passes : ℕ) (s : TableState) → (r : RuleHolds steps owes opening first passes s) →
+      IsOrder r.order × ((server : ℕ) → server < 16 → slice_index s.words (server + 1) ≡ pending_after r.order server)
 
-  -- Each bit was raised as often as it was taken, plus once if it is pending.
+  -- The raises of each bit are its takes, plus one if it is pending.
   abbrev pub NoticesBalance : Type 0
-  NoticesBalance = (opening : M) (first passes : ℕ) (s : TableState) → RuleHolds steps owes opening first passes s → (server bit : ℕ) → server < 16
-      → total_of (λ (v : View M C R). raised_by v.passes server bit) s.views ≡ total_of (λ (v : View M C R). taken_by v.passes server bit) s.views + bit_at (slice_index s.words (server + 1)) bit
+  NoticesBalance =
+      (opening : M) (first passes : ℕ) (s : TableState) → RuleHolds steps owes opening first passes s → (server bit : ℕ) → server < 16
+      → total_of (λ (v : View M C R). raised_by v.passes server bit) s.views ≡
+      total_of (λ (v : View M C R). taken_by v.passes server bit) s.views + bit_at (slice_index s.words (server + 1)) bit
 
   -- An entry of the history owes each pending bit.
   abbrev pub BitsAreOwed : Type 0
-  BitsAreOwed = (opening : M) (first passes : ℕ) (s : TableState) → (r : RuleHolds steps owes opening first passes s) → (server bit : ℕ) → server < 16 → bit_at (slice_index s.words (server + 1)) bit ≡ 1
+  BitsAreOwed =
+      (opening : M) (first passes : ℕ) (s : TableState) → (r : RuleHolds steps owes opening first passes s) → (server bit : ℕ) →
+      server < 16 → bit_at (slice_index s.words (server + 1)) bit ≡ 1
       → OwedIn owes server bit r.history
 
   -- Each post is of a call of its pass; the call is in the history and owes exactly the post's bits.
   abbrev pub PostsAreOwed : Type 0
-  PostsAreOwed = (opening : M) (first passes : ℕ) (s : TableState) → (r : RuleHolds steps owes opening first passes s) → AllByRecursion (IsOwed owes first r.history) r.order
+  PostsAreOwed =
+      (opening : M) (first passes : ℕ) (s : TableState) → (r : RuleHolds steps owes opening first passes s) →
+      AllByRecursion (IsOwed owes first r.history) r.order
 
 -- A bit that a notice set stays pending until a later notice takes its server's word.
 abbrev pub PostedBitsStay : Type 0
-PostedBitsStay = (before : List Notice) (n : Notice) (after : List Notice) (bit : ℕ) → IsOrder (before ++ n ∷ after) → bit_at (set_by n.act) bit ≡ 1 → NoTakes n.server after
+PostedBitsStay =
+    (before : List Notice) (n : Notice) (after : List Notice) (bit : ℕ) → IsOrder (before ++ n ∷ after) → bit_at (set_by n.act) bit ≡ 1 →
+    NoTakes n.server after
     → bit_at (pending_after (before ++ n ∷ after) n.server) bit ≡ 1

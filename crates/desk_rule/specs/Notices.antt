@@ -100,7 +100,9 @@ module _ {C R : Type 0} (owes : R → ℕ) where
   -- A take; or a post of exactly the bits that a call owes the server: that of the pass at this place, which is in the
   -- history.
   abbrev pub IsActOwed : ℕ → List (Entry C R) → ℕ → ℕ → Act → Type 0
-  IsActOwed first history pass server (Post bits place) = (i : ℕ) × (e : Entry C R) × (get_elem? history i ≡ some e) × (e.pass ≡ pass) × (place ≡ first + i) × (bits ≡ bits_for (owes e.reply) server)
+  IsActOwed first history pass server (Post bits place) =
+      (i : ℕ) × (e : Entry C R) × (get_elem? history i ≡ some e) × (e.pass ≡ pass) × (place ≡ first + i) ×
+      (bits ≡ bits_for (owes e.reply) server)
   IsActOwed first history pass server Take = Unit {0}
 
   abbrev pub IsOwed : ℕ → List (Entry C R) → Notice → Type 0

@@ -26,7 +26,16 @@ turn_bit (some j) = 1
 module _ {M C R : Type 0} where
   -- The view of the first seat, at which all passes sit.
   abbrev pub opening_view : M → ℕ → ℕ → View M C R
-  opening_view m first passes = record { opening = Some m; first = first; holding = false; seen = []; told = []; notices = []; told_notices = []; passes = fresh passes }
+  opening_view m first passes = record {
+    opening = Some m;
+    first = first;
+    holding = false;
+    seen = [];
+    told = [];
+    notices = [];
+    told_notices = [];
+    passes = fresh passes;
+  }
 
   -- The view of a seat that another one took over.
   abbrev pub spent_view : View M C R
@@ -48,9 +57,10 @@ module _ {M C R : Type 0} where
 
 -- What the rule says of seat j with the view v, by the whole history, the order of all notices, the holder of the turn
 -- and the seat of each pass.
-pub record Seated {M C R : Type 0} (opening : M) (first : ℕ) (history : List (Entry C R)) (order : List Notice) (turn : maybe.Option ℕ) (seat_of : ℕ → ℕ) (passes j : ℕ) (v : View M C R) : Type 0 where
+pub record Seated {M C R : Type 0} (opening : M) (first : ℕ) (history : List (Entry C R)) (order : List Notice) (turn : maybe.Option ℕ)
+    (seat_of : ℕ → ℕ) (passes j : ℕ) (v : View M C R) : Type 0 where
   pub opened : (m : M) → v.opening ≡ Some m → (m ≡ opening) × (v.first ≡ first)
-  -- what it saw and was told is a prefix of the history; the holder of the turn has seen all of it
+  -- what it saw itself or by notes is a prefix of the history; the holder of the turn has seen all of it
   pub seen : IsPrefix v.seen history
   pub told : IsPrefix v.told history
   pub holds : v.holding ≡ true → (turn ≡ some j) × (v.seen ≡ history)
@@ -58,14 +68,16 @@ pub record Seated {M C R : Type 0} (opening : M) (first : ℕ) (history : List (
   pub notices : IsPrefix v.notices order
   pub told_notices : IsPrefix v.told_notices order
   -- each pass at this seat has a number of its own, and exactly its own entries and notices
-  pub own : AllByRecursion (λ (p : PassLog C R). (calls_by p.pass history ≡ p.calls) × (notices_by p.pass order ≡ p.notices) × (seat_of p.pass ≡ j) × (p.pass < passes)) v.passes
+  pub own : AllByRecursion (λ (p : PassLog C R). (calls_by p.pass history ≡ p.calls) × (notices_by p.pass order ≡ p.notices) ×
+      (seat_of p.pass ≡ j) × (p.pass < passes)) v.passes
   pub differ : AreDifferent v.passes
   -- no bit was raised here more often than the passes here called
   pub few : (s b : ℕ) → raised_by v.passes s b ≤ count_calls v.passes
 
 -- The rule: there is one legal history and one order of all notices, and each seat knows a prefix of each; the pending
 -- words are what the notices left.
-pub record RuleHolds {M C R : Type 0} (steps : M → C → R → M → Type 0) (owes : R → ℕ) (opening : M) (first passes : ℕ) (s : State (Option (Home M C R)) (View M C R)) : Type 0 where
+pub record RuleHolds {M C R : Type 0} (steps : M → C → R → M → Type 0) (owes : R → ℕ) (opening : M) (first passes : ℕ)
+    (s : State (Option (Home M C R)) (View M C R)) : Type 0 where
   pub history : List (Entry C R)
   pub order : List Notice
   pub machine : M

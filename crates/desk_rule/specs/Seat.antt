@@ -50,12 +50,14 @@ pub record EndsTurn {M C R : Type 0} (steps : M → C → R → M → Type 0) (p
   pub last : LastCall C R
   pub back : p.me.1 ≡ (0, Some home) ∷ []
   pub said : home.last ≡ Some last
-  pub machine : (m : M) → p.me.0.opening ≡ Some m → Run steps m (p.me.0.seen ++ entry (number_of p.me.0.passes) last.command.value last.reply.value ∷ []) home.machine
+  pub machine : (m : M) → p.me.0.opening ≡ Some m →
+      Run steps m (p.me.0.seen ++ entry (number_of p.me.0.passes) last.command.value last.reply.value ∷ []) home.machine
 
 -- What is left of a table if all passes sat at one seat: the machine after one legal history, and the pending words
 -- after one order of all notices. Both extend what the seat had seen, and have exactly the passes' entries and notices;
 -- each post is of a call of the history that owes it.
-pub record IsClosed {M C R : Type 0} (steps : M → C → R → M → Type 0) (owes : R → ℕ) (opening : M) (first : ℕ) (v : View M C R) (machine : M) (pending : List ℕ) : Type 0 where
+pub record IsClosed {M C R : Type 0} (steps : M → C → R → M → Type 0) (owes : R → ℕ) (opening : M) (first : ℕ) (v : View M C R)
+    (machine : M) (pending : List ℕ) : Type 0 where
   pub history : List (Entry C R)
   pub legal : Run steps opening history machine
   pub seen : IsPrefix v.seen history

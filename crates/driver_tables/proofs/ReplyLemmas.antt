@@ -26,7 +26,8 @@ use Rattle.driver_tables.proofs.StandsLemmas.{sent_kept}
 abbrev judged : DriverTable → ℕ → Bool → Bool → Result Move TableFault × DriverTable
 judged t id there same = cond there (cond same (Ok (Answer id Done), finishes t id) (Err OldEndpoint, t)) (Err NotPending, t)
 
-pub reply_missing : (v : TableRecord) (t : DriverTable) (endpoint : EndpointRecord) (id : ℕ) → TableStands v t → option_map (λ (p : Pending). p.sent) (find (λ (p : Pending). p.id == id) v.pending) ≡ None → replying t endpoint id ≡ (Err NotPending, t)
+pub reply_missing : (v : TableRecord) (t : DriverTable) (endpoint : EndpointRecord) (id : ℕ) → TableStands v t →
+    option_map (λ (p : Pending). p.sent) (find (λ (p : Pending). p.id == id) v.pending) ≡ None → replying t endpoint id ≡ (Err NotPending, t)
 reply_missing v t endpoint id s e = by (is_requested (pending t) id) (sym (sent_kept v t id s) ∙ e)
   where
     by : (b : Bool) → cond b (Some (last_sent t.sends id)) None ≡ None → judged t id b (is_same_state (last_sent t.sends id) (Some endpoint)) ≡ (Err NotPending, t)
@@ -41,7 +42,8 @@ reply_there v t id sent s e = by (is_requested (pending t) id) (sym (sent_kept v
     by true h = let k : last_sent t.sends id ≡ sent = cc in (refl, k)
     by false h = cc
 
-pub reply_judged : (v : TableRecord) (t : DriverTable) (endpoint : EndpointRecord) (id : ℕ) (sent : Option EndpointRecord) (same : Bool) → TableStands v t → option_map (λ (p : Pending). p.sent) (find (λ (p : Pending). p.id == id) v.pending) ≡ Some sent →
+pub reply_judged : (v : TableRecord) (t : DriverTable) (endpoint : EndpointRecord) (id : ℕ) (sent : Option EndpointRecord) (same : Bool) → TableStands v t →
+    option_map (λ (p : Pending). p.sent) (find (λ (p : Pending). p.id == id) v.pending) ≡ Some sent →
     is_same_state sent (Some endpoint) ≡ same → replying t endpoint id ≡ judged t id true same
 reply_judged v t endpoint id sent same s e h =
     let k = reply_there v t id sent s e in
@@ -64,7 +66,8 @@ pub asked_all : (test : Request → Bool) (requests : List Request) (id : ℕ) �
 asked_all test [] id e = cc
 asked_all test (r ∷ requests) id e = by (test r) (r.id == id) refl e (asked_all test requests id)
   where
-    by : (b c : Bool) → r.id == id ≡ c → is_requested (cond b (r ∷ filter test requests) (filter test requests)) id ≡ true → (is_requested (filter test requests) id ≡ true → is_requested requests id ≡ true) → r.id == id || is_requested requests id ≡ true
+    by : (b c : Bool) → r.id == id ≡ c → is_requested (cond b (r ∷ filter test requests) (filter test requests)) id ≡ true →
+        (is_requested (filter test requests) id ≡ true → is_requested requests id ≡ true) → r.id == id || is_requested requests id ≡ true
     by b true q e rest = ap (λ (c : Bool). c || is_requested requests id) q
     by true false q e rest = ap (λ (c : Bool). c || is_requested requests id) q ∙ rest (sym (ap (λ (b : Bool). b || is_requested (filter test requests) id) q) ∙ e)
     by false false q e rest = ap (λ (c : Bool). c || is_requested requests id) q ∙ rest e
@@ -103,8 +106,11 @@ all_follow t id (r ∷ requests) o = (done_follows t id r o, all_follow t id req
 
 served_still : (t : DriverTable) (id : ℕ) (requests : List Request) → is_empty (values_of id t.answers) ≡ true → AllByRecursion (IsRequestServed t) requests → AllByRecursion (IsRequestServed (finishes t id)) requests
 served_still t id [] o h = tt
-served_still t id (r ∷ requests) o h =
-    (served_after t (finishes t id) ((id, Done) ∷ []) [] r (ending_for id r.id) (done_follows t id r o) h.0 refl refl h.0.found (λ p. fits (r.id == id) h.0.driver.class) (λ p e now silent. inr (no_target (r.id == id), now)), served_still t id requests o h.1)
+served_still t id (r ∷ requests) o h = (
+  served_after t (finishes t id) ((id, Done) ∷ []) [] r (ending_for id r.id) (done_follows t id r o) h.0 refl refl h.0.found (λ p. fits (r.id == id) h.0.driver.class)
+      (λ p e now silent. inr (no_target (r.id == id), now)),
+  served_still t id requests o h.1,
+)
   where
     no_target : (c : Bool) → targets (cond c (Some (Answer id Done)) None) ≡ []
     no_target true = refl
@@ -145,7 +151,9 @@ retained_others id (p ∷ l) = by (p.id == id) (retained_others id l)
     rest : List Pending
     rest = retain_mut (λ p. stays_pending (ending_for id p.id)) (λ p. kept_after (ending_for id p.id) p) l
 
-    by : (c : Bool) → filter (λ (p : Pending). not (p.id == id)) l ≡ rest → cond (not c) (p ∷ filter (λ (p : Pending). not (p.id == id)) l) (filter (λ (p : Pending). not (p.id == id)) l) ≡ cond (stays_pending (cond c (Some (Answer id Done)) None)) (kept_after (cond c (Some (Answer id Done)) None) p ∷ rest) rest
+    by : (c : Bool) → filter (λ (p : Pending). not (p.id == id)) l ≡ rest →
+        cond (not c) (p ∷ filter (λ (p : Pending). not (p.id == id)) l) (filter (λ (p : Pending). not (p.id == id)) l) ≡ cond (stays_pending (cond c (Some (Answer id Done)) None))
+        (kept_after (cond c (Some (Answer id Done)) None) p ∷ rest) rest
     by true e = e
     by false e = ap (λ (l : List Pending). p ∷ l) e
 

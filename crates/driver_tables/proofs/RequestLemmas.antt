@@ -77,7 +77,9 @@ pending_after t answers sends ask (r ∷ requests) h = by (is_pending t.answers 
     more_old (x ∷ l) new e = refl
 
     by : (b : Bool) → is_pending t.answers r ≡ b → values_of r.id answers ≡ cond b (endings m) [] → values_of r.id sends ≡ cond b (targets m) [] → kept ≡ is →
-        retain_mut (λ p. stays_pending (ask p)) (λ p. kept_after (ask p) p) (map (pending_of t.sends) (cond b (r ∷ filter (is_pending t.answers) requests) (filter (is_pending t.answers) requests))) ≡ map (pending_of (t.sends ++ sends)) (cond (is_pending (t.answers ++ answers) r) (r ∷ filter (is_pending (t.answers ++ answers)) requests) (filter (is_pending (t.answers ++ answers)) requests))
+        retain_mut (λ p. stays_pending (ask p)) (λ p. kept_after (ask p) p)
+        (map (pending_of t.sends) (cond b (r ∷ filter (is_pending t.answers) requests) (filter (is_pending t.answers) requests))) ≡ map (pending_of (t.sends ++ sends))
+        (cond (is_pending (t.answers ++ answers) r) (r ∷ filter (is_pending (t.answers ++ answers)) requests) (filter (is_pending (t.answers ++ answers)) requests))
     by false e a s rest =
         rest ∙ sym (ap (λ (b : Bool). map (pending_of (t.sends ++ sends)) (cond b (r ∷ filter (is_pending (t.answers ++ answers)) requests) (filter (is_pending (t.answers ++ answers)) requests)))
         (ap is_empty (values-append r.id t.answers answers) ∙ more_old old (values_of r.id answers) e))
@@ -89,7 +91,8 @@ pending_after t answers sends ask (r ∷ requests) h = by (is_pending t.answers 
         lists : last_sent (t.sends ++ sends) r.id ≡ last_or None (values_of r.id t.sends ++ targets m)
         lists = ap (last_or None) (values-append r.id t.sends sends ∙ ap (λ (l : List EndpointRecord). values_of r.id t.sends ++ l) s)
 
-        at : (b : Bool) → stays_pending m ≡ b → cond (stays_pending m) (kept_after m p ∷ kept) kept ≡ map (pending_of (t.sends ++ sends)) (cond (is_pending (t.answers ++ answers) r) (r ∷ filter (is_pending (t.answers ++ answers)) requests) (filter (is_pending (t.answers ++ answers)) requests))
+        at : (b : Bool) → stays_pending m ≡ b → cond (stays_pending m) (kept_after m p ∷ kept) kept ≡ map (pending_of (t.sends ++ sends))
+            (cond (is_pending (t.answers ++ answers) r) (r ∷ filter (is_pending (t.answers ++ answers)) requests) (filter (is_pending (t.answers ++ answers)) requests))
         at true k =
             let new : kept_after m p ≡ pending_of (t.sends ++ sends) r = sym (sent_after (values_of r.id t.sends) r m k) ∙ ap (λ (o : Option EndpointRecord). record { id = r.id; unit = r.unit; sent = o }) (sym lists) in
             ap (λ (b : Bool). cond b (kept_after m p ∷ kept) kept) k ∙ (ap (λ (x : Pending). x ∷ kept) new ∙ (ap (λ (l : List Pending). pending_of (t.sends ++ sends) r ∷ l) rest

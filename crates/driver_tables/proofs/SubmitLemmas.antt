@@ -93,7 +93,8 @@ last_above requests new k e = list_all-append (λ (r : Request). nat_lt r.id k) 
     by true h = ap (λ (x : Bool). x && true) (above_on requests new.id k e h)
     by false h = none (is_above requests k)
 
-distinct_on : (requests : List Request) (new : Request) → AllByRecursion (λ (r : Request). r.id == new.id ≡ false) requests → IsDistinct (λ (r s : Request). r.id == s.id) requests → IsDistinct (λ (r s : Request). r.id == s.id) (requests ++ new ∷ [])
+distinct_on : (requests : List Request) (new : Request) → AllByRecursion (λ (r : Request). r.id == new.id ≡ false) requests →
+    IsDistinct (λ (r s : Request). r.id == s.id) requests → IsDistinct (λ (r s : Request). r.id == s.id) (requests ++ new ∷ [])
 unfolding IsDistinct
 distinct_on [] new o h = (tt, tt)
 distinct_on (r ∷ requests) new o h = (one_more requests h.0, distinct_on requests new o.1 h.1)
@@ -136,7 +137,9 @@ retained_all : (l : List Pending) → retain_mut (λ p. true) (λ p. p) l ≡ l
 retained_all [] = refl
 retained_all (p ∷ l) = ap (λ (l : List Pending). p ∷ l) (retained_all l)
 
-served_before : (t : DriverTable) (new : Request) (m : Move) (requests : List Request) → AllByRecursion (λ (r : Request). Follows t (answered_by m ++ []) (sends_of m ++ []) r None) requests → AllByRecursion (IsRequestServed t) requests → AllByRecursion (IsRequestServed (taken t new m)) requests
+served_before : (t : DriverTable) (new : Request) (m : Move) (requests : List Request) →
+    AllByRecursion (λ (r : Request). Follows t (answered_by m ++ []) (sends_of m ++ []) r None) requests → AllByRecursion (IsRequestServed t) requests →
+    AllByRecursion (IsRequestServed (taken t new m)) requests
 served_before t new m [] f h = tt
 served_before t new m (r ∷ requests) f h =
     (served_after t (taken t new m) (answered_by m ++ []) (sends_of m ++ []) r None f.0 h.0 refl refl h.0.found (λ o. tt) (λ o e now silent. inr (refl, now)), served_before t new m requests f.1 h.1)
@@ -156,7 +159,8 @@ shown new m o = cond (not (is_ending m)) (record { id = new.id; unit = new.unit;
 new_pending : (class : Class) (e : Option EndpointRecord) (new : Request) (answers : List (ℕ × Ending)) (sends : List (ℕ × EndpointRecord)) →
     values_of new.id answers ≡ endings (Some (submitted class new.id e)) → values_of new.id sends ≡ targets (Some (submitted class new.id e)) →
     map (pending_of sends) (cond (is_pending answers new) (new ∷ []) []) ≡ cond (not (is_ending (submitted class new.id e))) (record { id = new.id; unit = new.unit; sent = e } ∷ []) []
-new_pending class e new answers sends a s = ap (λ (l : List Ending). map (pending_of sends) (cond (is_empty l) (new ∷ []) [])) a ∙ (by class e ∙ ap (λ (o : Option EndpointRecord). shown new (submitted class new.id e) o) (ap (last_or None) s ∙ target class e))
+new_pending class e new answers sends a s = ap (λ (l : List Ending). map (pending_of sends) (cond (is_empty l) (new ∷ []) [])) a ∙
+    (by class e ∙ ap (λ (o : Option EndpointRecord). shown new (submitted class new.id e) o) (ap (last_or None) s ∙ target class e))
   where
     by : (class : Class) (e : Option EndpointRecord) → map (pending_of sends) (cond (is_empty (endings (Some (submitted class new.id e)))) (new ∷ []) []) ≡ shown new (submitted class new.id e) (last_sent sends new.id)
     by class (Some e) = refl

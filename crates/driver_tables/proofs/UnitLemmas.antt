@@ -32,7 +32,8 @@ pub first_tells : (states : List LabelState) (units : List (ℕ × Driver)) (lab
 first_tells states [] label e = cc
 first_tells states (u ∷ units) label e = at (is_same_name label u.1.label) refl e (first_tells states units label)
   where
-    at : (b : Bool) → is_same_name label u.1.label ≡ b → b || has_label units label ≡ true → (has_label units label ≡ true → status_of (find (is_of_label label) (map (unit_of states) units)) ≡ (endpoint_now states label, newest states label)) →
+    at : (b : Bool) → is_same_name label u.1.label ≡ b → b || has_label units label ≡ true →
+        (has_label units label ≡ true → status_of (find (is_of_label label) (map (unit_of states) units)) ≡ (endpoint_now states label, newest states label)) →
         status_of (cond b (Some (unit_of states u)) (find (is_of_label label) (map (unit_of states) units))) ≡ (endpoint_now states label, newest states label)
     at true h k rest = ap (λ (l : List ℕ). (endpoint_now states l, newest states l)) (sym (same_name label u.1.label h))
     at false h k rest = rest k
@@ -69,17 +70,21 @@ noted_all states (u ∷ units) label state = cc (one, noted_all states units lab
     at false = refl
 
     one : noted label state (unit_of states u) ≡ unit_of (states ++ s ∷ []) u
-    one = ap (λ (d : Device). (u.0, d)) (at (is_same_name label u.1.label) ∙ (ap (λ (e : Option EndpointRecord). made e (cond (is_same_name label u.1.label) (newer (newest states u.1.label) state) (newest states u.1.label))) (sym (now_after states s u.1.label)) ∙ ap (made (endpoint_now (states ++ s ∷ []) u.1.label)) (sym (newest_after states s u.1.label))))
+    one = ap (λ (d : Device). (u.0, d)) (at (is_same_name label u.1.label) ∙
+        (ap (λ (e : Option EndpointRecord). made e (cond (is_same_name label u.1.label) (newer (newest states u.1.label) state) (newest states u.1.label)))
+        (sym (now_after states s u.1.label)) ∙ ap (made (endpoint_now (states ++ s ∷ []) u.1.label)) (sym (newest_after states s u.1.label))))
 
 pub starts_are : (states : List LabelState) (units : List (ℕ × Driver)) (label : List ℕ) (state : Option EndpointRecord) → filter_map (start_move label state) (map (unit_of states) units) ≡ filter_map (start label state) units
 starts_are states [] label state = refl
 starts_are states (u ∷ units) label state = ap (cons_option (start label state u)) (starts_are states units label state)
 
 -- the move of a pending request
-pub settles_as : (states : List LabelState) (units : List (ℕ × Driver)) (label : List ℕ) (state : Option EndpointRecord) (r : Request) (p : Pending) → p.id ≡ r.id → p.unit ≡ r.unit → settled_in (map (unit_of states) units) label state p ≡ settle units label state r
+pub settles_as : (states : List LabelState) (units : List (ℕ × Driver)) (label : List ℕ) (state : Option EndpointRecord) (r : Request) (p : Pending) → p.id ≡ r.id →
+    p.unit ≡ r.unit → settled_in (map (unit_of states) units) label state p ≡ settle units label state r
 settles_as states units label state r p i n =
     ap (λ (d : Option Device). option_map_or (settled_by label state p) d None) (device_is states units p.unit)
-    ∙ (ap (λ (k : ℕ). option_map_or (settled_by label state p) (option_map (device_of states) (driver_of units k)) None) n ∙ (at (driver_of units r.unit) ∙ ap (λ (k : ℕ). option_map_or (settled_of label state k) (driver_of units r.unit) None) i))
+    ∙ (ap (λ (k : ℕ). option_map_or (settled_by label state p) (option_map (device_of states) (driver_of units k)) None) n ∙
+    (at (driver_of units r.unit) ∙ ap (λ (k : ℕ). option_map_or (settled_of label state k) (driver_of units r.unit) None) i))
   where
     at : (d : Option Driver) → option_map_or (settled_by label state p) (option_map (device_of states) d) None ≡ option_map_or (settled_of label state p.id) d None
     at None = refl

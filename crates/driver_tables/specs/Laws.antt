@@ -16,7 +16,8 @@ use Rattle.driver_tables.specs.Run.{Reply}
 -- The table's requests, sends and answers follow from the calls and their answers.
 abbrev pub ListsTell : Type 0
 ListsTell = (entries : List Entry) (t : DriverTable) → TableRun empty_table entries t →
-    (t.requests ≡ requests_in entries) × (t.sends ≡ flat_map sends_of (all_moves_in entries)) × (t.answers ≡ flat_map answered_by (all_moves_in entries))
+    (t.requests ≡ requests_in entries) × (t.sends ≡ flat_map sends_of (all_moves_in entries)) ×
+    (t.answers ≡ flat_map answered_by (all_moves_in entries))
 
 -- Each id is answered at most once.
 abbrev pub AnswersOnce : Type 0
@@ -29,7 +30,9 @@ is_done id _ = false
 
 -- Only a reply of the endpoint that the request was last sent to answers Done.
 abbrev pub DoneByItsDriver : Type 0
-DoneByItsDriver = (entries : List Entry) (t u : DriverTable) (call : Call) (moves : List Move) (id : ℕ) → TableRun empty_table entries t → TableStep t call (Ok moves) u → list_any (is_done id) moves ≡ true →
+DoneByItsDriver =
+    (entries : List Entry) (t u : DriverTable) (call : Call) (moves : List Move) (id : ℕ) → TableRun empty_table entries t →
+    TableStep t call (Ok moves) u → list_any (is_done id) moves ≡ true →
     (endpoint : EndpointRecord) × (call ≡ Reply endpoint id) × (last_sent t.sends id ≡ Some endpoint)
 
 -- The unit's driver has the endpoint now, and its label had no greater generation.
@@ -46,17 +49,26 @@ GoesToLiving t (Send id endpoint) = (r : Request) × (find (is_for id) t.request
 GoesToLiving t _ = Unit {0}
 
 abbrev pub NoneToOlder : Type 0
-NoneToOlder = (entries : List Entry) (t u : DriverTable) (call : Call) (moves : List Move) → TableRun empty_table entries t → TableStep t call (Ok moves) u → AllByRecursion (GoesToLiving u) moves
+NoneToOlder =
+    (entries : List Entry) (t u : DriverTable) (call : Call) (moves : List Move) → TableRun empty_table entries t →
+    TableStep t call (Ok moves) u → AllByRecursion (GoesToLiving u) moves
 
 -- The greatest generation of a label never falls.
 abbrev pub NewestRises : Type 0
-NewestRises = (t u : DriverTable) (entries : List Entry) (label : List ℕ) (g : ℕ) → TableRun t entries u → newest t.states label ≡ Some g → (h : ℕ) × (newest u.states label ≡ Some h) × (g ≤ h)
+NewestRises =
+    (t u : DriverTable) (entries : List Entry) (label : List ℕ) (g : ℕ) → TableRun t entries u → newest t.states label ≡ Some g →
+    (h : ℕ) × (newest u.states label ≡ Some h) × (g ≤ h)
 
 -- The request was answered Done once; or it has no answer, and was last sent to the driver's endpoint now, if there is
 -- one.
 abbrev pub IsRequestKept : DriverTable → Request → Driver → Type 0
-IsRequestKept t r d = (values_of r.id t.answers ≡ Done ∷ []) ⊎ ((values_of r.id t.answers ≡ []) × ((endpoint : EndpointRecord) → endpoint_now t.states d.label ≡ Some endpoint → last_sent t.sends r.id ≡ Some endpoint))
+IsRequestKept t r d =
+    (values_of r.id t.answers ≡ Done ∷ []) ⊎
+    ((values_of r.id t.answers ≡ []) ×
+    ((endpoint : EndpointRecord) → endpoint_now t.states d.label ≡ Some endpoint → last_sent t.sends r.id ≡ Some endpoint))
 
 -- No request to a block driver is lost.
 abbrev pub BlockRequestsAreKept : Type 0
-BlockRequestsAreKept = (entries : List Entry) (t : DriverTable) → TableRun empty_table entries t → AllByRecursion (λ (r : Request). (d : Driver) → driver_of t.units r.unit ≡ Some d → d.class ≡ Block → IsRequestKept t r d) t.requests
+BlockRequestsAreKept =
+    (entries : List Entry) (t : DriverTable) → TableRun empty_table entries t →
+    AllByRecursion (λ (r : Request). (d : Driver) → driver_of t.units r.unit ≡ Some d → d.class ≡ Block → IsRequestKept t r d) t.requests

@@ -23,7 +23,8 @@ pub record IsRequestServed (t : DriverTable) (r : Request) : Type 0 where
   pub driver : Driver
   pub found : driver_of t.units r.unit ≡ Some driver
   pub answered : IsAnsweredBy driver.class (values_of r.id t.answers)
-  pub sent : values_of r.id t.answers ≡ [] → (e : EndpointRecord) → endpoint_now t.states driver.label ≡ Some e → last_sent t.sends r.id ≡ Some e
+  pub sent : values_of r.id t.answers ≡ [] → (e : EndpointRecord) → endpoint_now t.states driver.label ≡ Some e →
+      last_sent t.sends r.id ≡ Some e
 
 pub record IsTableReached (t : DriverTable) : Type 0 where
   -- each unit is assigned once

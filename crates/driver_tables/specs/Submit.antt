@@ -33,4 +33,5 @@ submitting_to t r (Some d) = (Ok (move_of t r d), does (with_request t r) (move_
 
 -- The answer to a request, and the table after it.
 abbrev pub submitting : DriverTable → ℕ → ℕ → Result Move TableFault × DriverTable
-submitting t id unit = if is_above t.requests id then submitting_to t (record { id = id; unit = unit }) (driver_of t.units unit) else (Err TwoIds, t)
+submitting t id unit =
+    if is_above t.requests id then submitting_to t (record { id = id; unit = unit }) (driver_of t.units unit) else (Err TwoIds, t)

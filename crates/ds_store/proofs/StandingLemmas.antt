@@ -50,11 +50,13 @@ void_is h sound held e c =
 abbrev pub floor_told : Option Floor → ℕ → ℕ → FloorStanding
 floor_told held count position = record { held = held; count = count; position = position }
 
-pub floor_told_same : (v : ContentRecord) (f : Floor) (o : Option Floor) (count position : ℕ) → o ≡ floor_at v.held f.owner → count ≡ length (floors_in v.held) → position ≡ v.journal.position → floor_told o count position ≡ floor_standing_in v f
+pub floor_told_same : (v : ContentRecord) (f : Floor) (o : Option Floor) (count position : ℕ) → o ≡ floor_at v.held f.owner → count ≡ length (floors_in v.held) →
+    position ≡ v.journal.position → floor_told o count position ≡ floor_standing_in v f
 floor_told_same v f o count position p q r = λ i. record { held = p i; count = q i; position = r i }
 
 -- ---- the first cause
-pub asked_cause : (v : ContentRecord) (s : State) (a : AskedChange) (body : Body) (caller : Option (List ℕ)) (t : Standing) (o : Option Cause) → ContentStands v s → caller ≡ name_of v.held a.caller → t ≡ standing_in v (change_asked caller a body)
+pub asked_cause : (v : ContentRecord) (s : State) (a : AskedChange) (body : Body) (caller : Option (List ℕ)) (t : Standing) (o : Option Cause) → ContentStands v s →
+    caller ≡ name_of v.held a.caller → t ≡ standing_in v (change_asked caller a body)
     → o ≡ first_cause (Some a.version) (against_asked t caller a body) → o ≡ cause_against s a body
 asked_cause v s a body caller t o stands named same first =
     first ∙ ap (λ (x : Standing). first_cause (Some a.version) (against_asked x caller a body)) (same ∙ standing_at v s (change_asked caller a body) stands)

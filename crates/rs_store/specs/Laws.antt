@@ -46,7 +46,8 @@ store_entries es = flat_map (λ (e : Entry RsCommand RsReply). entries_by e.pass
 
 -- A law: they are a history of the store.
 abbrev pub StoreTurnsRun : Type 0
-StoreTurnsRun = (es : List (Entry RsCommand RsReply)) (old new : PairRecord) → Run RsTurn old es new → Run Turn old.store (store_entries es) new.store
+StoreTurnsRun =
+    (es : List (Entry RsCommand RsReply)) (old new : PairRecord) → Run RsTurn old es new → Run Turn old.store (store_entries es) new.store
 
 -- ---- RS's part
 
@@ -71,7 +72,8 @@ HistoriesKeepLabels = (es : List (Entry RsCommand RsReply)) (old new : PairRecor
 
 -- A law: once RS has begun, the store's commands with RS as their caller are those of RS's actions, in order.
 abbrev pub RsAloneIsRs : Type 0
-RsAloneIsRs = (es : List (Entry RsCommand RsReply)) (old new : PairRecord) (rs : RsRecord) → old.services ≡ Some rs → Run RsTurn old es new →
+RsAloneIsRs =
+    (es : List (Entry RsCommand RsReply)) (old new : PairRecord) (rs : RsRecord) → old.services ≡ Some rs → Run RsTurn old es new →
     filter is_by_rs (commands_of (store_entries es)) ≡ flat_map commands (actions_by es)
 
 -- ---- what replies settle

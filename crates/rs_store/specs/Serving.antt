@@ -97,7 +97,8 @@ RsRefuses rs event tick fault = refusal rs event tick ≡ Some fault
 -- the event, and nothing changes.
 abbrev pub RsServes : Event → ℕ → RsRecord → ContentRecord → RsReply → Option RsRecord → ContentRecord → Type 0
 RsServes event tick rs old (Acted actions replies given) after new =
-    ((t : RsRecord) × RsStep rs event tick actions t × (after ≡ Some t)) × TurnsFor old actions replies new × (given ≡ given_up rs event tick)
+    ((t : RsRecord) × RsStep rs event tick actions t × (after ≡ Some t)) × TurnsFor old actions replies new ×
+    (given ≡ given_up rs event tick)
 RsServes event tick rs old (Refused fault) after new = RsRefuses rs event tick fault × (after ≡ Some rs) × (new ≡ old)
 RsServes event tick rs old _ after new = ⊥
 

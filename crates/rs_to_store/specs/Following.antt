@@ -32,7 +32,8 @@ taking t label None = ([], t)
 taking t label (Some state) = as_round t (changing t label state)
 
 -- Memory ran out at a label that has a round, and the follow ended before that label.
-pub record EndsForRoom (t : DriverTable) (round : List (List Move)) (rounds : List (List Move)) (fault : Option TableFault) (u : DriverTable) : Type 0 where
+pub record EndsForRoom (t : DriverTable) (round : List (List Move)) (rounds : List (List Move)) (fault : Option TableFault)
+    (u : DriverTable) : Type 0 where
   pub some : round ≢ []
   pub rounds_are : rounds ≡ []
   pub fault_is : fault ≡ Some NoRoom
@@ -43,11 +44,14 @@ pub record EndsForRoom (t : DriverTable) (round : List (List Move)) (rounds : Li
 abbrev pub Follows : List Item → List (List ℕ) → DriverTable → List (List Move) → Option TableFault → DriverTable → Type 0
 Follows held [] t rounds fault u = (rounds ≡ []) × (fault ≡ None) × (u ≡ t)
 Follows held (label ∷ labels) t rounds fault u =
-    ((later : List (List Move)) × (rounds ≡ (taking t label (news_of held t label)).0 ++ later) × Follows held labels (taking t label (news_of held t label)).1 later fault u)
+    ((later : List (List Move)) × (rounds ≡ (taking t label (news_of held t label)).0 ++ later) ×
+    Follows held labels (taking t label (news_of held t label)).1 later fault u)
     ⊎ EndsForRoom t (taking t label (news_of held t label)).0 rounds fault u
 
 -- The table followed a map that holds these items: its rounds are appended to those before, and `fault` is what ended
 -- it, if anything did; either way the new value stands for the table that took these rounds.
 abbrev pub HasFollowed : List Item → TableRecord → TableRecord → List (List Move) → List (List Move) → Option TableFault → Type 0
 HasFollowed held old new before after fault =
-    (t : DriverTable) → TableStands old t → (u : DriverTable) × (rounds : List (List Move)) × (after ≡ before ++ rounds) × Follows held (labels_of t) t rounds fault u × TableStands new u
+    (t : DriverTable) → TableStands old t →
+    (u : DriverTable) × (rounds : List (List Move)) × (after ≡ before ++ rounds) × Follows held (labels_of t) t rounds fault u ×
+    TableStands new u

@@ -33,7 +33,8 @@ pub no_byte : (b : ℕ) (p : Piece) (some : p.Of) (stop : PartFault) (bytes : Li
 no_byte b p some stop bytes can at none = stops_from (after_byte b p) stop bytes bytes at (byte_missing b p some bytes can none)
 
 -- the part after the byte is missing
-pub no_part : (b : ℕ) (T : Type 0) (Can : T → Type 0) (of : T → Part) (some : T) (stop : PartFault) (bytes r : List ℕ) → Can some → bytes ≡ b ∷ r → stop ≡ BadPart (length r) → ((x : T) (rest : List ℕ) → Can x → ¬ Begins (run_of (of x).class) r (of x).text rest)
+pub no_part : (b : ℕ) (T : Type 0) (Can : T → Type 0) (of : T → Part) (some : T) (stop : PartFault) (bytes r : List ℕ) → Can some → bytes ≡ b ∷ r → stop ≡ BadPart (length r) →
+    ((x : T) (rest : List ℕ) → Can x → ¬ Begins (run_of (of x).class) r (of x).text rest)
     → StopsIn (after_byte b (one_part T Can of)) stop bytes
 no_part b T Can of some stop bytes r can is at none =
     byte_stops b (one_part T Can of) stop bytes r is (stops_from (one_part T Can of) stop r r at (part_missing (one_part T Can of) of (λ x. []) some r (λ x. refl) can none))
@@ -71,7 +72,8 @@ modes_one false false same = refl
 abbrev pub mode_part : Bool → Part
 mode_part overwrite = part Word (mode_word overwrite)
 
-pub no_mode : (stop : PartFault) (bytes r word rest : List ℕ) → bytes ≡ 32 ∷ r → stop ≡ BadPart (length r) → list_all is_ascii_alphanumeric word ≡ true → Begins is_ascii_alphanumeric r word rest → ((overwrite : Bool) → word ≢ mode_word overwrite)
+pub no_mode : (stop : PartFault) (bytes r word rest : List ℕ) → bytes ≡ 32 ∷ r → stop ≡ BadPart (length r) → list_all is_ascii_alphanumeric word ≡ true →
+    Begins is_ascii_alphanumeric r word rest → ((overwrite : Bool) → word ≢ mode_word overwrite)
     → StopsIn a_mode stop bytes
 no_mode stop bytes r word rest is at all begins other =
     no_part 32 Bool (λ _. Unit {0}) mode_part true stop bytes r tt is at
@@ -95,7 +97,8 @@ initials_one false false same = refl
 abbrev pub initial_part : Bool → Part
 initial_part initial = part Word (initial_word initial)
 
-pub no_initial : (stop : PartFault) (bytes r word rest : List ℕ) → bytes ≡ 32 ∷ r → stop ≡ BadPart (length r) → list_all is_ascii_alphanumeric word ≡ true → Begins is_ascii_alphanumeric r word rest → ((initial : Bool) → word ≢ initial_word initial)
+pub no_initial : (stop : PartFault) (bytes r word rest : List ℕ) → bytes ≡ 32 ∷ r → stop ≡ BadPart (length r) → list_all is_ascii_alphanumeric word ≡ true →
+    Begins is_ascii_alphanumeric r word rest → ((initial : Bool) → word ≢ initial_word initial)
     → StopsIn an_initial stop bytes
 no_initial stop bytes r word rest is at all begins other =
     no_part 32 Bool (λ _. Unit {0}) initial_part true stop bytes r tt is at
@@ -184,7 +187,8 @@ pub no_kinds : (stop : PartFault) (bytes r : List ℕ) → bytes ≡ 32 ∷ r �
 no_kinds stop bytes r is at none = no_part 32 ℕ (λ n. (0 < n) × (n ≤ 15)) number_part 1 stop bytes r (omega arith, omega arith) is at (λ n rest can. none n rest can.1)
 
 -- the number names no kind
-pub kinds_zero : (stop : PartFault) (bytes r after : List ℕ) (number : ℕ) → bytes ≡ 32 ∷ r → stop ≡ BadPart (length r) → Begins is_ascii_digit r (decimal number) after → number ≤ 15 → ¬ ((0 < number) × (number ≤ 15)) → StopsIn a_kinds stop bytes
+pub kinds_zero : (stop : PartFault) (bytes r after : List ℕ) (number : ℕ) → bytes ≡ 32 ∷ r → stop ≡ BadPart (length r) → Begins is_ascii_digit r (decimal number) after →
+    number ≤ 15 → ¬ ((0 < number) × (number ≤ 15)) → StopsIn a_kinds stop bytes
 kinds_zero stop bytes r after number is at begins most zero =
     no_part 32 ℕ (λ n. (0 < n) × (n ≤ 15)) number_part 1 stop bytes r (omega arith, omega arith) is at
     (λ n rest can there.
@@ -219,7 +223,8 @@ pub version_one : One a_version
 version_one =
     one_by a_version (λ a b is_a is_b. (refl, λ _. (refl, λ _. (refl, λ _. (refl, λ _. tt)))))
     (λ a is. (refl, ((a.epoch, omega (arith, is.epoch), refl), (refl, ((a.seq, omega (arith, is.seq), refl), tt)))))
-    (λ a b is_a is_b same. version_is a b (decimal_injective a.epoch b.epoch (omega (arith, is_a.epoch)) (omega (arith, is_b.epoch)) (ap (text_at 1) same)) (decimal_injective a.seq b.seq (omega (arith, is_a.seq)) (omega (arith, is_b.seq)) (ap (text_at 3) same)))
+    (λ a b is_a is_b same. version_is a b (decimal_injective a.epoch b.epoch (omega (arith, is_a.epoch)) (omega (arith, is_b.epoch)) (ap (text_at 1) same))
+    (decimal_injective a.seq b.seq (omega (arith, is_a.seq)) (omega (arith, is_b.seq)) (ap (text_at 3) same)))
 
 -- ---- values
 

@@ -213,7 +213,8 @@ range_name_stops stop bytes room s = view_stops named a_range range_view stop by
 pub range_follow_stops : (name : List ℕ) (stop : PartFault) (bytes r : List ℕ) → Found a_name name bytes r → StopsIn (a_follow name) stop r → StopsIn a_range stop bytes
 range_follow_stops name stop bytes r found s = view_stops named a_range range_view stop bytes (then_stops a_name a_follow 2 stop name bytes r name_fixed name_one found s)
 
-pub key_found : (name : List ℕ) (kind : Kind) (max : ℕ) (bytes r1 r2 rest : List ℕ) → Found a_name name bytes r1 → Found a_kind kind r1 r2 → Found a_number max r2 rest → Found a_range (Some (record { name = name; kind = kind }), max) bytes rest
+pub key_found : (name : List ℕ) (kind : Kind) (max : ℕ) (bytes r1 r2 rest : List ℕ) → Found a_name name bytes r1 → Found a_kind kind r1 r2 → Found a_number max r2 rest →
+    Found a_range (Some (record { name = name; kind = kind }), max) bytes rest
 key_found name kind max bytes r1 r2 rest f1 f2 f3 =
     let both = both_found a_kind (λ _. a_number) kind max r1 r2 rest f2 f3 in
     view_found named a_range range_view (name, (Some kind, max)) bytes rest (both_found a_name a_follow name (Some kind, max) bytes r1 rest f1 (record { can = (tt, f3.can); front = both.front }))

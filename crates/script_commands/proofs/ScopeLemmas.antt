@@ -61,7 +61,8 @@ quote_stands text bytes mid rest space_is quote_is = ((escaped text ++ 34 ∷ []
 
 -- ---- the kinds after a pattern are missing
 
-query_most : (bytes after : List ℕ) (k : ℕ) → 2 ≤ k → ((x : a_query.Of) (end : List ℕ) → a_query.Can x → ¬ Stand (suc k) (a_query.parts x) bytes end) → (scope : Scope) → IsScope scope → Stand (suc k) (space ∷ scope_parts scope) bytes after → ⊥
+query_most : (bytes after : List ℕ) (k : ℕ) → 2 ≤ k → ((x : a_query.Of) (end : List ℕ) → a_query.Can x → ¬ Stand (suc k) (a_query.parts x) bytes end) → (scope : Scope) →
+    IsScope scope → Stand (suc k) (space ∷ scope_parts scope) bytes after → ⊥
 query_most bytes after k two most All can h = omega (arith, two, count_fits (suc k) (space ∷ byte 42 ∷ []) bytes after h)
 query_most bytes after k two most (Under query) can h = most (query.text, query.kinds) after (can.text, (can.some, can.limit)) h
 
@@ -116,7 +117,8 @@ scopes_one (Under p) (Under q) bytes r s fa fb =
 pub scope_one : One a_scope
 scope_one = scopes_one
 
-scopes_apart : (a b : Scope) (bytes r after : List ℕ) → Found a_scope a bytes r → IsScope b → length (space ∷ scope_parts a) < length (space ∷ scope_parts b) → Stand (suc (length (space ∷ scope_parts a))) (space ∷ scope_parts b) bytes after → ⊥
+scopes_apart : (a b : Scope) (bytes r after : List ℕ) → Found a_scope a bytes r → IsScope b → length (space ∷ scope_parts a) < length (space ∷ scope_parts b) →
+    Stand (suc (length (space ∷ scope_parts a))) (space ∷ scope_parts b) bytes after → ⊥
 scopes_apart All All bytes r after f can lt h = omega (arith, lt)
 scopes_apart All (Under q) bytes r after f can lt h =
     let quote = quote_stands q.text bytes h.0 h.2.0 h.1.parts h.2.1.parts in

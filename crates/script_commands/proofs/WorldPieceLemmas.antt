@@ -100,7 +100,8 @@ holders_one (Map a) (Map b) is_a is_b same = ap Map (decimal_injective a b is_a 
 abbrev pub holder_part : Holder → Part
 holder_part holder = part Word (holder_word holder)
 
-pub no_holder : (stop : PartFault) (bytes r word rest : List ℕ) → bytes ≡ 32 ∷ r → stop ≡ BadPart (length r) → list_all is_ascii_alphanumeric word ≡ true → Begins is_ascii_alphanumeric r word rest → ((holder : Holder) → IsHolder holder → word ≢ holder_word holder)
+pub no_holder : (stop : PartFault) (bytes r word rest : List ℕ) → bytes ≡ 32 ∷ r → stop ≡ BadPart (length r) → list_all is_ascii_alphanumeric word ≡ true →
+    Begins is_ascii_alphanumeric r word rest → ((holder : Holder) → IsHolder holder → word ≢ holder_word holder)
     → StopsIn a_holder stop bytes
 no_holder stop bytes r word rest is at all begins other =
     no_part 32 Holder IsHolder holder_part (Store A) stop bytes r tt is at
@@ -141,11 +142,13 @@ no_digit bytes r rest b n is low most begins =
     let first = front_first (decimal n) rest r b (sym begins.parts ∙ is) some in
     omega (arith, first, low, (value_more (decimal n) 0 some (digits_decimal own n most)).0)
 
-count_none : (r : List ℕ) → ((rest : List ℕ) → r ≢ 42 ∷ rest) → ((n : ℕ) (rest : List ℕ) → n ≤ 4294967295 → ¬ Begins is_ascii_digit r (decimal n) rest) → (x : Option ℕ) (rest : List ℕ) → IsCount x → Begins (run_of (count_part x).class) r (count_part x).text rest → ⊥
+count_none : (r : List ℕ) → ((rest : List ℕ) → r ≢ 42 ∷ rest) → ((n : ℕ) (rest : List ℕ) → n ≤ 4294967295 → ¬ Begins is_ascii_digit r (decimal n) rest) →
+    (x : Option ℕ) (rest : List ℕ) → IsCount x → Begins (run_of (count_part x).class) r (count_part x).text rest → ⊥
 count_none r star number None rest can begins = star rest begins.parts
 count_none r star number (Some n) rest can begins = number n rest (omega (arith, can)) begins
 
-pub no_count : (stop : PartFault) (bytes r : List ℕ) → bytes ≡ 32 ∷ r → stop ≡ BadPart (length r) → ((rest : List ℕ) → r ≢ 42 ∷ rest) → ((n : ℕ) (rest : List ℕ) → n ≤ 4294967295 → ¬ Begins is_ascii_digit r (decimal n) rest) → StopsIn a_count stop bytes
+pub no_count : (stop : PartFault) (bytes r : List ℕ) → bytes ≡ 32 ∷ r → stop ≡ BadPart (length r) → ((rest : List ℕ) → r ≢ 42 ∷ rest) →
+    ((n : ℕ) (rest : List ℕ) → n ≤ 4294967295 → ¬ Begins is_ascii_digit r (decimal n) rest) → StopsIn a_count stop bytes
 no_count stop bytes r is at star number = no_part 32 (Option ℕ) IsCount count_part None stop bytes r tt is at (λ x rest can begins. count_none r star number x rest can begins)
 
 abbrev count_rest : Piece

@@ -100,9 +100,10 @@ pub record IsFaultAmong (May : ScriptCommand → Type 0) (bytes : List ℕ) (pla
 abbrev pub ReadsAs : (ScriptCommand → Type 0) → List ℕ → Result ScriptCommand CommandFault → Type 0
 ReadsAs May bytes (Ok command) = May command × (bytes ≡ texts (command_parts command))
 ReadsAs May bytes (Err (BadLine place expected)) = IsFaultAmong May bytes place
-ReadsAs May bytes (Err NoRoom) = (command : ScriptCommand) × May command × (bytes ≡ texts (command_parts command)) × CommandTakesMemory command
+ReadsAs May bytes (Err NoRoom) =
+    (command : ScriptCommand) × May command × (bytes ≡ texts (command_parts command)) × CommandTakesMemory command
 
--- The bytes are no command's line.
+-- The bytes aren't a command's line.
 abbrev pub IsCommandFault : List ℕ → ℕ → Type 0
 IsCommandFault bytes place = IsFaultAmong IsCommand bytes place
 

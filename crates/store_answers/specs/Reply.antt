@@ -125,7 +125,8 @@ owed_line limits mask = if mask == 0 then [] else with_newline (codes "owed " ++
 
 -- The lines of a reply: those of its items, its words, and what is owed.
 abbrev pub reply_lines : Wording → Reply → LimitsRecord → List ℕ
-reply_lines wording reply limits = flat_map item_spelling (shown_by reply) ++ (with_newline (reply_words wording reply) ++ owed_line limits (owed_by reply))
+reply_lines wording reply limits =
+    flat_map item_spelling (shown_by reply) ++ (with_newline (reply_words wording reply) ++ owed_line limits (owed_by reply))
 
 -- The answer if memory runs out.
 abbrev pub refused_noroom : List ℕ
