@@ -1,12 +1,10 @@
 //! Copies of events.
 
 ghost use Rattle.std.specs.Prelude.{◌≡◌, IfOk};
-ghost use Rattle.system_model.specs.declared.event.SystemEvent.TheVariants.{Put, Answered};
 
-use crate::event::{SystemEvent, Table};
-use ds_entry::Value;
-use ds_names::{Endpoint, Key, Name, NoRoom};
-use ds_replica::{Event, Side};
+use crate::event::SystemEvent;
+use ds_names::NoRoom;
+use ds_replica::Event;
 use std::alloc::Global;
 
 fn world_event_again(alloc: Global, event: &Event) -> Result<Event, NoRoom>
@@ -37,29 +35,6 @@ fn world_event_again(alloc: Global, event: &Event) -> Result<Event, NoRoom>
     }
 }
 
-// A service's put of a value.
-fn put(label: Name, key: Key, value: Value, side: Side) -> SystemEvent
-    ensures { result ≡ Put label key value side }
-{
-    SystemEvent::Put {
-        label,
-        key,
-        value,
-        side,
-    }
-}
-
-// A driver's answer to a request.
-fn answered(table: Table, endpoint: Endpoint, id: u64) -> SystemEvent
-    ensures { result ≡ Answered table endpoint id }
-{
-    SystemEvent::Answered {
-        table,
-        endpoint,
-        id,
-    }
-}
-
 pub(crate) fn event_again(alloc: Global, event: &SystemEvent) -> Result<SystemEvent, NoRoom>
     ensures { IfOk result (λ copy. copy ≡ event.now) }
 {
@@ -74,7 +49,12 @@ pub(crate) fn event_again(alloc: Global, event: &SystemEvent) -> Result<SystemEv
             key,
             value,
             side,
-        } => Ok(put(*label, *key, value.copy(alloc)?, *side)),
+        } => Ok(SystemEvent::Put {
+            label: *label,
+            key: *key,
+            value: value.copy(alloc)?,
+            side: *side,
+        }),
         SystemEvent::Remove { label, key, side } => Ok(SystemEvent::Remove {
             label: *label,
             key: *key,
@@ -95,6 +75,10 @@ pub(crate) fn event_again(alloc: Global, event: &SystemEvent) -> Result<SystemEv
             table,
             endpoint,
             id,
-        } => Ok(answered(*table, *endpoint, *id)),
+        } => Ok(SystemEvent::Answered {
+            table: *table,
+            endpoint: *endpoint,
+            id: *id,
+        }),
     }
 }

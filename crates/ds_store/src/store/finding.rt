@@ -34,7 +34,7 @@ impl Store {
     }
 
     /// Lends the name that a NameOf of the endpoint finds. Returns `None` for an endpoint that no live label holds, and for RS,
-    /// whose name isn't a label's. Takes no memory.
+    /// which has no label. Takes no memory.
     #[inline(always)]
     pub fn fast_name_of(&self, endpoint: Endpoint) -> Option<&Name>
         ensures { InEachState self.now (λ s. option_copied result ≡ label_name s endpoint) }

@@ -18,11 +18,11 @@ pub returns-in-Submit : goal.returns-in-Submit
 returns-in-Submit c = sym c.in-Submit.is
 
 pub returns-in-Answered : goal.returns-in-Answered
-returns-in-Answered c = c.answered.ensures ∙ sym c.in-Answered.is
+returns-in-Answered c = sym c.in-Answered.is
 
 pub returns-in_ok-copy-in-Put : goal.returns-in_ok-copy-in-Put
 returns-in_ok-copy-in-Put c =
-    let p = c.in-Put in c.put.ensures ∙ ap (λ v. Put p.label p.key v p.side) c.in_ok-copy-in-Put.ensures.same ∙ sym p.is
+    let p = c.in-Put in ap (λ v. Put p.label p.key v p.side) c.in_ok-copy-in-Put.ensures.same ∙ sym p.is
 
 pub returns-in_ok-world_event_again-in-World : goal.returns-in_ok-world_event_again-in-World
 returns-in_ok-world_event_again-in-World c =

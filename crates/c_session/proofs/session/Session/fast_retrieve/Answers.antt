@@ -1,9 +1,10 @@
-use Rattle.std.proofs.Common.{inl, inr, Some, None}
+use Rattle.std.proofs.Common.{inl, inr, subst, Some, None}
 use Rattle.ds_entry.specs.declared.body.Value.{Value}
 use Rattle.ds_entry.specs.declared.body.Value.TheVariants.{U32}
 use Rattle.ds_machine.specs.declared.command.Command.TheVariants.{Retrieve}
 use Rattle.ds_machine.specs.declared.refusal.Refusal.TheVariants.{NotFound}
 use Rattle.ds_machine.specs.declared.reply.Reply.TheVariants.{Found, Refused}
+use Rattle.ds_store.specs.Turns.{Turn}
 use Rattle.ds_store.proofs.FindLemmas.{retrieve_turn}
 use Rattle.c_session.specs.Kept.{copy_reply}
 use Rattle.c_session.proofs.CalledLemmas.{answered, copied_turn, stands_for_retrieve, stands_for_no_retrieve}
@@ -14,10 +15,12 @@ returns-in_default c = λ text. inr (inl (stands_for_no_retrieve c.args.request.
 
 pub returns-in-Some-U32 : goal.returns-in-Some-U32
 returns-in-Some-U32 c = λ text.
-    let found : Value = U32 c.in-Some-U32.number in
-    answered c.args.self.now c.tell.new.self c.args.request.now text c.tell.new.answer (Retrieve c.in-Some.key) (Found found)
+    let v = c.args.self.now.store in
+    let lent = c.in-Some-U32.field-0.now in
+    answered c.args.self.now c.tell.new.self c.args.request.now text c.tell.new.answer (Retrieve c.in-Some.key) (Found (U32 c.in-Some-U32.number))
     (stands_for_retrieve c.args.request.now text c.in-Some.key c.requires c.in-Some.ensures)
-    (retrieve_turn c.args.self.now.store c.in-Some.key (Some found) c.cursor-stood.ensures.stood c.in-Some-U32.ensures.live)
+    (subst (λ (x : Value). Turn v (Retrieve c.in-Some.key) (Found x) v) c.in-Some-U32.field-0-is
+      (retrieve_turn v c.in-Some.key (Some lent) c.cursor-stood.ensures.stood c.in-Some-U32.ensures.live))
     c.tell.ensures
 
 pub returns-in-Some-fast_retrieve : goal.returns-in-Some-fast_retrieve
