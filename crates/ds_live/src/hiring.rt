@@ -4,7 +4,6 @@ ghost use Rattle.std.specs.Prelude.{All, ◌≡◌, ◌≤◌, ◌<◌, ◌+◌,
 ghost use Rattle.desk.specs.Desk.{identity, pass_count};
 ghost use Rattle.desk.specs.Pass.{desk_of};
 ghost use Rattle.ds_pass.specs.Record.{pass_record};
-ghost use Rattle.ds_workers.specs.Turns.{SeatHasCalled};
 ghost use Rattle.ds_workers.specs.Workers.{IsOf, IsTask, others_in};
 ghost use Rattle.ds_live.specs.Sizes.{are_fit};
 
@@ -13,7 +12,7 @@ use crate::fault::LiveFault;
 use crate::sizes::Sizes;
 use crew::GivenUp;
 use desk::{Desk, Pass};
-use ds_pass::{CallFault, Seat};
+use ds_pass::CallFault;
 use ds_refresh::Follower;
 use ds_store::Store;
 use ds_workers::{Desks, Gate, StoreTurns, Task, Turns, Worker, everything, publish_label};
@@ -73,10 +72,7 @@ pub(crate) fn hire<'e, R: Wait, G: Gate>(
     let Some(mut pass) = back.passes.pop() else {
         unreachable!()
     };
-    let mut seat = Seat::new(rt, &desks.first, &mut pass);
-    let told = publish_labels(&mut seat, sizes.publishers);
-    let _pass = seat.leave();
-    told?;
+    publish_labels(rt, &desks.first, &mut pass, sizes.publishers)?;
     let Some(other) = back.others.pop() else {
         unreachable!()
     };
@@ -119,12 +115,18 @@ pub(crate) fn hire<'e, R: Wait, G: Gate>(
 }
 
 // RS publishes the labels of the publishers.
-fn publish_labels<W: Wait>(seat: &mut Seat<'_, W>, count: u32) -> Result<(), CallFault>
-    requires { count ≤ 8 }
-    ensures { SeatHasCalled seat.old seat.new }
+fn publish_labels<W: Wait>(
+    rt: &W,
+    desk: &Desk<Box<Store>>,
+    pass: &mut Pass<Box<Store>>,
+    count: u32,
+) -> Result<(), CallFault>
+    requires of_desk { desk_of pass.old ≡ identity desk.now }
+    requires few { count ≤ 8 }
+    ensures { desk_of pass.new ≡ desk_of pass.old }
 {
     for index in 0..count {
-        publish_label(seat, index)?;
+        publish_label(rt, desk, pass, index)?;
     }
     Ok(())
 }

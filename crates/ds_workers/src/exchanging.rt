@@ -1,17 +1,46 @@
 //! Exchanges from the first desk's store to the second's.
 
-ghost use Rattle.std.specs.Prelude.{IfOk, OnOk};
-ghost use Rattle.ds_workers.specs.Turns.{HasExchanged, IsHandedOver, SeatHasCalled};
+ghost use Rattle.std.specs.Prelude.{◌≡◌, IfOk, OnOk};
+ghost use Rattle.desk.specs.Desk.{identity};
+ghost use Rattle.desk.specs.Pass.{desk_of};
+ghost use Rattle.ds_pass.specs.Record.{pass_record as seen};
+ghost use Rattle.ds_workers.specs.Turns.{HasCalled, HasExchanged, IsHandedOver, SeatHasCalled};
 
+use desk::{Desk, Pass};
 use ds_exchange::{ExchangeFault, exchange_once};
 use ds_feed::Cursor;
 use ds_machine::Refusal;
 use ds_pass::{CallFault, Seat};
+use ds_store::Store;
 use std::sync::Wait;
 
 /// Makes one exchange, from the cursor on. If the journal doesn't reach back to it, the next exchange has no cursor. Returns whether
 /// there may be more.
 pub(crate) fn exchange<W: Wait>(
+    rt: &W,
+    first: &Desk<Box<Store>>,
+    pass: &mut Pass<Box<Store>>,
+    second: &Desk<Box<Store>>,
+    other: &mut Pass<Box<Store>>,
+    cursor: &mut Option<Cursor>,
+) -> Result<bool, ExchangeFault>
+    requires first { desk_of pass.old ≡ identity first.now }
+    requires second { desk_of other.old ≡ identity second.now }
+    ensures stays { desk_of pass.new ≡ desk_of pass.old }
+    ensures other_stays { desk_of other.new ≡ desk_of other.old }
+    ensures called { HasCalled (seen pass.old) (seen pass.new) }
+    ensures exchanged { IfOk result (HasExchanged (seen pass.old) (seen pass.new) (seen other.old) (seen other.new) cursor.old cursor.new) }
+{
+    let mut here = Seat::new(rt, first, pass);
+    let mut there = Seat::new(rt, second, other);
+    let told = exchange_at(&mut here, &mut there, cursor);
+    let _other = there.leave();
+    let _pass = here.leave();
+    told
+}
+
+// The same at two seats.
+fn exchange_at<W: Wait>(
     first: &mut Seat<'_, W>,
     second: &mut Seat<'_, W>,
     cursor: &mut Option<Cursor>,
@@ -34,6 +63,30 @@ pub(crate) fn exchange<W: Wait>(
 
 /// Exchanges until there is no more.
 pub(crate) fn hand_over<W: Wait>(
+    rt: &W,
+    first: &Desk<Box<Store>>,
+    pass: &mut Pass<Box<Store>>,
+    second: &Desk<Box<Store>>,
+    other: &mut Pass<Box<Store>>,
+    cursor: &mut Option<Cursor>,
+) -> Result<(), ExchangeFault>
+    requires first { desk_of pass.old ≡ identity first.now }
+    requires second { desk_of other.old ≡ identity second.now }
+    ensures stays { desk_of pass.new ≡ desk_of pass.old }
+    ensures other_stays { desk_of other.new ≡ desk_of other.old }
+    ensures called { HasCalled (seen pass.old) (seen pass.new) }
+    ensures handed { OnOk result (IsHandedOver (seen pass.new) (seen other.new)) }
+{
+    let mut here = Seat::new(rt, first, pass);
+    let mut there = Seat::new(rt, second, other);
+    let told = hand_over_at(&mut here, &mut there, cursor);
+    let _other = there.leave();
+    let _pass = here.leave();
+    told
+}
+
+// The same at two seats.
+fn hand_over_at<W: Wait>(
     first: &mut Seat<'_, W>,
     second: &mut Seat<'_, W>,
     cursor: &mut Option<Cursor>,
@@ -42,7 +95,7 @@ pub(crate) fn hand_over<W: Wait>(
     ensures handed { OnOk result (IsHandedOver first.new.pass second.new.pass) }
 {
     for _ in first.rt().forever() {
-        let more = exchange(first, second, cursor)?;
+        let more = exchange_at(first, second, cursor)?;
         if !more {
             return Ok(());
         }

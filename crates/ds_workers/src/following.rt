@@ -1,19 +1,48 @@
 //! Refreshes a subscriber's follower.
 
 ghost use Rattle.std.specs.Prelude.{◌≡◌, None, OnOk};
+ghost use Rattle.desk.specs.Desk.{identity};
+ghost use Rattle.desk.specs.Pass.{desk_of};
+ghost use Rattle.ds_pass.specs.Record.{pass_record as seen};
 ghost use Rattle.ds_refresh.specs.Follower.{IsSameFollower};
 ghost use Rattle.ds_refresh.specs.KeepsUp.{KeepsUpWith};
-ghost use Rattle.ds_workers.specs.Turns.{HasRefreshed, IsBroughtUp, SeatHasCalled};
+ghost use Rattle.ds_workers.specs.Turns.{HasCalled, HasRefreshed, IsBroughtUp, SeatHasCalled};
 
 use crate::fault::WorkerFault;
+use desk::{Desk, Pass};
 use ds_pass::Seat;
 use ds_refresh::{Follower, Fresh, RefreshFault, refresh};
+use ds_store::Store;
 use std::alloc::Global;
 use std::sync::Wait;
 
 /// Takes a subscriber's turn: takes its server's notices, and refreshes its follower by at most 8 calls. After turn 1 the follower is
 /// lost.
 pub(crate) fn follow<W: Wait>(
+    rt: &W,
+    alloc: Global,
+    desk: &Desk<Box<Store>>,
+    pass: &mut Pass<Box<Store>>,
+    follower: &mut Follower,
+    turn: u32,
+) -> Result<(), WorkerFault>
+    requires of_desk { desk_of pass.old ≡ identity desk.now }
+    requires keeps { KeepsUpWith (seen pass.old) follower.old }
+    ensures stays { desk_of pass.new ≡ desk_of pass.old }
+    ensures called { HasCalled (seen pass.old) (seen pass.new) }
+    ensures keeps { KeepsUpWith (seen pass.new) follower.new }
+    ensures same { IsSameFollower follower.old follower.new }
+    ensures refreshed { OnOk result (HasRefreshed (seen pass.old) (seen pass.new) follower.old) }
+    ensures lost { turn ≡ 1 → OnOk result (follower.new.stamp ≡ None) }
+{
+    let mut seat = Seat::new(rt, desk, pass);
+    let told = follow_at(&mut seat, alloc, follower, turn);
+    let _pass = seat.leave();
+    told
+}
+
+// The same turn, at a seat.
+fn follow_at<W: Wait>(
     seat: &mut Seat<'_, W>,
     alloc: Global,
     follower: &mut Follower,
@@ -36,6 +65,28 @@ pub(crate) fn follow<W: Wait>(
 
 /// Refreshes a follower until its map is up to date.
 pub(crate) fn bring_up<W: Wait>(
+    rt: &W,
+    alloc: Global,
+    desk: &Desk<Box<Store>>,
+    pass: &mut Pass<Box<Store>>,
+    follower: &mut Follower,
+) -> Result<(), RefreshFault>
+    requires of_desk { desk_of pass.old ≡ identity desk.now }
+    requires keeps { KeepsUpWith (seen pass.old) follower.old }
+    ensures stays { desk_of pass.new ≡ desk_of pass.old }
+    ensures called { HasCalled (seen pass.old) (seen pass.new) }
+    ensures keeps { KeepsUpWith (seen pass.new) follower.new }
+    ensures same { IsSameFollower follower.old follower.new }
+    ensures brought { OnOk result (IsBroughtUp (seen pass.new) follower.new) }
+{
+    let mut seat = Seat::new(rt, desk, pass);
+    let told = bring_up_at(&mut seat, alloc, follower);
+    let _pass = seat.leave();
+    told
+}
+
+// The same at a seat.
+fn bring_up_at<W: Wait>(
     seat: &mut Seat<'_, W>,
     alloc: Global,
     follower: &mut Follower,

@@ -1,38 +1,61 @@
 //! Publishes labels and numbers.
 
-ghost use Rattle.std.specs.Prelude.{◌<◌, IfErr, OnOk};
-ghost use Rattle.ds_pass.specs.Faults.{FailsAsking};
+ghost use Rattle.std.specs.Prelude.{◌≡◌, ◌<◌, IfErr, OnOk};
+ghost use Rattle.desk.specs.Desk.{identity};
+ghost use Rattle.desk.specs.Pass.{desk_of};
+ghost use Rattle.ds_machine.specs.declared.refusal.Refusal.{Refusal};
+ghost use Rattle.ds_pass.specs.Called.{IsAccepted};
+ghost use Rattle.ds_pass.specs.Faults.{FailsAsking, TellsRefusal};
+ghost use Rattle.ds_pass.specs.Record.{pass_record as seen};
 ghost use Rattle.ds_workers.specs.Commands.{publisher_number, publisher_label};
-ghost use Rattle.ds_workers.specs.Turns.{SeatHasCalled, WasAccepted};
+ghost use Rattle.ds_workers.specs.Turns.{HasCalled, SeatHasCalled, WasAccepted};
 
 use crate::commands::{change, label};
-use desk::Answer;
+use desk::{Desk, Pass};
 use ds_machine::{Command, Reply};
 use ds_pass::{CallFault, Seat};
+use ds_store::Store;
 use std::sync::Wait;
 
 /// RS publishes the label of publisher `index`, 0 to 7.
-pub fn publish_label<W: Wait>(seat: &mut Seat<'_, W>, index: u32) -> Result<(), CallFault>
-    requires { index < 8 }
-    ensures called { SeatHasCalled seat.old seat.new }
-    ensures accepted { OnOk result (WasAccepted seat.old.pass seat.new.pass (publisher_label index)) }
-    ensures fault { IfErr result (FailsAsking seat.old.pass seat.new.pass (publisher_label index)) }
+pub fn publish_label<W: Wait>(
+    rt: &W,
+    desk: &Desk<Box<Store>>,
+    pass: &mut Pass<Box<Store>>,
+    index: u32,
+) -> Result<(), CallFault>
+    requires of_desk { desk_of pass.old ≡ identity desk.now }
+    requires index { index < 8 }
+    ensures stays { desk_of pass.new ≡ desk_of pass.old }
+    ensures called { HasCalled (seen pass.old) (seen pass.new) }
+    ensures accepted { OnOk result (WasAccepted (seen pass.old) (seen pass.new) (publisher_label index)) }
+    ensures fault { IfErr result (FailsAsking (seen pass.old) (seen pass.new) (publisher_label index)) }
 {
-    ask_for_change(seat, label(index))
+    let mut seat = Seat::new(rt, desk, pass);
+    let told = ask_for_change(&mut seat, label(index));
+    let _pass = seat.leave();
+    told
 }
 
 /// Takes a publisher's turn: overwrites its number.
 pub(crate) fn publish<W: Wait>(
-    seat: &mut Seat<'_, W>,
+    rt: &W,
+    desk: &Desk<Box<Store>>,
+    pass: &mut Pass<Box<Store>>,
     index: u32,
     turn: u32,
 ) -> Result<(), CallFault>
-    requires { index < 8 }
-    ensures called { SeatHasCalled seat.old seat.new }
-    ensures accepted { OnOk result (WasAccepted seat.old.pass seat.new.pass (publisher_number index turn)) }
-    ensures fault { IfErr result (FailsAsking seat.old.pass seat.new.pass (publisher_number index turn)) }
+    requires of_desk { desk_of pass.old ≡ identity desk.now }
+    requires index { index < 8 }
+    ensures stays { desk_of pass.new ≡ desk_of pass.old }
+    ensures called { HasCalled (seen pass.old) (seen pass.new) }
+    ensures accepted { OnOk result (WasAccepted (seen pass.old) (seen pass.new) (publisher_number index turn)) }
+    ensures fault { IfErr result (FailsAsking (seen pass.old) (seen pass.new) (publisher_number index turn)) }
 {
-    ask_for_change(seat, change(index, turn))
+    let mut seat = Seat::new(rt, desk, pass);
+    let told = ask_for_change(&mut seat, change(index, turn));
+    let _pass = seat.leave();
+    told
 }
 
 // Sends one command, and fails if the store refuses it.
@@ -41,14 +64,17 @@ fn ask_for_change<W: Wait>(seat: &mut Seat<'_, W>, command: Command) -> Result<(
     ensures accepted { OnOk result (WasAccepted seat.old.pass seat.new.pass command) }
     ensures fault { IfErr result (FailsAsking seat.old.pass seat.new.pass command) }
 {
-    let Answer {
-        reply,
-        place: _place,
-        owed: _owed,
-        raised: _raised,
-    } = seat.ask(command)?;
+    let answer = seat.ask(command)?;
+    accepted(&answer.reply)
+}
+
+// Returns whether a change was accepted, by its reply.
+fn accepted(reply: &Reply) -> Result<(), CallFault>
+    ensures accepted { OnOk result (IsAccepted reply.now) }
+    ensures refused { IfErr result (λ fault. (refusal : Refusal) × (reply.now ≡ Reply.Refused refusal) × TellsRefusal refusal fault) }
+{
     match reply {
-        Reply::Refused(refusal) => Err(CallFault::from(refusal)),
+        Reply::Refused(refusal) => Err(CallFault::from(*refusal)),
         _ => Ok(()),
     }
 }

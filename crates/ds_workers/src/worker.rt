@@ -12,7 +12,6 @@ use crate::publishing::publish;
 use crate::task::Task;
 use crew::GivenUp;
 use desk::{Desk, Pass};
-use ds_pass::Seat;
 use ds_store::Store;
 use std::alloc::Global;
 use std::sync::Wait;
@@ -95,25 +94,12 @@ impl Worker<Pass<Box<Store>>> {
     {
         match &mut self.task {
             Task::Publish => {
-                let mut seat = Seat::new(rt, first, &mut self.pass);
-                let told = publish(&mut seat, self.index, turn);
-                let _pass = seat.leave();
-                told?;
+                publish(rt, first, &mut self.pass, self.index, turn)?;
                 Ok(())
             }
-            Task::Follow(follower) => {
-                let mut seat = Seat::new(rt, first, &mut self.pass);
-                let told = follow(&mut seat, alloc, follower, turn);
-                let _pass = seat.leave();
-                told
-            }
+            Task::Follow(follower) => follow(rt, alloc, first, &mut self.pass, follower, turn),
             Task::Exchange { other, cursor } => {
-                let mut here = Seat::new(rt, first, &mut self.pass);
-                let mut there = Seat::new(rt, second, other);
-                let told = exchange(&mut here, &mut there, cursor);
-                let _other = there.leave();
-                let _pass = here.leave();
-                let _more = told?;
+                exchange(rt, first, &mut self.pass, second, other, cursor)?;
                 Ok(())
             }
         }
@@ -134,19 +120,11 @@ impl Worker<Pass<Box<Store>>> {
         match &mut self.task {
             Task::Publish => Ok(()),
             Task::Follow(follower) => {
-                let mut seat = Seat::new(rt, first, &mut self.pass);
-                let told = bring_up(&mut seat, alloc, follower);
-                let _pass = seat.leave();
-                told?;
+                bring_up(rt, alloc, first, &mut self.pass, follower)?;
                 Ok(())
             }
             Task::Exchange { other, cursor } => {
-                let mut here = Seat::new(rt, first, &mut self.pass);
-                let mut there = Seat::new(rt, second, other);
-                let told = hand_over(&mut here, &mut there, cursor);
-                let _other = there.leave();
-                let _pass = here.leave();
-                told?;
+                hand_over(rt, first, &mut self.pass, second, other, cursor)?;
                 Ok(())
             }
         }

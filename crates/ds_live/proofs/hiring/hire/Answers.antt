@@ -1,8 +1,6 @@
 use Rattle.std.proofs.Common.{◌≡◌, length, sum_by, ap, ◌∙◌, arith}
 use Rattle.desk.specs.Desk.{identity}
 use Rattle.desk.specs.Pass.{desk_of}
-use Rattle.ds_pass.specs.Record.{PassOrigin}
-use Rattle.ds_pass.specs.Seat.{SeatRecord}
 use Rattle.ds_workers.specs.Workers.{IsOf, others_in}
 use Rattle.ds_live.proofs.JobLemmas.{first_pushed, length-last, longer_sum, no_length, popped, pushed}
 use Rattle.ds_live.proofs.hiring.hire.Goals as goal
@@ -19,14 +17,13 @@ loop-pass-init g c = let a = identity c.args.desks.now.first in let b = identity
     let none = ap length c.in-Ok.ensures.items in
     let none_of = ap (sum_by (λ j. others_in j.worker.task)) c.in-Ok.ensures.items in
     let many = c.requires.count.0 in let one = c.requires.count.1 in
-    let stays : desk_of c.leave.result.now ≡ desk_of c.in-Some.pass = ap (λ (s : SeatRecord). s.pass.origin.desk) c.leave.ensures ∙ ap (λ (o : PassOrigin). o.desk) c.publish_labels.ensures.1.1.same in
     record {
       home = here.0;
       others = no_length c.pop-2.new.self.items (omega (arith, one, fewer_others));
       can_run = first_pushed (λ j. IsOf (identity j.desks.now.first) (identity j.desks.now.second) j.worker) c.in-Ok.jobs.items c.push_reserved.new.self.items _
-          c.in-Ok.ensures.items c.push_reserved.ensures.items (record { pass = stays ∙ here.1; task = there.1 });
+          c.in-Ok.ensures.items c.push_reserved.ensures.items (record { pass = c.publish_labels.ensures ∙ here.1; task = there.1 });
       hired = first_pushed (λ j. IsOf a b j.worker) c.in-Ok.jobs.items c.push_reserved.new.self.items _
-          c.in-Ok.ensures.items c.push_reserved.ensures.items (record { pass = stays ∙ here.1; task = there.1 });
+          c.in-Ok.ensures.items c.push_reserved.ensures.items (record { pass = c.publish_labels.ensures ∙ here.1; task = there.1 });
       all = omega (arith, fewer, more, none);
       few = omega (arith, fewer, many);
       one = omega (arith, others, none_of);

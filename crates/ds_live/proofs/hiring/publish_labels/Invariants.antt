@@ -1,5 +1,6 @@
-use Rattle.ds_workers.specs.Turns.{SeatHasCalled}
+use Rattle.std.proofs.Common.{◌≡◌}
+use Rattle.desk.specs.Pass.{desk_of}
 use Rattle.ds_live.proofs.hiring.publish_labels.Given as goal
 
 abbrev pub invariant-loop-index : goal.invariant-loop-index
-invariant-loop-index g l = SeatHasCalled l.fn.seat l.seat
+invariant-loop-index g l = desk_of l.pass ≡ desk_of l.fn.pass

@@ -1,4 +1,4 @@
-use Rattle.std.proofs.Common.{◌≡◌, ◌⊎◌, ℕ, Option, None, Some, refl, ap, sym, ◌∙◌, subst, inl, inr}
+use Rattle.std.proofs.Common.{◌≡◌, ◌⊎◌, ℕ, Option, None, Some, refl, ap, sym, ◌∙◌, subst, inl, inr, rules}
 use Rattle.ds_submap.specs.Map.{SubMapRecord}
 use Rattle.ds_pass.specs.Called.{HadAccepted}
 use Rattle.ds_refresh.specs.Follower.{FollowerRecord}

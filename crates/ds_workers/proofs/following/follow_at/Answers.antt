@@ -4,7 +4,7 @@ use Rattle.ds_pass.proofs.RecordLemmas.{made_sees_more}
 use Rattle.ds_refresh.proofs.LawLemmas.{keeps_up_later}
 use Rattle.ds_workers.specs.Turns.{SeatHasCalled}
 use Rattle.ds_workers.proofs.TurnLemmas.{refreshed, seat_called_more, seat_called_none}
-use Rattle.ds_workers.proofs.following.follow.Goals as goal
+use Rattle.ds_workers.proofs.following.follow_at.Goals as goal
 
 pub returns-in_err-_taken-clause-called : goal.returns-in_err-_taken-clause-called
 returns-in_err-_taken-clause-called g c =

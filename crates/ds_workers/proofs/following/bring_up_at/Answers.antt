@@ -1,6 +1,6 @@
 use Rattle.std.proofs.Common.{refl, ◌∙◌}
 use Rattle.ds_workers.proofs.TurnLemmas.{seat_called_more, seat_called_none}
-use Rattle.ds_workers.proofs.following.bring_up.Goals as goal
+use Rattle.ds_workers.proofs.following.bring_up_at.Goals as goal
 
 pub loop-init : goal.loop-init
 loop-init g c = (tt, tt, seat_called_none c.args.seat.now, c.requires, record { sub = refl; query = refl })

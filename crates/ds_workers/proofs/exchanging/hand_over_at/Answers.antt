@@ -1,5 +1,5 @@
 use Rattle.ds_workers.proofs.TurnLemmas.{handed_over, seat_called_more, seat_called_none}
-use Rattle.ds_workers.proofs.exchanging.hand_over.Goals as goal
+use Rattle.ds_workers.proofs.exchanging.hand_over_at.Goals as goal
 
 pub loop-init : goal.loop-init
 loop-init g c = (tt, tt, seat_called_none c.args.first.now, seat_called_none c.args.second.now)
@@ -10,23 +10,23 @@ loop-preserved g c =
     let e = c.in_ok-more.ensures.called in (
       tt,
       tt,
-      seat_called_more c.args.first.now l.first c.exchange.new.first l.invariant.2 e.0,
-      seat_called_more c.args.second.now l.second c.exchange.new.second l.invariant.3 e.1,
+      seat_called_more c.args.first.now l.first c.exchange_at.new.first l.invariant.2 e.0,
+      seat_called_more c.args.second.now l.second c.exchange_at.new.second l.invariant.3 e.1,
     )
 
 pub returns-in_err-more-clause-called : goal.returns-in_err-more-clause-called
 returns-in_err-more-clause-called g c =
     let l = c.loop in
     let e = c.in_err-more.ensures.called in
-    (seat_called_more c.args.first.now l.first c.exchange.new.first l.invariant.2 e.0, seat_called_more c.args.second.now l.second c.exchange.new.second l.invariant.3 e.1)
+    (seat_called_more c.args.first.now l.first c.exchange_at.new.first l.invariant.2 e.0, seat_called_more c.args.second.now l.second c.exchange_at.new.second l.invariant.3 e.1)
 
 pub returns-then-not-more-clause-called : goal.returns-then-not-more-clause-called
 returns-then-not-more-clause-called g c =
     let l = c.loop in
     let e = c.in_ok-more.ensures.called in
-    (seat_called_more c.args.first.now l.first c.exchange.new.first l.invariant.2 e.0, seat_called_more c.args.second.now l.second c.exchange.new.second l.invariant.3 e.1)
+    (seat_called_more c.args.first.now l.first c.exchange_at.new.first l.invariant.2 e.0, seat_called_more c.args.second.now l.second c.exchange_at.new.second l.invariant.3 e.1)
 
 pub returns-then-not-more-clause-handed : goal.returns-then-not-more-clause-handed
 returns-then-not-more-clause-handed g c =
     let l = c.loop in
-    handed_over l.first.pass c.exchange.new.first.pass l.second.pass c.exchange.new.second.pass l.cursor c.exchange.new.cursor c.in_ok-more.more c.in_ok-more.ensures.exchanged c.if-not-more.true
+    handed_over l.first.pass c.exchange_at.new.first.pass l.second.pass c.exchange_at.new.second.pass l.cursor c.exchange_at.new.cursor c.in_ok-more.more c.in_ok-more.ensures.exchanged c.if-not-more.true
