@@ -53,7 +53,7 @@ impl RsSession {
         }
     }
 
-    // Carries out a command that is no event, beside RS.
+    // Carries out a command that isn't an event, once RS is open.
     fn carry_beside_rs(&mut self, alloc: Global, command: ScriptCommand, answer: &mut Answer)
         ensures { CarriesOutBesideRs command self.old answer.new self.new }
     {
