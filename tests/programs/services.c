@@ -67,8 +67,10 @@ static void report(const char *what, struct ds_rs_event it) {
     printf("%s: call %u, %s %s, count %u, owed %d\n", what, call, ds_word_text(answer.word), ds_refusal_text(answer.refusal),
            (unsigned)answer.count, ds_is_owed(&answer, 40));
     for (size_t at = 0; ds_rs_action(&store, at, &action) == 0; at++) {
-        printf("  %s %.*s %u/%u gone %u: %s %s\n", kinds[action.kind], action.label_length, action.label, action.generation, action.slot,
-               action.gone, ds_word_text(action.word), ds_refusal_text(action.refusal));
+        printf("  %s %.*s %u/%u", kinds[action.kind], action.label_length, action.label, action.generation, action.slot);
+        if (action.kind == DS_RS_OFFER || action.kind == DS_RS_SWEEP)
+            printf(", gone %u: %s %s", action.gone, ds_word_text(action.word), ds_refusal_text(action.refusal));
+        puts("");
         for (size_t i = action.label_length; i < sizeof action.label; i++) bad += action.label[i] != 0;
     }
 }
@@ -126,7 +128,9 @@ static void nothing(void) {
 static void openings(void) {
     rs_open("no TOML", "[[service", 9, 1, 16);
     rs_open("bytes 0xff", "\xff\xff", 2, 1, 16);
-    rs_open("a second service without a class", "[[service]]\nlabel = \"a\"\nclass = \"server\"\n[[service]]\nlabel = \"b\"\n", 66, 1, 16);
+    static const char two[] = "[[service]]\nlabel = \"a\"\nclass = \"server\"\n[[service]]\nlabel = \"b\"\n";
+    rs_open("a second service without a class", two, sizeof two - 1, 1, 16);
+    rs_open("no TOML in line 3", "slots = 4\n\nservice\n", 19, 1, 16);
     rs_open("a field at the top", "tty = 1\n", 8, 1, 16);
     rs_open("a text with a fault, and generation 0", "slots = 0", 9, 0, 16);
     rs_open("generation 0", settings, sizeof settings - 1, 0, 16);

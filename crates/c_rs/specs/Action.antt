@@ -1,5 +1,5 @@
 -- The actions of RS, in numbers.
-use Rattle.std.specs.Prelude.{ℕ, ◌-◌, ◌==◌, cond, List, ◌++◌, length, replicate, slice_get, Option, None, Some}
+use Rattle.std.specs.Prelude.{ℕ, ◌==◌, cond, List, ◌++◌, length, drop, replicate, slice_get, Option, None, Some}
 use Rattle.std.specs.Option.{option_map}
 use Rattle.ds_names.specs.Endpoint.{EndpointRecord}
 use Rattle.ds_entry.specs.Change.{ChangeRecord}
@@ -17,9 +17,9 @@ use Rattle.c_values.specs.Answer.{answer_of}
 use Rattle.c_rs.specs.declared.action.RsAction.{RsAction}
 use Rattle.c_rs.specs.declared.session.RsSession.{RsSession}
 
--- the bytes of a name at the front of a block of 64, and zeros
+-- the bytes of a name at the front of 64 zeros
 abbrev pub label_block : List ℕ → List ℕ
-label_block name = name ++ replicate (64 - length name) 0
+label_block name = name ++ drop (length name) (replicate 64 0)
 
 -- an action of a kind, and zeros
 abbrev pub blank : ℕ → RsAction

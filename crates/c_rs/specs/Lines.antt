@@ -27,9 +27,10 @@ refusal_beside_rs _ = None
 abbrev pub PassesOn : ScriptCommand → RsSession → Answer → RsSession → Type 0
 PassesOn command old answer new = SessionDoes (lines.CarriesOut command) old answer new
 
--- a command that is no event, once RS is open
+-- a command that isn't an event, once RS is open
 abbrev pub CarriesOutBesideRs : ScriptCommand → RsSession → Answer → RsSession → Type 0
-CarriesOutBesideRs command old answer new = MatchOption (refusal_beside_rs command) (PassesOn command old answer new) (λ refusal. RefusesCommand refusal old answer new)
+CarriesOutBesideRs command old answer new =
+    MatchOption (refusal_beside_rs command) (PassesOn command old answer new) (λ refusal. RefusesCommand refusal old answer new)
 
 -- a command once RS is open: an event, or another one
 abbrev pub CarriesOutWithRs : ScriptCommand → RsSession → Answer → RsSession → Type 0
@@ -50,14 +51,17 @@ pub record CarriesOutLine (bytes : List ℕ) (old : RsSession) (answer : Answer)
   pub stands : IsCommandIn bytes command
   pub carried : CarriesOutCommand command old answer new
 
--- they are no command's line, from the place on that is answered
+-- from the place that is answered on, they aren't a command's line
 abbrev pub LineIsBad : List ℕ → RsSession → Answer → RsSession → Type 0
-LineIsBad bytes old answer new = (place : ℕ) × IsBadIn bytes place × SessionDoes (λ s a t. Rests s (told_bad_line place) Nothing a t) old answer new
+LineIsBad bytes old answer new =
+    (place : ℕ) × IsBadIn bytes place × SessionDoes (λ s a t. Rests s (told_bad_line place) Nothing a t) old answer new
 
 -- they are the line of a command, for which memory runs out
 abbrev pub LineWantsRoom : List ℕ → RsSession → Answer → RsSession → Type 0
-LineWantsRoom bytes old answer new = ((command : ScriptCommand) × IsCommandIn bytes command × CommandTakesMemory command) × SessionDoes RestsForRoom old answer new
+LineWantsRoom bytes old answer new =
+    ((command : ScriptCommand) × IsCommandIn bytes command × CommandTakesMemory command) × SessionDoes RestsForRoom old answer new
 
 -- one of these
 abbrev pub CallsRsLine : List ℕ → RsSession → Answer → RsSession → Type 0
-CallsRsLine bytes old answer new = CarriesOutLine bytes old answer new ⊎ (LineIsBad bytes old answer new ⊎ LineWantsRoom bytes old answer new)
+CallsRsLine bytes old answer new =
+    CarriesOutLine bytes old answer new ⊎ (LineIsBad bytes old answer new ⊎ LineWantsRoom bytes old answer new)

@@ -42,7 +42,7 @@ may_publish_if rs (Some instance) (Some key) = declares_at rs (place_of_instance
 may_publish_if rs (Some instance) None = false
 may_publish_if rs None key = false
 
--- the same of numbers and bytes, if RS is open
+-- whether it may, by numbers and bytes, if RS is open
 abbrev pub may_publish_in : Option RsRecord → ℕ → ℕ → ℕ → List ℕ → Bool
 may_publish_in None generation slot kind name = false
 may_publish_in (Some rs) generation slot kind name = may_publish_if rs (endpoint_at generation slot) (key_at kind name)

@@ -32,7 +32,8 @@ EndsWithText answers = (front : List Answer) × (last : Answer) × (answers ≡ 
 
 -- `done` requests are carried out in order. Their answers are at the front of the place, the rest of which is unchanged. The run ends
 -- after the first answer that has a text, after the last request, or when the place is full.
-pub record RunsCalls (old : RsSession) (requests : List Request) (texts : List ℕ) (place : List Answer) (done : ℕ) (answers : List Answer) (new : RsSession) : Type 0 where
+pub record RunsCalls (old : RsSession) (requests : List Request) (texts : List ℕ) (place : List Answer) (done : ℕ) (answers : List Answer)
+    (new : RsSession) : Type 0 where
   pub within : (done ≤ length requests) × (done ≤ length place)
   pub calls : CallsInTurn texts old (take done requests) (take done answers) new
   pub behind : drop done answers ≡ drop done place
@@ -40,7 +41,7 @@ pub record RunsCalls (old : RsSession) (requests : List Request) (texts : List �
 
 -- ---- what such a run is to the machine
 
--- the answer of a request that is no turn of the store: it is no command, memory for its text runs out, or it is refused for RS's name
+-- the answer of a request without a turn of the store: it isn't a command, memory for its text runs out, or it is refused for RS's name
 abbrev pub IsNoEntry : Answer → Type 0
 IsNoEntry a = (a ≡ no_request) ⊎ ((a ≡ told_no_room) ⊎ (a ≡ answer_of (Refused NotAllowed)))
 
@@ -55,7 +56,8 @@ pub record IsEntryOf (texts : List ℕ) (r : Request) (a : Answer) (e : Entry Co
 abbrev pub EntriesOfRun : List ℕ → List Request → List Answer → List (Entry Command Reply) → Type 0
 EntriesOfRun texts [] [] [] = Unit {0}
 EntriesOfRun texts (r ∷ rs) (a ∷ ys) es =
-    (IsNoEntry a × EntriesOfRun texts rs ys es) ⊎ ((e : Entry Command Reply) × (rest : List (Entry Command Reply)) × (es ≡ e ∷ rest) × IsEntryOf texts r a e × EntriesOfRun texts rs ys rest)
+    (IsNoEntry a × EntriesOfRun texts rs ys es)
+    ⊎ ((e : Entry Command Reply) × (rest : List (Entry Command Reply)) × (es ≡ e ∷ rest) × IsEntryOf texts r a e × EntriesOfRun texts rs ys rest)
 EntriesOfRun texts [] [] (e ∷ es) = ⊥
 EntriesOfRun texts [] (a ∷ ys) es = ⊥
 EntriesOfRun texts (r ∷ rs) [] es = ⊥

@@ -1,6 +1,7 @@
 //! The line of a fault in a settings text.
 
-ghost use Rattle.std.specs.Prelude.{◌≡◌, ◌≤◌, length};
+ghost use Rattle.std.specs.Prelude.{◌≡◌, ◌≤◌, length, IfSome};
+ghost use Rattle.toml.specs.Errors.{IsWithin};
 ghost use Rattle.c_rs.specs.Line.{IsFaultLine, IsTomlLine, line_at};
 
 use rs_settings::{SettingsCause, SettingsFault};
@@ -25,10 +26,21 @@ fn toml_line(alloc: Global, text: &[u8]) -> u64
     };
     match toml::table_from_str(alloc, document) {
         Ok(_) => 0,
-        Err(error) => match error.span() {
-            Some(span) => line_at(text, span.start),
+        Err(error) => match error_place(text, &error) {
+            Some(place) => line_at(text, place),
             None => 0,
         },
+    }
+}
+
+// The place of an error in the text. None if memory ran out.
+fn error_place(text: &[u8], error: &toml::de::Error) -> Option<usize>
+    requires { IsWithin text.now error.now }
+    ensures { IfSome result (λ place. place ≤ length text.now) }
+{
+    match error.span() {
+        Some(span) => Some(span.start),
+        None => None,
     }
 }
 

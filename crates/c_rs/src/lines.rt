@@ -1,7 +1,7 @@
 //! Lines of a script.
 
 ghost use Rattle.std.specs.Prelude.{◌≡◌};
-ghost use Rattle.c_rs.specs.Lines.{CallsRsLine, CarriesOutBesideRs, CarriesOutCommand, PassesOn, refusal_beside_rs};
+ghost use Rattle.c_rs.specs.Lines.{CallsRsLine, CarriesOutBesideRs, CarriesOutCommand, CarriesOutWithRs, PassesOn, refusal_beside_rs};
 
 use crate::session::RsSession;
 use c_line::{carry_out, read_bytes};
@@ -40,13 +40,20 @@ impl RsSession {
         if self.services.is_none() {
             return self.pass_on(alloc, command, answer);
         }
+        self.carry_with_rs(alloc, command, answer);
+    }
+
+    // Carries out a command, once RS is open.
+    fn carry_with_rs(&mut self, alloc: Global, command: ScriptCommand, answer: &mut Answer)
+        ensures { CarriesOutWithRs command self.old answer.new self.new }
+    {
         match command.service_event() {
             Some((event, tick)) => self.serve(alloc, event, tick, answer),
             None => self.carry_beside_rs(alloc, command, answer),
         }
     }
 
-    // Carries out a command that is no event, beside RS.
+    // Carries out a command that isn't an event, once RS is open.
     fn carry_beside_rs(&mut self, alloc: Global, command: ScriptCommand, answer: &mut Answer)
         ensures { CarriesOutBesideRs command self.old answer.new self.new }
     {

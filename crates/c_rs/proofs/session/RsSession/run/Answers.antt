@@ -1,8 +1,8 @@
 use Rattle.std.proofs.Common.{◌<◌, length, take, inr, ◌∙◌, arith}
 use Rattle.std.proofs.lemmas.List.{length-set, take_more_set}
 use Rattle.c_rs.proofs.RunningLemmas.{calls_next, silent_next, behind_next}
-use Rattle.c_rs.proofs.running.RsSession.run.Goals as goal
-use Rattle.c_rs.proofs.running.RsSession.run.Goals.{then-requests-answers, else-requests-answers}
+use Rattle.c_rs.proofs.session.RsSession.run.Goals as goal
+use Rattle.c_rs.proofs.session.RsSession.run.Goals.{then-requests-answers, else-requests-answers}
 
 -- the answer has a text, and it ends there
 pub returns-then-answer-gt0 : goal.returns-then-answer-gt0

@@ -1,7 +1,7 @@
 use Rattle.std.proofs.Common.{◌≡◌, length, take, drop}
 use Rattle.std.specs.List.{All}
 use Rattle.c_rs.specs.Running.{CallsInTurn, HasNoText}
-use Rattle.c_rs.proofs.running.RsSession.run.Given as goal
+use Rattle.c_rs.proofs.session.RsSession.run.Given as goal
 
 -- the requests so far were asked, no answer had a text, and the places behind the answers are as they were
 abbrev pub invariant-loop-index : goal.invariant-loop-index

@@ -1,5 +1,5 @@
 use Rattle.std.proofs.Common.{inl, inr, refl, ◌∙◌}
-use Rattle.c_rs.proofs.lines.RsSession.call_line.Goals as goal
+use Rattle.c_rs.proofs.session.RsSession.call_line.Goals as goal
 
 -- the answer has the place
 pub returns-in-Err-BadLine : goal.returns-in-Err-BadLine
