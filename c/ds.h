@@ -8,7 +8,7 @@
  *
  * The caller keeps these right, since no call can check them:
  *   - a handle begins as DS_CLOSED, and only these calls read, write or copy it;
- *   - the address of a handle, a request, an answer or a struct ds_given is never NULL; that of a buffer of length 0 may be NULL;
+ *   - the address of a handle, a struct or a number is never NULL; that of a buffer of length 0 may be NULL;
  *   - a length is at most that of its buffer, and the buffers of one call don't overlap;
  *   - at most one thread at a time makes a call on a handle.
  * Any other misuse is answered by a word, and changes nothing.
@@ -85,8 +85,7 @@ enum ds_word {
     DS_NOREQUEST,  /* no command has such parts, its text is outside the texts, or the line is not of one store; nothing changed */
     DS_SHOWN,      /* answers a line `show` or `all`. count: how many items; a piece of text for each */
     DS_BADLINE,    /* answers a line that can't be read. count: the byte, from 0, where the bad part begins; nothing changed */
-    DS_ACTED,      /* answers an event of RS. count: how many actions ds_rs_action has; owed: the notices of all of them together */
-    DS_BEGUN       /* answers a line `settings`: RS began. count: how many services; value: how many slots */
+    DS_ACTED       /* answers an event of RS. count: how many actions ds_rs_action has; owed: the notices of all of them together */
 };
 
 /* Returns a word of enum ds_word in lower case, such as `changed`, and "" for any other number. The text is static. */
@@ -109,7 +108,6 @@ static inline const char *ds_word_text(uint32_t word) {
     case DS_SHOWN: return "shown";
     case DS_BADLINE: return "badline";
     case DS_ACTED: return "acted";
-    case DS_BEGUN: return "begun";
     default: return "";
     }
 }
@@ -239,9 +237,9 @@ uint32_t ds_items(struct ds_handle *handle, size_t first, char *room, size_t roo
  *   - offer, publish, delete, sweep, retrieve, nameof, subscribe, check, since, snapshot, page: the answer is that of ds_call for the
  *     same command; an offer is a merge of one item;
  *   - show, for the puts that are held, and all, for everything held: the answer is DS_SHOWN, or DS_REFUSED by DS_NOROOM.
- * These are lines of RS:
- *   - settings: opens RS as ds_rs_open does, with generation 1 and slot 16. The answer is DS_BEGUN, or DS_REFUSED;
- *   - service, death, beat, tick: the answer is that of ds_rs_event for the same event.
+ * These are lines of RS, once ds_rs_open has opened it:
+ *   - service, death, beat, tick: the answer is that of ds_rs_event for the same event;
+ *   - settings: the answer is DS_REFUSED by DS_EXISTS.
  * Any other line of a script is answered DS_NOREQUEST. A line that can't be read, or that has more after its newline, is answered
  * DS_BADLINE. A line for which memory runs out is answered DS_REFUSED by DS_NOROOM. In these cases the store is unchanged.
  * Returns 0, or DS_ISCLOSED, and then the answer is unchanged. */
@@ -272,7 +270,7 @@ uint32_t ds_close(struct ds_handle *handle);
 
 /* Why a settings text is refused, and where. */
 struct ds_settings_fault {
-    uint64_t line;    /* from 1: where the text isn't TOML, or where the service begins by `[[service]]`; 0: not known */
+    uint64_t line;    /* of DS_TOML: from 1, where TOML can't be read. 0: not known, or another cause */
     uint32_t cause;   /* of enum ds_refusal: DS_TOML to DS_SHAREDNAME, or DS_NOROOM */
     uint32_t service; /* from 0, in the order of the text; of a fault between two services, the second. UINT32_MAX: the whole text */
 };
@@ -337,7 +335,6 @@ struct ds_rs_service {
     uint32_t generation;
     uint32_t failures;      /* in a row, since it was last brought up by DS_RS_UP */
     uint32_t period, limit;
-    uint32_t publishes;     /* how many names it may publish */
     uint16_t slot;
     uint8_t service_class;  /* of enum ds_rs_class */
     uint8_t has_unit, unit; /* its major number or port, if has_unit is 1; a server has none */

@@ -52,6 +52,22 @@ class BadRing(Refused, ValueError): """A journal keeps 1 to 4096 items."""
 class BadFirst(Refused, ValueError): """The first position is at most 2^62."""
 class IsClosed(Refused, ValueError): """The store or the map is closed."""
 class IsOpen(Refused, ValueError): """The handle is open already."""
+# Those of RS, which no call of this package opens.
+class TickBack(Refused, ValueError): """The tick is below that of the last event that RS took."""
+class UnknownLabel(Refused, LookupError): """No service of RS has the label."""
+class BadCause(Refused, ValueError): """A cause of death is 1 to 6."""
+class AlreadyUp(Refused): """The service is up, or waits for its next start."""
+class NotUp(Refused): """The service isn't up."""
+class OldEndpoint(Refused): """No instance that is up has the endpoint."""
+class GenerationsSpent(Refused): """RS has no generation left for a start."""
+class NoSlot(Refused): """RS has no slot left for a start."""
+class Toml(Refused, ValueError): """The settings aren't TOML."""
+class UnknownField(Refused, ValueError): """The settings have an unknown field."""
+class Missing(Refused, ValueError): """A service lacks its label, its class or its unit."""
+class OutOfRange(Refused, ValueError): """A value of the settings is of another type, or out of its range."""
+class TwoLabels(Refused, ValueError): """Two services have one label."""
+class TwoUnits(Refused, ValueError): """Two services have one major number, or one port."""
+class SharedName(Refused, ValueError): """A name is published by two services, or twice by one."""
 
 
 NUMBERED = dict(enumerate(Refused.__subclasses__(), 1))

@@ -67,13 +67,13 @@ class Refusals(unittest.TestCase):
                 self.assertIn(type(raised.exception), refusals.NUMBERED.values())
 
     def test_each_is_one_of_the_headers(self):
-        """Compares them with enum ds_refusal, which numbers them. No call of the package opens an open handle."""
+        """Compares them with enum ds_refusal, which numbers them. No call of the package opens an open handle, or RS."""
         text = (support.ROOT / "c" / "ds.h").read_text()
         listed = re.search(r"enum ds_refusal \{(.*?)\};", text, re.DOTALL)[1]
         words = [it.lower() for it in re.findall(r"DS_(\w+)", listed)]
         self.assertEqual([it.word for it in refusals.NUMBERED.values()], words)
         self.assertEqual(list(refusals.NUMBERED), list(range(1, len(words) + 1)))
-        self.assertEqual(set(words) - set(CALLS), {"isopen"})
+        self.assertEqual(set(words) - set(CALLS), set(words[words.index("isopen") :]))
 
     def test_they_are_what_python_calls_them(self):
         self.assertTrue(issubclass(refusals.NoRoom, MemoryError))

@@ -14,7 +14,8 @@ REFUSALS = (
     " oldcursor ahead behind full worn noroom badring badfirst"
 ).split()
 WORDS = (
-    "changed known swept found named subscribed checked journaled snapped paged merged stopped refused no_request shown bad_line"
+    "changed known swept found named subscribed checked journaled snapped paged merged stopped refused no_request shown bad_line "
+    "acted"
 ).split()
 LISTED = {"checked": "checked", "journaled": "since", "snapped": "snapshot", "paged": "page"}
 

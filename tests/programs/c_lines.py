@@ -1,12 +1,16 @@
 """Stores that are asked by the lines of scripts themselves, for tests/programs/c: what they print is the text of their answers."""
 import ctypes
+import pathlib
+import re
 
 import c_calls
 import c_worlds
 import model
 
+HEADER = (pathlib.Path(__file__).resolve().parents[2] / "c" / "ds.h").read_text()
 WHOLE, TOO_SMALL = 0, 1
 ASKED = {b"offer", b"show", b"all", *c_calls.COMMANDS} - {b"merge"}
+SERVICES = {b"settings", b"service", b"death", b"beat", b"tick"}
 
 
 class Session(c_calls.Session):
@@ -52,6 +56,59 @@ class Stores(c_worlds.Stores):
 def is_served(script):
     """Each line is a command of one store."""
     return all(line.split(b" ")[0] in ASKED for line in script)
+
+
+def is_supervised(script):
+    """Each line is a command of one store or of RS, and can be read. The first one of RS opens it, or tries to."""
+    words = [line.split(b" ")[0] for line in script]
+    of_services = [it for it in words if it in SERVICES]
+    return {*words} <= ASKED | SERVICES and of_services[:1] == [b"settings"] and not is_ended_early(script)
+
+
+def is_ended_early(script):
+    """Some line can't be read, so that a script ends there."""
+    try:
+        return not all(model.read(line, at == 0) for at, line in enumerate(script))
+    except model.BadLine:
+        return True
+
+
+def opened(store, text):
+    """Opens RS with the text of a line `settings`, and returns what a script prints, but for the number of slots."""
+    fault = ctypes.create_string_buffer(16)
+    refusal = store.library.ds_rs_open(ctypes.byref(store.handle), text, len(text), 1, 16, fault)
+    if refusal:
+        return b"refused %s\n" % model_word(refusal)
+    service, count = ctypes.create_string_buffer(104), 0
+    while store.library.ds_rs_service(ctypes.byref(store.handle), count, service) == 0:
+        count += 1
+    return b"services %d " % count
+
+
+def model_word(number):
+    """The word of a refusal's number, as c/ds.h has it."""
+    return re.search(r"^enum ds_refusal \{(.*?)\};", HEADER, re.DOTALL | re.MULTILINE)[1].replace(" = 1", "").split()[number - 1].strip(",")[3:].lower().encode()
+
+
+def play(library, room, script, wanted):
+    """A store with RS answers the lines of a script as the script prints."""
+    store = Session(library, room)
+    store.open(1, 0, 256)
+    at, is_open = 0, False
+    for line in script:
+        if line.startswith(b"settings ") and not is_open:
+            given = opened(store, line[9:])
+            is_open = given.startswith(b"services")
+            if is_open and wanted.startswith(given, at):
+                given = wanted[at : wanted.index(b"\n", at) + 1]
+        else:
+            store.call_line(line)
+            given = store.text()
+        if not wanted.startswith(given, at):
+            raise AssertionError(f"{line[:120]}: {given[:600]}, and not {wanted[at:at + 600]}")
+        at += len(given)
+    if at != len(wanted) or store.close() != 0:
+        raise AssertionError(f"it printed {at} bytes, and not {len(wanted)}")
 
 
 def read(library, script):

@@ -37,14 +37,14 @@ static void ask(const char *line) {
 }
 
 static void numbers(void) {
-    for (uint32_t number = 0; number <= DS_ISOPEN + 1; number++) {
+    for (uint32_t number = 0; number <= DS_SHAREDNAME + 1; number++) {
         printf("%" PRIu32 " %s\n", number, ds_refusal_text(number));
     }
     printf("%" PRIu32 " %s\n", UINT32_MAX, ds_refusal_text(UINT32_MAX));
 }
 
 static void words(void) {
-    for (uint32_t number = 0; number <= DS_BADLINE + 1; number++) {
+    for (uint32_t number = 0; number <= DS_ACTED + 1; number++) {
         printf("word %" PRIu32 " %s\n", number, ds_word_text(number));
     }
     printf("the library's version is %s\n", strcmp(ds_version(), DS_VERSION) ? "another one" : "the header's");
@@ -95,6 +95,46 @@ static void worn(void) {
     ask("publish 0/2 new eth0 label 3.0 = 3/16");
 }
 
+/* Opens RS with a settings text, and prints by what it is refused. */
+static void settle(const char *text, uint32_t next) {
+    struct ds_settings_fault fault;
+    printf("settings: %s\n", ds_refusal_text(ds_rs_open(&store, text, strlen(text), next, 16, &fault)));
+}
+
+/* Each fault of a settings text, and each of an event. */
+static void services(void) {
+    settle("[[service", 1);
+    settle("services = []", 1);
+    settle("service = [{label = \"disk\", class = \"block\"}]", 1);
+    settle("slots = 0", 1);
+    settle("service = [{label = \"a\", class = \"server\"}, {label = \"a\", class = \"server\"}]", 1);
+    settle("service = [{label = \"a\", class = \"block\", unit = 3}, {label = \"b\", class = \"character\", unit = 3}]", 1);
+    settle("service = [{label = \"a\", class = \"server\", publishes = [\"x\", \"x\"]}]", 1);
+    settle("service = [{label = \"disk\", class = \"block\", unit = 3}]", 0);
+    settle("service = [{label = \"disk\", class = \"block\", unit = 3}]", 1);
+    ask("settings service = []");
+    ask("service up tty 0");
+    ask("service down disk 4");
+    ask("service up disk 4");
+    ask("service up disk 4");
+    ask("service down disk 3");
+    ask("tick 4611686018427387905");
+    ask("death 1/16 7 4");
+    ask("beat 1/17 4");
+    ask("publish 0/2 over disk label 2.0 = 2/16");
+}
+
+/* RS with its last generation, and RS with one slot for two services. */
+static void spent(void) {
+    static const char few[] = "slots = 1\n[[service]]\nlabel = \"a\"\nclass = \"server\"\n[[service]]\nlabel = \"b\"\nclass = \"server\"\n";
+    settle(few, 2097152);
+    ask("service up a 0");
+    reopen(0, RING);
+    settle(few, 1);
+    ask("service up a 0");
+    ask("service up b 0");
+}
+
 static void calls(void) {
     struct ds_map map = DS_CLOSED;
     printf("open: %s\n", ds_refusal_text(ds_open(&store, 1, 0, RING)));
@@ -116,6 +156,10 @@ int main(void) {
     full();
     reopen(last_position, RING);
     worn();
+    reopen(0, RING);
+    services();
+    reopen(0, RING);
+    spent();
     calls();
     return 0;
 }

@@ -1,4 +1,4 @@
--- Which line bytes are, and whose.
+-- The lines of bytes, and their commands.
 use Rattle.std.specs.Prelude.{◌≡◌, ◌≢◌, ◌⊎◌, ℕ, ◌+◌, List, [], ◌++◌, length, Result, Ok, Err}
 use Rattle.line_io.specs.Lines.{IsUnbroken, with_newline}
 use Rattle.script_commands.specs.declared.command.ScriptCommand.{ScriptCommand}
@@ -11,7 +11,7 @@ pub record IsLineIn (bytes line : List ℕ) : Type 0 where
   pub unbroken : IsUnbroken line
   pub text : (bytes ≡ line) ⊎ (bytes ≡ with_newline line)
 
--- something stands behind the first line, from the place on
+-- there is more after the first line, from the place on
 pub record IsBroken (bytes : List ℕ) (place : ℕ) : Type 0 where
   pub line : List ℕ
   pub rest : List ℕ
@@ -20,17 +20,17 @@ pub record IsBroken (bytes : List ℕ) (place : ℕ) : Type 0 where
   pub more : rest ≢ []
   pub place_is : place ≡ length line + 1
 
--- they are the command's line
+-- they are the line of the command
 pub record IsCommandIn (bytes : List ℕ) (command : ScriptCommand) : Type 0 where
   pub line : List ℕ
   pub is : IsLineIn bytes line
   pub stands : IsLineOf command line
 
--- from the place on they aren't one: more stands there behind the first line, or it is a bad line
+-- they are bad from the place on: there is more after the first line, or it is a bad line
 abbrev pub IsBadIn : List ℕ → ℕ → Type 0
 IsBadIn bytes place = IsBroken bytes place ⊎ ((line : List ℕ) × IsLineIn bytes line × IsBadLine line place)
 
--- what the reader of them answers
+-- the result of reading them
 abbrev pub ReadsBytes : List ℕ → Result ScriptCommand CommandFault → Type 0
 ReadsBytes bytes (Ok command) = IsCommandIn bytes command
 ReadsBytes bytes (Err (BadLine place expected)) = IsBadIn bytes place

@@ -1,31 +1,20 @@
-//! Lines, and what they ask of a session.
+//! The commands of lines, carried out by a session.
 
 ghost use Rattle.std.specs.Prelude.{◌≡◌};
-ghost use Rattle.c_line.specs.Calling.{what_shows, LineAsks, CarriesOut, CallsLine};
+ghost use Rattle.c_line.specs.Calling.{what_shows, LineAsks, CarriesOut};
 
-use crate::reading::read_bytes;
 use c_session::Session;
 use c_values::Answer;
 use ds_names::NoRoom;
-use script_commands::{CommandFault, ScriptCommand};
+use script_commands::ScriptCommand;
 use std::alloc::Global;
 
-/// Carries out the command that stands on a line, whose newline may be missing.
+/// Carries out the command of a line, as one store does.
 ///
-/// A command that asks the store is answered by one step of its machine, and the answer is that of the reply; `show` and `all` are
-/// answered by how many items are shown. A line that is no command's is answered by the place from which it can't be read, one whose
-/// command asks nothing of one store as no request, and want of memory as a refusal: then the store stays as it is.
-pub fn call_line(alloc: Global, session: &mut Session, bytes: &[u8], answer: &mut Answer)
-    ensures { CallsLine session.old bytes.now answer.new session.new }
-{
-    match read_bytes(alloc, bytes) {
-        Ok(command) => carry_out(alloc, session, command, answer),
-        Err(CommandFault::BadLine { place, .. }) => session.rest(Answer::bad_line(place), answer),
-        Err(CommandFault::NoRoom) => session.refuse(answer),
-    }
-}
-
-fn carry_out(alloc: Global, session: &mut Session, command: ScriptCommand, answer: &mut Answer)
+/// A command of the store is one step of its machine, and the answer is that of the reply. `show` and `all` are answered by the number of
+/// items shown. Any other command is answered as no request. An offer for which memory runs out is answered as a refusal. Then the store is
+/// unchanged.
+pub fn carry_out(alloc: Global, session: &mut Session, command: ScriptCommand, answer: &mut Answer)
     ensures { CarriesOut command session.old answer.new session.new }
 {
     match what_shows(&command) {
@@ -34,7 +23,7 @@ fn carry_out(alloc: Global, session: &mut Session, command: ScriptCommand, answe
     }
 }
 
-// Whether a command shows all that is held, or the puts alone; `None` for one that shows nothing.
+// Whether a command shows everything held, or only the puts. `None` if it shows nothing.
 fn what_shows(command: &ScriptCommand) -> Option<bool>
     ensures { result ≡ what_shows command.now }
 {
@@ -45,7 +34,7 @@ fn what_shows(command: &ScriptCommand) -> Option<bool>
     }
 }
 
-// Lets the store answer what a command asks of it.
+// Sends the store the command of a line.
 fn ask_store(alloc: Global, session: &mut Session, command: ScriptCommand, answer: &mut Answer)
     ensures { LineAsks command session.old answer.new session.new }
 {

@@ -1,4 +1,4 @@
-//! The commands of lines in bytes.
+//! Reading the command of a line.
 
 ghost use Rattle.std.specs.Prelude.{◌≡◌, ◌≤◌, ◌+◌, length, take, IfOk, IfErr};
 ghost use Rattle.ds_line.specs.declared.expected.Expected.TheVariants.{Limit};
@@ -12,12 +12,12 @@ use line_io::{LONGEST_LINE, newline_place};
 use script_commands::{CommandFault, ScriptCommand, read_command, read_line};
 use std::alloc::Global;
 
-// The most bytes of a line to which a newline is put in a small block. `read_command` clears one for the longest line.
+// The longest line that is copied to a small block, to append a newline. `read_command` clears a block for the longest line of all.
 const SHORT_LINE: usize = 255;
 
-/// Reads the command of the line that bytes are, whose newline may be missing. Where more comes behind the newline, it is bad at the
-/// place where that begins.
-pub(crate) fn read_bytes(alloc: Global, bytes: &[u8]) -> Result<ScriptCommand, CommandFault>
+/// Reads the command of a line, whose newline may be missing. If there is more after the newline, the line is bad at the byte where that
+/// begins.
+pub fn read_bytes(alloc: Global, bytes: &[u8]) -> Result<ScriptCommand, CommandFault>
     ensures { ReadsBytes bytes.now result }
 {
     match newline_place(bytes) {
@@ -34,7 +34,7 @@ pub(crate) fn read_bytes(alloc: Global, bytes: &[u8]) -> Result<ScriptCommand, C
     }
 }
 
-// Reads the command of a line that comes without its newline.
+// Reads the command of a line without a newline.
 fn read_unended(alloc: Global, line: &[u8]) -> Result<ScriptCommand, CommandFault>
     requires { IsUnbroken line.now }
     ensures found { IfOk result (λ command. IsLineOf command line.now) }
@@ -48,7 +48,7 @@ fn read_unended(alloc: Global, line: &[u8]) -> Result<ScriptCommand, CommandFaul
     read_line(alloc, &block[..line.len() + 1])
 }
 
-// Writes a line, and a newline behind it, to the front of a block.
+// Copies a line to the front of a block, and appends a newline.
 fn end_line(line: &[u8], block: &mut [u8; SHORT_LINE + 1])
     requires { length line.now ≤ 255 }
     ensures { take (length line.now + 1) block.new ≡ with_newline line.now }
@@ -57,7 +57,7 @@ fn end_line(line: &[u8], block: &mut [u8; SHORT_LINE + 1])
     block[line.len()] = b'\n';
 }
 
-// That a line is bad from a place on.
+// The fault of a line that is bad from a byte on.
 fn bad_at(place: usize) -> CommandFault
     ensures { result ≡ BadLine place Limit }
 {

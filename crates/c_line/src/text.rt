@@ -1,4 +1,4 @@
-//! The text of what was given last, as a script prints it.
+//! The text of the last answer, as a script prints it.
 
 ghost use Rattle.std.specs.Prelude.{◌≡◌, ◌≤◌, IfOk, drop, length};
 ghost use Rattle.c_line.specs.Text.{given_text, shown_text, GivesPart, GivesText};
@@ -12,30 +12,37 @@ use ds_names::NoRoom;
 use std::alloc::Global;
 use store_answers::write_reply;
 
-// Why no more was given: there is no more, more doesn't fit, or memory for the text is wanting.
+// Why copying stopped: the text ended, the buffer is full, or memory for the text ran out.
 const WHOLE: u32 = 0;
 
 const FULL: u32 = 1;
 
 const NO_ROOM: u32 = 20;
 
-/// Gives a buffer the text of what a session gave last, as a script prints it, from a byte on: as much as fits. It says how many bytes
-/// these are, and how many the whole text has. What doesn't fit is given by a later call, as long as nothing else was asked. The text
-/// takes memory while it is given; where that is wanting, nothing is given and nothing is lost.
+/// Copies the text of a session's last answer to a buffer, as a script prints it, from the byte at `first` on: as many bytes as fit.
+/// Returns how many these are, and how many the whole text has. A later call copies the rest, until the next request. The text takes memory while
+/// it is copied; if that runs out, nothing is copied, and nothing is lost.
 pub fn give_text(alloc: Global, session: &Session, first: usize, room: &mut [u8]) -> Given
     ensures { GivesText (given_text session.now.last) first room.old result room.new }
 {
     match write_text(alloc, session.last()) {
         Ok(text) => give_part(text.as_slice(), first, room),
-        Err(NoRoom) => Given {
-            stop: NO_ROOM,
-            ..Given::nothing()
-        },
+        Err(NoRoom) => no_text(),
     }
 }
 
-// Gives a buffer a text from a byte on, as much as fits.
-fn give_part(text: &[u8], first: usize, room: &mut [u8]) -> Given
+/// Returns that nothing was copied, because memory for the text ran out.
+pub fn no_text() -> Given
+    ensures { result ≡ record { count = 0; length = 0; stop = 20 } }
+{
+    Given {
+        stop: NO_ROOM,
+        ..Given::nothing()
+    }
+}
+
+/// Copies a text to a buffer, from the byte at `first` on: as many bytes as fit.
+pub fn give_part(text: &[u8], first: usize, room: &mut [u8]) -> Given
     ensures { GivesPart text.now first room.old result room.new }
 {
     let rest = behind(text, first);
@@ -57,7 +64,7 @@ fn give_part(text: &[u8], first: usize, room: &mut [u8]) -> Given
     }
 }
 
-// What is behind the first bytes.
+// The text past the first bytes.
 fn behind(text: &[u8], first: usize) -> &[u8]
     ensures { result.now ≡ drop first text.now }
 {
@@ -68,7 +75,7 @@ fn behind(text: &[u8], first: usize) -> &[u8]
     }
 }
 
-// The text of what was given last.
+// The text of an answer.
 fn write_text(alloc: Global, last: &Last) -> Result<Vec<u8>, NoRoom>
     ensures { IfOk result (λ text. text.items ≡ given_text last.now) }
 {
@@ -79,7 +86,7 @@ fn write_text(alloc: Global, last: &Last) -> Result<Vec<u8>, NoRoom>
     }
 }
 
-// The lines of items that are shown, and how many they are.
+// The lines of shown items, and their number.
 fn write_shown(alloc: Global, items: &Items) -> Result<Vec<u8>, NoRoom>
     ensures { IfOk result (λ text. text.items ≡ shown_text items.now) }
 {

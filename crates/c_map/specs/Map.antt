@@ -1,4 +1,4 @@
--- What C is told of a subscriber's map, and what its calls do to it.
+-- What the calls on a subscriber's map do to it, and their answers.
 use Rattle.std.specs.Prelude.{◌≡◌, ◌⊎◌, ℕ, ◌<◌, ◌≤◌, ◌++◌, cond, IsFalse, List, length, Option, Some, None, Result, Ok, Err, IfOk, IfErr}
 use Rattle.ds_names.specs.Endpoint.{EndpointRecord}
 use Rattle.ds_entry.specs.declared.body.Value.TheVariants.{Label}
@@ -21,17 +21,17 @@ use Rattle.c_values.specs.Lines.{AreLines}
 use Rattle.c_values.specs.Request.{is_name}
 use Rattle.c_values.specs.declared.answer.Answer.{Answer}
 
--- the number is a sum of the bits of kinds
+-- the number is a sum of kinds
 abbrev pub IsKindSum : ℕ → Type 0
 IsKindSum kinds = (0 < kinds) × (kinds ≤ 15)
 
--- the map is that of this pattern and of these kinds, and nothing came to it yet
+-- the map is empty, and its query is this pattern and these kinds
 pub record IsMapOf (kinds : ℕ) (text : List ℕ) (map : SubMapRecord) : Type 0 where
   pub is_sum : IsKindSum kinds
   pub pattern : IsPattern text
   pub value : map ≡ empty_map (query_of text kinds)
 
--- why no map is made: first for the kinds, then for the length of the pattern, and then for what it is, or for want of memory
+-- why no map is made: first the kinds, then the length of the pattern, then the pattern, or out of memory
 abbrev pub IsMapRefusal : Refusal → ℕ → List ℕ → Type 0
 IsMapRefusal refusals.BadKind kinds text = ¬ IsKindSum kinds
 IsMapRefusal refusals.TooLong kinds text = IsKindSum kinds × (128 < length text)
@@ -39,12 +39,12 @@ IsMapRefusal refusals.BadPattern kinds text = IsKindSum kinds × (length text �
 IsMapRefusal refusals.NoRoom kinds text = IsKindSum kinds × (length text ≤ 128)
 IsMapRefusal _ kinds text = ⊥
 
--- what a map took, as a store would say it of a Merge that owes nothing to anybody
+-- the reply of a Merge with the same result, that owes no notices
 abbrev pub reply_of_take : Result Count Stop → Reply
 reply_of_take (Ok count) = Merged count.done count.taken count.stale 0
 reply_of_take (Err stop) = MergeStopped stop.done (refusal_of_join stop.fault) 0
 
--- the items were taken in their order, all of them or those before the one that is refused, and the answer counts them
+-- the items are merged in order, all or those before the first that is refused, and the answer counts them
 pub record TakesItems (old : SubMapRecord) (items : List Item) (answer : Answer) (new : SubMapRecord) : Type 0 where
   pub taken : Result Count Stop
   pub joined : JoinsUnder old.query old.held (done_items taken items) new.held
@@ -54,27 +54,27 @@ pub record TakesItems (old : SubMapRecord) (items : List Item) (answer : Answer)
   pub query : new.query ≡ old.query
   pub told : answer ≡ answer_of (reply_of_take taken)
 
--- the text is the lines of items, which were taken
+-- the text is the lines of items, which are merged
 pub record GivesItemsOf (old : SubMapRecord) (text : List ℕ) (answer : Answer) (new : SubMapRecord) : Type 0 where
   pub items : List Item
   pub lines : AreLines items text
   pub takes : TakesItems old items answer new
 
--- the map stays as it is, and this is told
+-- the map is unchanged, and this is the answer
 pub record StaysMap (old : SubMapRecord) (told answer : Answer) (new : SubMapRecord) : Type 0 where
   pub told_is : answer ≡ told
   pub map_is : new ≡ old
 
--- the items were taken; or the text is the lines of none; or memory for the items is wanting
+-- the items are merged; the text isn't the lines of items; or memory for them runs out
 abbrev pub GivesItems : SubMapRecord → List ℕ → Answer → SubMapRecord → Type 0
 GivesItems old text answer new =
     GivesItemsOf old text answer new ⊎ ((((items : List Item) → ¬ AreLines items text) × StaysMap old no_request answer new) ⊎ StaysMap old told_no_room answer new)
 
--- the endpoint of a label, as a store would say it of a Retrieve
+-- the reply of a Retrieve of a label with this endpoint
 abbrev pub reply_of_label : Option EndpointRecord → Reply
 reply_of_label (Some endpoint) = Found (Label endpoint)
 reply_of_label None = Refused refusals.NotFound
 
--- where the label of a name is, if the bytes are a name
+-- the answer of a Retrieve of the label, if the bytes are a name
 abbrev pub told_label : Holding → List ℕ → Answer
 told_label held name = cond (is_name name) (answer_of (reply_of_label (endpoint_of_label held name))) no_request

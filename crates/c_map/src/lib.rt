@@ -1,4 +1,4 @@
-//! What a subscriber keeps of a store, for C: a map of a query, which is given items by their lines, and tells where a label is.
+//! A subscriber's map for C: it takes the lines of items, and finds where a label is.
 #![tactic(auto)]
 
 mod map;

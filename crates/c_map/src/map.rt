@@ -1,4 +1,4 @@
-//! Maps by bytes and numbers.
+//! Maps, by bytes and numbers.
 
 ghost use Rattle.std.specs.Prelude.{◌≡◌, ◌≤◌, IfOk, IfErr, length};
 ghost use Rattle.c_map.specs.Map.{IsMapOf, IsMapRefusal, TakesItems, GivesItems, told_label};
@@ -11,8 +11,8 @@ use ds_pattern::{LONGEST_PATTERN, PatternFault, PatternText, Query};
 use ds_submap::SubMap;
 use std::alloc::Global;
 
-/// The map of a pattern and a sum of bits of kinds, to which nothing came yet. `BadKind` where the number is no such sum, then
-/// `TooLong` and `BadPattern` as a subscription is refused; `NoRoom` behind `TooLong`, where memory is wanting.
+/// Makes an empty map of a pattern and a sum of kinds. Refusals in their order: BadKind, if the number isn't such a sum; TooLong;
+/// BadPattern. NoRoom may come at any time after TooLong.
 pub fn new_map(alloc: Global, kinds: u8, pattern: &[u8]) -> Result<SubMap, Refusal>
     ensures made { IfOk result (IsMapOf kinds pattern.now) }
     ensures refused { IfErr result (λ refusal. IsMapRefusal refusal kinds pattern.now) }
@@ -34,7 +34,7 @@ pub fn new_map(alloc: Global, kinds: u8, pattern: &[u8]) -> Result<SubMap, Refus
     }
 }
 
-// Lets a map take items.
+// Merges items into a map.
 fn take_items(alloc: Global, map: &mut SubMap, items: &Items) -> Answer
     ensures { TakesItems map.old items.now result map.new }
 {
@@ -54,8 +54,8 @@ fn take_items(alloc: Global, map: &mut SubMap, items: &Items) -> Answer
     answer_of(&reply)
 }
 
-/// Lets a map take the items whose lines a text is, in their order: it is answered as a Merge of them is. A text that is those
-/// of no items is answered as no request, and want of memory for them as a refusal; the map stays as it was then.
+/// Merges the items whose lines a text is into a map, in order, and returns the answer, as of a Merge. If the text isn't the lines of
+/// items, or memory for them runs out, the answer says so, and the map is unchanged.
 pub fn take_lines(alloc: Global, map: &mut SubMap, text: &[u8]) -> Answer
     ensures { GivesItems map.old text.now result map.new }
 {
@@ -66,8 +66,8 @@ pub fn take_lines(alloc: Global, map: &mut SubMap, text: &[u8]) -> Answer
     }
 }
 
-/// Where the label of this name is now, as a Retrieve of it would be answered: its endpoint, or NotFound where the map has no live
-/// one. Bytes that are no name are answered as no request.
+/// Returns where the label of a name is, as a Retrieve answers: its endpoint, or NotFound if the map has no live one. Bytes that aren't a
+/// name are answered as no request.
 pub fn label_in(map: &SubMap, name: &[u8]) -> Answer
     ensures { result ≡ told_label map.now.held name.now }
 {

@@ -1,2 +1,1 @@
 pub mod CalledLemmas
-pub mod RunningLemmas

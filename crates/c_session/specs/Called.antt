@@ -1,4 +1,4 @@
--- What is done to a session, by a request, by a command, or by showing what is held.
+-- What a request, a command and a show do to a session.
 use Rattle.std.specs.Prelude.{◌≡◌, ◌⊎◌, ℕ, IsTrue, Bool, true, false, List, [], length, map, Option, None, Some}
 use Rattle.ds_entry.specs.Under.{entries_of}
 use Rattle.ds_entry.specs.declared.item.Item.{Item}
@@ -19,54 +19,53 @@ use Rattle.c_session.specs.declared.last.Last.{Last}
 use Rattle.c_session.specs.declared.last.Last.TheVariants.{Nothing, Reply as Replied, Shown}
 use Rattle.c_session.specs.declared.session.Session.{Session}
 
--- the store answers the command by one turn, whose reply is what is told, and is kept with the wording
+-- the store takes one turn for the command; the answer is that of its reply, which is kept with the wording
 pub record Tells (old : Session) (wording : Wording) (command : Command) (answer : Answer) (new : Session) : Type 0 where
   pub reply : Reply
   pub turn : Turn old.store command reply new.store
   pub told : answer ≡ answer_of reply
   pub kept : new.last ≡ Replied reply wording
 
--- the store stays as it is, and so much is kept
+-- the store is unchanged, this is the answer, and this is kept
 pub record Rests (old : Session) (told : Answer) (last : Last) (answer : Answer) (new : Session) : Type 0 where
   pub told_is : answer ≡ told
   pub store_is : new.store ≡ old.store
   pub kept : new.last ≡ last
 
--- it isn't known what is asked, or nothing is
+-- the request isn't a command
 abbrev pub RestsForNone : Session → Answer → Session → Type 0
 RestsForNone old answer new = Rests old no_request Nothing answer new
 
--- memory is wanting
+-- memory runs out
 abbrev pub RestsForRoom : Session → Answer → Session → Type 0
 RestsForRoom old answer new = Rests old told_no_room (Replied (Refused NoRoom) AsMerge) answer new
 
 -- ---- requests
 
--- the request stands for a command, which the store answers
+-- the request is a command, which the store answers
 pub record AnswersRequest (old : Session) (r : Request) (text : List ℕ) (answer : Answer) (new : Session) : Type 0 where
   pub command : Command
   pub stands : StandsFor r text command
   pub answered : Tells old AsMerge command answer new
 
--- a request with this text: the store answers the command that it stands for; it stands for none; or it has a text, for
--- which memory is wanting
+-- a request with this text: the store answers its command; it isn't one; or it has a text, for which memory runs out
 abbrev pub CalledWith : Session → Request → List ℕ → Answer → Session → Type 0
 CalledWith old r text answer new =
     AnswersRequest old r text answer new ⊎ ((StandsForNone r text × RestsForNone old answer new) ⊎ (IsTrue (has_text r) × RestsForRoom old answer new))
 
--- a request whose text isn't within the texts stands for none
+-- a request whose text isn't within the texts isn't a command
 abbrev pub Called : Session → Request → Option (List ℕ) → Answer → Session → Type 0
 Called old r None answer new = RestsForNone old answer new
 Called old r (Some text) answer new = CalledWith old r text answer new
 
 -- ---- what is held
 
--- all of some items, or the puts alone
+-- all of some items, or only the puts
 abbrev pub held_shown : Bool → List Item → List Item
 held_shown true items = items
 held_shown false items = entries_of items
 
--- all that the store holds is shown, or the puts alone; or memory for them is wanting
+-- everything held is shown, or only the puts; or memory for them runs out
 abbrev pub ShowsIfRoom : Session → Bool → Answer → Session → Type 0
 ShowsIfRoom old all answer new =
     let items = held_shown all old.store.held in
@@ -74,7 +73,7 @@ ShowsIfRoom old all answer new =
 
 -- ---- the text
 
--- the pieces of what was given last
+-- the pieces of the last answer
 abbrev pub pieces_in : Last → List (List ℕ)
 pieces_in Nothing = []
 pieces_in (Replied reply wording) = pieces_of reply

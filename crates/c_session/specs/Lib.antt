@@ -1,2 +1,1 @@
 pub mod Called
-pub mod Running

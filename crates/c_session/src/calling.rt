@@ -1,4 +1,4 @@
-//! Requests, and what they ask of a session.
+//! Requests.
 
 ghost use Rattle.c_values.specs.Asked.{request_text};
 ghost use Rattle.c_session.specs.Called.{RestsForNone, CalledWith, Called};
@@ -10,8 +10,8 @@ use std::alloc::Global;
 use store_answers::Wording;
 
 impl Session {
-    /// Lets the store answer a request, whose text is in `texts`: by one step of its machine to the command that the
-    /// request stands for. Where it stands for none, or memory for its text runs out, the store is unchanged.
+    /// Carries out a request, whose text is in `texts`, by one step of the store's machine, and writes the answer. If it isn't a command,
+    /// or memory for its text runs out, the store is unchanged.
     pub fn call(&mut self, alloc: Global, request: &Request, texts: &[u8], answer: &mut Answer)
         ensures { Called self.old request.now (request_text request.now texts.now) answer.new self.new }
     {
@@ -21,7 +21,7 @@ impl Session {
         }
     }
 
-    // The three commands that callers send most have fast ways.
+    // The three most frequent commands have fast ways.
     fn call_with(&mut self, alloc: Global, request: &Request, text: &[u8], answer: &mut Answer)
         ensures { CalledWith self.old request.now text.now answer.new self.new }
     {
@@ -33,7 +33,7 @@ impl Session {
         }
     }
 
-    // Lets the store answer the command that a request with this text stands for.
+    // Carries out the command of a request with this text.
     #[inline(never)]
     fn ask(&mut self, alloc: Global, request: &Request, text: &[u8], answer: &mut Answer)
         ensures { CalledWith self.old request.now text.now answer.new self.new }
@@ -45,7 +45,7 @@ impl Session {
         }
     }
 
-    /// Answers that nothing is asked. The store is unchanged.
+    /// Answers a request that isn't a command. The store is unchanged.
     pub(crate) fn decline(&mut self, answer: &mut Answer)
         ensures { RestsForNone self.old answer.new self.new }
     {

@@ -1,4 +1,4 @@
-//! What a session gave last.
+//! The last answer of a session.
 
 ghost use Rattle.std.specs.Prelude.{◌≡◌, drop, IfOk};
 ghost use Rattle.ds_held.specs.Held.{held_items};
@@ -13,19 +13,19 @@ use ds_names::NoRoom;
 use std::alloc::Global;
 use store_answers::Wording;
 
-/// What a session gave last.
+/// The last answer of a session.
 #[derive(Drop)]
 pub enum Last {
-    /// Nothing.
+    /// An answer without a text, or none yet.
     Nothing,
-    /// A reply of the store, and how a script words it.
+    /// A reply of the store, and its wording in a script.
     Reply { reply: Reply, wording: Wording },
-    /// Items that are held.
+    /// Held items that are shown.
     Shown(Items),
 }
 
 impl Last {
-    // Gives a buffer its pieces of text from one on.
+    // Copies its pieces of text to a buffer, from the one at index `first` on.
     pub(crate) fn give(&self, alloc: Global, first: usize, room: &mut [u8]) -> Given
         ensures { GivesPieces (drop first (pieces_in self.now)) room.old result room.new }
     {
@@ -37,7 +37,7 @@ impl Last {
     }
 }
 
-/// All that is held, or the puts alone.
+/// Returns everything held, or only the puts.
 pub(crate) fn held_shown(alloc: Global, held: &Held, all: bool) -> Result<Items, NoRoom>
     ensures { IfOk result (λ items. items ≡ held_shown all (held_items held.now)) }
 {

@@ -1,12 +1,11 @@
-//! A store that a caller asks, one thing after the other, and what it gave last, whose text is fetched in pieces.
+//! A store, and its last answer, whose text is fetched in pieces.
 #![tactic(auto)]
 
 mod calling;
 mod fast;
 mod last;
-mod running;
+mod serving;
 mod session;
 
 pub use last::Last;
-pub use running::calls_are_turns;
 pub use session::Session;

@@ -1,4 +1,4 @@
-//! Sessions. What they tell is written where it goes, into the caller's answer.
+//! Sessions. An answer is written to the caller's place at once.
 
 ghost use Rattle.std.specs.Prelude.{◌≡◌, ◌≤◌, drop, length, IfOk, IfErr, OnOk};
 ghost use Rattle.ds_feed.specs.Kept.{IsRing};
@@ -21,7 +21,7 @@ use ds_store::Store;
 use std::alloc::Global;
 use store_answers::Wording;
 
-/// A store, and what was given last.
+/// A store, and its last answer.
 #[derive(Drop)]
 pub struct Session {
     pub(crate) store: Store,
@@ -29,7 +29,7 @@ pub struct Session {
 }
 
 impl Session {
-    /// A session with a store that was just opened, for 128 subscriptions and 4096 keys. It refuses what the store refuses.
+    /// Opens a store of 128 subscriptions and 4096 keys. Refuses what `Store::open` refuses.
     pub fn open(alloc: Global, incarnation: u64, first: u64, ring: u32) -> Result<Session, Refusal>
         ensures opened { IfOk result (λ session. ContentStands session.store (opening incarnation first ring larger)) }
         ensures fits { OnOk result (IsRing ring × (first ≤ last_place)) }
@@ -43,14 +43,14 @@ impl Session {
         })
     }
 
-    /// What was given last.
+    /// Returns the last answer.
     pub fn last(&self) -> &Last
         ensures { result.now ≡ self.now.last }
     {
         &self.last
     }
 
-    /// Lets the store answer a command, keeps its reply, which a script words so, and tells it.
+    /// Carries out a command, writes the answer, and keeps the reply with its wording in a script.
     pub fn answer(&mut self, wording: Wording, command: Command, answer: &mut Answer)
         ensures { Tells self.old wording command answer.new self.new }
     {
@@ -59,16 +59,16 @@ impl Session {
         self.tell(wording, reply, answer);
     }
 
-    // Tells a reply, and keeps it. The store stays as it is.
+    /// Writes the answer of a reply, and keeps the reply. The store is unchanged.
     #[inline(always)]
-    pub(crate) fn tell(&mut self, wording: Wording, reply: Reply, answer: &mut Answer)
+    pub fn tell(&mut self, wording: Wording, reply: Reply, answer: &mut Answer)
         ensures { Rests self.old (answer_of reply) (Replied reply wording) answer.new self.new }
     {
         *answer = answer_of(&reply);
         self.last = Last::Reply { reply, wording };
     }
 
-    /// Tells this, which has no text. The store stays as it is.
+    /// Writes an answer without a text. The store is unchanged.
     pub fn rest(&mut self, told: Answer, answer: &mut Answer)
         ensures { Rests self.old told Nothing answer.new self.new }
     {
@@ -76,7 +76,7 @@ impl Session {
         self.last = Last::Nothing;
     }
 
-    /// Tells that memory is wanting. The store stays as it is.
+    /// Answers that memory ran out. The store is unchanged.
     pub fn refuse(&mut self, answer: &mut Answer)
         ensures { RestsForRoom self.old answer.new self.new }
     {
@@ -87,7 +87,7 @@ impl Session {
         };
     }
 
-    /// Shows all that the store holds, or the puts alone. The store stays as it is.
+    /// Shows everything that the store holds, or only the puts. The store is unchanged.
     pub fn show(&mut self, alloc: Global, all: bool, answer: &mut Answer)
         ensures { ShowsIfRoom self.old all answer.new self.new }
     {
@@ -97,7 +97,7 @@ impl Session {
         }
     }
 
-    // Keeps items that are shown.
+    // Keeps items that are shown, and writes the answer.
     fn keep(&mut self, items: Items, answer: &mut Answer)
         ensures { Rests self.old (told_shown (length items)) (Shown items) answer.new self.new }
     {
@@ -105,8 +105,8 @@ impl Session {
         self.last = Last::Shown(items);
     }
 
-    /// Gives a buffer the text of the last answer from one piece on: as many pieces as fit, whole. What doesn't fit is
-    /// given by a later call, as long as nothing else was asked.
+    /// Copies the text of the last answer to a buffer, from the piece at index `first` on: as many whole pieces as fit. A later call copies
+    /// the rest, until the next request.
     pub fn give(&self, alloc: Global, first: usize, room: &mut [u8]) -> Given
         ensures { GivesPieces (drop first (pieces_in self.now.last)) room.old result room.new }
     {

@@ -1,4 +1,4 @@
--- What C is told of a reply, in numbers.
+-- The answers of replies.
 use Rattle.std.specs.Prelude.{ℕ, cond, length, replicate}
 use Rattle.std.specs.Int.{to_le_bytes, w128}
 use Rattle.ds_entry.specs.declared.body.Value.{Value}
@@ -13,7 +13,7 @@ use Rattle.c_values.specs.declared.answer.Answer.{Answer}
 use Rattle.c_values.specs.declared.answer.Word.{Word}
 use Rattle.c_values.specs.declared.answer.Word.TheVariants as words
 
--- the number of a refusal: its place in the one order, from 1, and behind them why no store is opened
+-- the number of a refusal: its place in the order of judging, from 1; then those of opening
 abbrev pub refusal_number : Refusal → ℕ
 refusal_number refusals.BadSub = 1
 refusal_number refusals.TooMany = 2
@@ -38,7 +38,7 @@ refusal_number refusals.NoRoom = 20
 refusal_number refusals.BadRing = 21
 refusal_number refusals.BadFirst = 22
 
--- the number of a word: its place in the order of the variants, from 0
+-- the number of a word: its index among the variants
 abbrev pub word_number : Word → ℕ
 word_number words.Changed = 0
 word_number words.Known = 1
@@ -56,44 +56,45 @@ word_number words.Refused = 12
 word_number words.NoRequest = 13
 word_number words.Shown = 14
 word_number words.BadLine = 15
+word_number words.Acted = 16
 
 -- a word, and zeros
 abbrev pub worded : Word → Answer
 worded word = record { count = 0; taken = 0; stale = 0; before = 0; after = 0; pieces = 0; word = word_number word; refusal = 0; epoch = 0; seq = 0; value = 0; value_slot = 0; kind = 0; last = 0; owed = replicate 16 0 }
 
--- that no command has such parts
+-- the answer to a request that isn't a command
 abbrev pub no_request : Answer
 no_request = worded words.NoRequest
 
--- that so many items are shown, each of which is a piece of text
+-- the answer that shows `count` items, one piece of text each
 abbrev pub told_shown : ℕ → Answer
 told_shown count = record (worded words.Shown) { count = count; pieces = count }
 
--- that a line is bad from a place on
+-- the answer to a line that is bad from a byte on
 abbrev pub told_bad_line : ℕ → Answer
 told_bad_line place = record (worded words.BadLine) { count = place }
 
--- a word of items, with the stamps before and after, or a cursor
+-- the answer with items, with two stamps or a cursor
 abbrev pub told_of_items : Word → ℕ → ℕ → Answer
 told_of_items word before after = record (worded word) { before = before; after = after }
 
--- of a clash the version of both changes
+-- a refusal; a clash has the version of both changes
 abbrev pub told_refusal : Word → Refusal → Answer
 told_refusal word (refusals.Clash version) = record (worded word) { refusal = 11; epoch = version.epoch; seq = version.seq }
 told_refusal word refusal = record (worded word) { refusal = refusal_number refusal }
 
--- a refusal for want of memory
+-- the refusal because memory ran out
 abbrev pub told_no_room : Answer
 told_no_room = told_refusal words.Refused refusals.NoRoom
 
--- a label's endpoint, a number, or that a string or memory is in the text
+-- the value found: a label's endpoint, a number, or the kind of the text
 abbrev pub told_value : Value → Answer
 told_value (values.Label endpoint) = record (worded words.Found) { kind = 1; value = endpoint.generation; value_slot = endpoint.slot }
 told_value (values.U32 number) = record (worded words.Found) { kind = 2; value = number }
 told_value (values.Str text) = record (worded words.Found) { kind = 4 }
 told_value (values.Mem bytes) = record (worded words.Found) { kind = 8 }
 
--- what a reply says, but for its text and for what is owed
+-- the answer of a reply, without the number of pieces and the notices owed
 abbrev pub told_reply : Reply → Answer
 told_reply (Changed owed) = worded words.Changed
 told_reply Known = worded words.Known
@@ -109,7 +110,6 @@ told_reply (Merged done taken stale owed) = record (worded words.Merged) { count
 told_reply (MergeStopped done fault owed) = record (told_refusal words.MergeStopped fault) { count = done }
 told_reply (Refused refusal) = told_refusal words.Refused refusal
 
--- the answer of a reply: what it says, how many pieces of text it has, and to whom a notice is owed, the first eight
--- subscriptions in the first byte
+-- the answer of a reply. The notices owed to subscriptions 0 to 7 are in the first byte
 unfoldable pub answer_of : Reply → Answer
 answer_of reply = record (told_reply reply) { pieces = length (pieces_of reply); owed = to_le_bytes w128 (owed_by reply) }

@@ -1,4 +1,4 @@
--- What a request asks for.
+-- The commands of requests.
 use Rattle.std.specs.Prelude.{◌≡◌, ℕ, ◌+◌, ◌==◌, ◌||◌, ◌⊎◌, nat_le, cond, IsTrue, Bool, List, length, take, drop, Option, Some, None, Result, Ok, Err}
 use Rattle.ds_entry.specs.declared.item.Item.{Item}
 use Rattle.ds_machine.specs.declared.command.Command.{Command}
@@ -8,7 +8,7 @@ use Rattle.c_values.specs.declared.request.Request.{Request}
 use Rattle.c_values.specs.Request.{command_of}
 use Rattle.c_values.specs.Lines.{AreLines}
 
--- the part of the texts that a request names, where it is within them
+-- `count` bytes of the texts from `at` on, if the texts have them
 unfoldable pub text_in : List ℕ → ℕ → ℕ → Option (List ℕ)
 text_in texts at count = cond (nat_le (at + count) (length texts)) (Some (take count (drop at texts))) None
 
@@ -16,26 +16,26 @@ text_in texts at count = cond (nat_le (at + count) (length texts)) (Some (take c
 abbrev pub request_text : Request → List ℕ → Option (List ℕ)
 request_text r texts = text_in texts r.text_at r.text_length
 
--- it is a Merge of the items whose lines the text is
+-- the request is a Merge of the items whose lines the text is
 pub record IsMergeOf (r : Request) (text : List ℕ) (command : Command) : Type 0 where
   pub number : r.command ≡ 10
   pub items : List Item
   pub lines : AreLines items text
   pub command_is : command ≡ Merge items
 
--- a request with this text stands for the command: it is made of its parts, or it is a Merge of the items in the text
+-- the request with this text is the command: it has its parts, or it is a Merge of the items in the text
 abbrev pub StandsFor : Request → List ℕ → Command → Type 0
 StandsFor r text command = (command_of r text ≡ Some command) ⊎ IsMergeOf r text command
 
--- it stands for no command
+-- the request isn't a command
 abbrev pub StandsForNone : Request → List ℕ → Type 0
 StandsForNone r text = (command : Command) → ¬ StandsFor r text command
 
--- its command has a text, a pattern or items, for which memory is taken
+-- its command has a text, a pattern or items, which take memory
 abbrev pub has_text : Request → Bool
 has_text r = r.command == 0 || (r.command == 5 || (r.command == 7 || (r.command == 8 || (r.command == 9 || r.command == 10))))
 
--- what is read of a request: its command, or that there is none, or that memory is wanting for its text
+-- the result of reading a request: its command; None if it isn't one; NoRoom if memory for its text runs out
 abbrev pub ReadsRequest : Request → List ℕ → Result (Option Command) NoRoom → Type 0
 ReadsRequest r text (Ok None) = StandsForNone r text
 ReadsRequest r text (Ok (Some command)) = StandsFor r text command

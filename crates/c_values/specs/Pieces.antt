@@ -1,4 +1,4 @@
--- The text of a reply, in pieces, and how much of it a buffer is given.
+-- The text of a reply, in pieces, and how much of it is copied to a buffer.
 use Rattle.std.specs.Prelude.{◌≡◌, ◌⊎◌, ℕ, ◌+◌, ◌<◌, ◌≤◌, List, [], ◌∷◌, ◌++◌, length, map, take, drop, slice_index_or}
 use Rattle.std.specs.List.{concat}
 use Rattle.ds_entry.specs.declared.body.Value.{Value}
@@ -8,7 +8,7 @@ use Rattle.ds_machine.specs.declared.reply.Reply.{Reply}
 use Rattle.ds_machine.specs.declared.reply.Reply.TheVariants.{Found, Named, Checked, Journaled, Snapped, Paged}
 use Rattle.c_values.specs.declared.giving.Given.{Given}
 
--- a string or memory is one piece, a label and a number are none
+-- a string or memory is one piece, a label or a number none
 abbrev pub value_pieces : Value → List (List ℕ)
 value_pieces (values.Str text) = text ∷ []
 value_pieces (values.Mem bytes) = bytes ∷ []
@@ -24,12 +24,12 @@ pieces_of (Snapped snapshot) = map item_spelling snapshot.items
 pieces_of (Paged page) = map item_spelling page.items
 pieces_of _ = []
 
--- some of the first pieces stand at the front of a buffer, whole, and what is behind them is as it was
+-- the first `given.count` pieces are at the front of the buffer, and the rest of it is unchanged
 pub record GivesPieces (pieces : List (List ℕ)) (old : List ℕ) (given : Given) (new : List ℕ) : Type 0 where
   pub count : given.count ≤ length pieces
   pub length_is : given.length ≡ length (concat (take given.count pieces))
   pub room : new ≡ concat (take given.count pieces) ++ drop given.length old
-  -- why no more: there are no more, or the next doesn't fit in what is left, or memory for its line is wanting
+  -- why it stopped: the text ended, the next piece doesn't fit in the rest, or memory for its line ran out
   pub stop : (given.stop ≡ 0) ⊎ ((given.stop ≡ 1) ⊎ (given.stop ≡ 20))
   pub whole : given.stop ≡ 0 → given.count ≡ length pieces
   pub full : given.stop ≡ 1 → length old < given.length + length (slice_index_or pieces given.count [])

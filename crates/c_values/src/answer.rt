@@ -1,9 +1,9 @@
-//! What C is told.
+//! Answers, as C has them.
 
 ghost use Rattle.std.specs.Prelude.{◌≡◌};
 ghost use Rattle.c_values.specs.Answer.{word_number, worded, no_request, told_shown, told_bad_line};
 
-/// Which answer it is: the first are those of `Reply`, in their order, and the others those where there is none.
+/// The kind of an answer: those of `Reply` in their order, and then those of no reply.
 #[derive(Clone, Copy)]
 pub enum Word {
     Changed,
@@ -19,49 +19,52 @@ pub enum Word {
     Merged,
     MergeStopped,
     Refused,
-    /// The request stands for no command.
+    /// The request isn't a command.
     NoRequest,
-    /// What is held is shown.
+    /// Held items are shown.
     Shown,
-    /// The line is no command's.
+    /// The line can't be read.
     BadLine,
+    /// RS took an event.
+    Acted,
 }
 
-/// An answer. The pieces of its text come beside it, as bytes.
+/// An answer. Its text is fetched separately, in pieces.
 #[repr(C)]
 #[derive(Clone, Copy)]
 pub struct Answer {
-    /// How many puts a Sweep dropped, how many items of a Merge are done, or are shown; or where a bad line is bad.
+    /// The number of puts that a Sweep dropped, of items that a Merge has done or that are shown, or of actions; or the byte at which a line
+    /// is bad.
     pub count: u64,
-    /// How many items of a Merge were taken, and how many were stale.
+    /// The number of a Merge's items that took effect, and of those that were stale.
     pub taken: u64,
     pub stale: u64,
-    /// The stamps before and after, or the cursor: its incarnation and its position. Of a Subscribe the stamp is `after`.
+    /// The stamps before and after, or a cursor: its incarnation and its position. A Subscribe has its stamp in `after`.
     pub before: u64,
     pub after: u64,
-    /// How many pieces of text it has: one for a name, a string or memory, and one for each item.
+    /// The number of pieces of text: one for a name, a string or memory, and one for each item.
     pub pieces: u64,
-    /// Which answer, from 0 in the order of `Word`'s variants.
+    /// The number of its `Word`.
     pub word: u32,
-    /// By what it was refused or stopped: 0 by nothing, else its place in the store's order of refusals, from 1.
+    /// The number of the refusal by which it was refused or stopped; 0 if it wasn't.
     pub refusal: u32,
     /// The version of a clash.
     pub epoch: u32,
     pub seq: u32,
-    /// The number that was found, or the generation of the endpoint.
+    /// The number found, or the generation of an endpoint.
     pub value: u32,
-    /// The slot of the endpoint.
+    /// The slot of an endpoint.
     pub value_slot: u16,
-    /// The kind of the value that was found, as in a request.
+    /// The kind of the value found, as in a request.
     pub kind: u8,
-    /// 1 where a page was the last one.
+    /// 1 if a page is the last one.
     pub last: u8,
     /// The subscriptions that are owed a notice: bit SUB % 8 of byte SUB / 8.
     pub owed: [u8; 16],
 }
 
 impl Word {
-    // Its place in the order of the variants.
+    // The number of a word: its index among the variants.
     fn number(self) -> u32
         ensures { result ≡ word_number self }
     {
@@ -82,13 +85,14 @@ impl Word {
             Word::NoRequest => 13,
             Word::Shown => 14,
             Word::BadLine => 15,
+            Word::Acted => 16,
         }
     }
 }
 
 impl Answer {
-    /// A word, and zeros.
-    pub(crate) fn of(word: Word) -> Answer
+    /// Returns an answer with this word, and zeros.
+    pub fn of(word: Word) -> Answer
         ensures { result ≡ worded word }
     {
         Answer {
@@ -110,14 +114,14 @@ impl Answer {
         }
     }
 
-    /// That the request stands for no command.
+    /// Returns the answer to a request that isn't a command.
     pub fn no_request() -> Answer
         ensures { result ≡ no_request }
     {
         Answer::of(Word::NoRequest)
     }
 
-    /// That so many items are shown, each of which is a piece of text.
+    /// Returns the answer that shows `count` items, one piece of text each.
     pub fn shown(count: usize) -> Answer
         ensures { result ≡ told_shown count }
     {
@@ -128,7 +132,7 @@ impl Answer {
         }
     }
 
-    /// That a line is bad from a place on, a byte counted from 0.
+    /// Returns the answer to a line that is bad from the byte at `place` on.
     pub fn bad_line(place: usize) -> Answer
         ensures { result ≡ told_bad_line place }
     {

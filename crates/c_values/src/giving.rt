@@ -1,4 +1,4 @@
-//! The text of a reply, in pieces, into a buffer of the caller's.
+//! The text of a reply, copied in pieces to a buffer of the caller's.
 
 ghost use Rattle.std.specs.Prelude.{◌≡◌, ◌+◌, ◌≤◌, ◌++◌, ◌∷◌, [], List, length, map, take, drop};
 ghost use Rattle.ds_line.specs.ItemSpelling.{item_spelling};
@@ -9,15 +9,15 @@ use ds_line::append_item;
 use ds_machine::Reply;
 use std::alloc::Global;
 
-// Why no more was given: there is no more, the next piece doesn't fit, or memory for its line is wanting.
+// Why copying stopped: the text ended, the next piece doesn't fit, or memory for its line ran out.
 const WHOLE: u32 = 0;
 
 const FULL: u32 = 1;
 
 const NO_ROOM: u32 = 20;
 
-/// How much a buffer was given: how many pieces, whole, how many bytes they have together, and why no more, 0 where there
-/// is no more, 1 where the next doesn't fit, and 20 where memory for its line was wanting.
+/// What was copied to a buffer: the number of whole pieces, their bytes, and why it stopped: 0 the text ended, 1 the next piece doesn't
+/// fit, 20 memory for its line ran out.
 #[repr(C)]
 #[derive(Clone, Copy)]
 pub struct Given {
@@ -26,7 +26,7 @@ pub struct Given {
     pub stop: u32,
 }
 
-/// How many pieces of text a reply has: one for a name, a string or memory, and one for each item.
+/// Returns the number of pieces of a reply's text: one for a name, a string or memory, and one for each item.
 pub(crate) fn pieces(reply: &Reply) -> usize
     ensures { result ≡ length (pieces_of reply.now) }
 {
@@ -40,7 +40,7 @@ pub(crate) fn pieces(reply: &Reply) -> usize
     }
 }
 
-// Writes some bytes into a buffer, from a place on.
+// Copies bytes to a buffer, from an index on.
 fn put(room: &mut [u8], at: usize, bytes: &[u8])
     requires { at + length bytes.now ≤ length room.old }
     ensures { room.new ≡ take at room.old ++ (bytes.now ++ drop (at + length bytes.now) room.old) }
@@ -49,7 +49,7 @@ fn put(room: &mut [u8], at: usize, bytes: &[u8])
 }
 
 impl Given {
-    /// Nothing, since there is no more.
+    /// Returns that nothing was copied, because the text ended.
     pub fn nothing() -> Given
         ensures { result ≡ record { count = 0; length = 0; stop = 0 } }
     {
@@ -61,7 +61,7 @@ impl Given {
     }
 }
 
-// Gives the one piece of a text, unless some pieces are passed over.
+// Copies the only piece of a text, unless `first` is past it.
 fn give_text(text: &[u8], first: usize, room: &mut [u8]) -> Given
     ensures { GivesPieces (drop first (text.now ∷ [])) room.old result room.new }
 {
@@ -82,7 +82,7 @@ fn give_text(text: &[u8], first: usize, room: &mut [u8]) -> Given
     }
 }
 
-// Gives the lines of items.
+// Copies the lines of items.
 fn give_lines(alloc: Global, items: &[Item], room: &mut [u8]) -> Given
     ensures { GivesPieces (map item_spelling items.now) room.old result room.new }
 {
@@ -115,7 +115,7 @@ fn give_lines(alloc: Global, items: &[Item], room: &mut [u8]) -> Given
     }
 }
 
-/// Gives a buffer the lines of the items from one on.
+/// Copies the lines of items to a buffer, from the item at index `first` on.
 pub fn give_items(alloc: Global, items: &[Item], first: usize, room: &mut [u8]) -> Given
     ensures { GivesPieces (drop first (map item_spelling items.now)) room.old result room.new }
 {
@@ -125,8 +125,8 @@ pub fn give_items(alloc: Global, items: &[Item], first: usize, room: &mut [u8]) 
     give_lines(alloc, &items[first..], room)
 }
 
-/// Gives a buffer the text of a reply from one piece on: as many pieces as fit, whole, one behind the other. What is
-/// behind them stays as it was. A line of an item takes memory while it is written.
+/// Copies the text of a reply to a buffer, from the piece at index `first` on: as many whole pieces as fit. The rest of the buffer is
+/// unchanged. The line of an item takes memory while it is copied.
 pub fn give(alloc: Global, reply: &Reply, first: usize, room: &mut [u8]) -> Given
     ensures { GivesPieces (drop first (pieces_of reply.now)) room.old result room.new }
 {

@@ -1,6 +1,6 @@
-//! What C asks of a store and is told: requests to commands, replies to answers, and texts into buffers of the caller's.
+//! Requests of C to commands, replies to answers, and texts to buffers of the caller's.
 //!
-//! The commands are MINIX 3's data store's (DS) and those of this project; the structs that cross are of this project.
+//! The commands are those of MINIX 3's data store (DS) and of this project; the structs are of this project.
 #![tactic(auto)]
 
 mod answer;
@@ -15,7 +15,7 @@ mod texts;
 pub use answer::{Answer, Word};
 pub use giving::{Given, give, give_items};
 pub use lines::read_items;
-pub use parts::{caller_of, key_of};
+pub use parts::{caller_of, endpoint, key_of, kind, name_in};
 pub use reading::read_request;
 pub use request::Request;
 pub use telling::{answer_of, no_room, refusal_number};

@@ -9,7 +9,7 @@ use ds_line::{LineFault, read_item};
 use ds_names::NoRoom;
 use std::alloc::Global;
 
-/// The items whose lines a text is, all of it. `None` where it is those of none; NoRoom where memory for them is wanting.
+/// Reads the items whose lines a whole text is. `None` if it isn't the lines of items; NoRoom if memory for them runs out.
 pub fn read_items(alloc: Global, text: &[u8]) -> Result<Option<Items>, NoRoom>
     ensures { IfOk result (λ items. MatchOption items ((is : List Item) → ¬ AreLines is text.now) (λ is. AreLines is text.now)) }
 {

@@ -1,4 +1,4 @@
-//! The parts of a request that take no memory, and the commands of such parts alone.
+//! The parts of a request that take no memory, and the commands that have only such parts.
 
 ghost use Rattle.std.specs.Prelude.{◌≡◌};
 ghost use Rattle.c_values.specs.Request.{generation_at, endpoint_at, caller_of, version_at, versioned, kind_at, name_at, named_in, key_of};
@@ -15,14 +15,15 @@ pub(crate) fn generation(number: u32) -> Option<Generation>
     Generation::of(number)
 }
 
+/// Returns the endpoint of a generation and a slot. `None` if one of them is out of its range.
 #[tactic(auto, unfolding(crate::specs::Request::endpoint_at))]
-pub(crate) fn endpoint(number: u32, slot: u16) -> Option<Endpoint>
+pub fn endpoint(number: u32, slot: u16) -> Option<Endpoint>
     ensures { result ≡ endpoint_at number slot }
 {
     Endpoint::of(Generation::of(number)?, slot)
 }
 
-/// The endpoint of a request, which is its caller's, or the one whose name a NameOf asks for. `None` where it has none.
+/// Returns the endpoint of a request: its caller's, or that of a NameOf. `None` if it is out of range.
 pub fn caller_of(request: &Request) -> Option<Endpoint>
     ensures { result ≡ caller_of request.now }
 {
@@ -40,8 +41,9 @@ pub(crate) fn version(request: &Request) -> Option<Version>
     })
 }
 
+/// Returns the kind with this number in C: 1 label, 2 number, 4 string, 8 memory. `None` for another number.
 #[tactic(auto, unfolding(crate::specs::Request::kind_at))]
-pub(crate) fn kind(bit: u8) -> Option<Kind>
+pub fn kind(bit: u8) -> Option<Kind>
     ensures { result ≡ kind_at bit }
 {
     match bit {
@@ -53,18 +55,25 @@ pub(crate) fn kind(bit: u8) -> Option<Kind>
     }
 }
 
+/// Returns the name in the first `length` bytes of a block. `None` if they aren't a name, or the block is shorter.
 #[tactic(auto, unfolding(crate::specs::Request::name_at))]
-pub(crate) fn name(request: &Request) -> Option<Name>
-    ensures { result ≡ named_in request.now }
+pub fn name_in(block: &[u8; 64], length: u8) -> Option<Name>
+    ensures { result ≡ name_at block.now length }
 {
-    let length = usize::from(request.name_length);
+    let length = usize::from(length);
     if length > 64 {
         return None;
     }
-    Name::read(&request.name[..length]).ok()
+    Name::read(&block[..length]).ok()
 }
 
-/// The key of a request. `None` where it has none.
+pub(crate) fn name(request: &Request) -> Option<Name>
+    ensures { result ≡ named_in request.now }
+{
+    name_in(&request.name, request.name_length)
+}
+
+/// Returns the key of a request. `None` if its name or its kind isn't one.
 #[tactic(auto, unfolding(crate::specs::Request::key_of))]
 pub fn key_of(request: &Request) -> Option<Key>
     ensures { result ≡ key_of request.now }
@@ -74,7 +83,7 @@ pub fn key_of(request: &Request) -> Option<Key>
     Some(Key { name, kind })
 }
 
-/// Behind which key a Page begins: none, where it is the first one.
+/// Returns the key after which a Page begins, and an inner `None` for the first page.
 #[tactic(auto, unfolding(crate::specs::Request::behind_of))]
 pub(crate) fn behind(request: &Request) -> Option<Option<Key>>
     ensures { result ≡ behind_of request.now }

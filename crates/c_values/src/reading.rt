@@ -1,4 +1,4 @@
-//! Reading what a request asks for.
+//! Reading the command of a request.
 
 ghost use Rattle.std.specs.Prelude.{◌≡◌, IfOk, OnErr, IsTrue};
 ghost use Rattle.std.specs.Option.{option_map};
@@ -28,7 +28,7 @@ fn name_of(request: &Request) -> Option<Command>
     Some(Command::NameOf { endpoint })
 }
 
-// The command of a request, but a Merge.
+// The command of a request, except a Merge.
 #[tactic(auto, unfolding(crate::specs::Request::command_of))]
 fn command(alloc: Global, request: &Request, text: &[u8]) -> Result<Option<Command>, NoRoom>
     ensures read { IfOk result (λ command. command ≡ command_of request.now text.now) }
@@ -64,8 +64,7 @@ fn merge(alloc: Global, request: &Request, text: &[u8]) -> Result<Option<Command
     }
 }
 
-/// The command that a request with this text asks for. `None` where no command has such parts, and NoRoom where memory is wanting
-/// for its text.
+/// Reads the command of a request with this text. `None` if no command has such parts; NoRoom if memory for its text runs out.
 pub fn read_request(
     alloc: Global,
     request: &Request,

@@ -1,18 +1,18 @@
-//! What C asks.
+//! Requests, as C has them.
 
-/// A request, as C fills it in. A string, memory, a pattern and the lines of items come beside it, as bytes.
+/// A request, as C sets it. A string, memory, a pattern and the lines of items are in a separate buffer.
 #[repr(C)]
 #[derive(Clone, Copy)]
 pub struct Request {
     /// The cursor of a Since.
     pub incarnation: u64,
     pub position: u64,
-    /// Where in the texts its text begins, and how many bytes it has.
+    /// The place of its text within the texts, and its length in bytes.
     pub text_at: u64,
     pub text_length: u64,
-    /// Which command, from 0 in the order of `Command`'s variants.
+    /// The number of the command, from 0 in the order of `Command`'s variants.
     pub command: u32,
-    /// With `slot` the endpoint of the caller, or that of a NameOf.
+    /// With `slot`, the endpoint of the caller, or that of a NameOf.
     pub generation: u32,
     /// The version.
     pub epoch: u32,
@@ -26,15 +26,15 @@ pub struct Request {
     pub value_slot: u16,
     /// 1 label, 2 number, 4 string, 8 memory: one of a key, a sum of a query.
     pub kinds: u8,
-    /// Not 0 where a live entry or a subscription may be replaced.
+    /// Not 0 if a live entry or a subscription may be replaced.
     pub overwrite: u8,
-    /// Not 0 where a subscription is shown what is held.
+    /// Not 0 if a subscription is shown what is held.
     pub initial: u8,
-    /// Not 0 where a Since, Snapshot or Page is of what its pattern and kinds match, else it is of everything.
+    /// Not 0 if the scope of a Since, Snapshot or Page is a pattern and kinds; 0 if it is everything.
     pub under: u8,
-    /// 0 at the first Page, else the kind of the key behind which it begins.
+    /// 0 for the first Page, else the kind of the key after which it begins.
     pub behind: u8,
-    /// How many bytes the name has, of a key or of a Sweep's owner.
+    /// The length of the name, of a key or of a Sweep's owner.
     pub name_length: u8,
     pub name: [u8; 64],
 }

@@ -1,4 +1,4 @@
-//! From the store's reply to what C is told.
+//! Replies to answers.
 
 ghost use Rattle.std.specs.Prelude.{◌≡◌};
 ghost use Rattle.std.specs.Int.{to_le_bytes, w128};
@@ -11,8 +11,7 @@ use ds_feed::Cursor;
 use ds_machine::{Refusal, Reply};
 use ds_names::Version;
 
-/// The number of a refusal: its place in the order in which the store judges, from 1. Behind them are the two for which no
-/// store is opened.
+/// Returns the number of a refusal: its place in the order in which the store judges, from 1, and after them those of opening.
 pub fn refusal_number(refusal: Refusal) -> u32
     ensures { result ≡ refusal_number refusal }
 {
@@ -67,7 +66,7 @@ fn refused(word: Word, refusal: Refusal) -> Answer
     }
 }
 
-/// That a command was refused for want of memory.
+/// Returns the answer to a command that is refused because memory ran out.
 pub fn no_room() -> Answer
     ensures { result ≡ told_no_room }
 {
@@ -155,7 +154,7 @@ fn told(reply: &Reply) -> Answer
     }
 }
 
-// The bits of those to whom a notice is owed, which mostly is nobody, as bytes.
+// A mask of owed notices as bytes. Most masks are 0.
 fn owed_bytes(owed: u128) -> [u8; 16]
     ensures { result ≡ to_le_bytes w128 owed }
 {
@@ -166,7 +165,7 @@ fn owed_bytes(owed: u128) -> [u8; 16]
     }
 }
 
-/// What a reply says, in numbers, and how many pieces of text it has.
+/// Returns the answer of a reply, with the number of its pieces of text.
 #[tactic(auto, unfolding(crate::specs::Answer::answer_of))]
 #[inline(always)]
 pub fn answer_of(reply: &Reply) -> Answer

@@ -1,4 +1,4 @@
-//! The parts of a request that take memory, and the commands of them.
+//! The parts of a request that take memory, and the commands that have them.
 
 ghost use Rattle.std.specs.Prelude.{◌≡◌, [], MatchOption, IfOk};
 ghost use Rattle.std.specs.Option.{option_map};
@@ -16,7 +16,7 @@ use ds_names::{Endpoint, Key, Kind, Kinds, NoRoom, Version};
 use ds_pattern::{PatternText, Query};
 use std::alloc::Global;
 
-/// The text of a request. `None` where it isn't within the texts.
+/// Returns the text of a request. `None` if it isn't within the texts.
 #[tactic(auto, unfolding(crate::specs::Asked::text_in))]
 pub fn text_of<'a>(texts: &'a [u8], request: &Request) -> Option<&'a [u8]>
     ensures { let text = request_text request.now texts.now in MatchOption result (text ≡ None) (λ t. text ≡ Some t.now) }
@@ -65,7 +65,7 @@ fn label(request: &Request) -> Option<Value>
     Some(Value::Label(endpoint))
 }
 
-/// What a Publish asks for, in parts.
+/// The parts of a Publish.
 #[derive(Drop)]
 pub struct Publication {
     pub caller: Endpoint,
@@ -76,7 +76,7 @@ pub struct Publication {
 }
 
 impl Publication {
-    /// The command of these parts.
+    /// Returns the command of these parts.
     #[inline(always)]
     pub fn command(self) -> Command
         ensures { result ≡ publish_command self }
@@ -98,7 +98,7 @@ impl Publication {
     }
 }
 
-/// What a request with this text asks to publish.
+/// Reads the parts of a Publish from a request with this text.
 #[inline(always)]
 #[tactic(auto, unfolding(crate::specs::Request::publish_of))]
 pub fn read_publication(

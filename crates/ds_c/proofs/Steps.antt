@@ -25,7 +25,7 @@ use Rattle.std.specs.declared.alloc.Global.{Global}
 use Rattle.std.specs.contracts.impls.GlobalAllocator.TheImpl.{ghosts}
 use Rattle.std.proofs.GlobalToken.{dealloc_token-Testable}
 use Rattle.std_alloc.specs.Box.Ownership.{box_owns}
-pub use Rattle.c_session.specs.contracts.session.Session.{the_row as Session}
+pub use Rattle.c_rs.specs.contracts.session.RsSession.{the_row as Session}
 pub use Rattle.ds_submap.specs.contracts.map.SubMap.{the_row as Map}
 use Rattle.ds_c.specs.Held.{chunk, box_or_null, holds, holds_map}
 use Rattle.ds_c.specs.contracts.handle.Handle as handle

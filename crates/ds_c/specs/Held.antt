@@ -8,17 +8,17 @@ use Rattle.std_alloc.specs.Box.Ownership.{box_owns}
 use mir.Syntax.{Ty}
 use Rattle.std.specs.declared.alloc.Global.{Global}
 use Rattle.std.specs.contracts.impls.GlobalAllocator.TheImpl.{ghosts}
-use Rattle.c_session.specs.contracts.session.Session as session
+use Rattle.c_rs.specs.contracts.session.RsSession as session
 use Rattle.ds_submap.specs.contracts.map.SubMap as map
 
--- the token by which the heap knows a block, which is the same whoever holds a handle to the heap
+-- the token by which the heap knows a block; it doesn't depend on the handle to the heap
 abbrev pub any_heap : Global
 any_heap = record { memory = record { seal = tt } }
 
 abbrev pub chunk : Ty → Ptr → Fml
 chunk = ghosts.dealloc_token any_heap
 
--- null where the handle is closed, and else a box of the thing
+-- null if the handle is closed, else a box of the value
 abbrev pub box_or_null : (R : RattleType) → Ptr → Option R.Denot → Fml
 box_or_null R at None = feq Ptr at null_ptr
 box_or_null R at (Some x) = box_owns chunk R at x

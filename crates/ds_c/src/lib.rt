@@ -1,7 +1,4 @@
-//! The data store for C, behind a handle that it keeps from call to call: `ds_open`, one `ds_call` after another, `ds_items` for
-//! the text of the last answer, `ds_close`; `ds_call_line`, by which a line of a script asks it, and `ds_text`, by which the answer
-//! is what a script prints; and what a subscriber keeps of it, behind another handle: `ds_map_new`, `ds_map_take`, `ds_map_label`,
-//! `ds_map_close`. `ds.h` declares what is here.
+//! The data store for C, which `ds.h` declares: a store with RS beside it behind a handle, and a subscriber's map behind another.
 #![tactic(auto)]
 
 mod handle;
@@ -10,13 +7,14 @@ mod loose;
 mod map_handle;
 mod maps;
 mod runs;
+mod services;
 mod words;
 
 ghost use Rattle.std.specs.Prelude.{◌≡◌};
 ghost use Rattle.std.specs.declared.option.Option.TheVariants.{None};
 ghost use Rattle.ds_c.specs.Calls.{Opens, Opened, Calls, Fetches, Closes};
 
-use c_session::Session;
+use c_rs::RsSession;
 use c_values::{Answer, Given, Request, refusal_number};
 use ds_machine::Refusal;
 pub use handle::Handle;
@@ -24,11 +22,14 @@ pub use lines::{ds_call_line, ds_text};
 pub use map_handle::MapHandle;
 pub use maps::{ds_map_close, ds_map_label, ds_map_new, ds_map_take};
 pub use runs::ds_run;
+pub use services::{
+    ds_rs_action, ds_rs_due, ds_rs_event, ds_rs_may_publish, ds_rs_next, ds_rs_open, ds_rs_service,
+};
 use std::alloc::Global;
 use words::{DONE, IS_CLOSED, IS_OPEN};
 
-/// Opens a store of this incarnation in a closed handle, whose first item will have the position `first`, with a ring of 1
-/// to 4096. It answers 0, or by which number no store was opened, or that one is open there.
+/// Opens a store of this incarnation in a closed handle. Its first item gets the position `first`, and its journal keeps `ring` items, 1 to
+/// 4096. Returns 0, the number of the refusal, or that the handle is open.
 #[unsafe(no_mangle)]
 pub extern "C" fn ds_open(
     alloc: Global,
@@ -52,7 +53,7 @@ fn open_in(alloc: Global, handle: &mut Handle, incarnation: u64, first: u64, rin
     requires { handle.old.value ≡ None }
     ensures { Opened incarnation first ring result handle.new.value }
 {
-    match Session::open(alloc, incarnation, first, ring) {
+    match RsSession::open(alloc, incarnation, first, ring) {
         Ok(session) => match Box::new(alloc, session) {
             Ok(session) => {
                 handle.put(alloc, session);
@@ -64,7 +65,7 @@ fn open_in(alloc: Global, handle: &mut Handle, incarnation: u64, first: u64, rin
     }
 }
 
-/// Lets the store answer a request, whose text stands in `texts`. The text of the answer is kept for `ds_items`.
+/// Carries out a request, whose text is in `texts`. The text of the answer is kept for `ds_items`.
 #[unsafe(no_mangle)]
 pub extern "C" fn ds_call(
     alloc: Global,
@@ -85,8 +86,8 @@ pub extern "C" fn ds_call(
     }
 }
 
-/// Gives `room` the text of the last answer from one piece on: as many pieces as fit, whole. `given` says how many these
-/// are, how many bytes they have, and why no more. What doesn't fit is there for the next such call.
+/// Copies the text of the last answer to `room`, from the piece at index `first` on: as many whole pieces as fit. `given` has their number,
+/// their bytes, and why it stopped. The rest is kept for the next such call.
 #[unsafe(no_mangle)]
 pub extern "C" fn ds_items(
     alloc: Global,
@@ -108,7 +109,7 @@ pub extern "C" fn ds_items(
     }
 }
 
-/// Closes an open handle, and gives its memory back.
+/// Closes an open handle, and frees its memory.
 #[unsafe(no_mangle)]
 pub extern "C" fn ds_close(alloc: Global, handle: &mut Handle) -> u32
     ensures { Closes handle.old.value result handle.new.value }

@@ -1,15 +1,14 @@
-//! The calls by lines of a script.
+//! The calls with lines of a script.
 
 ghost use Rattle.std.specs.Prelude.{◌≡◌};
 ghost use Rattle.ds_c.specs.Calls.{CallsByLine, FetchesText};
 
 use crate::handle::Handle;
 use crate::words::{DONE, IS_CLOSED};
-use c_line::{call_line, give_text};
 use c_values::{Answer, Given};
 use std::alloc::Global;
 
-/// Carries out the command that stands on a line of a script. The text of the answer is kept for `ds_text` and `ds_items`.
+/// Carries out the command on a line of a script. The text of the answer is kept for `ds_text` and `ds_items`.
 #[unsafe(no_mangle)]
 pub extern "C" fn ds_call_line(
     alloc: Global,
@@ -22,15 +21,15 @@ pub extern "C" fn ds_call_line(
     match handle.take(alloc) {
         None => IS_CLOSED,
         Some(mut session) => {
-            call_line(alloc, &mut session, line, answer);
+            session.call_line(alloc, line, answer);
             handle.put(alloc, session);
             DONE
         }
     }
 }
 
-/// Gives `room` the text of the last answer, as a script prints it, from a byte on: as much as fits. `given` says how many bytes
-/// these are, how many the whole text has, and why no more. What doesn't fit is there for the next such call.
+/// Copies the text of the last answer to `room`, as a script prints it, from the byte at `first` on: as many bytes as fit. `given` has
+/// their number, the length of the whole text, and why it stopped. The rest is kept for the next such call.
 #[unsafe(no_mangle)]
 pub extern "C" fn ds_text(
     alloc: Global,
@@ -45,7 +44,7 @@ pub extern "C" fn ds_text(
     match handle.take(alloc) {
         None => IS_CLOSED,
         Some(session) => {
-            *given = give_text(alloc, &session, first, room);
+            *given = session.give_text(alloc, first, room);
             handle.put(alloc, session);
             DONE
         }

@@ -1,4 +1,4 @@
-//! The handle of a map. It repeats `handle.rt` for another type: a struct that crosses to C has no parameter.
+//! The handle of a map. It repeats `handle.rt` for another type, because a struct that crosses to C has no type parameter.
 
 ghost use Rattle.std.specs.Prelude.{◌≡◌};
 ghost use Rattle.std.specs.declared.option.Option.{Option};
@@ -16,7 +16,7 @@ use std::marker::Model;
 use std::mem::replace;
 use std::ptr::null_mut;
 
-/// A map that C holds, as one pointer: null where the handle is closed.
+/// A pointer to a map, which is null if the handle is closed.
 #[repr(C)]
 pub struct MapHandle {
     at: *mut u8,
@@ -28,14 +28,14 @@ impl Model for MapHandle {
 }
 
 impl MapHandle {
-    /// A closed handle.
+    /// Returns a closed handle.
     pub(crate) fn closed() -> MapHandle
         ensures { result.value ≡ None }
     {
         MapHandle { at: null_mut() }
     }
 
-    /// The handle of a map.
+    /// Returns the handle of a map.
     pub(crate) fn of(map: Loose<SubMap, Global>) -> MapHandle
         ensures { result.value ≡ Some map.value }
     {
@@ -43,7 +43,7 @@ impl MapHandle {
         MapHandle { at: at as *mut u8 }
     }
 
-    /// The map of a handle, if it is open.
+    /// Returns the map of a handle. `None` if it is closed.
     pub(crate) fn into_loose(self, alloc: Global) -> Option<Loose<SubMap, Global>>
         ensures { MatchOption result (self.value ≡ None) (λ l. self.value ≡ Some l.value) }
     {
@@ -58,7 +58,7 @@ impl MapHandle {
         }
     }
 
-    /// Takes the map out, and leaves a closed handle.
+    /// Takes the map out, which closes the handle.
     pub(crate) fn take(&mut self, alloc: Global) -> Option<Box<SubMap>>
         ensures map { MatchOption result (self.old.value ≡ None) (λ b. self.old.value ≡ Some b.value) }
         ensures left { self.new.value ≡ None }
@@ -70,7 +70,7 @@ impl MapHandle {
         }
     }
 
-    /// Puts a map in; one that stood there is dropped.
+    /// Puts a map in, and drops the one that was there.
     pub(crate) fn put(&mut self, alloc: Global, map: Box<SubMap>)
         ensures { self.new.value ≡ Some map.value }
     {

@@ -1,4 +1,4 @@
-//! The calls on a map: what a subscriber keeps of what a store tells it.
+//! The calls on a subscriber's map.
 
 ghost use Rattle.std.specs.Prelude.{◌≡◌};
 ghost use Rattle.std.specs.declared.option.Option.TheVariants.{None};
@@ -12,8 +12,7 @@ use c_values::{Answer, refusal_number};
 use ds_machine::Refusal;
 use std::alloc::Global;
 
-/// Makes the map of a pattern and a sum of bits of kinds in a closed handle. It answers 0, or by which number no map was made, or
-/// that one is in the handle.
+/// Makes the map of a pattern and a sum of kinds in a closed handle. Returns 0, the number of the refusal, or that the handle has a map.
 #[unsafe(no_mangle)]
 pub extern "C" fn ds_map_new(
     alloc: Global,
@@ -48,7 +47,7 @@ fn new_in(alloc: Global, handle: &mut MapHandle, kinds: u8, pattern: &[u8]) -> u
     }
 }
 
-/// Lets the map take the items whose lines a text is.
+/// Merges the items whose lines a text is into the map.
 #[unsafe(no_mangle)]
 pub extern "C" fn ds_map_take(
     alloc: Global,
@@ -68,7 +67,7 @@ pub extern "C" fn ds_map_take(
     }
 }
 
-/// Says where the label of a name is.
+/// Finds where the label of a name is.
 #[unsafe(no_mangle)]
 pub extern "C" fn ds_map_label(
     alloc: Global,
@@ -89,7 +88,7 @@ pub extern "C" fn ds_map_label(
     }
 }
 
-/// Closes an open handle, and gives its memory back.
+/// Closes an open handle, and frees its memory.
 #[unsafe(no_mangle)]
 pub extern "C" fn ds_map_close(alloc: Global, handle: &mut MapHandle) -> u32
     ensures { Closes handle.old.value result handle.new.value }

@@ -1,4 +1,4 @@
-//! The call that asks one request after the other.
+//! The call that carries out requests in order.
 
 ghost use Rattle.ds_c.specs.Calls.{RunsInTurn};
 
@@ -7,8 +7,8 @@ use crate::words::{DONE, IS_CLOSED};
 use c_values::{Answer, Request};
 use std::alloc::Global;
 
-/// Lets the store answer requests, one after the other, each as `ds_call` does. `done` says how many were answered. It ends behind
-/// the first answer that has a text, which `ds_items` gives then, and where there is no more request, or no place for an answer.
+/// Carries out requests in order, each as `ds_call` does, and writes how many to `done`. It ends after the first answer that has a text,
+/// which `ds_items` copies then, after the last request, or when `answers` is full.
 #[unsafe(no_mangle)]
 pub extern "C" fn ds_run(
     alloc: Global,

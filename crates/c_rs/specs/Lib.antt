@@ -1,0 +1,12 @@
+pub mod Telling
+pub mod Serving
+pub mod Requests
+pub mod Running
+pub mod Lines
+pub mod Line
+pub mod Opening
+pub mod Event
+pub mod Action
+pub mod Service
+pub mod Reading
+pub mod Text

@@ -1,0 +1,48 @@
+-- What is read of RS, in numbers.
+use Rattle.std.specs.Prelude.{◌≡◌, ℕ, ◌≤◌, ◌^◌, Bool, false, cond, List, Option, None, Some, is_some, IfSome}
+use Rattle.ds_names.specs.Endpoint.{EndpointRecord}
+use Rattle.ds_names.specs.declared.key.Key.{Key}
+use Rattle.rs_core.specs.State.{RsRecord}
+use Rattle.rs_core.specs.Machine.{due}
+use Rattle.rs_core.specs.Reading.{declares_at, is_from, place_of_instance}
+use Rattle.c_values.specs.Request.{endpoint_at, is_name, key_of_parts, kind_at}
+
+-- ---- the first tick that has actions
+
+-- the number of a tick: the greatest number if there is none
+abbrev pub tick_number : Option ℕ → ℕ
+tick_number None = 18446744073709551615
+tick_number (Some tick) = tick
+
+-- From the first tick on, if there is one, each tick has actions, and none before it has. It isn't before the last event's.
+pub record IsDueTick (rs : RsRecord) (number : ℕ) : Type 0 where
+  pub first : Option ℕ
+  pub from : (tick : ℕ) → rs.tick ≤ tick → tick ≤ 2 ^ 62 → is_some (due rs tick) ≡ is_from first tick
+  pub range : IfSome first (λ tick. (rs.tick ≤ tick) × (tick ≤ 2 ^ 62))
+  pub number_is : number ≡ tick_number first
+
+-- the number, if RS is open
+abbrev pub ReadsDue : Option RsRecord → Option ℕ → Type 0
+ReadsDue None result = result ≡ None
+ReadsDue (Some rs) None = ⊥
+ReadsDue (Some rs) (Some number) = IsDueTick rs number
+
+-- ---- who may publish
+
+-- the name that the bytes are, and the key of a kind's number and a name
+abbrev pub name_of_bytes : List ℕ → Option (List ℕ)
+name_of_bytes bytes = cond (is_name bytes) (Some bytes) None
+
+unfoldable pub key_at : ℕ → List ℕ → Option Key
+key_at kind name = key_of_parts (name_of_bytes name) (kind_at kind)
+
+-- whether the instance may publish under the key; if one of them is none, it may not
+abbrev pub may_publish_if : RsRecord → Option EndpointRecord → Option Key → Bool
+may_publish_if rs (Some instance) (Some key) = declares_at rs (place_of_instance rs instance) key
+may_publish_if rs (Some instance) None = false
+may_publish_if rs None key = false
+
+-- the same of numbers and bytes, if RS is open
+abbrev pub may_publish_in : Option RsRecord → ℕ → ℕ → ℕ → List ℕ → Bool
+may_publish_in None generation slot kind name = false
+may_publish_in (Some rs) generation slot kind name = may_publish_if rs (endpoint_at generation slot) (key_at kind name)

@@ -1,0 +1,81 @@
+//! Events of RS by structs.
+
+ghost use Rattle.std.specs.Prelude.{◌≡◌};
+ghost use Rattle.c_rs.specs.Event.{ServesEvent, event_of, of_instance, of_label};
+
+use crate::session::RsSession;
+use c_values::{Answer, endpoint, name_in};
+use rs_core::Event;
+use std::alloc::Global;
+
+/// An event, as C has it.
+#[repr(C)]
+#[derive(Clone, Copy)]
+pub struct RsEvent {
+    pub tick: u64,
+    /// From 0: up, down, refresh, restart, death, beat, tick.
+    pub kind: u32,
+    /// The cause of a death.
+    pub cause: u32,
+    /// With `slot`, the endpoint of the instance that died or is alive.
+    pub generation: u32,
+    pub slot: u16,
+    /// How many bytes the label has.
+    pub label_length: u8,
+    pub label: [u8; 64],
+}
+
+impl RsSession {
+    /// Gives RS the event of a struct, and passes the label changes and the sweeps of its actions to the store. Answers NoRequest, and
+    /// changes nothing, if no event has such parts.
+    pub fn serve_event(&mut self, alloc: Global, event: &RsEvent, answer: &mut Answer)
+        ensures { ServesEvent event.now self.old answer.new self.new }
+    {
+        match event_of(event) {
+            Some(what) => self.serve(alloc, what, event.tick, answer),
+            None => {
+                self.told = None;
+                self.session.rest(Answer::no_request(), answer);
+            }
+        }
+    }
+}
+
+// The event that a struct stands for.
+#[tactic(auto, unfolding(crate::specs::Event::event_of))]
+fn event_of(event: &RsEvent) -> Option<Event>
+    ensures { result ≡ event_of event.now }
+{
+    match event.kind {
+        0..=3 => of_label(event),
+        4..=5 => of_instance(event),
+        6 => Some(Event::Tick),
+        _ => None,
+    }
+}
+
+// The event of a kind and a label.
+#[tactic(auto, unfolding(crate::specs::Event::of_label))]
+fn of_label(event: &RsEvent) -> Option<Event>
+    ensures { result ≡ of_label event.now }
+{
+    let label = name_in(&event.label, event.label_length)?;
+    match event.kind {
+        0 => Some(Event::Up(label)),
+        1 => Some(Event::Stop(label)),
+        2 => Some(Event::Refresh(label)),
+        _ => Some(Event::Restart(label)),
+    }
+}
+
+// The event of a kind and an instance.
+#[tactic(auto, unfolding(crate::specs::Event::of_instance))]
+fn of_instance(event: &RsEvent) -> Option<Event>
+    ensures { result ≡ of_instance event.now }
+{
+    let instance = endpoint(event.generation, event.slot)?;
+    match event.kind {
+        4 => Some(Event::Death(instance, u64::from(event.cause))),
+        _ => Some(Event::Beat(instance)),
+    }
+}

@@ -1,0 +1,25 @@
+//! RS beside a store, for C: a session whose store takes RS's label changes and sweeps, by structs and by lines of a script.
+//!
+//! RS is MINIX 3's reincarnation server. The structs and their numbers are of this project.
+#![tactic(auto)]
+
+mod action;
+mod calling;
+mod event;
+mod fault;
+mod line;
+mod lines;
+mod opening;
+mod reading;
+mod running;
+mod service;
+mod session;
+mod telling;
+mod text;
+
+pub use action::RsAction;
+pub use event::RsEvent;
+pub use fault::SettingsRefusal;
+pub use running::calls_are_turns;
+pub use service::RsService;
+pub use session::RsSession;

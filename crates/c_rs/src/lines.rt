@@ -1,0 +1,77 @@
+//! Lines of a script.
+
+ghost use Rattle.std.specs.Prelude.{◌≡◌};
+ghost use Rattle.c_rs.specs.Lines.{CallsRsLine, CarriesOutBesideRs, CarriesOutCommand, PassesOn, refusal_beside_rs};
+
+use crate::session::RsSession;
+use c_line::{carry_out, read_bytes};
+use c_values::Answer;
+use ds_machine::Refusal;
+use rs_store::is_by_rs;
+use script_commands::{CommandFault, ScriptCommand};
+use std::alloc::Global;
+
+impl RsSession {
+    /// Carries out the command on a line, whose newline may be missing.
+    ///
+    /// A command of the store is carried out as a session does it. Once RS is open, `service`, `death`, `beat` and `tick` are its events,
+    /// `settings` is refused as Exists, and a command of the store in RS's name as NotAllowed. Any other line is answered as no request, a
+    /// line that can't be read by the byte at which it is bad, and one for which memory runs out as a refusal: then nothing changes.
+    pub fn call_line(&mut self, alloc: Global, bytes: &[u8], answer: &mut Answer)
+        ensures { CallsRsLine bytes.now self.old answer.new self.new }
+    {
+        match read_bytes(alloc, bytes) {
+            Ok(command) => self.carry(alloc, command, answer),
+            Err(CommandFault::BadLine { place, .. }) => {
+                self.told = None;
+                self.session.rest(Answer::bad_line(place), answer);
+            }
+            Err(CommandFault::NoRoom) => {
+                self.told = None;
+                self.session.refuse(answer);
+            }
+        }
+    }
+
+    // Carries out a command.
+    fn carry(&mut self, alloc: Global, command: ScriptCommand, answer: &mut Answer)
+        ensures { CarriesOutCommand command self.old answer.new self.new }
+    {
+        if self.services.is_none() {
+            return self.pass_on(alloc, command, answer);
+        }
+        match command.service_event() {
+            Some((event, tick)) => self.serve(alloc, event, tick, answer),
+            None => self.carry_beside_rs(alloc, command, answer),
+        }
+    }
+
+    // Carries out a command that is no event, beside RS.
+    fn carry_beside_rs(&mut self, alloc: Global, command: ScriptCommand, answer: &mut Answer)
+        ensures { CarriesOutBesideRs command self.old answer.new self.new }
+    {
+        match refusal_of(&command) {
+            Some(refusal) => self.refuse(refusal, answer),
+            None => self.pass_on(alloc, command, answer),
+        }
+    }
+
+    // Carries out a command as a session does.
+    fn pass_on(&mut self, alloc: Global, command: ScriptCommand, answer: &mut Answer)
+        ensures { PassesOn command self.old answer.new self.new }
+    {
+        self.told = None;
+        carry_out(alloc, &mut self.session, command, answer);
+    }
+}
+
+// Why a command is refused once RS is open: it opens RS again, or is in RS's name.
+fn refusal_of(command: &ScriptCommand) -> Option<Refusal>
+    ensures { result ≡ refusal_beside_rs command.now }
+{
+    match command {
+        ScriptCommand::Settings { .. } => Some(Refusal::Exists),
+        ScriptCommand::Store(command) if is_by_rs(command) => Some(Refusal::NotAllowed),
+        _ => None,
+    }
+}

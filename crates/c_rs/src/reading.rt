@@ -1,0 +1,77 @@
+//! What is read of RS.
+
+ghost use Rattle.std.specs.Prelude.{◌≡◌};
+ghost use Rattle.std.specs.Option.{option_map};
+ghost use Rattle.c_rs.specs.Reading.{IsDueTick, ReadsDue, key_at, may_publish_in, name_of_bytes};
+
+use crate::session::RsSession;
+use c_values::{endpoint, kind};
+use ds_names::{Key, Name};
+use rs_core::Rs;
+
+impl RsSession {
+    /// Returns the first tick, from the last event's on, at which a tick has actions: 2^64 - 1 if none has until another event. `None` if
+    /// RS isn't open.
+    pub fn due(&self) -> Option<u64>
+        ensures { ReadsDue self.now.services result }
+    {
+        match &self.services {
+            Some(rs) => Some(due_tick(rs)),
+            None => None,
+        }
+    }
+
+    /// Returns the generation that the next start takes. `None` if RS isn't open.
+    pub fn next_generation(&self) -> Option<u32>
+        ensures { result ≡ option_map (λ rs. rs.next) self.now.services }
+    {
+        match &self.services {
+            Some(rs) => Some(rs.next_generation()),
+            None => None,
+        }
+    }
+
+    /// Returns whether the instance with an endpoint may publish under the key of a kind and a name: these are ones, RS is open, the
+    /// instance is up, and its service declares the key.
+    pub fn may_publish(&self, generation: u32, slot: u16, kind: u8, name: &[u8]) -> bool
+        ensures { result ≡ may_publish_in self.now.services generation slot kind name.now }
+    {
+        let Some(rs) = &self.services else {
+            return false;
+        };
+        let Some(instance) = endpoint(generation, slot) else {
+            return false;
+        };
+        match key_at(kind, name) {
+            Some(key) => rs.may_publish(instance, &key),
+            None => false,
+        }
+    }
+}
+
+// The first tick at which a tick has actions, or the greatest number.
+fn due_tick(rs: &Rs) -> u64
+    ensures { IsDueTick rs.now result }
+{
+    match rs.due() {
+        Some(tick) => tick,
+        None => u64::MAX,
+    }
+}
+
+// The key of a kind and a name.
+#[tactic(auto, unfolding(crate::specs::Reading::key_at))]
+fn key_at(bit: u8, name: &[u8]) -> Option<Key>
+    ensures { result ≡ key_at bit name.now }
+{
+    let kind = kind(bit)?;
+    let name = name_of_bytes(name)?;
+    Some(Key { name, kind })
+}
+
+// The name that bytes are.
+fn name_of_bytes(bytes: &[u8]) -> Option<Name>
+    ensures { result ≡ name_of_bytes bytes.now }
+{
+    Name::read(bytes).ok()
+}

@@ -1,0 +1,69 @@
+//! A session with RS beside its store.
+
+ghost use Rattle.std.specs.Prelude.{◌≡◌, ◌≤◌, None, IfOk, IfErr, OnOk};
+ghost use Rattle.ds_feed.specs.Kept.{IsRing};
+ghost use Rattle.ds_held.specs.Limits.{larger};
+ghost use Rattle.ds_machine.specs.State.{opening};
+ghost use Rattle.ds_names.specs.Limits.{last_place};
+ghost use Rattle.ds_content.specs.Stands.{ContentStands};
+ghost use Rattle.ds_store.specs.Opening.{IsOpenRefusal};
+ghost use Rattle.c_session.specs.declared.last.Last.TheVariants.{Nothing};
+ghost use Rattle.c_rs.specs.Serving.{RefusesCommand, ServesBy};
+
+use crate::telling::told;
+use c_session::Session;
+use c_values::Answer;
+use ds_machine::{Refusal, Reply};
+use rs_core::{Event, Rs};
+use rs_store::RsReply;
+use std::alloc::Global;
+use store_answers::Wording;
+
+/// A session, RS once it is open, and the last reply, if it is RS's; if not, the session has it.
+#[derive(Drop)]
+pub struct RsSession {
+    pub(crate) session: Session,
+    pub(crate) services: Option<Rs>,
+    pub(crate) told: Option<RsReply>,
+}
+
+impl RsSession {
+    /// Opens a store of 128 subscriptions and 4096 keys, beside which RS isn't open. Refuses what the store refuses.
+    pub fn open(
+        alloc: Global,
+        incarnation: u64,
+        first: u64,
+        ring: u32,
+    ) -> Result<RsSession, Refusal>
+        ensures opened { IfOk result (λ s. ContentStands s.session.store (opening incarnation first ring larger)) }
+        ensures fits { OnOk result (IsRing ring × (first ≤ last_place)) }
+        ensures none { IfOk result (λ s. s.services ≡ None) }
+        ensures silent { IfOk result (λ s. (s.session.last ≡ Nothing) × (s.told ≡ None)) }
+        ensures refused { IfErr result (λ refusal. IsOpenRefusal refusal first ring) }
+    {
+        let session = Session::open(alloc, incarnation, first, ring)?;
+        Ok(RsSession {
+            session,
+            services: None,
+            told: None,
+        })
+    }
+
+    /// Gives RS an event at a tick, and passes the label changes and the sweeps of its actions to the store.
+    pub(crate) fn serve(&mut self, alloc: Global, event: Event, tick: u64, answer: &mut Answer)
+        ensures { ServesBy event tick self.old answer.new self.new }
+    {
+        let reply = self.session.serve(alloc, &mut self.services, event, tick);
+        *answer = told(&reply);
+        self.told = Some(reply);
+    }
+
+    /// Refuses a command. The store and RS are unchanged.
+    pub(crate) fn refuse(&mut self, refusal: Refusal, answer: &mut Answer)
+        ensures { RefusesCommand refusal self.old answer.new self.new }
+    {
+        self.told = None;
+        let reply = Reply::Refused(refusal);
+        self.session.tell(Wording::AsMerge, reply, answer);
+    }
+}

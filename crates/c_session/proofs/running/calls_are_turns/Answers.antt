@@ -1,5 +1,0 @@
-use Rattle.c_session.proofs.RunningLemmas.{calls_are_turns}
-use Rattle.c_session.proofs.running.calls_are_turns.Goals as goal
-
-pub returns : goal.returns
-returns c = calls_are_turns

@@ -1,0 +1,72 @@
+-- What the calls on RS answer, and what they leave in the handle.
+use Rattle.std.specs.Prelude.{◌≡◌, ℕ, cond, List, Option, None, Some}
+use Rattle.std.specs.Option.{option_map}
+use Rattle.c_values.specs.declared.answer.Answer.{Answer}
+use Rattle.c_rs.specs.declared.action.RsAction.{RsAction}
+use Rattle.c_rs.specs.declared.event.RsEvent.{RsEvent}
+use Rattle.c_rs.specs.declared.fault.SettingsRefusal.{SettingsRefusal}
+use Rattle.c_rs.specs.declared.service.RsService.{RsService}
+use Rattle.c_rs.specs.declared.session.RsSession.{RsSession}
+use Rattle.c_rs.specs.Action.{action_in}
+use Rattle.c_rs.specs.Event.{ServesEvent}
+use Rattle.c_rs.specs.Opening.{OpensRs}
+use Rattle.c_rs.specs.Reading.{ReadsDue, may_publish_in}
+use Rattle.c_rs.specs.Service.{service_row}
+use Rattle.ds_c.specs.Calls.{done, is_closed}
+
+abbrev pub not_allowed : ℕ
+not_allowed = 9
+
+abbrev pub not_found : ℕ
+not_found = 14
+
+-- RS is opened beside the store of an open handle, or refused
+abbrev pub OpensIn : RsSession → List ℕ → ℕ → ℕ → SettingsRefusal → ℕ → SettingsRefusal → Option RsSession → Type 0
+OpensIn old text next first before word fault None = ⊥
+OpensIn old text next first before word fault (Some new) = OpensRs text next first old before word fault new
+
+-- a call that opens RS: a closed handle, and the fault's place, are unchanged
+abbrev pub OpensServices : Option RsSession → List ℕ → ℕ → ℕ → SettingsRefusal → ℕ → SettingsRefusal → Option RsSession → Type 0
+OpensServices None text next first before word fault new = (word ≡ is_closed) × (fault ≡ before) × (new ≡ None)
+OpensServices (Some old) text next first before word fault new = OpensIn old text next first before word fault new
+
+-- an event reaches RS and the store of an open handle
+abbrev pub EventReaches : RsSession → RsEvent → ℕ → Answer → Option RsSession → Type 0
+EventReaches old event word answer None = ⊥
+EventReaches old event word answer (Some new) = (word ≡ done) × ServesEvent event old answer new
+
+-- a call that reports an event: a closed handle, and the answer's place, are unchanged
+abbrev pub EventsReach : Option RsSession → RsEvent → Answer → ℕ → Answer → Option RsSession → Type 0
+EventsReach None event before word answer new = (word ≡ is_closed) × (answer ≡ before) × (new ≡ None)
+EventsReach (Some old) event before word answer new = EventReaches old event word answer new
+
+module _ {A : Type 0} where
+  -- a part that may be missing is written, or its place is unchanged
+  abbrev pub ReadsPart : Option A → A → ℕ → A → Type 0
+  ReadsPart None before word new = (word ≡ not_found) × (new ≡ before)
+  ReadsPart (Some part) before word new = (word ≡ done) × (new ≡ part)
+
+  -- a part of what an open handle holds is written: of a closed one, none is
+  abbrev pub ReadsOf : (RsSession → Option A) → Option RsSession → A → ℕ → A → Type 0
+  ReadsOf part None before word new = (word ≡ is_closed) × (new ≡ before)
+  ReadsOf part (Some s) before word new = ReadsPart (part s) before word new
+
+-- calls that write an action of the last answer, a service, and the next generation
+abbrev pub ReadsAction : Option RsSession → ℕ → RsAction → ℕ → RsAction → Type 0
+ReadsAction held index before word action = ReadsOf (λ s. action_in s index) held before word action
+
+abbrev pub ReadsService : Option RsSession → ℕ → RsService → ℕ → RsService → Type 0
+ReadsService held index before word service = ReadsOf (λ s. service_row s.services index) held before word service
+
+abbrev pub ReadsNext : Option RsSession → ℕ → ℕ → ℕ → Type 0
+ReadsNext held before word generation = ReadsOf (λ s. option_map (λ rs. rs.next) s.services) held before word generation
+
+-- a call that writes the first tick that has actions
+abbrev pub ReadsDueTick : Option RsSession → ℕ → ℕ → ℕ → Type 0
+ReadsDueTick None before word tick = (word ≡ is_closed) × (tick ≡ before)
+ReadsDueTick (Some s) before word tick = (part : Option ℕ) × ReadsDue s.services part × ReadsPart part before word tick
+
+-- a call that judges whether an instance may publish under a key
+abbrev pub FindsPublisher : Option RsSession → ℕ → ℕ → ℕ → List ℕ → ℕ → Type 0
+FindsPublisher None generation slot kind name word = word ≡ is_closed
+FindsPublisher (Some s) generation slot kind name word = word ≡ cond (may_publish_in s.services generation slot kind name) done not_allowed
