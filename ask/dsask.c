@@ -82,7 +82,9 @@ static int read_option(int option, char *value, struct watching *watching) {
     case 'v': return shown("dsask " DS_VERSION "\n");
     case 'w': watching->pattern = value; return -1;
     case 'k': watching->kinds = (int)number; return is_number && number >= 1 && number <= 15 ? -1 : usage("kinds are 1 to 15");
-    case 's': watching->sub = watching->last_sub = (int)number; return is_number && number >= 0 && number <= 127 ? -1 : usage("a subscription is 0 to 127");
+    case 's':
+        watching->sub = watching->last_sub = (int)number;
+        return is_number && number >= 0 && number <= 127 ? -1 : usage("a subscription is 0 to 127");
     default: return usage("no such option, or no value after it");
     }
 }
@@ -196,7 +198,8 @@ static bool run(struct asking *asking) {
 static int ask(const struct options *options, struct asking *asking) {
     bool fine = true;
     if (options->watching.pattern) fine = watching_begin(asking->watching, &asking->unsent), asking->owed = 1;
-    for (int i = 0; fine && i < options->count; i++) fine = give(asking, options->line[i], strlen(options->line[i])) && give(asking, "\n", 1);
+    for (int i = 0; fine && i < options->count; i++)
+        fine = give(asking, options->line[i], strlen(options->line[i])) && give(asking, "\n", 1);
     if (!fine) return out_of_memory();
     asking->printing.as_table = options->count == 1 && !strcmp(options->line[0], "status");
     if (run(asking)) return asking->printing.refused || (asking->watching && asking->watching->refused) ? REFUSED : DONE;

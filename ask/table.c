@@ -5,7 +5,11 @@
 
 enum { LABEL = 64, WORD = 24, TEXT = 80 };
 
-struct row { char label[LABEL + 1], state[WORD], endpoint[WORD], pid[WORD], text[TEXT]; unsigned long long seconds; unsigned failures, cause; };
+struct row {
+    char label[LABEL + 1], state[WORD], endpoint[WORD], pid[WORD], text[TEXT];
+    unsigned long long seconds;
+    unsigned failures, cause;
+};
 
 static bool read_row(const char *line, size_t length, struct row *row) {
     char copy[256];
@@ -48,7 +52,7 @@ static int width_of(const char *answer, size_t length) {
 bool table_put(const char *answer, size_t length, struct text *to) {
     int width = width_of(answer, length);
     const char *end = answer + length;
-    bool put = text_print(to, "%-*s  %-8s %-10s %-8s %-6s %-9s %-10s %s\n", width, "LABEL", "STATE", "ENDPOINT", "PID", "SINCE", "FAILURES", "LAST END", "STATUS");
+    bool put = text_print(to, "%-*s  STATE    ENDPOINT   PID      SINCE  FAILURES  LAST END   STATUS\n", width, "LABEL");
     for (const char *line = answer; put && line < end;) {
         size_t used = (size_t)((const char *)memchr(line, '\n', (size_t)(end - line)) - line) + 1;
         struct row row;

@@ -216,7 +216,7 @@ static void take_end(struct host *host) {
 
 /* Settings with a fault change nothing. */
 static void take_reload(struct host *host) {
-    if (host->rs.ending || !rs_judge(&host->rs, host->settings)) return;
+    if (host->rs.ending || !rs_judge(&host->rs, host->settings, host->slot)) return;
     host->reloads = true;
     begin_end(host);
 }

@@ -63,9 +63,12 @@ static bool begin_process(struct instances *all, struct instance *it) {
     if (socketpair(AF_UNIX, SOCK_STREAM | SOCK_CLOEXEC, 0, pair)) return false;
     it->socket = pair[0];
     uint64_t silence = 2 * it->service->period * all->tick * 1000; /* RS takes it for dead after two periods */
-    struct process process = {.services = all->services, .endpoints = all->endpoints, .label = it->service->label,
-                              .endpoint = it->endpoint, .socket = pair[1], .listener = it->listener, .output = it->service->output.to, .silence = silence,
-                              .first_sub = it->service->server < 0 ? -1 : it->service->server * SERVER_SUBS};
+    const struct service *service = it->service;
+    struct process process = {
+        .services = all->services, .endpoints = all->endpoints, .label = service->label, .endpoint = it->endpoint,
+        .socket = pair[1], .listener = it->listener, .output = service->output.to, .silence = silence,
+        .first_sub = service->server < 0 ? -1 : service->server * SERVER_SUBS,
+    };
     it->pid = process_begin(&process);
     close(pair[1]);
     if (it->pid < 0) return false;
@@ -170,12 +173,13 @@ void instances_reap(struct instances *all, struct instance *it) {
 
 /* Whether nothing of its group is left. The number isn't given to others while any process is in the group. */
 static bool is_gone(const struct instance *it) {
-    siginfo_t how;
     if (it->pid <= 0) return true;
     if (it->pidfd.file >= 0) return false;
-    do how.si_pid = 0;
-    while (!waitid(P_PGID, (id_t)it->pid, &how, WEXITED | WNOHANG) && how.si_pid);
-    return !how.si_pid && errno == ECHILD;
+    for (;;) {
+        siginfo_t how = {0};
+        if (waitid(P_PGID, (id_t)it->pid, &how, WEXITED | WNOHANG)) return errno == ECHILD;
+        if (!how.si_pid) return false; /* a process of it hasn't ended yet */
+    }
 }
 
 static void drop(struct instances *all, struct instance *gone) {

@@ -1,56 +1,16 @@
 /* RS. See rs.h. */
 #include "rs.h"
-#include "clock.h"
 #include "lines.h"
+#include "settings.h"
 #include <errno.h>
 #include <limits.h>
 #include <stdio.h>
 #include <string.h>
-#include <time.h>
 #include <unistd.h>
 
-enum {
-    RING = 4096,            /* items of the journal */
-    ACTIONS = 8,            /* of one event; the library has six at most */
-    FIRST_GENERATION = 1,
-    FIRST_SLOT = 16,
-    SETTINGS_MOST = 1 << 20 /* bytes of a file of settings */
-};
+enum { ACTIONS = 8 /* of one event; the library has six at most */, FIRST_GENERATION = 1 };
 
-/* ---- settings ---- */
-
-static bool failed(struct rs *rs, const char *what, const char *why) {
-    events_tell(&rs->events, LOG_ERROR, "settings: %s: %s", what, why);
-    return false;
-}
-
-static bool read_file(const char *path, struct text *text) {
-    FILE *file = fopen(path, "re");
-    if (!file) return false;
-    bool fine = text_room(text, SETTINGS_MOST);
-    if (fine) text->length = fread(text->bytes, 1, SETTINGS_MOST, file);
-    errno = !fine ? ENOMEM : ferror(file) ? EIO : EFBIG;
-    fine = fine && feof(file);
-    fclose(file);
-    return fine;
-}
-
-/* Says what is wrong with the settings, as `dsctl settings` does in more words. */
-static bool refuse(struct rs *rs, const char *path, uint32_t refusal, const struct ds_settings_fault *fault) {
-    char what[PATH_MAX + 32], why[64];
-    bool has_line = fault->line > 0, has_service = fault->cause && fault->service != UINT32_MAX;
-    snprintf(what, sizeof what, has_line ? "%s: line %llu" : "%s", path, (unsigned long long)fault->line);
-    snprintf(why, sizeof why, has_service ? "%s, of service %u" : "%s", ds_refusal_text(refusal), fault->service);
-    return failed(rs, what, why);
-}
-
-/* A label with a dot in front would name a folder that isn't a service's, `..` for one. */
-static bool are_folders(struct rs *rs, const char *path, struct ds_handle *store) {
-    struct ds_rs_service it;
-    for (size_t i = 0; !ds_rs_service(store, i, &it); i++)
-        if (*it.label == '.') return failed(rs, path, "a label begins with a dot");
-    return true;
-}
+/* ---- opening and closing ---- */
 
 static void learn_services(struct rs *rs) {
     struct ds_rs_service it;
@@ -67,34 +27,20 @@ static void learn_services(struct rs *rs) {
     rs->ticks.leap = shortest > 3 ? shortest / 2 : 1; /* RS misses nobody before two periods */
 }
 
-/* Opens a store with RS for the settings of a file. Returns false, with the store closed, after a line to the log. */
-static bool open_store(struct rs *rs, const char *path, uint32_t next, uint16_t slot, struct ds_handle *store) {
-    struct ds_settings_fault fault = {.service = UINT32_MAX};
-    struct text text = {0};
-    struct timespec now;
-    bool is_read = read_file(path, &text) || failed(rs, path, strerror(errno));
-    clock_gettime(CLOCK_REALTIME, &now); /* each run has another incarnation */
-    uint64_t incarnation = (uint64_t)now.tv_sec * 1000000000 + (uint64_t)now.tv_nsec;
-    uint32_t refusal = is_read ? ds_open(store, incarnation, 0, RING) : 0;
-    if (is_read && !refusal) refusal = ds_rs_open(store, text.bytes, text.length, next, slot, &fault);
-    text_free(&text);
-    if (refusal) refuse(rs, path, refusal, &fault);
-    bool is_open = is_read && !refusal && are_folders(rs, path, store);
-    if (!is_open) ds_close(store);
-    return is_open;
-}
-
-bool rs_judge(struct rs *rs, const char *path) {
+bool rs_judge(struct rs *rs, const char *path, uint16_t slot) {
     struct ds_handle store = DS_CLOSED;
-    if (!open_store(rs, path, FIRST_GENERATION, FIRST_SLOT, &store)) return false;
+    if (!settings_open(&store, path, FIRST_GENERATION, slot, &rs->events)) return false;
     ds_close(&store);
     return true;
 }
 
 bool rs_open(struct rs *rs, const char *path, uint16_t slot) {
     uint32_t next = generations_open(&rs->generations, rs->generations.path);
-    if (!next) return failed(rs, rs->generations.path, errno == EINVAL ? "it holds no generation" : strerror(errno));
-    if (!open_store(rs, path, next, slot, &rs->store)) return false;
+    if (!next) {
+        const char *why = errno == EINVAL ? "it holds no generation" : strerror(errno);
+        events_tell(&rs->events, LOG_ERROR, "generations: %s: %s", rs->generations.path, why);
+    }
+    if (!next || !settings_open(&rs->store, path, next, slot, &rs->events)) return false;
     ticks_open(&rs->ticks, rs->ticks.length);
     learn_services(rs);
     rs->ending = false;

@@ -26,9 +26,9 @@ struct rs {
     bool is_gentle;   /* by SIGTERM first */
 };
 
-/* Judges the settings in a file. Returns false after a line to the log. */
-bool rs_judge(struct rs *rs, const char *settings);
-/* Opens a store with RS for the settings in a file, at tick 0. Returns false after a line to the log. */
+/* Judges the settings in a file. Returns false after an event that says why. */
+bool rs_judge(struct rs *rs, const char *settings, uint16_t slot);
+/* Opens a store with RS for the settings in a file, at tick 0. Returns false after an event that says why. */
 bool rs_open(struct rs *rs, const char *settings, uint16_t slot);
 /* Starts each service, unless its folder has a file `down`. */
 void rs_begin(struct rs *rs);

@@ -1,0 +1,67 @@
+/* The settings of RS. See settings.h. */
+#include "settings.h"
+#include <errno.h>
+#include <stdio.h>
+#include <string.h>
+#include <time.h>
+
+enum {
+    RING = 4096,   /* items of the store's journal */
+    MOST = 1 << 20 /* bytes of a file of settings */
+};
+
+static bool failed(struct events *events, const char *path, const char *why) {
+    events_tell(events, LOG_ERROR, "settings: %s: %s", path, why);
+    return false;
+}
+
+static bool read_file(const char *path, struct text *text) {
+    FILE *file = fopen(path, "re");
+    if (!file) return false;
+    bool has_room = text_room(text, MOST);
+    if (has_room) text->length = fread(text->bytes, 1, MOST, file);
+    bool is_whole = has_room && feof(file);
+    errno = !has_room ? ENOMEM : ferror(file) ? EIO : EFBIG;
+    fclose(file);
+    return is_whole;
+}
+
+/* Says what `dsctl settings` would say of the file in more words. */
+static bool refused(struct events *events, const char *path, uint32_t refusal, const struct ds_settings_fault *fault) {
+    char why[100];
+    const char *word = ds_refusal_text(refusal);
+    if (fault->line) snprintf(why, sizeof why, "line %llu: %s", (unsigned long long)fault->line, word);
+    else if (fault->service != UINT32_MAX) snprintf(why, sizeof why, "service %u, counted from 0: %s", fault->service, word);
+    else snprintf(why, sizeof why, "%s", word);
+    return failed(events, path, why);
+}
+
+/* A label with a dot in front would name a folder that isn't a service's, `..` for one. */
+static bool name_folders(struct ds_handle *store) {
+    struct ds_rs_service it;
+    for (size_t i = 0; !ds_rs_service(store, i, &it); i++)
+        if (*it.label == '.') return false;
+    return true;
+}
+
+/* Each run of a store has another incarnation. */
+static uint64_t new_incarnation(void) {
+    struct timespec now;
+    clock_gettime(CLOCK_REALTIME, &now);
+    return (uint64_t)now.tv_sec * 1000000000 + (uint64_t)now.tv_nsec;
+}
+
+bool settings_open(struct ds_handle *store, const char *path, uint32_t next, uint16_t slot, struct events *events) {
+    struct ds_settings_fault fault = {.service = UINT32_MAX};
+    struct text text = {0};
+    if (!read_file(path, &text)) {
+        text_free(&text);
+        return failed(events, path, strerror(errno));
+    }
+    uint32_t refusal = ds_open(store, new_incarnation(), 0, RING);
+    if (!refusal) refusal = ds_rs_open(store, text.bytes, text.length, next, slot, &fault);
+    text_free(&text);
+    bool fine = refusal ? refused(events, path, refusal, &fault) : name_folders(store) || failed(events, path, "a label begins with a dot");
+    if (!fine) ds_close(store);
+    return fine;
+}
