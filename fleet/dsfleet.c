@@ -74,7 +74,8 @@ static void wait_and_read(struct host *host, bool ready) {
     polled[1] = (struct pollfd){.fd = ds_fleet_bell(host->fleet), .events = POLLIN};
     polled[2] = (struct pollfd){.fd = rests ? -1 : host->place.listener, .events = POLLIN};
     for (size_t i = 0; i < count; i++) polled[i + 3] = clients_watched(&host->clients, host->clients.client[i]);
-    if (poll(polled, count + 3, ready ? 0 : rests ? REST : SECOND) <= 0) return;
+    int patience = rests ? REST : SECOND;
+    if (poll(polled, count + 3, ready ? 0 : patience) <= 0) return;
     struct signalfd_siginfo signal;
     host->ended |= polled[0].revents && read(host->signals, &signal, sizeof signal) > 0;
     for (size_t i = 0; i < count; i++) clients_read(host->clients.client[i], polled[i + 3].revents);
