@@ -44,7 +44,8 @@ few_places v s n stands e =
     let same : v.limits.subs ≡ s.limits.subs = ap (λ (l : LimitsRecord). l.subs) stands.limits in
     omega (arith, few, same, e)
 
-module _ (old new : MarkedHolding Masks) (before after : Kept) (stamp : ℕ) (ws : List (Option Watching)) (i : Item) (owed : List Bool) (top : IsTop (held_items new.held) (held_items old.held ++ i ∷ [])) (bounds : new.held.limits ≡ old.held.limits)
+module _ (old new : MarkedHolding Masks) (before after : Kept) (stamp : ℕ) (ws : List (Option Watching)) (i : Item) (owed : List Bool)
+    (top : IsTop (held_items new.held) (held_items old.held ++ i ∷ [])) (bounds : new.held.limits ≡ old.held.limits)
     (here : masks_at new i ≡ Some (fresh owed)) (kept : (Contains (held_items old.held) i → ⊥) → (y : Item) → Contains (held_items new.held) y → Contains (held_items old.held) y → masks_at new y ≡ masks_at old y)
     (owes : owed ≡ padded (map (watches_item i) ws)) (pushed : (f : Feed) → Keeps before f → Keeps after (feeds.accepts f i)) (enters : (s : State) → ContentStands (value_of old before stamp ws) s → Enters s i) where
   gone : (s : State) → ContentStands (value_of old before stamp ws) s → Contains (held_items old.held) i → ⊥

@@ -107,7 +107,8 @@ pub generation_of : (owner : List ℕ) (o : Option ℕ) → o ≡ option_map (λ
 generation_of owner None = refl
 generation_of owner (Some g) = refl
 
-floor_there : (h : Holding) (owner : List ℕ) (place : Result ℕ ℕ) → IsFloorPlace (held_floors h) owner place → (i : ℕ) → place ≡ Ok i → (o : Option Floor) → o ≡ slice_get (held_floors h) i → option_map (λ (f : Floor). f.generation) o ≡ floor_for h owner
+floor_there : (h : Holding) (owner : List ℕ) (place : Result ℕ ℕ) → IsFloorPlace (held_floors h) owner place → (i : ℕ) → place ≡ Ok i → (o : Option Floor) →
+    o ≡ slice_get (held_floors h) i → option_map (λ (f : Floor). f.generation) o ≡ floor_for h owner
 floor_there h owner place p i q None e =
     let here : IsFloorPlace (held_floors h) owner (Ok i) = subst (IsFloorPlace (held_floors h) owner) q p in
     let past = past_end (held_floors h) i (sym e) in

@@ -69,7 +69,8 @@ floor_under h index q low =
     let r = floor_there h index low in
     sym (ap (option_map (passes (is_under q))) (floor_item_at h index low ∙ ap (option_map (λ f. Floored f)) r.1))
 
-pub change_under : (h : Holding) (index j : ℕ) (q : Query) (o : Option ChangeRecord) → index ≡ floor_count h + j → o ≡ slice_get (held_changes h) j → option_map (λ (c : ChangeRecord). is_under q c.key) o ≡ option_map (passes (is_under q)) (slice_get (held_items h) index)
+pub change_under : (h : Holding) (index j : ℕ) (q : Query) (o : Option ChangeRecord) → index ≡ floor_count h + j → o ≡ slice_get (held_changes h) j →
+    option_map (λ (c : ChangeRecord). is_under q c.key) o ≡ option_map (passes (is_under q)) (slice_get (held_items h) index)
 change_under h index j q None e is = sym (ap (option_map (passes (is_under q))) (change_item_at h index j e ∙ ap (option_map (λ c. Changed c)) (sym is)))
 change_under h index j q (Some c) e is = sym (ap (option_map (passes (is_under q))) (change_item_at h index j e ∙ ap (option_map (λ c. Changed c)) (sym is)))
 

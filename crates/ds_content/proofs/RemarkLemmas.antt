@@ -107,7 +107,8 @@ module _ (old new : MarkedHolding Masks) (sound : IsSound old.held) (index : ℕ
       others = λ i k e n. change_others (slice_get (held_changes old.held) j) refl i k e n;
     }
 
-pub set_is_remarked : (old new : MarkedHolding Masks) (index : ℕ) (f : Masks → Masks) (m : Masks) → ((i : Item) → slice_get (held_items old.held) index ≡ Some i → Some m ≡ masks_at old i) → IsSet old new index (f m) → IsRemarked old new index f
+pub set_is_remarked : (old new : MarkedHolding Masks) (index : ℕ) (f : Masks → Masks) (m : Masks) →
+    ((i : Item) → slice_get (held_items old.held) index ≡ Some i → Some m ≡ masks_at old i) → IsSet old new index (f m) → IsRemarked old new index f
 set_is_remarked old new index f m here is = record {
   held = is.held;
   here = λ i e. is.here i e ∙ ap (option_map f) (here i e);

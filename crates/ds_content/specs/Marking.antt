@@ -22,5 +22,6 @@ pub record IsRemarked (old new : MarkedHolding Masks) (index : ℕ) (f : Masks �
 -- As `IsRemarked`, for the first `count` items.
 pub record AreRemarked (old new : MarkedHolding Masks) (count : ℕ) (f : ℕ → Masks → Masks) : Type 0 where
   pub held : new.held ≡ old.held
-  pub first : (k : ℕ) (i : Item) → slice_get (held_items old.held) k ≡ Some i → k < count → masks_at new i ≡ option_map (f k) (masks_at old i)
+  pub first : (k : ℕ) (i : Item) → slice_get (held_items old.held) k ≡ Some i → k < count →
+      masks_at new i ≡ option_map (f k) (masks_at old i)
   pub rest : (k : ℕ) (i : Item) → slice_get (held_items old.held) k ≡ Some i → count ≤ k → masks_at new i ≡ masks_at old i

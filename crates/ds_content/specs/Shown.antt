@@ -17,7 +17,8 @@ flagged (false ∷ flags) (i ∷ items) = flagged flags items
 
 -- The items are those of the first `passed` held ones that are still to be shown to the subscription.
 abbrev pub AreUnseen : ContentRecord → ℕ → List Item → ℕ → Type 0
-AreUnseen content sub items passed = (f : Followed) → slice_index_or content.subscriptions sub None ≡ Some f → items ≡ flagged f.unseen (take passed content.held)
+AreUnseen content sub items passed =
+    (f : Followed) → slice_index_or content.subscriptions sub None ≡ Some f → items ≡ flagged f.unseen (take passed content.held)
 
 -- The index found is that of the first element at or after `from` that passes the test. If there is none, no such
 -- element passes.

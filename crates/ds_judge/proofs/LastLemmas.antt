@@ -60,7 +60,8 @@ some_cause : (r : Refusal) → Some (causes.Refused r) ≢ Some (causes.Refused 
 some_cause r n e = n (cc)
 
 -- the answer if a refusal may apply that isn't lack of memory, and the answer otherwise isn't either
-or_refused : (s : State) (command : Command) (o : Option Refusal) → o ≢ Some refusals.NoRoom → (other : Reply × State) → IsLast s command other.0 → IsLast s command (option_map_or {U = Reply × State} (λ (r : Refusal). (replies.Refused r, s)) o other).0
+or_refused : (s : State) (command : Command) (o : Option Refusal) → o ≢ Some refusals.NoRoom → (other : Reply × State) → IsLast s command other.0 →
+    IsLast s command (option_map_or {U = Reply × State} (λ (r : Refusal). (replies.Refused r, s)) o other).0
 or_refused s command None n other last = last
 or_refused s command (Some r) n other last = refused s command r (some_refusal r n)
 
@@ -75,7 +76,8 @@ asked s command a body = by_cause (cause_against s a body) (no_cause (Some a.ver
 swept : (s : State) (command : Command) (caller : EndpointRecord) (f : Floor) → IsLast s command (sweeping s caller f).0
 swept s command caller f = by_cause (sweep_cause s caller f) (no_cause None (against_sweep (floor_standing_of s f) caller f)) _ _ _
   where
-    by_cause : (o : Option Cause) → o ≢ Some (causes.Refused refusals.NoRoom) → (count other : ℕ) (t : State) → IsLast s command (option_map_or {U = Reply × State} (λ (cause : Cause). (sweep_answer cause, s)) o (replies.Swept count other, t)).0
+    by_cause : (o : Option Cause) → o ≢ Some (causes.Refused refusals.NoRoom) → (count other : ℕ) (t : State) →
+        IsLast s command (option_map_or {U = Reply × State} (λ (cause : Cause). (sweep_answer cause, s)) o (replies.Swept count other, t)).0
     by_cause None n count other t = tt
     by_cause (Some causes.Known) n count other t = tt
     by_cause (Some (causes.Refused r)) n count other t = by_refusal r (some_cause r n)
@@ -116,14 +118,16 @@ shown_last : (s : State) (command : Command) (sub : ℕ) (seer : Subscription) (
 shown_last s command sub seer [] = tt
 shown_last s command sub seer (i ∷ items) = tt
 
-checked_last : (s : State) (command : Command) (sub max : ℕ) (seer : Option Subscription) → IsLast s command (option_map_or {U = Reply × State} (λ (f : Subscription). shows s sub f (take max (unseen s f))) seer (replies.Refused refusals.NotFound, s)).0
+checked_last : (s : State) (command : Command) (sub max : ℕ) (seer : Option Subscription) →
+    IsLast s command (option_map_or {U = Reply × State} (λ (f : Subscription). shows s sub f (take max (unseen s f))) seer (replies.Refused refusals.NotFound, s)).0
 checked_last s command sub max None = tt
 checked_last s command sub max (Some f) = shown_last s command sub f (take max (unseen s f))
 
 merged_last : (s : State) (items : List Item) (k : Course) → k.stop ≢ Some refusals.NoRoom → IsLast s (Merge items) (merge_reply s k)
 merged_last s items k n = by_stop k.stop n k.done (length k.taken) k.stale (owed s k.taken)
   where
-    by_stop : (o : Option Refusal) → o ≢ Some refusals.NoRoom → (done taken stale owed : ℕ) → IsLast s (Merge items) (option_map_or {U = Reply} (λ (fault : Refusal). replies.MergeStopped done fault owed) o (replies.Merged done taken stale owed))
+    by_stop : (o : Option Refusal) → o ≢ Some refusals.NoRoom → (done taken stale owed : ℕ) →
+        IsLast s (Merge items) (option_map_or {U = Reply} (λ (fault : Refusal). replies.MergeStopped done fault owed) o (replies.Merged done taken stale owed))
     by_stop None m done taken stale owed = tt
     by_stop (Some refusals.NoRoom) m done taken stale owed = absurd (m refl)
     by_stop (Some (refusals.Clash v)) m done taken stale owed = tt

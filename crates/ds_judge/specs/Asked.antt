@@ -36,7 +36,9 @@ request_of a = record { caller = a.caller; key = a.key; version = a.version; ove
 
 -- The cause if an entry is live and may not be, or isn't and has to be.
 abbrev pub cause_by_need : Need → Bool → Option Cause
-cause_by_need need is_live = cond (is_live && not (over_live need)) (Some (Refused Exists)) (cond (not is_live && not (over_none need)) (Some (Refused NotFound)) None)
+cause_by_need need is_live =
+    cond (is_live && not (over_live need)) (Some (Refused Exists))
+    (cond (not is_live && not (over_none need)) (Some (Refused NotFound)) None)
 
 -- Whether a cause applies to what a caller of this name asks for.
 abbrev pub causes_against : Standing → Option (List ℕ) → Asked → Body → Cause → Bool

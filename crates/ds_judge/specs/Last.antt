@@ -71,11 +71,14 @@ MayLackItem s i = (cause_of s i ≡ None) × MergeTakesMemory s i
 abbrev pub MayLackRoom : State → Command → Type 0
 MayLackRoom s (Publish caller key version value overwrite) = MayLackAsked s (published caller key version overwrite) (Put value)
 MayLackRoom s (Delete caller key version) = MayLackAsked s (deleted caller key version) Gone
-MayLackRoom s (Sweep caller owner generation) = let f = floor_of owner generation in (sweep_cause s caller f ≡ None) × MergeTakesMemory s (Floored f)
+MayLackRoom s (Sweep caller owner generation) =
+    let f = floor_of owner generation in (sweep_cause s caller f ≡ None) × MergeTakesMemory s (Floored f)
 MayLackRoom s (Retrieve key) = (is_some (live_at s key) ≡ true) × (¬ IsKindInPlace key.kind)
 MayLackRoom s (NameOf endpoint) = ⊥
-MayLackRoom s (Subscribe sub query initial overwrite) = find (against_subscribe (subscribe_case s sub query overwrite)) before_patterns ≡ None
-MayLackRoom s (Check sub max) = let case = check_case s sub max (subscription_at s sub) in (first_refusal (against_check case) ≡ None) × (case.some ≡ true)
+MayLackRoom s (Subscribe sub query initial overwrite) =
+    find (against_subscribe (subscribe_case s sub query overwrite)) before_patterns ≡ None
+MayLackRoom s (Check sub max) =
+    let case = check_case s sub max (subscription_at s sub) in (first_refusal (against_check case) ≡ None) × (case.some ≡ true)
 MayLackRoom s (Since scope at max) = MayLackFor scope (against_since s.feed scope at max)
 MayLackRoom s (Snapshot scope) = MayLackFor scope (against_scope scope)
 MayLackRoom s (Page scope after max) = MayLackFor scope (against_page scope max)

@@ -28,4 +28,5 @@ cause_by_version t c = find (against_change t c) (by_version (Some c.version))
 
 -- The first cause by the limits: all keys used, or no position left.
 abbrev pub cause_by_room : machine.Standing → Option Cause
-cause_by_room t = cond (is_none t.held && nat_le t.most t.count) (Some (Refused Full)) (cond (nat_le last_place t.position) (Some (Refused Worn)) None)
+cause_by_room t =
+    cond (is_none t.held && nat_le t.most t.count) (Some (Refused Full)) (cond (nat_le last_place t.position) (Some (Refused Worn)) None)

@@ -116,7 +116,8 @@ module _ (i : Item) (items : List Item) (k : Course) (r : IsReached k.state) (e 
         whole = λ z. ap suc (w.whole z);
         some_left = λ x z. omega (arith, w.some_left x z);
         counted = omega (arith, w.counted, length-append k.taken (i ∷ []));
-        grows = grows_one k.state end.state i (i ∷ take w.count items) fresh (Contains-head i (take w.count items)) (grows_wider (takes_effect k.state (i ∷ [])) end.state (take w.count items) (i ∷ take w.count items) (λ x h. Contains-tail i (take w.count items) x h) w.grows);
+        grows = grows_one k.state end.state i (i ∷ take w.count items) fresh (Contains-head i (take w.count items))
+            (grows_wider (takes_effect k.state (i ∷ [])) end.state (take w.count items) (i ∷ take w.count items) (λ x h. Contains-tail i (take w.count items) x h) w.grows);
         holds = covers_first i (take w.count items) (held end.state) (covered_accepted end.state last i here) w.holds;
       }
 

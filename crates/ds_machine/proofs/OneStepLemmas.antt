@@ -90,7 +90,9 @@ module _ (s : State) where
       by_items seer [] = refl
       by_items seer (i ∷ items) = refl
 
-      by_cause : (o : Option Subscription) (p : Option Refusal) → ((r : Refusal) → p ≡ Some r → is_noroom r ≡ false) → WantsNone (option_map_or {U = Reply × State} (λ r. (Refused r, s)) p (option_map_or {U = Reply × State} (λ f. shows s sub f (take max (unseen s f))) o (Refused refusals.NotFound, s))).0
+      by_cause : (o : Option Subscription) (p : Option Refusal) → ((r : Refusal) → p ≡ Some r → is_noroom r ≡ false) →
+          WantsNone (option_map_or {U = Reply × State} (λ r. (Refused r, s)) p
+          (option_map_or {U = Reply × State} (λ f. shows s sub f (take max (unseen s f))) o (Refused refusals.NotFound, s))).0
       by_cause o (Some r) none = refused_none r (none r refl)
       by_cause None None none = refl
       by_cause (Some seer) None none = by_items seer (take max (unseen s seer))
@@ -125,7 +127,9 @@ merge_none : (s : State) (items : List Item) (o : Option Refusal) → ((r : Refu
 merge_none s items (Some r) none = refused_none r (none r refl)
 merge_none s items None none = by_stop (course s items).stop (course_well items (begun s) refl)
   where
-    by_stop : (o : Option Refusal) → StopsWell o → WantsNone (option_map_or {U = Reply} (λ fault. MergeStopped (course s items).done fault (owed s (course s items).taken)) o (Merged (course s items).done (length (course s items).taken) (course s items).stale (owed s (course s items).taken)))
+    by_stop : (o : Option Refusal) → StopsWell o →
+        WantsNone (option_map_or {U = Reply} (λ fault. MergeStopped (course s items).done fault (owed s (course s items).taken)) o
+        (Merged (course s items).done (length (course s items).taken) (course s items).stale (owed s (course s items).taken)))
     by_stop (Some fault) well = ap (λ (b : Bool). cond b (Some (Some (course s items).done)) None) well
     by_stop None well = refl
 

@@ -75,7 +75,8 @@ Effect old command reply new = Grows old (learnt_by old command reply) new ⊎ S
 
 -- A law: the opening state is reached.
 abbrev pub OpeningIsReached : Type 0
-OpeningIsReached = (incarnation first ring : ℕ) (limits : LimitsRecord) → IsLimits limits → IsReached (opening incarnation first ring limits)
+OpeningIsReached =
+    (incarnation first ring : ℕ) (limits : LimitsRecord) → IsLimits limits → IsReached (opening incarnation first ring limits)
 
 -- Laws: steps and runs lead from reached states to reached states.
 abbrev pub StepsStayReached : Type 0
@@ -116,8 +117,12 @@ HeldIsTop = (s : State) → IsReached s → IsTop (held s) s.feed.accepted
 
 -- A law: for everything learnt, the item or one that covers it is held.
 abbrev pub LearntIsHeld : Type 0
-LearntIsHeld = (s t : State) (command : Command) (reply : Reply) → IsReached s → Step s command reply t → CoversAll (held t) (learnt_by s command reply)
+LearntIsHeld =
+    (s t : State) (command : Command) (reply : Reply) → IsReached s → Step s command reply t →
+    CoversAll (held t) (learnt_by s command reply)
 
 -- A law: so what is held stays the top of everything that the store knows.
 abbrev pub KnownStaysHeld : Type 0
-KnownStaysHeld = (s t : State) (command : Command) (reply : Reply) (known : List Item) → IsReached s → Step s command reply t → IsTop (held s) known → IsTop (held t) (known ++ learnt_by s command reply)
+KnownStaysHeld =
+    (s t : State) (command : Command) (reply : Reply) (known : List Item) → IsReached s → Step s command reply t → IsTop (held s) known →
+    IsTop (held t) (known ++ learnt_by s command reply)

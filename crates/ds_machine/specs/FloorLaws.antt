@@ -14,4 +14,6 @@ AcceptedFloorStands = (s : State) (f : Floor) → IsReached s → Contains s.fee
 
 -- A law: no later command ever brings it.
 abbrev pub FloorStandsOverRuns : Type 0
-FloorStandsOverRuns = (s t : State) (f : Floor) (commands : List Command) (replies : List Reply) → IsReached s → Contains (held s) (Floored f) → Run s commands replies t → FloorStands (held t) f
+FloorStandsOverRuns =
+    (s t : State) (f : Floor) (commands : List Command) (replies : List Reply) → IsReached s → Contains (held s) (Floored f) →
+    Run s commands replies t → FloorStands (held t) f

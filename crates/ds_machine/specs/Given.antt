@@ -21,7 +21,8 @@ shown_by _ = []
 
 -- A law: each of them was accepted.
 abbrev pub GivenWasAccepted : Type 0
-GivenWasAccepted = (s t : State) (command : Command) (reply : Reply) → IsReached s → Step s command reply t → IsPartOf (shown_by reply) s.feed.accepted
+GivenWasAccepted =
+    (s t : State) (command : Command) (reply : Reply) → IsReached s → Step s command reply t → IsPartOf (shown_by reply) s.feed.accepted
 
 -- How many items a stopped merge has done.
 abbrev pub done_by : Reply → ℕ
@@ -35,4 +36,5 @@ IsSmall _ = Unit {0}
 
 -- A law: so a stopped merge has done at most 256.
 abbrev pub FewAreDone : Type 0
-FewAreDone = (s t : State) (command : Command) (reply : Reply) → IsReached s → IsSmall command → Step s command reply t → done_by reply ≤ most_items
+FewAreDone =
+    (s t : State) (command : Command) (reply : Reply) → IsReached s → IsSmall command → Step s command reply t → done_by reply ≤ most_items

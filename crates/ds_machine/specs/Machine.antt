@@ -83,16 +83,21 @@ naming s endpoint = (found_or (option_map Named (name_of (held s) endpoint)), s)
 -- The reply and state of a Since: up to `max` accepted items under the scope from the cursor on, and the cursor after
 -- all that was looked at.
 abbrev pub journaling : State → Scope → Cursor → ℕ → Reply × State
-journaling s scope at max = option_map_or (λ r. (Refused r, s)) (first_refusal (against_since s.feed scope at max)) (Journaled (since_of s.feed (is_kept scope) at max), s)
+journaling s scope at max =
+    option_map_or (λ r. (Refused r, s)) (first_refusal (against_since s.feed scope at max))
+    (Journaled (since_of s.feed (is_kept scope) at max), s)
 
 -- The reply and state of a Snapshot: everything held under the scope.
 abbrev pub snapping : State → Scope → Reply × State
-snapping s scope = option_map_or (λ r. (Refused r, s)) (first_refusal (against_scope scope)) (Snapped (snapshot_of (is_kept scope) (held s) (cursor s)), s)
+snapping s scope =
+    option_map_or (λ r. (Refused r, s)) (first_refusal (against_scope scope)) (Snapped (snapshot_of (is_kept scope) (held s) (cursor s)), s)
 
 -- The reply and state of a Page: the first `max` changes after the key that are held under the scope, and all floors on
 -- the first page.
 abbrev pub paging : State → Scope → Option Key → ℕ → Reply × State
-paging s scope after max = option_map_or (λ r. (Refused r, s)) (first_refusal (against_page scope max)) (Paged (page_of (is_kept scope) after max (held s) (cursor s)), s)
+paging s scope after max =
+    option_map_or (λ r. (Refused r, s)) (first_refusal (against_page scope max))
+    (Paged (page_of (is_kept scope) after max (held s) (cursor s)), s)
 
 -- ---- all commands
 

@@ -40,7 +40,8 @@ course s items = fold item_merged (begun s) items
 
 -- The reply of a merge that began in state `s`.
 abbrev pub merge_reply : State → Course → Reply
-merge_reply s k = option_map_or (λ fault. MergeStopped k.done fault (owed s k.taken)) k.stop (Merged k.done (length k.taken) k.stale (owed s k.taken))
+merge_reply s k =
+    option_map_or (λ fault. MergeStopped k.done fault (owed s k.taken)) k.stop (Merged k.done (length k.taken) k.stale (owed s k.taken))
 
 abbrev pub merging : State → List Item → Option Refusal → Reply × State
 merging s items refusal = option_map_or (λ r. (Refused r, s)) refusal (merge_reply s (course s items), (course s items).state)

@@ -43,7 +43,8 @@ pub record IsTaken (s : State) (items : List Item) (owed_mask : ℕ) (t : State)
   pub state_is : t ≡ takes_effect s items
 
 abbrev pub ChangedSays : Type 0
-ChangedSays = (s t : State) (command : Command) (owed_mask : ℕ) → Step s command (Accepted owed_mask) t → IsTaken s (brought_by s command) owed_mask t
+ChangedSays =
+    (s t : State) (command : Command) (owed_mask : ℕ) → Step s command (Accepted owed_mask) t → IsTaken s (brought_by s command) owed_mask t
 
 -- A law: a value that is found is live.
 abbrev pub FoundSays : Type 0
@@ -51,14 +52,19 @@ FoundSays = (s t : State) (key : Key) (value : Value) → Step s (Retrieve key) 
 
 -- A law: a name that is returned holds the endpoint.
 abbrev pub NamedSays : Type 0
-NamedSays = (s t : State) (endpoint : EndpointRecord) (name : List ℕ) → Step s (NameOf endpoint) (Named name) t → (name_of (held s) endpoint ≡ Some name) × (t ≡ s)
+NamedSays =
+    (s t : State) (endpoint : EndpointRecord) (name : List ℕ) → Step s (NameOf endpoint) (Named name) t →
+    (name_of (held s) endpoint ≡ Some name) × (t ≡ s)
 
 -- The floor took effect, or nothing changed. In both cases it or one that covers it is held after (LearntIsHeld).
 pub record IsSwept (s : State) (f : Floor) (count owed_mask : ℕ) (t : State) : Type 0 where
-  pub raised : ((count ≡ length (puts_void_by f (changes_in (held s)))) × (owed_mask ≡ owed s (Floored f ∷ [])) × (t ≡ takes_effect s (Floored f ∷ []))) ⊎ ((count ≡ 0) × (owed_mask ≡ 0) × (t ≡ s))
+  pub raised : ((count ≡ length (puts_void_by f (changes_in (held s)))) × (owed_mask ≡ owed s (Floored f ∷ [])) ×
+      (t ≡ takes_effect s (Floored f ∷ []))) ⊎ ((count ≡ 0) × (owed_mask ≡ 0) × (t ≡ s))
 
 abbrev pub SweptSays : Type 0
-SweptSays = (s t : State) (caller : EndpointRecord) (owner : List ℕ) (generation count owed_mask : ℕ) → Step s (Sweep caller owner generation) (Swept count owed_mask) t → IsSwept s (floor_of owner generation) count owed_mask t
+SweptSays =
+    (s t : State) (caller : EndpointRecord) (owner : List ℕ) (generation count owed_mask : ℕ) →
+    Step s (Sweep caller owner generation) (Swept count owed_mask) t → IsSwept s (floor_of owner generation) count owed_mask t
 
 -- The subscription was made with this stamp.
 pub record IsMade (s : State) (sub : ℕ) (query : Query) (initial : Bool) (stamp : ℕ) (t : State) : Type 0 where
@@ -67,7 +73,9 @@ pub record IsMade (s : State) (sub : ℕ) (query : Query) (initial : Bool) (stam
   pub state_is : t ≡ subscribes s sub query (shown_at_first (held s) initial)
 
 abbrev pub SubscribedSays : Type 0
-SubscribedSays = (s t : State) (sub : ℕ) (query : Query) (initial overwrite : Bool) (stamp owed : ℕ) → Step s (Subscribe sub query initial overwrite) (Subscribed stamp owed) t → IsMade s sub query initial stamp t
+SubscribedSays =
+    (s t : State) (sub : ℕ) (query : Query) (initial overwrite : Bool) (stamp owed : ℕ) →
+    Step s (Subscribe sub query initial overwrite) (Subscribed stamp owed) t → IsMade s sub query initial stamp t
 
 -- The state after the subscription was shown the items. If there are none, nothing changed.
 abbrev pub LeavesShown : State → ℕ → Subscription → List Item → ℕ → State → Type 0
@@ -84,17 +92,25 @@ pub record IsShown (s : State) (sub max : ℕ) (items : List Item) (before after
   pub leaves : LeavesShown s sub seer items after t
 
 abbrev pub CheckedSays : Type 0
-CheckedSays = (s t : State) (sub max : ℕ) (items : List Item) (before after : ℕ) → Step s (Check sub max) (Checked items before after) t → IsShown s sub max items before after t
+CheckedSays =
+    (s t : State) (sub max : ℕ) (items : List Item) (before after : ℕ) → Step s (Check sub max) (Checked items before after) t →
+    IsShown s sub max items before after t
 
 -- Laws: a reader gets exactly what the definition says, and the state is unchanged.
 abbrev pub JournaledSays : Type 0
-JournaledSays = (s t : State) (scope : Scope) (at : Cursor) (max : ℕ) (since : readings.Since) → Step s (Since scope at max) (Journaled since) t → IsGiven s.feed (is_kept scope) at max since × (t ≡ s)
+JournaledSays =
+    (s t : State) (scope : Scope) (at : Cursor) (max : ℕ) (since : readings.Since) → Step s (Since scope at max) (Journaled since) t →
+    IsGiven s.feed (is_kept scope) at max since × (t ≡ s)
 
 abbrev pub SnappedSays : Type 0
-SnappedSays = (s t : State) (scope : Scope) (snapshot : Snap) → Step s (Snapshot scope) (Snapped snapshot) t → (snapshot ≡ snapshot_of (is_kept scope) (held s) (cursor s)) × (t ≡ s)
+SnappedSays =
+    (s t : State) (scope : Scope) (snapshot : Snap) → Step s (Snapshot scope) (Snapped snapshot) t →
+    (snapshot ≡ snapshot_of (is_kept scope) (held s) (cursor s)) × (t ≡ s)
 
 abbrev pub PagedSays : Type 0
-PagedSays = (s t : State) (scope : Scope) (after : Option Key) (max : ℕ) (page : Leaf) → Step s (Page scope after max) (Paged page) t → (page ≡ page_of (is_kept scope) after max (held s) (cursor s)) × (t ≡ s)
+PagedSays =
+    (s t : State) (scope : Scope) (after : Option Key) (max : ℕ) (page : Leaf) → Step s (Page scope after max) (Paged page) t →
+    (page ≡ page_of (is_kept scope) after max (held s) (cursor s)) × (t ≡ s)
 
 -- A merge that wasn't stopped has done all its items: for each, it or one that covers it is held.
 pub record IsMerged (items : List Item) (done taken stale : ℕ) (t : State) : Type 0 where
@@ -103,7 +119,9 @@ pub record IsMerged (items : List Item) (done taken stale : ℕ) (t : State) : T
   pub within : taken + stale ≤ done
 
 abbrev pub MergedSays : Type 0
-MergedSays = (s t : State) (items : List Item) (done taken stale owed : ℕ) → IsReached s → Step s (Merge items) (Merged done taken stale owed) t → IsMerged items done taken stale t
+MergedSays =
+    (s t : State) (items : List Item) (done taken stale owed : ℕ) → IsReached s → Step s (Merge items) (Merged done taken stale owed) t →
+    IsMerged items done taken stale t
 
 -- A stopped merge has done its first `done` items.
 pub record IsMergeStopped (items : List Item) (done : ℕ) (t : State) : Type 0 where
@@ -111,7 +129,9 @@ pub record IsMergeStopped (items : List Item) (done : ℕ) (t : State) : Type 0 
   pub some_left : done < length items
 
 abbrev pub MergeStoppedSays : Type 0
-MergeStoppedSays = (s t : State) (items : List Item) (done : ℕ) (fault : Refusal) (owed : ℕ) → IsReached s → Step s (Merge items) (MergeStopped done fault owed) t → IsMergeStopped items done t
+MergeStoppedSays =
+    (s t : State) (items : List Item) (done : ℕ) (fault : Refusal) (owed : ℕ) → IsReached s →
+    Step s (Merge items) (MergeStopped done fault owed) t → IsMergeStopped items done t
 
 -- A law: a mask of subscriptions fits their places.
 abbrev pub OwedFits : Type 0

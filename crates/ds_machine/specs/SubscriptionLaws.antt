@@ -16,11 +16,15 @@ use Rattle.ds_machine.specs.declared.reply.Reply.TheVariants.{Subscribed, Checke
 
 -- A law: a step leaves every subscription unchanged except the one that its Subscribe or Check names.
 abbrev pub StepKeepsSubscription : Type 0
-StepKeepsSubscription = (s t : State) (command : Command) (reply : Reply) (sub : ℕ) → IsReached s → Step s command reply t → uses sub command ≡ false → subscription_at t sub ≡ subscription_at s sub
+StepKeepsSubscription =
+    (s t : State) (command : Command) (reply : Reply) (sub : ℕ) → IsReached s → Step s command reply t → uses sub command ≡ false →
+    subscription_at t sub ≡ subscription_at s sub
 
 -- A law: a run leaves a subscription unchanged if no command names it.
 abbrev pub RunKeepsSubscription : Type 0
-RunKeepsSubscription = (s t : State) (commands : List Command) (replies : List Reply) (sub : ℕ) → IsReached s → Run s commands replies t → list_any (uses sub) commands ≡ false → subscription_at t sub ≡ subscription_at s sub
+RunKeepsSubscription =
+    (s t : State) (commands : List Command) (replies : List Reply) (sub : ℕ) → IsReached s → Run s commands replies t →
+    list_any (uses sub) commands ≡ false → subscription_at t sub ≡ subscription_at s sub
 
 -- There is a subscription, and its stamp is above every stamp taken up to this state.
 abbrev pub HasNewStamp : State → Option Subscription → Type 0
@@ -29,15 +33,20 @@ HasNewStamp s (Some seer) = s.stamp < seer.stamp
 
 -- Laws: a subscription that differs has a new stamp.
 abbrev pub StepStampsSubscription : Type 0
-StepStampsSubscription = (s t : State) (command : Command) (reply : Reply) (sub : ℕ) → IsReached s → Step s command reply t → (subscription_at t sub ≡ subscription_at s sub) ⊎ HasNewStamp s (subscription_at t sub)
+StepStampsSubscription =
+    (s t : State) (command : Command) (reply : Reply) (sub : ℕ) → IsReached s → Step s command reply t →
+    (subscription_at t sub ≡ subscription_at s sub) ⊎ HasNewStamp s (subscription_at t sub)
 
 abbrev pub RunStampsSubscription : Type 0
-RunStampsSubscription = (s t : State) (commands : List Command) (replies : List Reply) (sub : ℕ) → IsReached s → Run s commands replies t → (subscription_at t sub ≡ subscription_at s sub) ⊎ HasNewStamp s (subscription_at t sub)
+RunStampsSubscription =
+    (s t : State) (commands : List Command) (replies : List Reply) (sub : ℕ) → IsReached s → Run s commands replies t →
+    (subscription_at t sub ≡ subscription_at s sub) ⊎ HasNewStamp s (subscription_at t sub)
 
 -- A law: so a caller that finds the stamp it knows finds the subscription unchanged.
 abbrev pub StampTells : Type 0
 StampTells =
-    (s t : State) (commands : List Command) (replies : List Reply) (sub : ℕ) (early late : Subscription) → IsReached s → Run s commands replies t →
+    (s t : State) (commands : List Command) (replies : List Reply) (sub : ℕ) (early late : Subscription) → IsReached s →
+    Run s commands replies t →
     subscription_at s sub ≡ Some early → subscription_at t sub ≡ Some late → late.stamp ≡ early.stamp → late ≡ early
 
 -- The place has this subscription now, and nothing took effect.
@@ -49,7 +58,8 @@ pub record IsPlaced (s : State) (sub : ℕ) (seer : Subscription) (t : State) : 
 -- held.
 abbrev pub SubscribedLeaves : Type 0
 SubscribedLeaves =
-    (s t : State) (sub : ℕ) (query : Query) (initial overwrite : Bool) (stamp owed : ℕ) → IsReached s → Step s (Subscribe sub query initial overwrite) (Subscribed stamp owed) t →
+    (s t : State) (sub : ℕ) (query : Query) (initial overwrite : Bool) (stamp owed : ℕ) → IsReached s →
+    Step s (Subscribe sub query initial overwrite) (Subscribed stamp owed) t →
     IsPlaced s sub (record { query = query; stamp = stamp; shown = shown_at_first (held s) initial }) t
 
 -- A Check returns the first unseen items, and leaves its subscription with those items shown.
@@ -60,5 +70,6 @@ pub record IsCheckedOn (s : State) (sub max : ℕ) (seer : Subscription) (items 
 
 abbrev pub CheckedLeaves : Type 0
 CheckedLeaves =
-    (s t : State) (sub max : ℕ) (seer : Subscription) (items : List Item) (before after : ℕ) → IsReached s → subscription_at s sub ≡ Some seer → Step s (Check sub max) (Checked items before after) t →
+    (s t : State) (sub max : ℕ) (seer : Subscription) (items : List Item) (before after : ℕ) → IsReached s →
+    subscription_at s sub ≡ Some seer → Step s (Check sub max) (Checked items before after) t →
     IsCheckedOn s sub max seer items before after t

@@ -34,5 +34,6 @@ all_taken s items = record { state = takes_effect s items; done = length items; 
 -- positions are left.
 abbrev pub PlacesAreTaken : Type 0
 PlacesAreTaken =
-    (s : State) (cs : List ChangeRecord) → IsReached s → HasNoFloor s → ((c : ChangeRecord) → Contains cs c → TakesHeld s c) → KeysApart cs →
+    (s : State) (cs : List ChangeRecord) → IsReached s → HasNoFloor s → ((c : ChangeRecord) → Contains cs c → TakesHeld s c) →
+    KeysApart cs →
     next_position s + length cs ≤ last_place → course s (map Changed cs) ≡ all_taken s (map Changed cs)

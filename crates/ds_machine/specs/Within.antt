@@ -16,7 +16,8 @@ pub record IsWithin (s : State) : Type 0 where
   pub stamp : s.stamp ≤ last_place
 
 abbrev pub OpeningIsWithin : Type 0
-OpeningIsWithin = (incarnation first ring : ℕ) (limits : LimitsRecord) → first ≤ last_place → IsWithin (opening incarnation first ring limits)
+OpeningIsWithin =
+    (incarnation first ring : ℕ) (limits : LimitsRecord) → first ≤ last_place → IsWithin (opening incarnation first ring limits)
 
 abbrev pub StepsStayWithin : Type 0
 StepsStayWithin = (s t : State) (command : Command) (reply : Reply) → IsWithin s → Step s command reply t → IsWithin t

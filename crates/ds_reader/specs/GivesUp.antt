@@ -116,7 +116,8 @@ StopsSinces t reading from (Refused refusal) =
     IsCommandRefused t (Since (Under reading.query) (cursor_after from turns) reading.max) refusal
 StopsSinces t reading from Unfinished = (turns : List SinceTurn) × AreFullSinces t reading from turns × (length turns ≡ reading.questions)
 StopsSinces t reading from NoRoom =
-    (turns : List SinceTurn) × (length turns < reading.questions) × (AreFullSinces t reading from turns ⊎ IsJournaledMore t reading from turns)
+    (turns : List SinceTurn) × (length turns < reading.questions) ×
+    (AreFullSinces t reading from turns ⊎ IsJournaledMore t reading from turns)
 StopsSinces t reading from _ = Unit {0}
 
 -- ---- a reader by pages

@@ -100,7 +100,8 @@ message_given brought known items part within = record {
 }
 
 -- ---- a store after a command
-pub asked_store : (brought : List Item) (a : StoreAccount) (t : State) (command : Command) (reply : Reply) → FitsStore brought a a.state → Step a.state command reply t → FitsStore (brought ++ learnt_by a.state command reply) (store_asked a command reply) t
+pub asked_store : (brought : List Item) (a : StoreAccount) (t : State) (command : Command) (reply : Reply) → FitsStore brought a a.state → Step a.state command reply t →
+    FitsStore (brought ++ learnt_by a.state command reply) (store_asked a command reply) t
 asked_store brought a t command reply f step =
     let learnt = learnt_by a.state command reply in
     record {
@@ -152,6 +153,8 @@ module _ (brought : List Item) (more : List Sent) (sent : (s : Sent) → Contain
   took_map a m after f e top =
       record {
         query_is = f.query_is ∙ sym e;
-        map = map_takes (is_under a.query) a.taken more m.held after.held sent f.map (subst (λ l. IsTop after.held (m.held ++ l)) (under_items (is_under a.query) more) (subst (λ (q : Query). IsTop after.held (m.held ++ under (is_under q) (items_of more))) (sym f.query_is) top));
+        map = map_takes (is_under a.query) a.taken more m.held after.held sent f.map
+            (subst (λ l. IsTop after.held (m.held ++ l)) (under_items (is_under a.query) more)
+            (subst (λ (q : Query). IsTop after.held (m.held ++ under (is_under q) (items_of more))) (sym f.query_is) top));
         within = λ s h. elim (Contains-append_cases a.taken more s h) [ inl k ↦ f.within s k | inr k ↦ within s k ];
       }

@@ -124,12 +124,16 @@ module _ (s : State) (r : IsReached s) where
   out_part (Since scope at max) items f e = since_part scope at max items e
   out_part (Snapshot scope) items f e = snap_part scope items e
   out_part (Page scope after max) items f e = page_part scope after max items e
-  out_part (Publish caller key version value overwrite) items f e = absurd (not_given (IsReplyTo (Publish caller key version value overwrite)) (λ l b a h. h) (λ x h. h) (λ x h. h) (λ x h. h) (outcome s (Publish caller key version value overwrite)).0 items f e)
+  out_part (Publish caller key version value overwrite) items f e = absurd
+      (not_given (IsReplyTo (Publish caller key version value overwrite)) (λ l b a h. h) (λ x h. h) (λ x h. h) (λ x h. h) (outcome s (Publish caller key version value overwrite)).0
+      items f e)
   out_part (Delete caller key version) items f e = absurd (not_given (IsReplyTo (Delete caller key version)) (λ l b a h. h) (λ x h. h) (λ x h. h) (λ x h. h) (outcome s (Delete caller key version)).0 items f e)
   out_part (Sweep caller owner generation) items f e = absurd (not_given (IsReplyTo (Sweep caller owner generation)) (λ l b a h. h) (λ x h. h) (λ x h. h) (λ x h. h) (outcome s (Sweep caller owner generation)).0 items f e)
   out_part (Retrieve key) items f e = absurd (not_given (IsReplyTo (Retrieve key)) (λ l b a h. h) (λ x h. h) (λ x h. h) (λ x h. h) (outcome s (Retrieve key)).0 items f e)
   out_part (NameOf endpoint) items f e = absurd (not_given (IsReplyTo (NameOf endpoint)) (λ l b a h. h) (λ x h. h) (λ x h. h) (λ x h. h) (outcome s (NameOf endpoint)).0 items f e)
-  out_part (Subscribe sub query initial overwrite) items f e = absurd (not_given (IsReplyTo (Subscribe sub query initial overwrite)) (λ l b a h. h) (λ x h. h) (λ x h. h) (λ x h. h) (outcome s (Subscribe sub query initial overwrite)).0 items f e)
+  out_part (Subscribe sub query initial overwrite) items f e = absurd
+      (not_given (IsReplyTo (Subscribe sub query initial overwrite)) (λ l b a h. h) (λ x h. h) (λ x h. h) (λ x h. h) (outcome s (Subscribe sub query initial overwrite)).0 items f
+      e)
   out_part (Merge group) items f e = absurd (not_given (IsReplyTo (Merge group)) (λ l b a h. h) (λ x h. h) (λ x h. h) (λ x h. h) (outcome s (Merge group)).0 items f e)
 
 -- everything that a store sends had taken effect

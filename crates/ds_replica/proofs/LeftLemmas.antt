@@ -95,7 +95,9 @@ module _ (s t : State) (items : List Item) (r : IsReached s) where
       k : Course
       k = course s items
 
-      by_stop : (o : Option Refusal) → k.stop ≡ o → reply ≡ option_map_or {U = Reply} (λ fault. MergeStopped k.done fault (owed s k.taken)) o (Merged k.done (length k.taken) k.stale (owed s k.taken)) → t ≡ state_left_by s (Merge items) reply
+      by_stop : (o : Option Refusal) → k.stop ≡ o →
+          reply ≡ option_map_or {U = Reply} (λ fault. MergeStopped k.done fault (owed s k.taken)) o (Merged k.done (length k.taken) k.stale (owed s k.taken)) →
+          t ≡ state_left_by s (Merge items) reply
       by_stop (Some fault) q g = f ∙ course_left s items k.done refl ∙ ap (state_left_by s (Merge items)) (sym g)
       by_stop None q g = f ∙ course_all s items r q ∙ ap (state_left_by s (Merge items)) (sym g)
 

@@ -112,7 +112,8 @@ module _ (s t : State) (sub : ℕ) (r : IsReached s) where
             shown_is = ap (λ (k : List Item). k ++ i ∷ l) (ap (λ (y : Subscription). y.shown) seer ∙ h.shown_is);
           })
 
-      by_case : (o : Option Subscription) → subscription_at s sub ≡ o → (p : Option Refusal) → first_refusal (against_check (check_case s sub max (subscription_at s sub))) ≡ p → reply ≡ (out o p).0 → t ≡ (out o p).1 → Shows t sub query (shown ++ items)
+      by_case : (o : Option Subscription) → subscription_at s sub ≡ o → (p : Option Refusal) → first_refusal (against_check (check_case s sub max (subscription_at s sub))) ≡ p →
+          reply ≡ (out o p).0 → t ≡ (out o p).1 → Shows t sub query (shown ++ items)
       by_case o here (Some refusal) m q g = absurd (none refusal q)
       by_case None here None m q g = absurd (none refusals.NotFound q)
       by_case (Some f) here None m q g = by_items f here (missing (against_check (check_case s sub max (subscription_at s sub))) (by_command ++ by_room) refusals.BadSub m (0, omega arith, refl)) (take max (unseen s f)) q g

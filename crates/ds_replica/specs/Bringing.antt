@@ -41,5 +41,6 @@ IsProperEvent _ = Unit {0}
 -- A law: after any such events, everything brought in is a change or a floor that keeps its rules.
 abbrev pub EventsBringItems : Type 0
 EventsBringItems =
-    (account : Account) (old new : World) (events : List (Event × Outcome)) → Fits account old → HappenAll old events new → ((e : Event × Outcome) → Contains events e → IsProperEvent e.0) →
+    (account : Account) (old new : World) (events : List (Event × Outcome)) → Fits account old → HappenAll old events new →
+    ((e : Event × Outcome) → Contains events e → IsProperEvent e.0) →
     AreItems account.brought → AreItems (extended_all account events).brought

@@ -35,7 +35,8 @@ sent_in account k = message_items (slice_get account.messages k)
 
 -- The items of the message that a Check of the subscription made, if the event is one.
 abbrev pub check_sent : Side → ℕ → Account → Event → Outcome → List Sent
-check_sent side sub account (Ask s (Check n max)) (Made k) = if is_side s side && n == sub then sent_in (extended account (Ask s (Check n max)) (Made k)) k else []
+check_sent side sub account (Ask s (Check n max)) (Made k) =
+    if is_side s side && n == sub then sent_in (extended account (Ask s (Check n max)) (Made k)) k else []
 check_sent side sub account _ _ = []
 
 -- The items of all such messages that the events made.
@@ -47,10 +48,13 @@ checks_sent side sub account (e ∷ es) = check_sent side sub account e.0 e.1 ++
 -- fewer than its max, and the subscription wasn't made again nor the store restarted in between.
 abbrev pub ChecksAreWholeInWorlds : Type 0
 ChecksAreWholeInWorlds =
-    (account : Account) (w begun before late : World) (side : Side) (sub : ℕ) (query : Query) (overwrite : Bool) (stamp owed : ℕ) (events : List (Event × Outcome)) (max k : ℕ) → Fits account w →
-    Happens w (Ask side (Subscribe sub query true overwrite)) (Replied (Subscribed stamp owed)) begun → HappenAll begun events before → Stays (Store side) events → list_any (is_subscribing side sub) events ≡ false →
+    (account : Account) (w begun before late : World) (side : Side) (sub : ℕ) (query : Query) (overwrite : Bool) (stamp owed : ℕ)
+    (events : List (Event × Outcome)) (max k : ℕ) → Fits account w →
+    Happens w (Ask side (Subscribe sub query true overwrite)) (Replied (Subscribed stamp owed)) begun → HappenAll begun events before →
+    Stays (Store side) events → list_any (is_subscribing side sub) events ≡ false →
     Happens before (Ask side (Check sub max)) (Made k) late →
     let first = extended account (Ask side (Subscribe sub query true overwrite)) (Replied (Subscribed stamp owed)) in
     let mid = extended_all first events in
     let now = extended mid (Ask side (Check sub max)) (Made k) in
-    length (sent_in now k) < max → IsWhole (feed_of now side) (is_under query) (checks_sent side sub first events ++ sent_in now k) (position (feed_of mid side))
+    length (sent_in now k) < max →
+    IsWhole (feed_of now side) (is_under query) (checks_sent side sub first events ++ sent_in now k) (position (feed_of mid side))

@@ -44,7 +44,8 @@ added done taken stale owed later = record {
 
 -- After a Merge that did all its items the others follow. After one that stopped or was refused, none do.
 abbrev pub OthersFollow : Reply → State → (Tally → State → Type 0) → Tally → State → Type 0
-OthersFollow (Merged done taken stale owed) mid Others tally new = (later : Tally) × Others later new × (tally ≡ added done taken stale owed later)
+OthersFollow (Merged done taken stale owed) mid Others tally new =
+    (later : Tally) × Others later new × (tally ≡ added done taken stale owed later)
 OthersFollow (MergeStopped done fault owed) mid Others tally new = (tally ≡ ended done owed (Some fault)) × (new ≡ mid)
 OthersFollow (Refused fault) mid Others tally new = (tally ≡ ended 0 0 (Some fault)) × (new ≡ mid)
 OthersFollow _ mid Others tally new = ⊥
@@ -52,7 +53,9 @@ OthersFollow _ mid Others tally new = ⊥
 -- Each group goes to the store as one Merge, in order.
 abbrev pub GroupsAreMerged : State → List (List Item) → Tally → State → Type 0
 GroupsAreMerged s [] tally new = (tally ≡ ended 0 0 None) × (new ≡ s)
-GroupsAreMerged s (group ∷ groups) tally new = (reply : Reply) × (mid : State) × Step s (Merge group) reply mid × OthersFollow reply mid (λ t n. GroupsAreMerged mid groups t n) tally new
+GroupsAreMerged s (group ∷ groups) tally new =
+    (reply : Reply) × (mid : State) × Step s (Merge group) reply mid ×
+    OthersFollow reply mid (λ t n. GroupsAreMerged mid groups t n) tally new
 
 -- The items go to a store in Merges of at most 256.
 pub record StoreTakes (s : State) (items : List Item) (tally : Tally) (new : State) : Type 0 where
@@ -65,7 +68,8 @@ pub record StoreTakes (s : State) (items : List Item) (tally : Tally) (new : Sta
 -- or a limit (of keys or memory). A floor: only a limit.
 abbrev pub StandsAgainst : List Item → Item → Refusal → Type 0
 StandsAgainst held (Changed c) NotOwner = (h : ChangeRecord) × Contains held (Changed h) × (h.key ≡ c.key) × (h.owner ≢ c.owner)
-StandsAgainst held (Changed c) (Clash v) = (h : ChangeRecord) × Contains held (Changed h) × (h.key ≡ c.key) × (h.version ≡ c.version) × (h.body ≢ c.body) × (v ≡ c.version)
+StandsAgainst held (Changed c) (Clash v) =
+    (h : ChangeRecord) × Contains held (Changed h) × (h.key ≡ c.key) × (h.version ≡ c.version) × (h.body ≢ c.body) × (v ≡ c.version)
 StandsAgainst held i Full = Unit {0}
 StandsAgainst held i NoRoom = Unit {0}
 StandsAgainst held i _ = ⊥
@@ -74,7 +78,9 @@ StandsAgainst held i _ = ⊥
 -- also run out of memory.
 abbrev pub DeliveryEnds : MapState → List Item → ℕ → Option Refusal → Type 0
 DeliveryEnds m items done None = done ≡ length items
-DeliveryEnds m items done (Some fault) = (next : Item) × (slice_get items done ≡ Some next) × ((passes (is_under m.query) next ≡ true) ⊎ (fault ≡ NoRoom)) × StandsAgainst m.held next fault
+DeliveryEnds m items done (Some fault) =
+    (next : Item) × (slice_get items done ≡ Some next) × ((passes (is_under m.query) next ≡ true) ⊎ (fault ≡ NoRoom)) ×
+    StandsAgainst m.held next fault
 
 -- The items go to a map, which then holds the top of what it held and of the items done under its query.
 pub record MapTakes (m : MapState) (items : List Item) (tally : Tally) (new : MapState) : Type 0 where

@@ -45,7 +45,8 @@ abbrev pub ask_fault : World → Command → Option EventFault
 ask_fault w command = cond (gives_items command && nat_le most_messages (length w.messages)) (Some MessagesFull) None
 
 abbrev pub pattern_fault : Query → Option EventFault
-pattern_fault query = cond (against_query query refusals.TooLong) (Some TooLong) (cond (against_query query refusals.BadPattern) (Some BadPattern) None)
+pattern_fault query =
+    cond (against_query query refusals.TooLong) (Some TooLong) (cond (against_query query refusals.BadPattern) (Some BadPattern) None)
 
 abbrev pub map_fault : World → Query → Option EventFault
 map_fault w query = cond (nat_le most_maps (length w.maps)) (Some MapsFull) (pattern_fault query)
@@ -60,15 +61,18 @@ abbrev pub count_of : Option ℕ → List Item → ℕ
 count_of count items = unwrap_or count (length items)
 
 abbrev pub delivery_fault : World → Holder → Option ℕ → List Item → Option EventFault
-delivery_fault w holder count items = cond (not (is_there w holder)) (Some NoMap) (cond (nat_lt (length items) (count_of count items)) (Some TooMany) None)
+delivery_fault w holder count items =
+    cond (not (is_there w holder)) (Some NoMap) (cond (nat_lt (length items) (count_of count items)) (Some TooMany) None)
 
 -- The first fault that applies to the event.
 abbrev pub event_fault : World → Event → Option EventFault
 event_fault w (Ask side command) = ask_fault w command
 event_fault w (NewMap query) = map_fault w query
-event_fault w (Deliver k holder count) = option_map_or (λ items. delivery_fault w holder count items) (slice_get w.messages k) (Some NoMessage)
+event_fault w (Deliver k holder count) =
+    option_map_or (λ items. delivery_fault w holder count items) (slice_get w.messages k) (Some NoMessage)
 event_fault w (ClearMap j) = cond (is_there w (Map j)) None (Some NoMap)
-event_fault w (RestartStore side incarnation) = cond (nat_lt w.a.feed.incarnation incarnation && nat_lt w.b.feed.incarnation incarnation) None (Some OldIncarnation)
+event_fault w (RestartStore side incarnation) =
+    cond (nat_lt w.a.feed.incarnation incarnation && nat_lt w.b.feed.incarnation incarnation) None (Some OldIncarnation)
 
 -- Whether the event takes memory before it does anything: for a message, or a map.
 abbrev pub takes_room : Event → Bool

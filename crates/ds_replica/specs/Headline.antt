@@ -28,11 +28,15 @@ AccountFitsAtStart = (a b : Seed) (limits : LimitsRecord) → IsLimits limits �
 
 -- A law: after any events, the account that they extend fits the world that they leave.
 abbrev pub EventsFit : Type 0
-EventsFit = (account : Account) (old new : World) (events : List (Event × Outcome)) → Fits account old → HappenAll old events new → Fits (extended_all account events) new
+EventsFit =
+    (account : Account) (old new : World) (events : List (Event × Outcome)) → Fits account old → HappenAll old events new →
+    Fits (extended_all account events) new
 
 -- Both hold the same under the query, tombstones, versions and floors included, and so have equal entries.
 abbrev pub HoldSame : World → (Key → Bool) → Holder → Holder → Type 0
-HoldSame w query h i = (under query (held_by w h) ≡ under query (held_by w i)) × (entries_of (under query (held_by w h)) ≡ entries_of (under query (held_by w i)))
+HoldSame w query h i =
+    (under query (held_by w h) ≡ under query (held_by w i)) ×
+    (entries_of (under query (held_by w h)) ≡ entries_of (under query (held_by w i)))
 
 -- A law: holders that know the same under a query hold the same under it, if everything brought is exact: no two
 -- changes of one key, owner and version have two bodies.
@@ -44,7 +48,8 @@ EqualWhereKnown =
 -- A law: so it is after any events of a new world, in any order, with any repeats, coalescing and exchanges.
 abbrev pub EqualOverEvents : Type 0
 EqualOverEvents =
-    (a b : Seed) (limits : LimitsRecord) (w : World) (events : List (Event × Outcome)) (query : Key → Bool) (h i : Holder) → IsLimits limits → HappenAll (new_world a b limits) events w →
+    (a b : Seed) (limits : LimitsRecord) (w : World) (events : List (Event × Outcome)) (query : Key → Bool) (h i : Holder) →
+    IsLimits limits → HappenAll (new_world a b limits) events w →
     let account = extended_all (new_account a b limits) events in
     AreExact account.brought → KnowSame query (known_at account h) (known_at account i) → HoldSame w query h i
 
@@ -56,7 +61,8 @@ IsAbout w i = ((h : Holder) × Contains (held_by w h) i) ⊎ ((items : List Item
 -- everything brought is single-numbered: exact, and each key has one owner.
 abbrev pub NothingClashesInWorlds : Type 0
 NothingClashesInWorlds =
-    (account : Account) (w : World) (c d : ChangeRecord) → Fits account w → AreSingleNumbered account.brought → IsAbout w (Changed c) → IsAbout w (Changed d) → c.key ≡ d.key →
+    (account : Account) (w : World) (c d : ChangeRecord) → Fits account w → AreSingleNumbered account.brought → IsAbout w (Changed c) →
+    IsAbout w (Changed d) → c.key ≡ d.key →
     (c.owner ≡ d.owner) × (c.version ≡ d.version → c ≡ d)
 
 -- The fault means that an item contradicts what is held.
@@ -68,5 +74,6 @@ IsContradiction _ = ⊥
 -- A law: no delivery stops by such a fault.
 abbrev pub NothingStopsInWorlds : Type 0
 NothingStopsInWorlds =
-    (account : Account) (w new : World) (k : ℕ) (holder : Holder) (count : Option ℕ) (done : ℕ) (fault : Refusal) (owed : ℕ) → Fits account w → AreSingleNumbered account.brought →
+    (account : Account) (w new : World) (k : ℕ) (holder : Holder) (count : Option ℕ) (done : ℕ) (fault : Refusal) (owed : ℕ) →
+    Fits account w → AreSingleNumbered account.brought →
     Happens w (Deliver k holder count) (Stopped done fault owed) new → ¬ IsContradiction fault

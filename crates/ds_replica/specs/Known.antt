@@ -139,7 +139,8 @@ extended account (NewMap query) (MapMade j) = record account { maps = account.ma
 extended account (Deliver k holder count) (Merged counted owed) = delivered account holder (sent_first account k counted.done)
 extended account (Deliver k holder count) (Stopped done fault owed) = delivered account holder (sent_first account k done)
 extended account (ClearMap j) Cleared = record account { maps = map_cleared account.maps j (slice_get account.maps j) }
-extended account (RestartStore side incarnation) Restarted = with_account account side (opened (reopened (store_of account side).state incarnation))
+extended account (RestartStore side incarnation) Restarted =
+    with_account account side (opened (reopened (store_of account side).state incarnation))
 extended account _ _ = account
 
 abbrev pub extended_all : Account → List (Event × Outcome) → Account

@@ -94,7 +94,8 @@ pub record ReplicasDiffer : Type 0 where
 
 -- A map is made, and a store gets a floor and a label.
 abbrev pub only_told : Query → Side → List (Event × Outcome)
-only_told query side = (NewMap query, MapMade 0) ∷ (Ask side swept, Replied (Swept 0 0)) ∷ (Ask side first_publish, Replied (Accepted 0)) ∷ []
+only_told query side =
+    (NewMap query, MapMade 0) ∷ (Ask side swept, Replied (Swept 0 0)) ∷ (Ask side first_publish, Replied (Accepted 0)) ∷ []
 
 -- A snapshot of that store goes to the map.
 abbrev pub sent : Query → Side → List (Event × Outcome)
@@ -102,7 +103,10 @@ sent query side = only_told query side ++ snapshot side ∷ (Deliver 0 (Map 0) N
 
 -- What the map was then given.
 abbrev pub with_both : Query → MapAccount
-with_both query = record { query = query; taken = record { item = floor; stands_for = floor ∷ [] } ∷ record { item = driver_label; stands_for = driver_label ∷ [] } ∷ [] }
+with_both query = record {
+  query = query;
+  taken = record { item = floor; stands_for = floor ∷ [] } ∷ record { item = driver_label; stands_for = driver_label ∷ [] } ∷ [];
+}
 
 -- Then the map has all of that store and nothing else, and holds it, the label included.
 pub record MapCatchesUp (query : Query) : Type 0 where
@@ -123,7 +127,8 @@ pub record MapLags (query : Query) : Type 0 where
   pub items : AreItems (account_of (only_told query A)).brought
   pub nothing_else : HasNothingElse (account_of (only_told query A)) (record { query = query; taken = [] }) A
   pub differ : held_by world (Map 0) ≢ under (is_under query) (held_by world (Store A))
-  pub older : ¬ IsNewest (store_of (account_of (only_told query A)) A).known (codes "eth0") (label_in (held_by world (Map 0)) (codes "eth0"))
+  pub older : ¬ IsNewest (store_of (account_of (only_told query A)) A).known (codes "eth0")
+      (label_in (held_by world (Map 0)) (codes "eth0"))
 
 -- If the other store gave the snapshot, the map has all of this store and more. It holds and names what this store
 -- doesn't know.
@@ -223,7 +228,8 @@ renewed = Changed (change_of irq (codes "eth1") first_version (Put (Number 11)))
 -- A store gets the driver's entry, the floor and the other owner's entry, and a snapshot of it goes to the other store.
 abbrev pub renewal : List (Event × Outcome)
 renewal =
-    (Ask A (Merge (one ∷ ended ∷ renewed ∷ [])), Replied (AllMerged 3 3 0 0)) ∷ snapshot A ∷ (Deliver 0 (Store B) None, Merged (counting 2 2 0) 0) ∷ []
+    (Ask A (Merge (one ∷ ended ∷ renewed ∷ [])), Replied (AllMerged 3 3 0 0)) ∷ snapshot A ∷
+    (Deliver 0 (Store B) None, Merged (counting 2 2 0) 0) ∷ []
 
 -- Then everything brought is exact but not single-numbered, and both stores know and hold the same.
 pub record OwnersChange : Type 0 where

@@ -53,20 +53,27 @@ TurnsAreRunInWorlds =
 -- A law: what is whole for a store stays whole over any events, until the store is restarted.
 abbrev pub WholeStaysInWorlds : Type 0
 WholeStaysInWorlds =
-    (account : Account) (old new : World) (side : Side) (events : List (Event × Outcome)) (query : Key → Bool) (items : List Sent) (r : ℕ) → Fits account old → HappenAll old events new → Stays (Store side) events →
-    r ≤ position (store_of account side).state.feed → IsWhole (store_of account side).state.feed query items r → IsWhole (store_of (extended_all account events) side).state.feed query items r
+    (account : Account) (old new : World) (side : Side) (events : List (Event × Outcome)) (query : Key → Bool) (items : List Sent) (r : ℕ) →
+    Fits account old → HappenAll old events new → Stays (Store side) events →
+    r ≤ position (store_of account side).state.feed → IsWhole (store_of account side).state.feed query items r →
+    IsWhole (store_of (extended_all account events) side).state.feed query items r
 
 -- A law: a holder knows what it knows over any events, until it is emptied.
 abbrev pub KnownStays : Type 0
-KnownStays = (account : Account) (h : Holder) (events : List (Event × Outcome)) → Stays h events → IsPartOf (known_at account h) (known_at (extended_all account events) h)
+KnownStays =
+    (account : Account) (h : Holder) (events : List (Event × Outcome)) → Stays h events →
+    IsPartOf (known_at account h) (known_at (extended_all account events) h)
 
 -- A law: a holder that knows a floor holds nothing that the floor makes void: no change of the owner, labels aside, of
 -- an epoch up to the floor's generation.
 abbrev pub NothingBelowFloorsInWorlds : Type 0
-NothingBelowFloorsInWorlds = (account : Account) (w : World) (h : Holder) (f : Floor) (c : ChangeRecord) → Fits account w → Contains (known_at account h) (Floored f) → Contains (held_by w h) (Changed c) → voids f c ≡ false
+NothingBelowFloorsInWorlds =
+    (account : Account) (w : World) (h : Holder) (f : Floor) (c : ChangeRecord) → Fits account w →
+    Contains (known_at account h) (Floored f) → Contains (held_by w h) (Changed c) → voids f c ≡ false
 
 -- A law: no event brings such a change, until the holder is emptied.
 abbrev pub FloorsStandInWorlds : Type 0
 FloorsStandInWorlds =
-    (account : Account) (old new : World) (h : Holder) (events : List (Event × Outcome)) (f : Floor) (c : ChangeRecord) → Fits account old → HappenAll old events new → Stays h events →
+    (account : Account) (old new : World) (h : Holder) (events : List (Event × Outcome)) (f : Floor) (c : ChangeRecord) → Fits account old →
+    HappenAll old events new → Stays h events →
     Contains (known_at account h) (Floored f) → Contains (held_by new h) (Changed c) → voids f c ≡ false

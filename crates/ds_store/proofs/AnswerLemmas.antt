@@ -63,7 +63,8 @@ asked_refused s a body cause e =
     let result : Option Cause → Reply × State = λ o. option_map_or (λ x. (answer_for x, s)) o (replies.Changed (owed s (Changed (asked_in s a body) ∷ [])), takes_effect s (Changed (asked_in s a body) ∷ [])) in
     record { reply_is = sym (ap (λ o. (result o).0) e); state_is = sym (ap (λ o. (result o).1) e) }
 
-pub asked_taken : (v : ContentRecord) (s : State) (a : AskedChange) (body : Body) (c : ChangeRecord) (bits : ℕ) → ContentStands v s → cause_against s a body ≡ None → c ≡ change_asked (name_of v.held a.caller) a body → bits ≡ owed s (Changed c ∷ [])
+pub asked_taken : (v : ContentRecord) (s : State) (a : AskedChange) (body : Body) (c : ChangeRecord) (bits : ℕ) → ContentStands v s → cause_against s a body ≡ None →
+    c ≡ change_asked (name_of v.held a.caller) a body → bits ≡ owed s (Changed c ∷ [])
     → Answers s (asking s a body) (replies.Changed bits) (takes_effect s (Changed c ∷ []))
 asked_taken v s a body c bits stands e made owes =
     let result : Option Cause → Reply × State = λ o. option_map_or (λ x. (answer_for x, s)) o (replies.Changed (owed s (Changed (asked_in s a body) ∷ [])), takes_effect s (Changed (asked_in s a body) ∷ [])) in
@@ -83,7 +84,8 @@ sweep_refused s caller f cause e =
     let result : Option Cause → Reply × State = λ o. option_map_or (λ x. (sweep_answer x, s)) o (replies.Swept (length (puts_void_by f (changes_in (held s)))) (owed s (Floored f ∷ [])), takes_effect s (Floored f ∷ [])) in
     record { reply_is = sym (ap (λ o. (result o).0) e); state_is = sym (ap (λ o. (result o).1) e) }
 
-pub sweep_taken : (v : ContentRecord) (s : State) (caller : EndpointRecord) (f : Floor) (count bits : ℕ) → ContentStands v s → sweep_cause s caller f ≡ None → count ≡ length (puts_void_by f (changes_in v.held)) → bits ≡ owed s (Floored f ∷ [])
+pub sweep_taken : (v : ContentRecord) (s : State) (caller : EndpointRecord) (f : Floor) (count bits : ℕ) → ContentStands v s → sweep_cause s caller f ≡ None →
+    count ≡ length (puts_void_by f (changes_in v.held)) → bits ≡ owed s (Floored f ∷ [])
     → IsOutcome (sweeping s caller f) (replies.Swept count bits) (takes_effect s (Floored f ∷ []))
 sweep_taken v s caller f count bits stands e counted owes =
     let result : Option Cause → Reply × State = λ o. option_map_or (λ x. (sweep_answer x, s)) o (replies.Swept (length (puts_void_by f (changes_in (held s)))) (owed s (Floored f ∷ [])), takes_effect s (Floored f ∷ [])) in

@@ -263,7 +263,8 @@ pub course_number : (s : State) (k : Course) (n : ℕ) (flags : List Bool) → n
 course_number s k n flags e f = e ∙ ap mask f ∙ padded_number (map (is_owed k.taken) s.subscriptions)
 
 -- ---- where it stops for lack of memory
-pub stopped_last : (s : State) (items : List Item) (i : ℕ) (item : Item) (fault : Refusal) (o : ℕ) → slice_get items i ≡ Some item → (fault ≡ refusals.NoRoom → MayLackItem (course s (take i items)).state item) → IsLast s (Merges items) (MergeStopped i fault o)
+pub stopped_last : (s : State) (items : List Item) (i : ℕ) (item : Item) (fault : Refusal) (o : ℕ) → slice_get items i ≡ Some item →
+    (fault ≡ refusals.NoRoom → MayLackItem (course s (take i items)).state item) → IsLast s (Merges items) (MergeStopped i fault o)
 stopped_last s items i item refusals.NoRoom o at lacks = record { item = item; is_next = at; lacks = lacks refl }
 stopped_last s items i item refusals.BadSub o at lacks = tt
 stopped_last s items i item refusals.TooMany o at lacks = tt

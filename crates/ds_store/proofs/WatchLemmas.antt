@@ -56,7 +56,8 @@ module _ (s : State) (sub : ℕ) (query : Query) (initial overwrite : Bool) wher
       let now : first_refusal (against_subscribe (subscribe_case s sub query overwrite)) ≡ Some r = ap (λ (y : SubscribeCase). first_refusal (against_subscribe y)) (sym same) ∙ e in
       inl (record { reply_is = sym (ap (λ o. (subscribed_with o).0) now); state_is = sym (ap (λ o. (subscribed_with o).1) now) })
 
-  pub subscribe_made : (v : ContentRecord) (x : SubscribeCase) (n bits : ℕ) → ContentStands v s → x ≡ subscribe_case s sub query overwrite → first_refusal (against_subscribe x) ≡ None → n ≡ v.stamp + 1 → bits ≡ owed_at_first v.held sub query initial
+  pub subscribe_made : (v : ContentRecord) (x : SubscribeCase) (n bits : ℕ) → ContentStands v s → x ≡ subscribe_case s sub query overwrite →
+      first_refusal (against_subscribe x) ≡ None → n ≡ v.stamp + 1 → bits ≡ owed_at_first v.held sub query initial
       → Answers s (subscribing s sub query initial overwrite) (Subscribed n bits) (subscribes s sub query (shown_at_first v.held initial))
   subscribe_made v x n bits stands same none e owes =
       let now : first_refusal (against_subscribe (subscribe_case s sub query overwrite)) ≡ None = ap (λ (y : SubscribeCase). first_refusal (against_subscribe y)) (sym same) ∙ none in
@@ -153,7 +154,8 @@ pub check_short : (s : State) (sub max : ℕ) (o : Option Refusal) → first_ref
 check_short s sub max None e = inr (record { reply_is = refl; state_is = refl })
 check_short s sub max (Some r) e = inl (check_refused s sub max r e)
 
-pub short_last : (s : State) (sub max : ℕ) (o : Option Refusal) → (check_case s sub max (subscription_at s sub)).some ≡ true → first_refusal (against_check (check_case s sub max (subscription_at s sub))) ≡ o → IsLast s (Check sub max) (Refused (unwrap_or o refusals.NoRoom))
+pub short_last : (s : State) (sub max : ℕ) (o : Option Refusal) → (check_case s sub max (subscription_at s sub)).some ≡ true →
+    first_refusal (against_check (check_case s sub max (subscription_at s sub))) ≡ o → IsLast s (Check sub max) (Refused (unwrap_or o refusals.NoRoom))
 short_last s sub max None shown e = (e, shown)
 short_last s sub max (Some r) shown e = last_of s (Check sub max) (Refused r) s (check_refused s sub max r e)
 
@@ -167,7 +169,8 @@ module _ (s : State) (sub max : ℕ) (seer : Subscription) (here : subscription_
       let at : first_refusal (against_check (check_case s sub max (Some seer))) ≡ None = ap (λ o. first_refusal (against_check (check_case s sub max o))) (sym here) ∙ none in
       ap (checking_at s sub max) here ∙ ap checked_with at
 
-  pub check_empty : (n : ℕ) (items : List Item) → first_refusal (against_check (check_case s sub max (subscription_at s sub))) ≡ None → items ≡ take max (unseen s seer) → items ≡ [] → n ≡ seer.stamp → IsOutcome (checking s sub max) (Checked items n n) s
+  pub check_empty : (n : ℕ) (items : List Item) → first_refusal (against_check (check_case s sub max (subscription_at s sub))) ≡ None → items ≡ take max (unseen s seer) →
+      items ≡ [] → n ≡ seer.stamp → IsOutcome (checking s sub max) (Checked items n n) s
   check_empty n items none e empty stamp =
       let now : checking s sub max ≡ (Checked [] seer.stamp seer.stamp, s) = checking_is none ∙ ap (shows s sub seer) (sym e ∙ empty) in
       record { reply_is = ap₂ (λ a b. Checked a b b) empty stamp ∙ sym (ap (λ (x : Reply × State). x.0) now); state_is = sym (ap (λ (x : Reply × State). x.1) now) }

@@ -9,7 +9,8 @@ use Rattle.ds_judge.specs.Last.{IsLast}
 -- A run of the machine: each command gets its reply in order, and in each step lack of memory comes last.
 abbrev pub LastRun : State → List Command → List Reply → State → Type 0
 LastRun old [] [] new = new ≡ old
-LastRun old (command ∷ commands) (reply ∷ replies) new = (mid : State) × Step old command reply mid × IsLast old command reply × LastRun mid commands replies new
+LastRun old (command ∷ commands) (reply ∷ replies) new =
+    (mid : State) × Step old command reply mid × IsLast old command reply × LastRun mid commands replies new
 LastRun old [] (reply ∷ replies) new = ⊥
 LastRun old (command ∷ commands) [] new = ⊥
 

@@ -41,7 +41,8 @@ IsWantLast items done _ s = Unit {0}
 
 -- A stopped delivery to a store leads to a world in which lack of memory comes last for that store.
 abbrev pub IsStoreTold : Event → Side → List Item → Outcome → WorldRecord → WorldRecord → Type 0
-IsStoreTold event side items (Stopped done fault owed) old new = Leads (λ w after. Happens w event (Stopped done fault owed) after × IsWantLast items done (Some fault) (store_at after side)) old new
+IsStoreTold event side items (Stopped done fault owed) old new =
+    Leads (λ w after. Happens w event (Stopped done fault owed) after × IsWantLast items done (Some fault) (store_at after side)) old new
 IsStoreTold event side items outcome old new = Unit {0}
 
 -- The map took all items, with this count; or it took the first ones and refuses the next by this fault, as the map's
@@ -55,7 +56,9 @@ IsMapTold query old items _ new = Unit {0}
 -- The store answered an Ask with this reply, from each world that the old value stands for to one that the new value
 -- stands for, and lack of memory comes last.
 pub record IsAnswered (side : Side) (command : Command) (outcome : Outcome) (reply : Reply) (old new : WorldRecord) : Type 0 where
-  pub asks : (w : World) → WorldStands old w → (event_fault w (Ask side command) ≡ None) × (after : World) × (a : Asks w side command outcome after) × (a.reply ≡ reply) × WorldStands new after
+  pub asks : (w : World) → WorldStands old w →
+      (event_fault w (Ask side command) ≡ None) × (after : World) × (a : Asks w side command outcome after) × (a.reply ≡ reply) ×
+      WorldStands new after
   pub last : (w : World) → WorldStands old w → IsLast (store_at w side) command reply
 
 -- The reply is kept whole as the message of this number, after the others.
@@ -75,10 +78,12 @@ IsAskTold side command _ old new = new.messages ≡ old.messages
 abbrev pub IsTold : Event → Outcome → WorldRecord → WorldRecord → Type 0
 IsTold (Ask side command) outcome old new = IsProper command × IsAskTold side command outcome old new
 IsTold (Deliver k (Store side) count) outcome old new =
-    ((items : List Item) → kept_items old.messages k ≡ Some items → IsStoreTold (Deliver k (Store side) count) side (take (count_of count items) items) outcome old new)
+    ((items : List Item) → kept_items old.messages k ≡ Some items →
+    IsStoreTold (Deliver k (Store side) count) side (take (count_of count items) items) outcome old new)
     × (new.messages ≡ old.messages)
 IsTold (Deliver k (Map j) count) outcome old new =
-    ((items : List Item) (m n : SubMapRecord) → kept_items old.messages k ≡ Some items → slice_get old.maps j ≡ Some m → slice_get new.maps j ≡ Some n →
+    ((items : List Item) (m n : SubMapRecord) → kept_items old.messages k ≡ Some items → slice_get old.maps j ≡ Some m →
+    slice_get new.maps j ≡ Some n →
     IsMapTold m.query m.held (take (count_of count items) items) outcome n.held)
     × (new.messages ≡ old.messages)
 IsTold event outcome old new = new.messages ≡ old.messages
@@ -96,6 +101,8 @@ MessagesStay old new = (made : List Reply) × (new.messages ≡ old.messages ++ 
 -- before it.
 abbrev pub RepliesAreKept : WorldRecord → List (Event × Outcome) → WorldRecord → Type 0
 RepliesAreKept old events new =
-    (before since : List (Event × Outcome)) (side : Side) (command : Command) (k : ℕ) (w : World) → before ++ (Ask side command, Made k) ∷ since ≡ events → WorldStands old w →
-    (mid : World) × HappenAll w before mid × (after : World) × (a : Asks mid side command (Made k) after) × (slice_get new.messages k ≡ Some a.reply)
+    (before since : List (Event × Outcome)) (side : Side) (command : Command) (k : ℕ) (w : World) →
+    before ++ (Ask side command, Made k) ∷ since ≡ events → WorldStands old w →
+    (mid : World) × HappenAll w before mid × (after : World) × (a : Asks mid side command (Made k) after) ×
+    (slice_get new.messages k ≡ Some a.reply)
     × (late : World) × HappenAll after since late × WorldStands new late

@@ -332,7 +332,8 @@ kept_by_stop settings states tick now next slots at r after kept within worn up 
     kept.fit.few kept.own
 
 -- its instance continues, or another one runs in the same slot
-pub kept_by_change : (settings : SettingsRecord) (states : List State) (tick now next more : ℕ) (slots : SlotsRecord) (at : ℕ) (r q : Running) → IsRs settings states tick next slots → at < length states → now ≤ 2 ^ 62 → next ≤ more → more ≤ 2097152 →
+pub kept_by_change : (settings : SettingsRecord) (states : List State) (tick now next more : ℕ) (slots : SlotsRecord) (at : ℕ) (r q : Running) →
+    IsRs settings states tick next slots → at < length states → now ≤ 2 ^ 62 → next ≤ more → more ≤ 2097152 →
     get_or states at Down ≡ Up r → IsRunning slots.first more q → r.endpoint.slot ≡ q.endpoint.slot →
     IsRs settings (set states at (Up q)) now more slots
 kept_by_change settings states tick now next more slots at r q kept within worn le spent up here same =

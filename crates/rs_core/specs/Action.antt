@@ -38,4 +38,6 @@ start_actions label endpoint = Start label endpoint ∷ Offer (label_put label e
 
 -- The actions of stopping an instance: kill it if it may be alive, end its label, and sweep what it published.
 abbrev pub stop_actions : Bool → List ℕ → EndpointRecord → List Action
-stop_actions kill label endpoint = (if kill then Kill endpoint ∷ [] else []) ++ (Offer (label_gone label endpoint.generation) ∷ Sweep (floor_of label endpoint.generation) ∷ [])
+stop_actions kill label endpoint =
+    (if kill then Kill endpoint ∷ [] else []) ++
+    (Offer (label_gone label endpoint.generation) ∷ Sweep (floor_of label endpoint.generation) ∷ [])

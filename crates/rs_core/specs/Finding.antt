@@ -32,7 +32,8 @@ is_sought (sought.Rested tick) service state = when_waiting (λ p. nat_le p.unti
 
 -- The index of the first matching service, counted from `i`.
 abbrev pub first_sought : Sought → ℕ → List Service → List State → Option ℕ
-first_sought what i (service ∷ services) (state ∷ states) = if is_sought what service state then Some i else first_sought what (i + 1) services states
+first_sought what i (service ∷ services) (state ∷ states) =
+    if is_sought what service state then Some i else first_sought what (i + 1) services states
 first_sought what i _ _ = None
 
 -- The index of RS's first matching service.

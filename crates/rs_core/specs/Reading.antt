@@ -24,7 +24,8 @@ use Rattle.rs_core.specs.Step.{RsStep}
 -- Whether, at the tick, a heartbeat of the service is missed, a ping is due, or its wait is over.
 abbrev pub is_due : ℕ → Service → State → Bool
 is_due tick service state =
-    is_sought (sought.Missed tick) service state || (is_sought (sought.Silent tick) service state || is_sought (sought.Rested tick) service state)
+    is_sought (sought.Missed tick) service state ||
+    (is_sought (sought.Silent tick) service state || is_sought (sought.Rested tick) service state)
 
 -- Whether something is due for any service.
 abbrev pub any_due : ℕ → List Service → List State → Bool
@@ -42,7 +43,8 @@ IsFrom test first = (tick : ℕ) → tick ≤ 2 ^ 62 → test tick ≡ is_from f
 
 -- A law: a tick that isn't refused has actions exactly if something is due.
 abbrev pub TicksActWhenDue : Type 0
-TicksActWhenDue = (s t : RsRecord) (tick : ℕ) (actions : List Action) → RsStep s Tick tick actions t → (is_some (due s tick) ≡ true) ↔ (actions ≢ [])
+TicksActWhenDue =
+    (s t : RsRecord) (tick : ℕ) (actions : List Action) → RsStep s Tick tick actions t → (is_some (due s tick) ≡ true) ↔ (actions ≢ [])
 
 -- ---- a service that is given up
 

@@ -29,7 +29,8 @@ place_of_label s label = service_place s (sought.Label label)
 
 -- A law: a service that is found by a label has that label.
 abbrev pub LabelsAreFound : Type 0
-LabelsAreFound = (s : RsRecord) (label : List ℕ) (i : ℕ) → place_of_label s label ≡ Some i → (i < length s.settings.services) × (label_at s i ≡ label)
+LabelsAreFound =
+    (s : RsRecord) (label : List ℕ) (i : ℕ) → place_of_label s label ≡ Some i → (i < length s.settings.services) × (label_at s i ≡ label)
 
 -- ---- a step
 

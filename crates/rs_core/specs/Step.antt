@@ -33,4 +33,5 @@ IsCarriedOut s tick (Some p) actions t = IsDone s tick p actions t
 
 -- No fault applies to the event, and what it calls for is done.
 abbrev pub RsStep : RsRecord → Event → ℕ → List Action → RsRecord → Type 0
-RsStep s event tick actions t = (p : Option Plan) × (refusal s event tick ≡ None) × (asked s event tick ≡ Ok p) × IsCarriedOut s tick p actions t
+RsStep s event tick actions t =
+    (p : Option Plan) × (refusal s event tick ≡ None) × (asked s event tick ≡ Ok p) × IsCarriedOut s tick p actions t

@@ -31,7 +31,9 @@ none_before share before (s ∷ ss) j d h l = elim (cases_Bool (list_any (share 
   | inr f ↦ at j l f (λ k lk. none_before share (before ++ s ∷ []) ss k d (rw f at h) lk)
 ]
   where
-    at : (j : ℕ) → j < length (s ∷ ss) → list_any (share s) before ≡ false → ((k : ℕ) → k < length ss → list_any (share (get_or ss k d)) ((before ++ s ∷ []) ++ take k ss) ≡ false) → list_any (share (get_or (s ∷ ss) j d)) (before ++ take j (s ∷ ss)) ≡ false
+    at : (j : ℕ) → j < length (s ∷ ss) → list_any (share s) before ≡ false →
+        ((k : ℕ) → k < length ss → list_any (share (get_or ss k d)) ((before ++ s ∷ []) ++ take k ss) ≡ false) →
+        list_any (share (get_or (s ∷ ss) j d)) (before ++ take j (s ∷ ss)) ≡ false
     at zero l here later = subst (λ (z : List Service). list_any (share s) z ≡ false) (sym (append-nil before)) here
     at (suc k) l here later = subst (λ (z : List Service). list_any (share (get_or ss k d)) z ≡ false) (append_assoc before (s ∷ []) (take k ss)) (later k (omega arith))
 

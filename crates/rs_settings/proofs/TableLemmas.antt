@@ -23,7 +23,9 @@ use Rattle.rs_settings.specs.Service.{service_from, services_in, go_on}
 use Rattle.rs_settings.specs.Settings.{document, settings_in, TakesMemory}
 use Rattle.rs_settings.proofs.ValueLemmas.{item_count-view}
 
-services_in-step : (before : List Service) (vs : List Value) (i : ℕ) (d : Value) → i < length vs → services_in before (items_view (drop i vs)) ≡ go_on (λ s. services_in (before ++ s ∷ []) (items_view (drop (i + 1) vs))) (service_from (length before) (as_table (view (get_or vs i d))))
+services_in-step : (before : List Service) (vs : List Value) (i : ℕ) (d : Value) → i < length vs →
+    services_in before (items_view (drop i vs)) ≡ go_on (λ s. services_in (before ++ s ∷ []) (items_view (drop (i + 1) vs)))
+    (service_from (length before) (as_table (view (get_or vs i d))))
 services_in-step before vs i d h = rw (items_view-drop vs i d h)
 
 -- past the last table
@@ -31,11 +33,14 @@ pub services_in-end : (before : List Service) (vs : List Value) (i : ℕ) → le
 services_in-end before vs i h = rw (drop_all i vs h)
 
 -- one more table that is a service
-pub services_in-more : (before : List Service) (vs : List Value) (i : ℕ) (d : Value) (s : Service) (r : Result (List Service) SettingsFault) → i < length vs → services_in before (items_view (drop i vs)) ≡ r → service_from (length before) (as_table (view (get_or vs i d))) ≡ Ok s → services_in (before ++ s ∷ []) (items_view (drop (i + 1) vs)) ≡ r
+pub services_in-more : (before : List Service) (vs : List Value) (i : ℕ) (d : Value) (s : Service) (r : Result (List Service) SettingsFault) → i < length vs →
+    services_in before (items_view (drop i vs)) ≡ r → service_from (length before) (as_table (view (get_or vs i d))) ≡ Ok s →
+    services_in (before ++ s ∷ []) (items_view (drop (i + 1) vs)) ≡ r
 services_in-more before vs i d s r l so e = sym (services_in-step before vs i d l ∙ rw e refl) ∙ so
 
 -- a table that has a fault
-pub services_in-fault : (before : List Service) (vs : List Value) (i : ℕ) (d : Value) (f : SettingsFault) (r : Result (List Service) SettingsFault) → i < length vs → services_in before (items_view (drop i vs)) ≡ r → service_from (length before) (as_table (view (get_or vs i d))) ≡ Err f → r ≡ Err f
+pub services_in-fault : (before : List Service) (vs : List Value) (i : ℕ) (d : Value) (f : SettingsFault) (r : Result (List Service) SettingsFault) → i < length vs →
+    services_in before (items_view (drop i vs)) ≡ r → service_from (length before) (as_table (view (get_or vs i d))) ≡ Err f → r ≡ Err f
 services_in-fault before vs i d f r l so e = sym so ∙ services_in-step before vs i d l ∙ rw e refl
 
 table_first : (d : Data) (ds : Items) → is_some (as_table d) && are_tables ds ≡ are_tables (item d ds)

@@ -6,13 +6,15 @@ use Rattle.rs_settings.specs.Settings.{SettingsRecord, IsSettings}
 
 -- No two of the services share it.
 abbrev pub AreDistinct : (Service → Service → Bool) → List Service → Type 0
-AreDistinct share services = (i j : ℕ) (d : Service) → i < j → j < length services → share (slice_index_or services j d) (slice_index_or services i d) ≡ false
+AreDistinct share services =
+    (i j : ℕ) (d : Service) → i < j → j < length services → share (slice_index_or services j d) (slice_index_or services i d) ≡ false
 
 -- Labels differ, units of one kind differ, and each name is published by one service, once.
 pub record AreApart (services : List Service) : Type 0 where
   pub labels : AreDistinct share_label services
   pub units : AreDistinct share_unit services
-  pub publishers : (i j : ℕ) (d : Service) (name : List ℕ) → i < j → j < length services → has_name (slice_index_or services i d).publishes name ≡ true → has_name (slice_index_or services j d).publishes name ≡ false
+  pub publishers : (i j : ℕ) (d : Service) (name : List ℕ) → i < j → j < length services →
+      has_name (slice_index_or services i d).publishes name ≡ true → has_name (slice_index_or services j d).publishes name ≡ false
   pub once : (i : ℕ) (d : Service) → i < length services → repeats [] (slice_index_or services i d).publishes ≡ false
 
 -- A law: the services of settings share nothing.

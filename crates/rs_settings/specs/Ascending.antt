@@ -5,4 +5,5 @@ use Rattle.ds_names.specs.Key.{name_cmp}
 
 -- The text of each element is below those of the elements after it.
 abbrev pub AreAscending : {X : Type 0} → (X → List ℕ) → List X → Type 0
-AreAscending {X} text xs = (i j : ℕ) (d : X) → i < j → j < length xs → name_cmp (text (slice_index_or xs i d)) (text (slice_index_or xs j d)) ≡ Less
+AreAscending {X} text xs =
+    (i j : ℕ) (d : X) → i < j → j < length xs → name_cmp (text (slice_index_or xs i d)) (text (slice_index_or xs j d)) ≡ Less

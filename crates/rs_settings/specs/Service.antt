@@ -11,7 +11,9 @@ use Rattle.rs_settings.specs.Values.{is_same, keys_pass, number_or, label_in_dat
 
 -- Whether a service may have the field.
 abbrev pub is_service_field : List ℕ → Bool
-is_service_field key = is_same key (codes "label") || is_same key (codes "class") || is_same key (codes "unit") || is_same key (codes "period") || is_same key (codes "limit") || is_same key (codes "publishes")
+is_service_field key =
+    is_same key (codes "label") || is_same key (codes "class") || is_same key (codes "unit") || is_same key (codes "period") || is_same key
+    (codes "limit") || is_same key (codes "publishes")
 
 -- Whether there is a class, and it is `server`.
 abbrev pub is_server_class : Option Class → Bool
@@ -25,11 +27,14 @@ names_server (Some value) = is_server_class (class_in value)
 
 -- Whether a label, a class or a unit is missing. A server needs no unit.
 abbrev pub lacks_field : Members → Bool
-lacks_field fields = is_none (get_member (codes "label") fields) || is_none (get_member (codes "class") fields) || (is_none (get_member (codes "unit") fields) && not (names_server (get_member (codes "class") fields)))
+lacks_field fields =
+    is_none (get_member (codes "label") fields) || is_none (get_member (codes "class") fields) ||
+    (is_none (get_member (codes "unit") fields) && not (names_server (get_member (codes "class") fields)))
 
 -- The service of these parts, if each of them could be read.
 abbrev pub service_of : Option (List ℕ) → Option Class → Option (Option ℕ) → Option ℕ → Option ℕ → Option (List (List ℕ)) → Option Service
-service_of (Some label) (Some class) (Some unit) (Some period) (Some limit) (Some publishes) = Some (record { label = label; class = class; unit = unit; period = period; limit = limit; publishes = publishes })
+service_of (Some label) (Some class) (Some unit) (Some period) (Some limit) (Some publishes) =
+    Some (record { label = label; class = class; unit = unit; period = period; limit = limit; publishes = publishes })
 service_of _ _ _ _ _ _ = None
 
 -- The service of these fields, if each value is in its range.
@@ -69,4 +74,5 @@ go_on rest (Err fault) = Err fault
 -- The services read before and those of these items, or the fault of the first bad one.
 abbrev pub services_in : List Service → Items → Result (List Service) SettingsFault
 services_in before no_items = Ok before
-services_in before (item value rest) = go_on (λ service. services_in (before ++ service ∷ []) rest) (service_from (length before) (as_table value))
+services_in before (item value rest) =
+    go_on (λ service. services_in (before ++ service ∷ []) rest) (service_from (length before) (as_table value))

@@ -59,7 +59,8 @@ returns-in_err-count-clause-new_owner c =
 pub returns-clause-count : goal.returns-clause-count
 returns-clause-count c =
     let b = (goal.at.returns-clause-count c).In_ok-count in
-    b.in_ok-count.ensures.count ∙ ap (λ (l : List ChangeRecord). length (puts_void_by c.args.floor l)) (sym (changes_are c.self.inside.held.held)) ∙ ap (λ (v : ContentRecord). length (puts_void_by c.args.floor (changes_in v.held))) c.self.view_is
+    b.in_ok-count.ensures.count ∙ ap (λ (l : List ChangeRecord). length (puts_void_by c.args.floor l)) (sym (changes_are c.self.inside.held.held)) ∙
+    ap (λ (v : ContentRecord). length (puts_void_by c.args.floor (changes_in v.held))) c.self.view_is
 
 held : (c : In_ok-count) → c.raise_at.new.self.held ≡ after_raise c.self.inside.held.held c.args.floor (Ok Taken)
 held c = c.in_ok-count.ensures.raised.held
@@ -109,7 +110,8 @@ invariant_of-self-2 c =
     let stood = c.self.invariant.stood in
     record {
       places = places_then old new c.self.inside.journal c.push.new.self c.self.inside.stamp c.self.inside.subscriptions (Floored c.args.floor) c.args.owed (joined b) bounds here kept (owes b) (pushed d) enters c.self.invariant.places;
-      marked = marked_then old new c.self.inside.journal c.push.new.self c.self.inside.stamp c.self.inside.subscriptions (Floored c.args.floor) c.args.owed (joined b) bounds here kept (owes b) (pushed d) enters stood.0 stood.1 c.self.invariant.places c.self.invariant.marked;
+      marked = marked_then old new c.self.inside.journal c.push.new.self c.self.inside.stamp c.self.inside.subscriptions (Floored c.args.floor) c.args.owed (joined b) bounds here
+          kept (owes b) (pushed d) enters stood.0 stood.1 c.self.invariant.places c.self.invariant.marked;
       stood = (
         takes_effect stood.0 (Floored c.args.floor ∷ []),
         effect old new c.self.inside.journal c.push.new.self c.self.inside.stamp c.self.inside.subscriptions (Floored c.args.floor) c.args.owed (joined b) bounds here kept (owes b) (pushed d) enters stood.0 stood.1,
