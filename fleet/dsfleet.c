@@ -218,7 +218,11 @@ int main(int count, char **words) {
     struct host host = {.store = DS_CLOSED, .place = {.lock = -1, .listener = -1}, .signals = -1};
     int status = options_read(count, words, &options);
     if (status >= 0) return status;
-    if (options.checks) return check_server(&options.fleet) ? DONE : UNFIT;
+    if (options.checks) {
+        status = check_server(&options.fleet) ? DONE : UNFIT;
+        free(options.url);
+        return status;
+    }
     log_open(&host.log);
     host.place.path = options.socket;
     host.place.access = options.access;
@@ -230,5 +234,6 @@ int main(int count, char **words) {
     status = open_all(&host, &options);
     if (status == DONE) status = run(&host);
     close_all(&host);
+    free(options.url);
     return status;
 }

@@ -102,13 +102,15 @@ static bool read_password(const char *path, struct ds_fleet_options *options) {
 
 /* Takes the URL, and overwrites its password, so that others don't see it for longer than that. */
 static bool take_url(char *word, struct options *options) {
-    static char *kept;
     char *front = strstr(word, "://"), *at = strrchr(word, '@');
-    options->fleet.url = kept = strdup(word);
-    char *colon = front && at && front[3] != '/' ? memchr(front + 3, ':', (size_t)(at - front - 3)) : NULL;
+    options->url = strdup(word);
+    options->fleet.url = options->url;
+    char *user = front ? front + strlen("://") : NULL;
+    bool has_user = user && at && at > user && *user != '/';
+    char *colon = has_user ? memchr(user, ':', (size_t)(at - user)) : NULL;
     options->shows_password = colon && colon + 1 < at;
     if (colon) memset(colon + 1, '*', (size_t)(at - colon - 1));
-    return kept;
+    return options->url;
 }
 
 /* The options whose value is a number, and what is said of another one. */
