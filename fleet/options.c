@@ -172,6 +172,7 @@ static int finish(int count, char **words, struct options *options) {
     int wanted = options->checks ? 1 : 2;
     if (count != wanted) return usage(options->checks ? "an address of redis is wanted" : "a socket and an address of redis are wanted");
     options->socket = options->checks ? "-" : words[0];
+    if (strlen(options->socket) >= PLACE_PATH) return usage("the socket's path is too long");
     char *url = words[count - 1];
     if (strcmp(url, "-")) {
         if (!take_url(url, options)) return usage("out of memory");
@@ -180,7 +181,6 @@ static int finish(int count, char **words, struct options *options) {
     }
     if (!options->fleet.url) return usage("DSFLEET_URL isn't set");
     if (!options->fleet.password) options->fleet.password = getenv("DSFLEET_PASSWORD");
-    if (strlen(options->socket) >= PLACE_PATH) return usage("the socket's path is too long");
     if (!options->rights.has_readers) return -1;
     options->rights.writers = options->access.has_group ? options->access.group : getegid();
     if (!options->access.has_mode) options->access.mode = READABLE;
