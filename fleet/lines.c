@@ -4,7 +4,7 @@
 
 enum { PIECE = 1 << 12 /* bytes that are fetched before the length of a text is known */ };
 
-static enum lines_word fetch_text(struct ds_handle *store, struct text *text) {
+static enum lines_word fetch(struct ds_handle *store, struct text *text) {
     size_t before = text->length, wanted = PIECE;
     for (size_t first = 0;;) {
         struct ds_given given;
@@ -31,7 +31,7 @@ enum lines_word lines_answer(struct ds_handle *store, const char *line, size_t l
     if (answer.word == DS_NOREQUEST) return LINES_NOREQUEST;
     said->holds = answer.word == DS_CHANGED || answer.word == DS_KNOWN || answer.word == DS_SWEPT || answer.word == DS_MERGED;
     memcpy(said->owed, answer.owed, sizeof said->owed);
-    return text ? fetch_text(store, text) : LINES_ANSWERED;
+    return text ? fetch(store, text) : LINES_ANSWERED;
 }
 
 /* What isn't listed here counts as long, whatever a store makes of it. */

@@ -27,7 +27,7 @@ void log_open(struct log *log) {
     if (own >= 0) log->descriptor = own;
 }
 
-static bool write_line(const struct log *log, const char *line, size_t length) {
+static bool written(const struct log *log, const char *line, size_t length) {
     struct pollfd it = {.fd = log->descriptor, .events = POLLOUT};
     if (log->is_socket) return send(log->descriptor, line, length, MSG_DONTWAIT | MSG_NOSIGNAL) > 0;
     return poll(&it, 1, 0) > 0 && (it.revents & POLLOUT) && write(log->descriptor, line, length) > 0;
@@ -57,14 +57,14 @@ void log_say(struct log *log, const char *level, const char *format, ...) {
         line[length++] = *byte;
     }
     memcpy(line + length, "\"\n", 2);
-    if (!is_due(log, text, event) || !write_line(log, line, length + 2)) log->left_out++;
+    if (!is_due(log, text, event) || !written(log, line, length + 2)) log->left_out++;
 }
 
 void log_count(struct log *log) {
     char line[LOG_LINE];
     if (!log->left_out || clock_now() < log->count_at) return;
     int length = snprintf(line, sizeof line, LOG_WARN " event=left_out lines=%llu\n", (unsigned long long)log->left_out);
-    if (!write_line(log, line, (size_t)length)) return;
+    if (!written(log, line, (size_t)length)) return;
     log->left_out = 0;
     log->count_at = clock_now() + COUNTED_EACH;
 }
