@@ -91,6 +91,15 @@ redisReply *field_of(const redisReply *fields, const char *name) {
     return NULL;
 }
 
+bool info_says(const redisReply *info, const char *line) { return is_text(info) && strstr(info->str, line); }
+
+bool info_may_evict(const redisReply *info) { return info_says(info, "maxmemory_policy:allkeys") && !info_says(info, "maxmemory:0\r"); }
+
+bool info_splits(const redisReply *info, const char *stream) {
+    const char *open = strchr(stream, '{'), *close = open ? strchr(open, '}') : NULL;
+    return info_says(info, "cluster_enabled:1") && !(close && close > open + 1);
+}
+
 void copy_hex_of(const redisReply *info, const char *name, char copy[DS_FLEET_ID]) {
     const char *at = is_text(info) ? strstr(info->str, name) : NULL;
     size_t length = at ? strspn(at + strlen(name), "0123456789abcdef") : 0;

@@ -38,6 +38,12 @@ bool read_count(const redisReply *answer, long long *count);
 long long count_of(const redisReply *answer);
 /* The value after a name in a list of names and values, or NULL. */
 redisReply *field_of(const redisReply *fields, const char *name);
+/* Whether the text of an INFO has a line that begins so. */
+bool info_says(const redisReply *info, const char *line);
+/* Whether a server, by its INFO, deletes keys of any kind when memory is short. */
+bool info_may_evict(const redisReply *info);
+/* Whether the keys of a stream may be on several nodes of a server's cluster: a part in braces in its name decides on one. */
+bool info_splits(const redisReply *info, const char *stream);
 /* Copies the hexadecimal digits after a name, as `run_id:`, of the text of an INFO; the copy is empty where there are none. */
 void copy_hex_of(const redisReply *info, const char *name, char copy[DS_FLEET_ID]);
 

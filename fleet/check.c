@@ -32,8 +32,6 @@ static bool judged(bool is_good, const char *bad, const char *what, const char *
     return is_good;
 }
 
-static bool says(const redisReply *info, const char *line) { return is_text(info) && strstr(info->str, line); }
-
 /* Waits for a master, and for its answers. Returns why there are none, or NULL. */
 static const char *asked(struct master *master, struct link *link, const char *stream) {
     uint64_t end = clock_now() + LIMIT;
@@ -72,15 +70,13 @@ static bool judge_rights(const struct link *link) {
 static bool judge(const struct link *link, const char *stream) {
     const redisReply *info = link->answers[0];
     const char *version = is_text(info) ? strstr(info->str, version_name) : NULL;
-    const char *open = strchr(stream, '{'), *close = open ? strchr(open, '}') : NULL;
     bool is_new = version && atoi(version + strlen(version_name)) >= LEAST_VERSION;
-    bool is_alone = !says(info, "cluster_enabled:1"), is_kept = !says(info, "maxmemory_policy:allkeys") || says(info, "maxmemory:0\r");
     bool is_good = judged(is_new, fault, "version", "redis 7 or newer is needed");
-    is_good &= judged(says(info, "role:master"), fault, "role", "it is a replica");
-    is_good &= judged(is_alone || (close && close > open + 1), fault, "cluster", "give the stream a name in braces, as {ds}");
+    is_good &= judged(info_says(info, "role:master"), fault, "role", "it is a replica");
+    is_good &= judged(!info_splits(info, stream), fault, "cluster", "give the stream a name in braces, as {ds}");
     is_good &= judge_rights(link);
-    judged(says(info, "aof_enabled:1"), warning, "append-only file", "without one a crash loses everything, once no store lives");
-    judged(is_kept, warning, "eviction", "the server may delete the stream: set maxmemory-policy to noeviction");
+    judged(info_says(info, "aof_enabled:1"), warning, "append-only file", "without one a crash loses everything, once no store lives");
+    judged(!info_may_evict(info), warning, "eviction", "the server may delete the stream: set maxmemory-policy to noeviction");
     return is_good;
 }
 

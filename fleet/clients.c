@@ -11,7 +11,7 @@
 #include <unistd.h>
 
 /* The others keep their order, from the oldest client to the newest. */
-static void drop(struct clients *clients, size_t at) {
+static void drop_client(struct clients *clients, size_t at) {
     struct client *client = clients->client[at];
     close(client->socket);
     text_free(&client->in);
@@ -92,7 +92,7 @@ static bool drop_slowest(struct clients *clients, bool for_place) {
     if (for_place ? places <= clients->limits.clients / 2 : room <= clients->limits.all_output / 2) return false;
     const char *needed = for_place ? "place" : "room";
     log_say(clients->log, LOG_WARN, "slow: a client that doesn't read is dropped, since others need its %s", needed);
-    drop(clients, slowest);
+    drop_client(clients, slowest);
     return true;
 }
 
@@ -102,7 +102,7 @@ void clients_drop_idle(struct clients *clients) {
     for (size_t i = clients->count; limit && i-- > 0;) {
         const struct client *client = clients->client[i];
         bool is_idle = now >= client->heard + limit && !backlog(client) && !memcmp(client->listens, nothing, sizeof nothing);
-        if (is_idle) drop(clients, i);
+        if (is_idle) drop_client(clients, i);
     }
 }
 
@@ -136,7 +136,7 @@ static bool may_answer(const struct clients *clients, const struct client *clien
 }
 
 /* Notes that a line isn't answered now. */
-static void refuse(struct clients *clients, const struct client *client) {
+static void note_refused(struct clients *clients, const struct client *client) {
     clients->refused = true;
     clients->crowded |= clients->waiting >= clients->limits.all_output && backlog(client) < CLIENT_FEW;
 }
@@ -150,7 +150,7 @@ static bool answer_lines(struct clients *clients, struct client *client) {
         const char *line = client->in.bytes + done;
         bool may = may_answer(clients, client, line, length);
         alone = !client->gone && !session_is_short(line, length);
-        if (!may) refuse(clients, client);
+        if (!may) note_refused(clients, client);
         if (!may || (alone && done)) break;
         size_t before = backlog(client);
         client->lines++;
@@ -203,7 +203,7 @@ static void put_notices(const struct clients *clients, struct client *client) {
     }
 }
 
-static void let_go(struct clients *clients, struct client *client) {
+static void release_held(struct clients *clients, struct client *client) {
     if (!client->held.length) return;
     if (!client->mark) client->mark = ds_fleet_mark(clients->fleet); /* memory ran out */
     if (!ds_fleet_is_told(clients->fleet, client->mark)) return;
@@ -237,12 +237,12 @@ bool clients_write(struct clients *clients) {
     clients->waiting = 0;
     for (size_t i = clients->count; i-- > 0;) {
         struct client *client = clients->client[i];
-        let_go(clients, client);
+        release_held(clients, client);
         put_notices(clients, client);
         write_out(client);
         if (client->failed && client->role == ROLE_NOBODY) log_say(clients->log, LOG_WARN, "stranger: a process of neither group hangs up");
         else if (client->failed) log_say(clients->log, LOG_WARN, "noroom: a client is dropped");
-        if (is_done(client)) drop(clients, i);
+        if (is_done(client)) drop_client(clients, i);
         else clients->waiting += backlog(client);
     }
     if (clients->crowded && clients->waiting >= clients->limits.all_output) ready = drop_slowest(clients, false);
@@ -251,11 +251,12 @@ bool clients_write(struct clients *clients) {
 }
 
 bool clients_are_done(const struct clients *clients) {
-    for (size_t i = 0; i < clients->count; i++)
-        if (clients->client[i]->held.length || clients->client[i]->out.length) return false;
+    for (size_t i = 0; i < clients->count; i++) {
+        if (backlog(clients->client[i])) return false;
+    }
     return true;
 }
 
 void clients_close(struct clients *clients) {
-    while (clients->count) drop(clients, clients->count - 1);
+    while (clients->count) drop_client(clients, clients->count - 1);
 }

@@ -59,7 +59,7 @@ static enum ds_fleet_word prepare_snapshot(struct ds_fleet *fleet, struct text *
 
 /* A transaction undoes nothing: if the snapshot couldn't be set, the stream would be trimmed all the same. So a key that denies anything
  * ends it here. */
-static enum ds_fleet_word watched(struct ds_fleet *fleet) {
+static enum ds_fleet_word snapshot_watched(struct ds_fleet *fleet) {
     struct text held = {0};
     bool counts_anew = false;
     enum ds_fleet_word word = prepare_snapshot(fleet, &held, &counts_anew);
@@ -76,7 +76,7 @@ static enum ds_fleet_word watched(struct ds_fleet *fleet) {
     return word;
 }
 
-static enum ds_fleet_word written(struct ds_fleet *fleet) {
+static enum ds_fleet_word snapshot_written(struct ds_fleet *fleet) {
     const struct link *teller = &fleet->server.teller;
     const redisReply *error = error_of((redisReply **)teller->answers, teller->came), *done = teller->answers[WRITING_EXEC];
     char at[DS_FLEET_ID];
@@ -93,5 +93,5 @@ static enum ds_fleet_word written(struct ds_fleet *fleet) {
 }
 
 enum ds_fleet_word compacting_answered(struct ds_fleet *fleet) {
-    return fleet->compacting.state == COMPACTING_WATCHES ? watched(fleet) : written(fleet);
+    return fleet->compacting.state == COMPACTING_WATCHES ? snapshot_watched(fleet) : snapshot_written(fleet);
 }

@@ -74,7 +74,8 @@ static void wait_and_read(struct host *host, bool ready) {
     polled[1] = (struct pollfd){.fd = ds_fleet_bell(host->fleet), .events = POLLIN};
     polled[2] = (struct pollfd){.fd = rests ? -1 : host->place.listener, .events = POLLIN};
     for (size_t i = 0; i < count; i++) polled[i + 3] = clients_watched(&host->clients, host->clients.client[i]);
-    if (poll(polled, count + 3, ready ? 0 : rests ? REST : SECOND) <= 0) return;
+    int patience = rests ? REST : SECOND;
+    if (poll(polled, count + 3, ready ? 0 : patience) <= 0) return;
     struct signalfd_siginfo signal;
     host->ended |= polled[0].revents && read(host->signals, &signal, sizeof signal) > 0;
     for (size_t i = 0; i < count; i++) clients_read(host->clients.client[i], polled[i + 3].revents);
@@ -217,7 +218,11 @@ int main(int count, char **words) {
     struct host host = {.store = DS_CLOSED, .place = {.lock = -1, .listener = -1}, .signals = -1};
     int status = options_read(count, words, &options);
     if (status >= 0) return status;
-    if (options.checks) return check_server(&options.fleet) ? DONE : UNFIT;
+    if (options.checks) {
+        status = check_server(&options.fleet) ? DONE : UNFIT;
+        free(options.url);
+        return status;
+    }
     log_open(&host.log);
     host.place.path = options.socket;
     host.place.access = options.access;
@@ -229,5 +234,6 @@ int main(int count, char **words) {
     status = open_all(&host, &options);
     if (status == DONE) status = run(&host);
     close_all(&host);
+    free(options.url);
     return status;
 }

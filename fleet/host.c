@@ -23,7 +23,7 @@ struct lookup {
     char name[];
 };
 
-static void let_go(struct lookup *lookup) {
+static void release_lookup(struct lookup *lookup) {
     if (atomic_fetch_sub(&lookup->holders, 1) > 1) return;
     close(lookup->bell);
     free(lookup);
@@ -50,7 +50,7 @@ static void *look_up(void *given) {
     }
     atomic_store(&lookup->is_answered, true);
     eventfd_write(lookup->bell, 1);
-    let_go(lookup);
+    release_lookup(lookup);
     return NULL;
 }
 
@@ -88,14 +88,14 @@ static bool begin_lookup(struct host *host, uint64_t now) {
     return true;
 }
 
-static enum host_found use(struct host *host, const char *address) {
+static enum host_found use_address(struct host *host, const char *address) {
     snprintf(host->address, sizeof host->address, "%.*s", HOST_TEXT - 1, address);
     return HOST_FOUND;
 }
 
 static enum host_found use_last(struct host *host, const char *said) {
     host->said = said;
-    return *host->worked ? use(host, host->worked) : HOST_UNKNOWN;
+    return *host->worked ? use_address(host, host->worked) : HOST_UNKNOWN;
 }
 
 static enum host_found use_answer(struct host *host) {
@@ -103,20 +103,20 @@ static enum host_found use_answer(struct host *host) {
     enum host_found found;
     host->lookup = NULL;
     if (lookup->count) {
-        found = use(host, lookup->address[host->turn % lookup->count]);
+        found = use_address(host, lookup->address[host->turn % lookup->count]);
     } else {
         found = use_last(host, lookup->error ? gai_strerror(lookup->error) : "its name has no address");
     }
-    let_go(lookup);
+    release_lookup(lookup);
     return found;
 }
 
 enum host_found host_find(struct host *host, uint64_t now) {
-    if (host->is_address) return use(host, host->name);
+    if (host->is_address) return use_address(host, host->name);
     if (!host->lookup && !begin_lookup(host, now)) return use_last(host, "no memory or thread to look its name up");
     if (atomic_load(&host->lookup->is_answered)) return use_answer(host);
     if (now - host->asked_at < HOST_PATIENCE || !*host->worked) return HOST_SOUGHT;
-    return use(host, host->worked);
+    return use_address(host, host->worked);
 }
 
 static bool is_in_digits(const char *name) {
@@ -137,6 +137,6 @@ void host_worked(struct host *host) { snprintf(host->worked, sizeof host->worked
 void host_failed(struct host *host) { host->turn++; }
 
 void host_close(struct host *host) {
-    if (host->lookup) let_go(host->lookup);
+    if (host->lookup) release_lookup(host->lookup);
     host->lookup = NULL;
 }

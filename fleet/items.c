@@ -24,8 +24,9 @@ void items_say(struct items *items, const char *format, ...) {
     va_start(given, format);
     vsnprintf(line, sizeof line, format, given);
     va_end(given);
-    for (char *byte = line; *byte; byte++)
+    for (char *byte = line; *byte; byte++) {
         if (*byte < ' ' || *byte > '~') *byte = '?';
+    }
     items->tell(items->context, line);
 }
 
@@ -34,9 +35,12 @@ void items_say(struct items *items, const char *format, ...) {
 /* A request for what is under the scope, of the whole journal or of all that is held. */
 static struct ds_request scoped(const struct items *items, uint32_t command) {
     struct ds_request request = {.command = command, .max = ITEMS_MOST};
-    request.incarnation = items->incarnation, request.position = items->position;
+    request.incarnation = items->incarnation;
+    request.position = items->position;
     if (!items->kinds) return request;
-    request.under = 1, request.kinds = items->kinds, request.text_length = items->scope.length;
+    request.under = 1;
+    request.kinds = items->kinds;
+    request.text_length = items->scope.length;
     return request;
 }
 
@@ -53,7 +57,8 @@ static enum ds_fleet_word fetch_items(struct ds_handle *store, const struct ds_a
         struct ds_given given = {0};
         bool fits = text_room(to, PIECES);
         uint32_t error = fits ? ds_items(store, first, to->bytes + to->length, to->room - to->length, &given) : 0;
-        to->length += given.length, first += given.count;
+        to->length += given.length;
+        first += given.count;
         if (!error && given.count) continue;
         to->length = before;
         return error ? DS_FLEET_CLOSED : DS_FLEET_NOROOM;
@@ -68,7 +73,8 @@ static enum ds_fleet_word keep_untold(struct items *items, const struct ds_answe
     enum ds_fleet_word word = fetch_items(items->store, answer, &items->untold);
     if (word != DS_FLEET_INSTEP) return word;
     items->gathered += items->untold.length - before;
-    items->incarnation = answer->before, items->position = answer->after;
+    items->incarnation = answer->before;
+    items->position = answer->after;
     return DS_FLEET_INSTEP;
 }
 
@@ -96,14 +102,15 @@ static bool is_news(struct items *items, const char *line, size_t length, uint32
     const char *space = memchr(line, ' ', length);
     const char *end = space ? memchr(space + 1, ' ', length - (size_t)(space + 1 - line)) : NULL;
     uint64_t hash = hashed(hash_seed + refusal, line, end ? (size_t)(end - line) : length);
-    for (size_t i = 0; i < ITEMS_TOLD; i++)
+    for (size_t i = 0; i < ITEMS_TOLD; i++) {
         if (items->told[i] == hash) return false;
+    }
     items->told[items->told_next++ % ITEMS_TOLD] = hash;
     return true;
 }
 
 /* entry is NULL for what was logged before. */
-static void complain(struct items *items, const char *entry, const char *line, size_t length, uint32_t refusal) {
+static void log_refusal(struct items *items, const char *entry, const char *line, size_t length, uint32_t refusal) {
     if (!entry || !is_news(items, line, length, refusal)) return;
     size_t shown = length && line[length - 1] == '\n' ? length - 1 : length;
     if (shown > SHOWN) shown = SHOWN;
@@ -122,7 +129,7 @@ static uint64_t refused_now(const struct items *items) {
 }
 
 /* Another item that no store here has a place for. */
-static void lose(struct items *items) {
+static void lose_item(struct items *items) {
     if (items->lost++) return;
     items->lost_beside = refused_now(items);
     items_say(items, "overfull: what was refused is too much to be kept, so nothing is compacted from here");
@@ -142,8 +149,8 @@ static enum ds_fleet_word set_aside(struct items *items, const char *entry, cons
     items->has_aside = true;
     if (ds_call(&items->aside[items->here], &request, line, length, &answer)) return DS_FLEET_CLOSED;
     if (answer.refusal == DS_NOROOM) return DS_FLEET_NOROOM;
-    complain(items, entry, line, length, refusal);
-    if (answer.word == DS_STOPPED && answer.refusal == DS_FULL) lose(items); /* else it keeps another one of this version */
+    log_refusal(items, entry, line, length, refusal);
+    if (answer.word == DS_STOPPED && answer.refusal == DS_FULL) lose_item(items); /* else it keeps another one of this version */
     if (answer.word == DS_STOPPED || answer.taken) {
         items->refused[refusal <= DS_NOROOM ? refusal : 0]++;
         items->news = true;
@@ -189,21 +196,23 @@ enum ds_fleet_word items_retry(struct items *items) {
 
 /* ---- others' items ---- */
 
-static void unread(struct items *items, const char *entry, const char *line, size_t length) {
+static void count_unread(struct items *items, const char *entry, const char *line, size_t length) {
     items->unread++;
-    complain(items, entry, line, length, 0);
+    log_refusal(items, entry, line, length, 0);
 }
 
 /* Merges lines, and says how many bytes of them are done: up to a line that is refused, and with it. */
-static enum ds_fleet_word merge(struct items *items, const char *entry, const char *lines, size_t length, unsigned count, size_t *done) {
+static enum ds_fleet_word merge_lines(struct items *items, const char *entry, const char *lines, size_t length, unsigned count, size_t *done) {
     struct ds_request request = {.command = DS_MERGE, .text_length = length};
     struct ds_answer answer;
     *done = 0;
     if (ds_call(items->store, &request, lines, length, &answer)) return DS_FLEET_CLOSED;
     if (answer.word == DS_REFUSED && answer.refusal == DS_NOROOM) return DS_FLEET_NOROOM;
     if (answer.word == DS_NOREQUEST || answer.word == DS_REFUSED) {
-        if (count == 1) unread(items, entry, lines, *done = length);
-        return DS_FLEET_INSTEP; /* more than one: none is done, and they come one by one */
+        if (count > 1) return DS_FLEET_INSTEP; /* none is done, and they come one by one */
+        *done = length;
+        count_unread(items, entry, lines, length);
+        return DS_FLEET_INSTEP;
     }
     items->position += answer.taken;
     for (size_t i = 0; i < sizeof items->owed; i++) items->owed[i] |= answer.owed[i];
@@ -222,11 +231,12 @@ static enum ds_fleet_word take_ended(struct items *items, const char *entry, con
     size_t singly = 0; /* how many bytes come one by one, since they can't be read together */
     while (length) {
         size_t done, part = first_lines(lines, length, singly ? 1 : count);
-        enum ds_fleet_word word = merge(items, entry, lines, part, singly || first_lines(lines, part, 1) == part ? 1 : count, &done);
+        enum ds_fleet_word word = merge_lines(items, entry, lines, part, singly || first_lines(lines, part, 1) == part ? 1 : count, &done);
         if (word != DS_FLEET_INSTEP) return word;
         if (!done) singly = part;
         else singly -= done < singly ? done : singly;
-        lines += done, length -= done;
+        lines += done;
+        length -= done;
     }
     return DS_FLEET_INSTEP;
 }

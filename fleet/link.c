@@ -18,20 +18,20 @@ enum {
 
 /* ---- addresses ---- */
 
-static int digit(char byte) {
+static int hex_digit(char byte) {
     if (byte >= '0' && byte <= '9') return byte - '0';
     if (byte >= 'a' && byte <= 'f') return byte - 'a' + 10;
     return byte >= 'A' && byte <= 'F' ? byte - 'A' + 10 : -1;
 }
 
 /* Replaces each %XX by its byte. */
-static bool spelled(char *text) {
+static bool decode_percents(char *text) {
     char *to = text;
     for (const char *from = text; *from; from++, to++) {
         *to = *from;
         if (*from != '%') continue;
-        if (digit(from[1]) < 0 || digit(from[2]) < 0) return false;
-        *to = (char)(digit(from[1]) * 16 + digit(from[2]));
+        if (hex_digit(from[1]) < 0 || hex_digit(from[2]) < 0) return false;
+        *to = (char)(hex_digit(from[1]) * 16 + hex_digit(from[2]));
         if (!*to) return false;
         from += 2;
     }
@@ -40,7 +40,7 @@ static bool spelled(char *text) {
 }
 
 /* A number of at most this, or -1. */
-static int number(const char *text, int most) {
+static int read_number(const char *text, int most) {
     int value = 0;
     if (!*text) return -1;
     for (; *text; text++) {
@@ -61,7 +61,7 @@ static char *past_user(struct link_address *address, char *text) {
     *colon = '\0';
     address->user = *text ? text : NULL;
     address->password = colon + 1;
-    if (!spelled(text) || !spelled(colon + 1)) return NULL;
+    if (!decode_percents(text) || !decode_percents(colon + 1)) return NULL;
     return at + 1;
 }
 
@@ -75,7 +75,7 @@ static bool read_place(struct link_address *address, char *text, int port) {
         text++;
     }
     if (colon) {
-        port = number(colon + 1, LAST_PORT);
+        port = read_number(colon + 1, LAST_PORT);
         *colon = '\0';
     }
     address->at[address->count].host = text;
@@ -101,7 +101,7 @@ static char *cut_at_slash(char *text) {
 }
 
 static bool read_database(struct link_address *address, const char *text) {
-    if (text && *text) address->database = number(text, LAST_DATABASE);
+    if (text && *text) address->database = read_number(text, LAST_DATABASE);
     return address->database >= 0;
 }
 
@@ -145,7 +145,7 @@ void link_forget(struct link_address *address) {
 
 /* ---- the connection ---- */
 
-static void note(struct link *link, const char *words) {
+static void keep_words(struct link *link, const char *words) {
     snprintf(link->said, sizeof link->said, "%s", words);
 }
 
@@ -172,7 +172,7 @@ bool link_open(struct link *link, const struct link_call *call, uint64_t now) {
     link->redis = call->path ? redisConnectUnixNonBlock(call->path) : redisConnectNonBlock(call->host, call->port);
     if (link->redis && !link->redis->err) set_up(link->redis, call->path);
     if (!link->redis || link->redis->err) {
-        note(link, link->redis ? link->redis->errstr : "no memory");
+        keep_words(link, link->redis ? link->redis->errstr : "no memory");
         link_close(link);
         return false;
     }
@@ -186,7 +186,7 @@ void link_ask(struct link *link, const char *format, ...) {
     va_list given;
     va_start(given, format);
     if (!link->redis || link->asked == LINK_MOST || redisvAppendCommand(link->redis, format, given) != REDIS_OK) {
-        if (link->redis) note(link, "a question couldn't be asked");
+        if (link->redis) keep_words(link, "a question couldn't be asked");
         link_close(link);
     } else {
         link->asked++;
@@ -196,27 +196,27 @@ void link_ask(struct link *link, const char *format, ...) {
 }
 
 /* Keeps an answer of the round; one to a greeting has to be good, but for that to the name. */
-static bool kept(struct link *link, redisReply *answer) {
+static bool keep_answer(struct link *link, redisReply *answer) {
     if (!link->greetings && link->came < link->asked) {
         link->answers[link->came++] = answer;
         return true;
     }
     if (!link->greetings) {
-        note(link, "the server answers what wasn't asked");
+        keep_words(link, "the server answers what wasn't asked");
         freeReplyObject(answer);
         return false;
     }
     bool is_name = link->names && link->greetings == 1;
     bool good = answer->type != REDIS_REPLY_ERROR || is_name;
-    if (!good) note(link, answer->str);
+    if (!good) keep_words(link, answer->str);
     freeReplyObject(answer);
     link->greetings--;
     return good;
 }
 
 /* The connection failed: its own words say why. */
-static bool broken(struct link *link) {
-    note(link, link->redis->errstr);
+static bool connection_failed(struct link *link) {
+    keep_words(link, link->redis->errstr);
     return false;
 }
 
@@ -224,18 +224,18 @@ static bool write_some(struct link *link, uint64_t now) {
     int done = 0;
     if (!link->writes) return true;
     size_t before = sdslen(link->redis->obuf);
-    if (redisBufferWrite(link->redis, &done) != REDIS_OK) return broken(link);
+    if (redisBufferWrite(link->redis, &done) != REDIS_OK) return connection_failed(link);
     if (sdslen(link->redis->obuf) < before) link->heard = now;
     link->writes = !done;
     return true;
 }
 
 /* Reads what has come, up to a megabyte, unless it is known that nothing has. */
-static bool fill(struct link *link, uint64_t now) {
+static bool read_bytes(struct link *link, uint64_t now) {
     redisReader *reader = link->redis->reader;
     for (int times = 0; times < MOST_READS && !link->quiet; times++) {
         size_t before = reader->len;
-        if (redisBufferRead(link->redis) != REDIS_OK) return broken(link);
+        if (redisBufferRead(link->redis) != REDIS_OK) return connection_failed(link);
         link->quiet = reader->len < before + REDIS_READER_MAX_BUF; /* it reads so much at a time */
         if (reader->len > before) link->heard = now;
     }
@@ -243,19 +243,19 @@ static bool fill(struct link *link, uint64_t now) {
 }
 
 static bool read_some(struct link *link, uint64_t now) {
-    if (!fill(link, now)) return false;
+    if (!read_bytes(link, now)) return false;
     for (;;) {
         void *answer = NULL;
-        if (redisGetReplyFromReader(link->redis, &answer) != REDIS_OK) return broken(link);
+        if (redisGetReplyFromReader(link->redis, &answer) != REDIS_OK) return connection_failed(link);
         if (!answer) return true;
-        if (!kept(link, answer)) return false;
+        if (!keep_answer(link, answer)) return false;
     }
 }
 
 /* Whether answers are missing for longer than any may take. */
 static bool is_silent(struct link *link, uint64_t now) {
     if (now <= link->heard + link->blocks + LINK_SILENCE) return false;
-    note(link, "the server answers nothing");
+    keep_words(link, "the server answers nothing");
     return true;
 }
 

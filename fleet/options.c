@@ -39,6 +39,7 @@ static const char help[] =
     "`listen SUB`, upon which `notice SUB` comes whenever the subscription is owed one; `as ENDPOINT`; `state`; `metrics`.\n"
     "Statuses: 0 ended by a signal, 1 --check found a fault, 2 usage or a stream of another scope, 3 a failure.\n";
 
+static const char no_group[] = "there is no such group";
 static const char version[] = "dsfleet " DS_VERSION "\n";
 
 enum {
@@ -46,7 +47,8 @@ enum {
     READABLE = 0666,     /* the socket's mode if readers are others than writers */
     MODE_BITS = 0777,
     OCTAL = 8,
-    DECIMAL = 10
+    DECIMAL = 10,
+    ALL_KINDS = 15
 };
 
 static int usage(const char *why) {
@@ -64,7 +66,7 @@ static bool read_scope(char *scope, struct ds_fleet_options *options) {
     char *space = strrchr(scope, ' '), *end;
     if (!space) return false;
     long kinds = strtol(space + 1, &end, DECIMAL);
-    if (*end || end == space + 1 || kinds < 1 || kinds > 15) return false;
+    if (*end || end == space + 1 || kinds < 1 || kinds > ALL_KINDS) return false;
     *space = '\0';
     options->pattern = scope;
     options->kinds = (uint8_t)kinds;
@@ -100,58 +102,68 @@ static bool read_password(const char *path, struct ds_fleet_options *options) {
 
 /* Takes the URL, and overwrites its password, so that others don't see it for longer than that. */
 static bool take_url(char *word, struct options *options) {
-    static char *kept;
     char *front = strstr(word, "://"), *at = strrchr(word, '@');
-    options->fleet.url = kept = strdup(word);
-    char *colon = front && at && front[3] != '/' ? memchr(front + 3, ':', (size_t)(at - front - 3)) : NULL;
+    options->url = strdup(word);
+    options->fleet.url = options->url;
+    char *user = front ? front + strlen("://") : NULL;
+    bool has_user = user && at && at > user && *user != '/';
+    char *colon = has_user ? memchr(user, ':', (size_t)(at - user)) : NULL;
     options->shows_password = colon && colon + 1 < at;
     if (colon) memset(colon + 1, '*', (size_t)(at - colon - 1));
-    return kept;
+    return options->url;
+}
+
+/* The options whose value is a number, and what is said of another one. */
+static const struct { int option; long least, most; const char *fault; } numbers[] = {
+    {'k', 1, 1000000000, "a stream keeps 1 to 1000000000 entries"},
+    {'n', 0, 100, "replicas are 0 to 100"},
+    {'i', 1, 60000, "--within is 1 to 60000 milliseconds"},
+    {'x', 1, CLIENTS, "clients are 1 to 512"},
+    {'t', 0, 1000000, "a timeout is 0 to 1000000 seconds"},
+    {'o', CLIENT_FEW, 1 << 30, "an output limit is 16384 to 1073741824 bytes"},
+    {'a', CLIENT_FEW, 1L << 40, "the memory of clients is 16384 to 1099511627776 bytes"},
+};
+
+static void keep_number(int option, long number, struct options *options) {
+    switch (option) {
+    case 'k': options->fleet.keep = number; break;
+    case 'n': options->fleet.replicas = (int)number; break;
+    case 'i': options->fleet.within = (int)number; break;
+    case 'x': options->limits.clients = (size_t)number; break;
+    case 't': options->limits.timeout = (uint64_t)number; break;
+    case 'o': options->limits.output = (size_t)number; break;
+    case 'a': options->limits.all_output = (size_t)number; break;
+    }
+}
+
+static int take_number(int option, const char *value, struct options *options) {
+    long number;
+    for (size_t i = 0; i < sizeof numbers / sizeof *numbers; i++) {
+        if (numbers[i].option != option) continue;
+        if (!read_number(value, DECIMAL, numbers[i].least, numbers[i].most, &number)) return usage(numbers[i].fault);
+        keep_number(option, number, options);
+        return -1;
+    }
+    return usage("no such option, or no value after it");
 }
 
 /* Takes an option; -1: continue. */
 static int read_option(int option, char *value, struct options *options) {
-    long number = 0;
     switch (option) {
     case 'h': return shown(help);
     case 'v': return shown(version);
     case 'c': options->checks = true; return -1;
     case 's': options->fleet.stream = value; return -1;
     case 'p': return read_scope(value, &options->fleet) ? -1 : usage("a scope is a pattern, a space, and kinds from 1 to 15");
-    case 'k': return read_number(value, DECIMAL, 1, 1000000000, &options->fleet.keep) ? -1 : usage("a stream keeps 1 entry or more");
     case 'w': return read_password(value, &options->fleet) ? -1 : usage("the password file can't be read, or its first line is empty");
     case 'm': return read_mode(value, &options->access) ? -1 : usage("a mode is octal, 1 to 777");
     case 'g':
         options->access.has_group = true;
-        return rights_read_group(value, &options->access.group) ? -1 : usage("there is no such group");
+        return rights_read_group(value, &options->access.group) ? -1 : usage(no_group);
     case 'r':
         options->rights.has_readers = true;
-        return rights_read_group(value, &options->rights.readers) ? -1 : usage("there is no such group");
-    case 'n':
-        if (!read_number(value, DECIMAL, 0, 100, &number)) return usage("replicas are 0 to 100");
-        options->fleet.replicas = (int)number;
-        return -1;
-    case 'i':
-        if (!read_number(value, DECIMAL, 1, 60000, &number)) return usage("--within is 1 to 60000 milliseconds");
-        options->fleet.within = (int)number;
-        return -1;
-    case 'x':
-        if (!read_number(value, DECIMAL, 1, CLIENTS, &number)) return usage("clients are 1 to 512");
-        options->limits.clients = (size_t)number;
-        return -1;
-    case 't':
-        if (!read_number(value, DECIMAL, 0, 1000000, &number)) return usage("a timeout is 0 to 1000000 seconds");
-        options->limits.timeout = (uint64_t)number;
-        return -1;
-    case 'o':
-        if (!read_number(value, DECIMAL, CLIENT_FEW, 1 << 30, &number)) return usage("an output limit is 16384 bytes or more");
-        options->limits.output = (size_t)number;
-        return -1;
-    case 'a':
-        if (!read_number(value, DECIMAL, CLIENT_FEW, 1L << 40, &number)) return usage("the memory of clients is 16384 bytes or more");
-        options->limits.all_output = (size_t)number;
-        return -1;
-    default: return usage("no such option, or no value after it");
+        return rights_read_group(value, &options->rights.readers) ? -1 : usage(no_group);
+    default: return take_number(option, value, options);
     }
 }
 
@@ -160,6 +172,7 @@ static int finish(int count, char **words, struct options *options) {
     int wanted = options->checks ? 1 : 2;
     if (count != wanted) return usage(options->checks ? "an address of redis is wanted" : "a socket and an address of redis are wanted");
     options->socket = options->checks ? "-" : words[0];
+    if (strlen(options->socket) >= PLACE_PATH) return usage("the socket's path is too long");
     char *url = words[count - 1];
     if (strcmp(url, "-")) {
         if (!take_url(url, options)) return usage("out of memory");
@@ -168,7 +181,6 @@ static int finish(int count, char **words, struct options *options) {
     }
     if (!options->fleet.url) return usage("DSFLEET_URL isn't set");
     if (!options->fleet.password) options->fleet.password = getenv("DSFLEET_PASSWORD");
-    if (strlen(options->socket) >= PLACE_PATH) return usage("the socket's path is too long");
     if (!options->rights.has_readers) return -1;
     options->rights.writers = options->access.has_group ? options->access.group : getegid();
     if (!options->access.has_mode) options->access.mode = READABLE;

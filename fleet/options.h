@@ -15,6 +15,7 @@ struct options {
     struct rights rights;
     struct place_access access;
     const char *socket;
+    char *url;          /* a copy that main frees; NULL: the URL is the environment's */
     bool checks;        /* only says whether a server will do */
     bool shows_password; /* the words have one, which other users could see */
 };

@@ -51,7 +51,7 @@ static struct peer *peer_of(struct peers *peers, const char *id) {
 }
 
 /* Compares a digest with the own one of the same entry; where there is none, what was found last stays. */
-static void judge(const struct peers *peers, struct peer *peer, const struct digest *theirs) {
+static void judge_digest(const struct peers *peers, struct peer *peer, const struct digest *theirs) {
     unsigned long kept = peers->own_count < OWN_DIGESTS ? peers->own_count : OWN_DIGESTS;
     for (unsigned long i = 0; i < kept; i++) {
         const struct digest *own = &peers->own[i];
@@ -60,7 +60,7 @@ static void judge(const struct peers *peers, struct peer *peer, const struct dig
     }
 }
 
-static void compare(struct peers *peers, const char *me, const char *id, const char *text) {
+static void compare_digest(struct peers *peers, const char *me, const char *id, const char *text) {
     struct digest theirs;
     unsigned long long beat;
     if (!strcmp(id, me) || !read_digest(text, &theirs, &beat)) return;
@@ -69,14 +69,14 @@ static void compare(struct peers *peers, const char *me, const char *id, const c
     peer->there = true;
     peer->still = peer->beat == beat ? peer->still + 1 : 0;
     peer->beat = beat;
-    if (!peer->still) judge(peers, peer, &theirs);
+    if (!peer->still) judge_digest(peers, peer, &theirs);
     if (peer->still >= DEAD) return;
     peers->differing += peer->differs >= DIFFERS;
     if (!peer->differs && strcmp(id, me) < 0) peers->is_first = false;
 }
 
 /* Forgets those whose digests are there no longer. */
-static void bury(struct peers *peers) {
+static void forget_gone(struct peers *peers) {
     size_t kept = 0;
     for (size_t i = 0; i < peers->count; i++) {
         if (peers->peer[i].there) peers->peer[kept++] = peers->peer[i];
@@ -90,9 +90,9 @@ void peers_compare(struct peers *peers, const char *me, const redisReply *digest
     for (size_t i = 0; i < peers->count; i++) peers->peer[i].there = false;
     for (size_t i = 0; i + 1 < digests->elements; i += 2) {
         const redisReply *id = digests->element[i], *text = digests->element[i + 1];
-        if (is_text(id) && is_text(text)) compare(peers, me, id->str, text->str);
+        if (is_text(id) && is_text(text)) compare_digest(peers, me, id->str, text->str);
     }
-    bury(peers);
+    forget_gone(peers);
 }
 
 const char *peers_gone(const struct peers *peers) {

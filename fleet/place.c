@@ -13,7 +13,7 @@ enum { BACKLOG = 512, TRIES = 8 /* to lock a file that others remove meanwhile *
 
 static const char another[] = "another one serves it";
 
-static bool failed(const struct place *place, const char *path, const char *why) {
+static bool place_failed(const struct place *place, const char *path, const char *why) {
     log_say(place->log, LOG_ERROR, "socket: %s: %s", path, why);
     return false;
 }
@@ -38,10 +38,10 @@ static bool is_served(const struct place *place) {
 /* Whether the path is free, or has a socket that may be taken over. */
 static bool is_free(const struct place *place) {
     struct stat it;
-    if (lstat(place->path, &it)) return errno == ENOENT || failed(place, place->path, strerror(errno));
-    if (!S_ISSOCK(it.st_mode)) return failed(place, place->path, "it isn't a socket, and is left alone");
-    if (it.st_uid != geteuid()) return failed(place, place->path, "it is another user's socket, and is left alone");
-    return !is_served(place) || failed(place, place->path, another);
+    if (lstat(place->path, &it)) return errno == ENOENT || place_failed(place, place->path, strerror(errno));
+    if (!S_ISSOCK(it.st_mode)) return place_failed(place, place->path, "it isn't a socket, and is left alone");
+    if (it.st_uid != geteuid()) return place_failed(place, place->path, "it is another user's socket, and is left alone");
+    return !is_served(place) || place_failed(place, place->path, another);
 }
 
 /* Whether the path names the file that is open. */
@@ -56,7 +56,7 @@ static void name_lock(const struct place *place, char path[PLACE_PATH + 8]) {
 }
 
 /* Another one may remove the file between its opening and its locking: then it is made anew. */
-static int locked(const char *path) {
+static int open_lock(const char *path) {
     for (int tries = 0; tries < TRIES; tries++) {
         int lock = open(path, O_CREAT | O_RDWR | O_CLOEXEC | O_NOFOLLOW | O_NONBLOCK, 0600);
         if (lock < 0) return -1;
@@ -76,9 +76,9 @@ bool place_lock(struct place *place) {
     name_lock(place, path);
     if (!is_free(place)) return false;
     if (place->lock >= 0 && is_at(place->lock, path)) return true;
-    int lock = locked(path);
-    if (lock < 0 && errno == EWOULDBLOCK) return failed(place, place->path, another);
-    if (lock < 0) return failed(place, path, strerror(errno));
+    int lock = open_lock(path);
+    if (lock < 0 && errno == EWOULDBLOCK) return place_failed(place, place->path, another);
+    if (lock < 0) return place_failed(place, path, strerror(errno));
     if (place->lock >= 0) close(place->lock);
     place->lock = lock;
     return true;
@@ -96,13 +96,13 @@ bool place_serve(struct place *place) {
     struct stat it;
     if (!place_lock(place)) return false;
     int listener = socket(AF_UNIX, SOCK_STREAM | SOCK_NONBLOCK | SOCK_CLOEXEC, 0);
-    if (listener < 0) return failed(place, place->path, strerror(errno));
+    if (listener < 0) return place_failed(place, place->path, strerror(errno));
     unlink(place->path); /* of one that ended without a word */
     bool is_bound = !bind(listener, (struct sockaddr *)&address, sizeof address);
     if (!is_bound || !has_access(place) || listen(listener, BACKLOG) || lstat(place->path, &it)) {
         const char *why = strerror(errno);
         close(listener);
-        return failed(place, place->path, why);
+        return place_failed(place, place->path, why);
     }
     place->listener = listener;
     place->device = it.st_dev;
@@ -115,7 +115,7 @@ void place_keep(struct place *place) {
     char path[PLACE_PATH + 8];
     name_lock(place, path);
     if (is_at(place->lock, path)) return;
-    int lock = locked(path);
+    int lock = open_lock(path);
     if (lock < 0) return; /* who has it finds that the socket is served */
     close(place->lock);
     place->lock = lock;

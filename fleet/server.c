@@ -147,14 +147,6 @@ static bool note_server(struct ds_fleet *fleet, const redisReply *info) {
     return true;
 }
 
-static bool says(const redisReply *info, const char *line) { return is_text(info) && strstr(info->str, line); }
-
-/* Whether all keys of a stream are on one node of a cluster: `{TAG}` in its name decides which. */
-static bool has_tag(const char *stream) {
-    const char *open = strchr(stream, '{'), *close = open ? strchr(open, '}') : NULL;
-    return close && close > open + 1;
-}
-
 bool server_has_other_scope(const struct ds_fleet *fleet, const redisReply *scope) {
     return is_text(scope) && strcmp(scope->str, fleet->scope);
 }
@@ -180,11 +172,11 @@ enum ds_fleet_word meeting_answered(struct ds_fleet *fleet) {
     struct server *server = &fleet->server;
     struct redisReply **answers = server->teller.answers, *info = answers[MEETING_INFO], *scope = answers[MEETING_SCOPE];
     if (is_error(info)) return server_denied(fleet, info);
-    bool may_evict = says(info, "maxmemory_policy:allkeys") && !says(info, "maxmemory:0\r");
-    if (says(info, "cluster_enabled:1") && !has_tag(fleet->stream)) {
+    bool may_evict = info_may_evict(info);
+    if (info_splits(info, fleet->stream)) {
         return server_hang_up(fleet, DS_FLEET_BADNAME, "the server is of a cluster: give the stream a name in braces, as {ds}");
     }
-    if (says(info, "role:slave") && master_has_others(&server->master)) return server_hang_up(fleet, DS_FLEET_DENIED, "it is a replica");
+    if (info_says(info, "role:slave") && master_has_others(&server->master)) return server_hang_up(fleet, DS_FLEET_DENIED, "it is a replica");
     if (note_server(fleet, info)) bridge_begin_anew(fleet);
     if (is_error(scope)) return server_denied(fleet, scope);
     if (server_has_other_scope(fleet, scope)) return server_refuse_scope(fleet, scope);

@@ -127,20 +127,17 @@ static bool rewrite(struct text *to, long sub, const char *rest, size_t length, 
     return text_put(to, rest, length - end) && text_put(to, over, strlen(over));
 }
 
-/* Asks for a subscription of this number, which belongs to the client from then on. `is_chosen`: a line `sub SUB` names it. */
-static bool make_subscription(struct clients *clients, struct client *client, long sub, const struct text *line, bool is_chosen, bool *holds) {
-    size_t before = client->held.length;
-    if (!put_answer(clients, client, line->bytes, line->length, holds)) return false;
-    bool is_made = begins(client->held.bytes + before, client->held.length - before, "subscribed ");
-    if (!is_made) return true;
+/* Notes that the client has a subscription from now on, if the answer from `before` on says so. `is_chosen`: a line `sub SUB` names it. */
+static bool note_subscribed(struct client *client, long sub, size_t before, bool is_chosen) {
+    if (!begins(client->held.bytes + before, client->held.length - before, "subscribed ")) return true;
     client->owns[sub / 8] |= (uint8_t)(1 << sub % 8);
     return !is_chosen || text_print(&client->held, "sub %ld\n", sub);
 }
 
-/* `subscribe SUB ..`, or `subscribe ..` for a number that is free. */
+/* `subscribe SUB ..`, or `subscribe ..` for a number that is free. The place of a fault is that in the client's own line. */
 static bool answer_subscribe(struct clients *clients, struct client *client, const char *line, size_t length, bool *holds) {
     const char *rest = line + strlen(subscribe);
-    size_t left = length - strlen(subscribe);
+    size_t left = length - strlen(subscribe), before = client->held.length;
     bool is_chosen = left && *rest == '"';
     long sub = is_chosen ? free_sub(clients) : named_sub(line, length, subscribe);
     struct text rewritten = {0};
@@ -149,9 +146,13 @@ static bool answer_subscribe(struct clients *clients, struct client *client, con
     if (is_owned(clients, client, sub)) return refuse(client, "notallowed");
     const char *query = is_chosen ? rest : (const char *)memchr(rest, ' ', left) + 1;
     bool fits = rewrite(&rewritten, sub, query, left - (size_t)(query - rest), owns(client, sub));
-    fits = fits && make_subscription(clients, client, sub, &rewritten, is_chosen, holds);
+    fits = fits && put_answer(clients, client, rewritten.bytes, rewritten.length, holds);
     text_free(&rewritten);
-    return fits;
+    if (!fits || !begins(client->held.bytes + before, client->held.length - before, "badline ")) {
+        return fits && note_subscribed(client, sub, before, is_chosen);
+    }
+    client->held.length = before;
+    return put_answer(clients, client, line, length, holds);
 }
 
 bool session_answer(struct clients *clients, struct client *client, const char *line, size_t length, bool *holds) {

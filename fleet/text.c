@@ -12,7 +12,8 @@ bool text_room(struct text *text, size_t more) {
     size_t room = 2 * text->length + more;
     char *grown = realloc(text->bytes, room);
     if (!grown) return false;
-    text->bytes = grown, text->room = room;
+    text->bytes = grown;
+    text->room = room;
     return true;
 }
 

@@ -15,6 +15,8 @@
 
 enum { SUB = 40 };
 
+static char long_password[256 + 1]; /* filled by main */
+
 static long milliseconds(void) {
     struct timespec it;
     clock_gettime(CLOCK_MONOTONIC, &it);
@@ -62,6 +64,10 @@ static void misuse(struct ds_handle *store, const char *url) {
     opens("no address", store, (struct ds_fleet_options){.url = NULL});
     opens("a bad address", store, (struct ds_fleet_options){.url = "redis:/h"});
     opens("an address of TLS", store, (struct ds_fleet_options){.url = "rediss://h"});
+    opens("Sentinels without a master's name", store, (struct ds_fleet_options){.url = "redis-sentinel://h,i"});
+    opens("nine addresses", store, (struct ds_fleet_options){.url = "redis://a,b,c,d,e,f,g,h,i"});
+    opens("eight addresses", store, (struct ds_fleet_options){.url = "redis://a,b,c,d,e,f,g:1,[::1]:2/3"});
+    opens("a password of 256 bytes", store, (struct ds_fleet_options){.url = url, .password = long_password});
     opens("a bad name", store, (struct ds_fleet_options){.url = url, .stream = "a b"});
     opens("a bad pattern", store, (struct ds_fleet_options){.url = url, .pattern = "a(", .kinds = 15});
     opens("no pattern", store, (struct ds_fleet_options){.url = url, .kinds = 15});
@@ -165,6 +171,7 @@ int main(int count, char **words) {
     struct ds_handle one = DS_CLOSED, two = DS_CLOSED;
     if (count != 3 || ds_open(&one, 1, 0, 256) || ds_open(&two, 1, 0, 256)) return 1;
     signal(SIGPIPE, SIG_IGN);
+    memset(long_password, 'x', sizeof long_password - 1);
     misuse(&one, words[1]);
     out_of_descriptors(&one, words[1]);
     waits(&one, words[2]);

@@ -18,6 +18,7 @@ PATIENCE = 30  # seconds that anything may take
 TICK = 0.005
 FAULT = re.compile(r"^.*(ERROR: |runtime error|==\d+== ).*$", re.MULTILINE)  # of a sanitizer, or of valgrind
 PROGRAM = ("check", "clients", "dsfleet", "figures", "lines", "log", "notify", "options", "place", "rights", "session")  # what isn't of the library
+DOWN_AFTER = 300  # milliseconds after which a Sentinel takes a master for dead
 MEMORY = "/dev/shm"  # where a server that syncs each change isn't held up by a disk
 
 
@@ -398,6 +399,44 @@ def shut(connection):
         connection.shutdown(socket.SHUT_RDWR)
     except OSError:
         pass
+
+
+class Sentinel:
+    """A Sentinel that watches the master of a fleet under the name `ds`."""
+
+    def __init__(self, master):
+        self.port, self.home = free_port(), tempfile.mkdtemp(prefix="sentinel")
+        conf = f"{self.home}/conf"
+        with open(conf, "w", encoding="ascii") as file:
+            file.write(
+                f"port {self.port}\nbind 127.0.0.1\ndir {self.home}\nsentinel monitor ds {master.host} {master.port} 1\n"
+                f"sentinel down-after-milliseconds ds {DOWN_AFTER}\nsentinel failover-timeout ds 3000\n"
+            )
+        self.process = subprocess.Popen(["redis-server", conf, "--sentinel"], stdout=subprocess.DEVNULL, stderr=subprocess.DEVNULL)
+        until(self.knows_master, "the Sentinel answers")
+
+    def ask(self, *words):
+        with socket.create_connection(("127.0.0.1", self.port), timeout=5) as it:
+            return asked(it, *words)
+
+    def knows_master(self):
+        try:
+            return self.ask("SENTINEL", "get-master-addr-by-name", "ds")
+        except (OSError, Denied):
+            time.sleep(TICK)
+            return None
+
+    def master_port(self):
+        known = self.knows_master()
+        return known and int(known[1])
+
+    def knows_replica(self):
+        return len(self.ask("SENTINEL", "replicas", "ds")) == 1
+
+    def close(self):
+        self.process.kill()
+        self.process.wait()
+        shutil.rmtree(self.home)
 
 
 class Names:

@@ -2,51 +2,10 @@
 import contextlib
 import os
 import re
-import shutil
-import socket
 import subprocess
-import tempfile
-import time
 
-from fleets import ROOT, TICK, Denied, Fleet, asked, free_port, until
+from fleets import ROOT, Fleet, Sentinel, free_port, until
 from scenes import number, numbers, offer, shows
-
-DOWN_AFTER = 300  # milliseconds after which a Sentinel takes a master for dead
-
-
-class Sentinel:
-    """A Sentinel that watches the master of a fleet under the name `ds`."""
-
-    def __init__(self, master):
-        self.port, self.home = free_port(), tempfile.mkdtemp(prefix="sentinel")
-        conf = f"{self.home}/conf"
-        with open(conf, "w", encoding="ascii") as file:
-            file.write(
-                f"port {self.port}\nbind 127.0.0.1\ndir {self.home}\nsentinel monitor ds {master.host} {master.port} 1\n"
-                f"sentinel down-after-milliseconds ds {DOWN_AFTER}\nsentinel failover-timeout ds 3000\n"
-            )
-        self.process = subprocess.Popen(["redis-server", conf, "--sentinel"], stdout=subprocess.DEVNULL, stderr=subprocess.DEVNULL)
-        until(self.knows_master, "the Sentinel answers")
-
-    def ask(self, *words):
-        with socket.create_connection(("127.0.0.1", self.port), timeout=5) as it:
-            return asked(it, *words)
-
-    def knows_master(self):
-        try:
-            return self.ask("SENTINEL", "get-master-addr-by-name", "ds")
-        except (OSError, Denied):
-            time.sleep(TICK)
-            return None
-
-    def knows_replica(self):
-        return len(self.ask("SENTINEL", "replicas", "ds")) == 1
-
-    def close(self):
-        self.process.kill()
-        self.process.wait()
-        shutil.rmtree(self.home)
-
 
 def addresses_in_order(fleet, draw):
     """Of several addresses a closed one and a replica are passed over. When the master dies, the one that took its place is found."""

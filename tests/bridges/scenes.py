@@ -891,7 +891,7 @@ def words_of_the_command_line(fleet, draw):
     for words, said in (
         ([], "wanted"), ([path], "wanted"), ([path, "redis://h", "x"], "wanted"), (["--other", path, "redis://h"], "no such option"),
         (["--scope", "eth.*", path, "redis://h"], "a scope is"), (["--scope", "eth.* 16", path, "redis://h"], "a scope is"),
-        (["--keep", "0", path, "redis://h"], "1 entry"), ([path, "http://h"], "badurl"), ([path, "redis://"], "badurl"),
+        (["--keep", "0", path, "redis://h"], "keeps 1 to"), ([path, "http://h"], "badurl"), ([path, "redis://"], "badurl"),
         ([path, "redis://h:0"], "badurl"), ([path, "redis://user@h"], "badurl"), ([path, "unix://relative"], "badurl"),
         ([path, "rediss://h"], "notls"), (["--stream", "a b", path, "redis://h"], "badname"), (["--stream", "", path, "redis://h"], "badname"),
         (["--mode", "9", path, "redis://h"], "octal"), (["--readers", "no such group", path, "redis://h"], "no such group"),

@@ -1,6 +1,7 @@
 """Publishers at some bridges, for a while, under kills and meddling; then all stores hold the same, and what the model says.
 
-A rough storm has failovers, swallowed connections, bridges of another scope, and clients that hang up or read nothing, too.
+A rough storm has failovers, swallowed connections, bridges of another scope, and clients that hang up or read nothing, too. In a Sentinel's
+storm masters are killed, and a Sentinel makes the replica the master; it isn't among the kinds that a seed chooses.
 """
 import collections
 import contextlib
@@ -11,7 +12,7 @@ import random
 import threading
 import time
 
-from fleets import Fleet, Gone, until
+from fleets import Fleet, Gone, Sentinel, until
 from history import History
 from rough import Prober, Rapids, Rude
 
@@ -19,12 +20,13 @@ from model import lines as reader
 from model.store import Store
 
 PLAIN, MEDDLED, ROUGH = KINDS = ("storm", "storm with meddling", "rough storm")  # by the seed
+OF_SENTINEL = "Sentinel's storm"
 BRIDGES = 5
 NAMES = 300  # of each publisher: so many that a change that is lost has none after it
 PACE = 0.25  # seconds between two kills, on average
 REST = 0.002  # seconds that a publisher rests between two rounds of changes, so that the model keeps up
 GRAVE = ("killed", "failovers")
-GRAVE_LEAST = {PLAIN: 10, MEDDLED: 10, ROUGH: 5}  # how often they happen in all, however slow the machine is
+GRAVE_LEAST = {PLAIN: 10, MEDDLED: 10, ROUGH: 5, OF_SENTINEL: 5}  # how often they happen in all, however slow the machine is
 LIMIT = 5  # seconds that an answer of a bridge that runs may take: a machine may be busy, and a bridge that stands still takes longer
 REFUSED = 2  # the status of a bridge of another scope
 FOLLOWED = ("--repl-diskless-sync-delay", "0")  # a replica that has nothing gets all at once
@@ -214,7 +216,8 @@ class Storm:
     def __init__(self, words, seed, kind=None, bridges=BRIDGES):
         self.words, self.seed, self.count = words, seed, bridges
         self.kind = kind or KINDS[seed % len(KINDS)]
-        self.meddles, self.is_rough = self.kind != PLAIN, self.kind == ROUGH
+        self.meddles, self.is_rough = self.kind in (MEDDLED, ROUGH), self.kind == ROUGH
+        self.sentinel = None
         self.draw = random.Random(seed)
         self.done, self.is_fragile = collections.Counter(), False
         self.log = None  # a file for the history, or None
@@ -226,12 +229,15 @@ class Storm:
         # who live tell that again, but here all die at once, too.
         with contextlib.ExitStack() as held:
             fleet = self.master = held.enter_context(Fleet(self.words, keep=60, syncs="always", settings=FOLLOWED))
-            if self.is_rough:
+            if self.is_rough or self.kind == OF_SENTINEL:
                 self.replica = held.enter_context(Fleet([], syncs="always", settings=FOLLOWED))
                 self.replica.follow(fleet)
+            if self.kind == OF_SENTINEL:
+                self.sentinel = held.enter_context(contextlib.closing(Sentinel(fleet)))
+            if self.is_rough:
                 self.rapids = held.enter_context(contextlib.closing(Rapids(fleet.port, self.seed)))
             for _ in range(self.count):
-                fleet.start(wait=False, url=self.rapids and self.rapids.url())
+                fleet.start(wait=False, url=self.url())
             for bridge in fleet.bridges:
                 bridge.serves()
             self.begin(fleet)
@@ -242,6 +248,12 @@ class Storm:
             done = self.judged(fleet)
             fleet.end()
             return done
+
+    def url(self):
+        """Where bridges look for the server."""
+        if self.sentinel:
+            return f"redis-sentinel://127.0.0.1:{self.sentinel.port}/ds"
+        return self.rapids and self.rapids.url()
 
     def begin(self, fleet):
         for at, bridge in enumerate(fleet.bridges):
@@ -260,7 +272,12 @@ class Storm:
 
     def strike(self, fleet):
         """Something bad happens."""
-        if self.is_rough and self.draw.random() < 0.3:
+        if self.sentinel:
+            act = self.draw.choices((self.kill_bridge, self.pause_bridge, self.fail_over_by_sentinel), (6, 2, 2))[0]
+            if self.is_fragile and act == self.kill_bridge:
+                self.heal(fleet)
+            act(fleet)
+        elif self.is_rough and self.draw.random() < 0.3:
             self.draw.choice((self.fail_over, self.fail_over, self.meet_stranger, self.cut_connections))(fleet)
         elif self.meddles and self.draw.random() < 0.4:
             self.meddle(fleet)
@@ -329,6 +346,31 @@ class Storm:
         old.ask("REPLICAOF", new.host, new.port)
         self.master, self.replica = new, old
 
+    def find_master(self):
+        """A Sentinel on a busy machine may take a master that lives for dead."""
+        is_another = self.sentinel and self.sentinel.master_port() == self.replica.port
+        if is_another:
+            self.master, self.replica = self.replica, self.master
+
+    def may_fail_over(self):
+        """Whether the Sentinel knows a replica that has what the master has."""
+        self.find_master()
+        return self.sentinel.knows_replica() and self.replica.follows()
+
+    def fail_over_by_sentinel(self, fleet):
+        """The master is killed, and comes back as a replica of the one that the Sentinel chose."""
+        self.heal(fleet)
+        self.done["failovers"] += 1
+        until(self.may_fail_over, "the Sentinel knows a replica in step", 60)
+        old, new = self.master, self.replica
+        self.become_fragile(fleet)
+        self.done["lines that failovers lost"] += len(set(old.told()) - set(new.told()))
+        old.kill_server()
+        until(lambda: self.sentinel.master_port() == new.port, "the Sentinel chooses the replica", 60)
+        old.start_server()
+        old.ask("REPLICAOF", new.host, new.port)  # as the Sentinel would, some seconds later
+        self.master, self.replica = new, old
+
     def meet_stranger(self, fleet):
         """A bridge of another scope is refused. Where the stream's scope was lost, it would be the first one that writes it."""
         self.done["strangers refused"] += 1
@@ -373,6 +415,7 @@ class Storm:
         """Waits until all hold the same, and the server has all of it, and the scope; what they hold."""
 
         def seen():
+            self.find_master()
             view = fleet.agree()
             return view if {it.encode() for it in view[:-1]} <= set(self.master.told()) else None
 
