@@ -20,7 +20,7 @@ returns-in-Some-U32 c = λ text.
     answered c.args.self.now c.tell.new.self c.args.request.now text c.tell.new.answer (Retrieve c.in-Some.key) (Found (U32 c.in-Some-U32.number))
     (stands_for_retrieve c.args.request.now text c.in-Some.key c.requires c.in-Some.ensures)
     (subst (λ (x : Value). Turn v (Retrieve c.in-Some.key) (Found x) v) c.in-Some-U32.field-0-is
-      (retrieve_turn v c.in-Some.key (Some lent) c.cursor-stood.ensures.stood c.in-Some-U32.ensures.live))
+    (retrieve_turn v c.in-Some.key (Some lent) c.cursor-stood.ensures.stood c.in-Some-U32.ensures.live))
     c.tell.ensures
 
 pub returns-in-Some-fast_retrieve : goal.returns-in-Some-fast_retrieve
