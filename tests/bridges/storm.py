@@ -80,6 +80,15 @@ def change_event(bridge, run, item):
     return {"store": bridge.socket, "run": run, "text": item, "asked": time.monotonic(), "answered": None}
 
 
+def patient(work):
+    """What it gives, or None where a server hung up: a Sentinel ends the connections to one that it makes a replica."""
+    try:
+        return work()
+    except ConnectionError:
+        time.sleep(REST)
+        return None
+
+
 class Lost(AssertionError):
     """What was answered isn't there."""
 
@@ -361,14 +370,15 @@ class Storm:
         """The master is killed, and comes back as a replica of the one that the Sentinel chose."""
         self.heal(fleet)
         self.done["failovers"] += 1
-        until(self.may_fail_over, "the Sentinel knows a replica in step", 60)
+        until(lambda: patient(self.may_fail_over), "the Sentinel knows a replica in step", 60)
         old, new = self.master, self.replica
         self.become_fragile(fleet)
-        self.done["lines that failovers lost"] += len(set(old.told()) - set(new.told()))
+        lost = patient(lambda: set(old.told()) - set(new.told())) or ()
+        self.done["lines that failovers lost"] += len(lost)
         old.kill_server()
         until(lambda: self.sentinel.master_port() == new.port, "the Sentinel chooses the replica", 60)
         old.start_server()
-        old.ask("REPLICAOF", new.host, new.port)  # as the Sentinel would, some seconds later
+        until(lambda: patient(lambda: old.ask("REPLICAOF", new.host, new.port)), "the old one is a replica")  # as the Sentinel would, some seconds later
         self.master, self.replica = new, old
 
     def meet_stranger(self, fleet):
@@ -419,8 +429,8 @@ class Storm:
             view = fleet.agree()
             return view if {it.encode() for it in view[:-1]} <= set(self.master.told()) else None
 
-        until(lambda: self.master.ask("HGET", "ds:snapshot", "scope"), "the server has the scope again", 10)
-        return until(seen, "the server has all again", 10)
+        until(lambda: patient(lambda: self.master.ask("HGET", "ds:snapshot", "scope")), "the server has the scope again", 10)
+        return until(lambda: patient(seen), "the server has all again", 10)
 
     # ---- what came of it ----
 
