@@ -1,7 +1,8 @@
 """Publishers at some bridges, for a while, under kills and meddling; then all stores hold the same, and what the model says.
 
 A rough storm has failovers, swallowed connections, bridges of another scope, and clients that hang up or read nothing, too. In a Sentinel's
-storm masters are killed, and a Sentinel makes the replica the master; it isn't among the kinds that a seed chooses.
+storm masters are killed, a Sentinel makes the replica the master, and a change is answered once the replica has it. So nothing is lost, whatever dies
+after that, and whatever the Sentinel of a busy machine takes for dead. It isn't among the kinds that a seed chooses.
 """
 import collections
 import contextlib
@@ -246,7 +247,7 @@ class Storm:
             if self.is_rough:
                 self.rapids = held.enter_context(contextlib.closing(Rapids(fleet.port, self.seed)))
             for _ in range(self.count):
-                fleet.start(wait=False, url=self.url())
+                fleet.start(*(("--replicas", "1", "--within", "200") if self.sentinel else ()), wait=False, url=self.url())
             for bridge in fleet.bridges:
                 bridge.serves()
             self.begin(fleet)
@@ -282,10 +283,7 @@ class Storm:
     def strike(self, fleet):
         """Something bad happens."""
         if self.sentinel:
-            act = self.draw.choices((self.kill_bridge, self.pause_bridge, self.fail_over_by_sentinel), (6, 2, 2))[0]
-            if self.is_fragile and act == self.kill_bridge:
-                self.heal(fleet)
-            act(fleet)
+            self.draw.choices((self.kill_bridge, self.pause_bridge, self.fail_over_by_sentinel), (6, 2, 2))[0](fleet)
         elif self.is_rough and self.draw.random() < 0.3:
             self.draw.choice((self.fail_over, self.fail_over, self.meet_stranger, self.cut_connections))(fleet)
         elif self.meddles and self.draw.random() < 0.4:
@@ -368,11 +366,9 @@ class Storm:
 
     def fail_over_by_sentinel(self, fleet):
         """The master is killed, and comes back as a replica of the one that the Sentinel chose."""
-        self.heal(fleet)
         self.done["failovers"] += 1
         until(lambda: patient(self.may_fail_over), "the Sentinel knows a replica in step", 60)
         old, new = self.master, self.replica
-        self.become_fragile(fleet)
         lost = patient(lambda: set(old.told()) - set(new.told())) or ()
         self.done["lines that failovers lost"] += len(lost)
         old.kill_server()
