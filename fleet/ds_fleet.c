@@ -18,7 +18,9 @@ enum {
     STREAM_NAME = 128, /* bytes of a name at most */
     RUN_BYTES = 16,    /* of the name of this run, which has two digits for each */
     RINGERS = 5,       /* of the bell: the timer, look-ups, two connections, and a Sentinel's */
-    SOON = 100         /* milliseconds to the next step if something is due that can't be done now */
+    SOON = 100,        /* milliseconds to the next step if something is due that can't be done now */
+    SECOND = 1000,     /* milliseconds */
+    NANOSECONDS = 1000000 /* of one millisecond */
 };
 
 /* ---- the teller and the listener ---- */
@@ -158,7 +160,7 @@ static void set_bell(struct ds_fleet *fleet, enum ds_fleet_word word) {
     }
     if (at > time + PERIOD) at = time + PERIOD;
     if (at <= time) at = time + soonest;
-    struct itimerspec set = {.it_value = {.tv_sec = (time_t)(at / 1000), .tv_nsec = (long)(at % 1000) * 1000000}};
+    struct itimerspec set = {.it_value = {.tv_sec = (time_t)(at / SECOND), .tv_nsec = (long)(at % SECOND) * NANOSECONDS}};
     if (at != fleet->wound) timerfd_settime(fleet->timer, TFD_TIMER_ABSTIME, &set, NULL);
     fleet->wound = at;
     watch_link(fleet, &server->teller);

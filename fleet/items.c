@@ -7,7 +7,8 @@
 
 enum {
     PIECES = 1 << 16, /* bytes of items that are fetched at a time */
-    SHOWN = 400       /* bytes of a line that are logged */
+    SHOWN = 400,      /* bytes of a line that are logged */
+    LOGGED = 512      /* bytes of a line of the log, with its zero */
 };
 
 static const uint64_t hash_seed = 14695981039346656037u; /* FNV-1a */
@@ -18,7 +19,7 @@ static uint64_t hashed(uint64_t hash, const char *bytes, size_t length) {
 }
 
 void items_say(struct items *items, const char *format, ...) {
-    char line[512];
+    char line[LOGGED];
     va_list given;
     if (!items->tell) return;
     va_start(given, format);

@@ -9,10 +9,12 @@
 #include <sys/un.h>
 #include <unistd.h>
 
+enum { MESSAGE = 512 /* bytes, with the zero */ };
+
 void notify(const char *format, ...) {
     struct sockaddr_un to = {.sun_family = AF_UNIX};
     const char *path = getenv("NOTIFY_SOCKET");
-    char text[512];
+    char text[MESSAGE];
     va_list given;
     if (!path || !strchr("/@", *path) || strlen(path) >= sizeof to.sun_path) return;
     memcpy(to.sun_path, path, strlen(path));

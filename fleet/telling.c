@@ -59,7 +59,7 @@ static enum ds_fleet_word lacks_replicas(struct ds_fleet *fleet, const redisRepl
     char why[DS_FLEET_SAID];
     fleet->telling.state = TELLING_ADDED;
     if (is_error(have)) return server_denied(fleet, have);
-    snprintf(why, sizeof why, "%d replicas are to have each change, and %lld have the last one", fleet->telling.replicas, count_of(have));
+    snprintf(why, sizeof why, "%lld of %d replicas have the last change", count_of(have), fleet->telling.replicas);
     return server_puzzles(fleet, why);
 }
 

@@ -5,7 +5,10 @@
 #include <stdlib.h>
 #include <string.h>
 
-enum { KEPT = 4096 /* bytes of room that an empty text keeps */ };
+enum {
+    KEPT = 4096,  /* bytes of room that an empty text keeps */
+    PRINTED = 512 /* bytes that one print puts at most, with its zero */
+};
 
 bool text_room(struct text *text, size_t more) {
     if (text->room - text->length >= more) return true;
@@ -25,7 +28,7 @@ bool text_put(struct text *text, const void *bytes, size_t length) {
 }
 
 bool text_print(struct text *text, const char *format, ...) {
-    char line[512];
+    char line[PRINTED];
     va_list given;
     va_start(given, format);
     int length = vsnprintf(line, sizeof line, format, given);

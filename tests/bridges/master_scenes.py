@@ -81,7 +81,7 @@ def replicas_that_have_it(fleet, draw):
         with bridge.client() as client:
             client.send(f"offer {line}")
             until(lambda: bridge.state()["state"] == "denied", "it waits for a replica")
-            assert not client.has_answer(0.5) and "1 replicas are to have each change, and 0 have" in bridge.state()["said"]
+            assert not client.has_answer(0.5) and "0 of 1 replicas have the last change" in bridge.state()["said"]
             assert fleet.entries() == 1, "it is told again and again"
             replica.follow(fleet)
             assert client.answer() == ["taken"]

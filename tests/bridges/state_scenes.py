@@ -196,7 +196,7 @@ def states_of_telling(fleet, draw):
         with bridge.client() as client:
             client.send(f"offer {lines[4]}")
             until(lambda: fleet.entries() == entries + 1, "it is added")
-            says(bridge, "1 replicas are to have each change, and 0 have the last one")
+            says(bridge, "0 of 1 replicas have the last change")
             assert not client.has_answer(0.3), "it is answered with too few replicas"
             walk("NEWS | each part was added, too few replicas")
             script.script_and_wait("WAIT", b":0\r\n", 2)

@@ -1,7 +1,8 @@
 """Publishers at some bridges, for a while, under kills and meddling; then all stores hold the same, and what the model says.
 
 A rough storm has failovers, swallowed connections, bridges of another scope, and clients that hang up or read nothing, too. In a Sentinel's
-storm masters are killed, and a Sentinel makes the replica the master; it isn't among the kinds that a seed chooses.
+storm masters are killed, a Sentinel makes the replica the master, and a change is answered once the replica has it. So nothing is lost, whatever dies
+after that, and whatever the Sentinel of a busy machine takes for dead. It isn't among the kinds that a seed chooses.
 """
 import collections
 import contextlib
@@ -78,6 +79,15 @@ def read_event(bridge, run, client, asked, lines, **more):
 def change_event(bridge, run, item):
     """A change of a history, that waits for its answer."""
     return {"store": bridge.socket, "run": run, "text": item, "asked": time.monotonic(), "answered": None}
+
+
+def patient(work):
+    """What it gives, or None where a server hung up: a Sentinel ends the connections to one that it makes a replica."""
+    try:
+        return work()
+    except ConnectionError:
+        time.sleep(REST)
+        return None
 
 
 class Lost(AssertionError):
@@ -237,7 +247,7 @@ class Storm:
             if self.is_rough:
                 self.rapids = held.enter_context(contextlib.closing(Rapids(fleet.port, self.seed)))
             for _ in range(self.count):
-                fleet.start(wait=False, url=self.url())
+                fleet.start(*(("--replicas", "1", "--within", "200") if self.sentinel else ()), wait=False, url=self.url())
             for bridge in fleet.bridges:
                 bridge.serves()
             self.begin(fleet)
@@ -273,10 +283,7 @@ class Storm:
     def strike(self, fleet):
         """Something bad happens."""
         if self.sentinel:
-            act = self.draw.choices((self.kill_bridge, self.pause_bridge, self.fail_over_by_sentinel), (6, 2, 2))[0]
-            if self.is_fragile and act == self.kill_bridge:
-                self.heal(fleet)
-            act(fleet)
+            self.draw.choices((self.kill_bridge, self.pause_bridge, self.fail_over_by_sentinel), (6, 2, 2))[0](fleet)
         elif self.is_rough and self.draw.random() < 0.3:
             self.draw.choice((self.fail_over, self.fail_over, self.meet_stranger, self.cut_connections))(fleet)
         elif self.meddles and self.draw.random() < 0.4:
@@ -359,16 +366,15 @@ class Storm:
 
     def fail_over_by_sentinel(self, fleet):
         """The master is killed, and comes back as a replica of the one that the Sentinel chose."""
-        self.heal(fleet)
         self.done["failovers"] += 1
-        until(self.may_fail_over, "the Sentinel knows a replica in step", 60)
+        until(lambda: patient(self.may_fail_over), "the Sentinel knows a replica in step", 60)
         old, new = self.master, self.replica
-        self.become_fragile(fleet)
-        self.done["lines that failovers lost"] += len(set(old.told()) - set(new.told()))
+        lost = patient(lambda: set(old.told()) - set(new.told())) or ()
+        self.done["lines that failovers lost"] += len(lost)
         old.kill_server()
         until(lambda: self.sentinel.master_port() == new.port, "the Sentinel chooses the replica", 60)
         old.start_server()
-        old.ask("REPLICAOF", new.host, new.port)  # as the Sentinel would, some seconds later
+        until(lambda: patient(lambda: old.ask("REPLICAOF", new.host, new.port)), "the old one is a replica")  # as the Sentinel would, some seconds later
         self.master, self.replica = new, old
 
     def meet_stranger(self, fleet):
@@ -419,8 +425,8 @@ class Storm:
             view = fleet.agree()
             return view if {it.encode() for it in view[:-1]} <= set(self.master.told()) else None
 
-        until(lambda: self.master.ask("HGET", "ds:snapshot", "scope"), "the server has the scope again", 10)
-        return until(seen, "the server has all again", 10)
+        until(lambda: patient(lambda: self.master.ask("HGET", "ds:snapshot", "scope")), "the server has the scope again", 10)
+        return until(lambda: patient(seen), "the server has all again", 10)
 
     # ---- what came of it ----
 
