@@ -340,28 +340,30 @@ static int run(struct host *host) {
     return FAILED;
 }
 
+static void prepare(struct host *host, const struct options *options) {
+    struct rs *rs = &host->rs;
+    host->listener.file = host->signals.file = host->timer.file = host->heard.file = -1;
+    host->place = (struct place){.path = options->socket, .log = &host->log, .lock = -1, .listener = -1};
+    host->settings = options->settings;
+    host->slot = (uint16_t)options->slot;
+    rs->events.log = &host->log;
+    rs->events.begun = clock_now();
+    rs->generations = (struct generations){.path = options->generations, .file = -1};
+    rs->instances.services = options->services;
+    rs->instances.endpoints = host->folder;
+    rs->instances.events = &rs->events;
+    rs->instances.tick = (uint64_t)options->tick;
+    rs->instances.grace = (uint64_t)options->grace;
+    ticks_open(&rs->ticks, (uint64_t)options->tick);
+}
+
 int main(int count, char **words) {
-    static struct host host = {
-        .rs = {.store = DS_CLOSED, .generations.file = -1}, .place = {.lock = -1, .listener = -1}, .listener.file = -1,
-        .signals.file = -1, .timer.file = -1, .heard.file = -1,
-    };
+    static struct host host; /* all zeros, so its store is closed */
     struct options options = {.tick = TICK, .grace = GRACE, .slot = SLOT};
     int status = read_words(count, words, &options);
     if (status >= 0) return status;
-    struct rs *rs = &host.rs;
     log_open(&host.log);
-    host.place.path = options.socket;
-    host.settings = options.settings;
-    host.slot = (uint16_t)options.slot;
-    host.place.log = rs->events.log = &host.log;
-    rs->events.begun = clock_now();
-    rs->generations.path = options.generations;
-    rs->instances.services = options.services;
-    rs->instances.endpoints = host.folder;
-    rs->instances.events = &rs->events;
-    rs->instances.tick = (uint64_t)options.tick;
-    rs->instances.grace = (uint64_t)options.grace;
-    ticks_open(&rs->ticks, (uint64_t)options.tick);
+    prepare(&host, &options);
     status = open_all(&host);
     if (status == DONE) status = run(&host);
     close_all(&host);
