@@ -13,6 +13,7 @@
 #include <string.h>
 #include <sys/epoll.h>
 #include <sys/prctl.h>
+#include <sys/resource.h>
 #include <sys/signalfd.h>
 #include <sys/socket.h>
 #include <sys/stat.h>
@@ -25,6 +26,8 @@ enum {
     TICK = 10, TICK_MOST = 60000,   /* milliseconds */
     GRACE = 2000, GRACE_MOST = 3600000,
     SLOT = 16, SLOT_MOST = 1023,
+    EACH_SERVICE = 4,               /* descriptors besides that of its peer */
+    DESCRIPTORS = 32,               /* of dsrs itself */
     REST = 100,                     /* milliseconds before a client is taken in again, where none could be */
     FOLDER = PLACE_PATH - 16        /* bytes of the folder of sockets: each socket has up to 15 more */
 };
@@ -162,6 +165,15 @@ static int open_signals(void) {
     return signalfd(-1, &some, SFD_NONBLOCK | SFD_CLOEXEC);
 }
 
+/* A limit isn't raised, since services would have it, too. */
+static void look_at_limit(struct host *host) {
+    struct rlimit limit;
+    rlim_t wanted = PEERS + EACH_SERVICE * SERVICES + DESCRIPTORS;
+    if (getrlimit(RLIMIT_NOFILE, &limit) || limit.rlim_cur >= wanted) return;
+    log_say(&host->log, LOG_WARN, "descriptors: %llu are allowed, and up to %llu may be needed",
+            (unsigned long long)limit.rlim_cur, (unsigned long long)wanted);
+}
+
 /* All may read; what more somebody may say is judged line by line. */
 static int open_place(struct host *host) {
     if (!place_serve(&host->place)) return FAILED;
@@ -171,6 +183,7 @@ static int open_place(struct host *host) {
 
 static int open_all(struct host *host) {
     struct rs *rs = &host->rs;
+    look_at_limit(host);
     if (!place_lock(&host->place)) return FAILED;
     if (!open_folder(host)) return failed(host, "socket");
     host->epoll = rs->peers.epoll = rs->instances.epoll = epoll_create1(EPOLL_CLOEXEC);
@@ -340,28 +353,30 @@ static int run(struct host *host) {
     return FAILED;
 }
 
+static void prepare(struct host *host, const struct options *options) {
+    struct rs *rs = &host->rs;
+    host->listener.file = host->signals.file = host->timer.file = host->heard.file = -1;
+    host->place = (struct place){.path = options->socket, .log = &host->log, .lock = -1, .listener = -1};
+    host->settings = options->settings;
+    host->slot = (uint16_t)options->slot;
+    rs->events.log = &host->log;
+    rs->events.begun = clock_now();
+    rs->generations = (struct generations){.path = options->generations, .file = -1};
+    rs->instances.services = options->services;
+    rs->instances.endpoints = host->folder;
+    rs->instances.events = &rs->events;
+    rs->instances.tick = (uint64_t)options->tick;
+    rs->instances.grace = (uint64_t)options->grace;
+    ticks_open(&rs->ticks, (uint64_t)options->tick);
+}
+
 int main(int count, char **words) {
-    static struct host host = {
-        .rs = {.store = DS_CLOSED, .generations.file = -1}, .place = {.lock = -1, .listener = -1}, .listener.file = -1,
-        .signals.file = -1, .timer.file = -1, .heard.file = -1,
-    };
+    static struct host host; /* all zeros, so its store is closed */
     struct options options = {.tick = TICK, .grace = GRACE, .slot = SLOT};
     int status = read_words(count, words, &options);
     if (status >= 0) return status;
-    struct rs *rs = &host.rs;
     log_open(&host.log);
-    host.place.path = options.socket;
-    host.settings = options.settings;
-    host.slot = (uint16_t)options.slot;
-    host.place.log = rs->events.log = &host.log;
-    rs->events.begun = clock_now();
-    rs->generations.path = options.generations;
-    rs->instances.services = options.services;
-    rs->instances.endpoints = host.folder;
-    rs->instances.events = &rs->events;
-    rs->instances.tick = (uint64_t)options.tick;
-    rs->instances.grace = (uint64_t)options.grace;
-    ticks_open(&rs->ticks, (uint64_t)options.tick);
+    prepare(&host, &options);
     status = open_all(&host);
     if (status == DONE) status = run(&host);
     close_all(&host);

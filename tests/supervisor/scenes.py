@@ -531,6 +531,18 @@ def memory(host):
         return next(int(it.split()[1]) * 1024 for it in status if it.startswith("VmRSS:"))
 
 
+@scene
+def few_descriptors(host):
+    """Without descriptors for all, services that can't start fail as others do, and the rest runs."""
+    host.words = ["prlimit", "--nofile=60:60", *host.words]
+    host.start({f"s{i}": ({"limit": 2}, "#!/bin/sh\nexec sleep 1000\n") for i in range(12)})
+    host.logged("descriptors 60 are allowed")
+    host.logged("nostart s")
+    host.logged("givenup s11")
+    assert host.has_logged("began s0 "), host.log()
+    host.end()
+
+
 # ---- dsask ----
 
 
