@@ -15,7 +15,7 @@ pub refresh-requires : goal.refresh-requires
 refresh-requires g c =
     let p = c.args.seat.now.pass in
     let q = c.take.new.self.pass in
-    keeps_up_later p q c.args.follower.now (made_sees_more p q [] c.in_ok-_taken.ensures.looked) c.requires
+    record { keeps = keeps_up_later p q c.args.follower.now (made_sees_more p q [] c.in_ok-_taken.ensures.looked) c.requires }
 
 pub returns-in_err-_fresh-clause-called : goal.returns-in_err-_fresh-clause-called
 returns-in_err-_fresh-clause-called g c =
