@@ -519,7 +519,7 @@ def clients_that_read_nothing_cost_little(host):
         equal(host.ask("retrieve nobody label"), "refused notfound")
         time.sleep(0.05)
     grown = memory(host) - before
-    assert grown < 30 << 20, f"{grown >> 20} MB"
+    assert grown < 40 << 20, f"{grown >> 20} MB"
     for it in deaf:
         it.close()
     until(lambda: len(os.listdir(f"/proc/{host.process.pid}/fd")) < 20, "the clients' descriptors are closed")
