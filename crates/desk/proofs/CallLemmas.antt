@@ -124,7 +124,7 @@ module _ {M C R : Type 0} (owes : R → ℕ) where
       let c = counted s b hs hb in
       let looked : raised_by x.passes s b ≡ raised_by w.passes s b = ap (λ (y : View M C R). raised_by y.passes s b) l.is in
       let grown : raised_by w.passes s b ≡ raised_by v.passes s b + raised_at s b (take_of v server n) = ap (λ (y : List (PassLog C R)). raised_by y s b)
-          (take_passes v w server n h) ∙ notice_weighs v.passes (take_of v server n) (raised_at s b) one in
+      (take_passes v w server n h) ∙ notice_weighs v.passes (take_of v server n) (raised_at s b) one in
       let none = take_raises_nothing (take_of v server n) s b refl in
       omega arith
 

@@ -32,7 +32,7 @@ module _ {C R : Type 0} where
       → (length (add_call passes e) ≡ 1) × (number_of (add_call passes e) ≡ number_of passes) × (calls_of (add_call passes e) ≡ calls_of passes ++ e ∷ []) × (notices_of (add_call passes e) ≡ notices_of passes)
   call_added passes e one = let p = only_of passes one in
       subst (λ (l : List (PassLog C R)). (length (add_call l e) ≡ 1) × (number_of (add_call l e) ≡ number_of l) × (calls_of (add_call l e) ≡ calls_of l ++ e ∷ []) ×
-          (notices_of (add_call l e) ≡ notices_of l)) (sym p.1) (refl, refl, refl, refl)
+      (notices_of (add_call l e) ≡ notices_of l)) (sym p.1) (refl, refl, refl, refl)
 
   pub call_number : (passes : List (PassLog C R)) (e : Entry C R) → number_of (add_call passes e) ≡ number_of passes
   call_number [] e = refl
@@ -47,7 +47,7 @@ module _ {C R : Type 0} where
       → (length (add_notice passes n) ≡ 1) × (number_of (add_notice passes n) ≡ number_of passes) × (calls_of (add_notice passes n) ≡ calls_of passes) × (notices_of (add_notice passes n) ≡ notices_of passes ++ n ∷ [])
   notice_added passes n one = let p = only_of passes one in
       subst (λ (l : List (PassLog C R)). (length (add_notice l n) ≡ 1) × (number_of (add_notice l n) ≡ number_of l) × (calls_of (add_notice l n) ≡ calls_of l) ×
-          (notices_of (add_notice l n) ≡ notices_of l ++ n ∷ [])) (sym p.1) (refl, refl, refl, refl)
+      (notices_of (add_notice l n) ≡ notices_of l ++ n ∷ [])) (sym p.1) (refl, refl, refl, refl)
 
   pub notice_weighs : (passes : List (PassLog C R)) (n : Notice) (weigh : Notice → ℕ) → length passes ≡ 1 → weigh_notices weigh (add_notice passes n) ≡ weigh_notices weigh passes + weigh n
   notice_weighs passes n weigh one = one_notice_more passes n weigh (omega arith)

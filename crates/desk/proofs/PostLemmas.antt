@@ -160,8 +160,8 @@ module _ {M C R : Type 0} where
             let g = grows s b in let r = raised_elsewhere s b x other in let old = p.raised s b hs hb in
             let same_bit : bit_at mask' (8 * s + b) ≡ bit_at mask (8 * s + b) = mask_at (8 * s + b) ∙ dite (dec_le k s)
             (λ le. bit_at_cat_high fresh (8 * k) mask (8 * s + b) p.small (omega arith) ∙
-                (let over : k < s = above k s other le in bit_at_above fresh 8 ((8 * s + b) - 8 * k) (omega arith) (omega arith) ∙
-                sym (bit_at_above mask (8 * k) (8 * s + b) p.small (omega arith))))
+            (let over : k < s = above k s other le in bit_at_above fresh 8 ((8 * s + b) - 8 * k) (omega arith) (omega arith) ∙
+            sym (bit_at_above mask (8 * k) (8 * s + b) p.small (omega arith))))
             (λ no. let below : s < k = lt_of_not-le no in bit_at_cat_low fresh (8 * k) mask (8 * s + b) (omega arith)) in
             omega arith);
         same = λ s b le. grows s b ∙ (let r = raised_elsewhere s b x (λ e. omega arith) in let old = p.same s b (omega arith) in omega arith);
@@ -174,7 +174,7 @@ module _ {M C R : Type 0} where
   pub few_still : (v w : View M C R) (k owed : ℕ) (rows : List ℕ) (mask : ℕ) → CanPost v → Posted v w k owed rows mask → (b : ℕ) → raised_by w.passes k b < count_calls w.passes
   few_still v w k owed rows mask can p b =
       let a : count_calls w.passes ≡ count_calls v.passes = weigh_one (λ _. 1) w.passes p.posts.one_pass ∙
-          (ap (total_of (λ _. 1)) p.posts.calls ∙ sym (weigh_one (λ _. 1) v.passes can.one_pass)) in let s = p.same k b (omega arith) in let f = can.few k b in omega arith
+      (ap (total_of (λ _. 1)) p.posts.calls ∙ sym (weigh_one (λ _. 1) v.passes can.one_pass)) in let s = p.same k b (omega arith) in let f = can.few k b in omega arith
 
   -- the rows have room to count
   pub rows_small : (v w : View M C R) (k owed : ℕ) (rows : List ℕ) (mask : ℕ) → CanPost v → k < 16 → Posted v w k owed rows mask → (b : ℕ) → b < 8 → row_at rows k b < 2 ^ 63

@@ -28,8 +28,8 @@ added_more old rows new n n' x low long next is a =
       long = length-set new n x ∙ a.long;
       done = λ k h. dite (ℕ_discrete k n)
           (λ here. ap (λ j. get_or (set new n x) j 0) here ∙
-              (get_or-set_same new n x 0 wide ∙ (is ∙ (ap (λ y. (y + slice_index rows n) % 2 ^ 64) (a.undone n (omega arith)) ∙
-              ap (λ j. (slice_index old j + slice_index rows j) % 2 ^ 64) (sym here)))))
+          (get_or-set_same new n x 0 wide ∙ (is ∙ (ap (λ y. (y + slice_index rows n) % 2 ^ 64) (a.undone n (omega arith)) ∙
+          ap (λ j. (slice_index old j + slice_index rows j) % 2 ^ 64) (sym here)))))
           (λ other. get_or-set_other new n k x 0 (λ e. other (omega arith)) ∙ a.done k (omega arith));
       undone = λ k h. get_or-set_other new n k x 0 (λ e. absurd (omega arith)) ∙ a.undone k (omega arith);
     }
@@ -65,7 +65,7 @@ filled_none words raises takes rows e = record { long = ap length e; each = λ k
 
 pub filled_more : (words raises takes : List ℕ) (n n' : ℕ) (rows rows' : List Row) → n' ≡ n + 1
     → rows' ≡ rows ++ record { raises = slice_index raises n; takes = slice_index takes n; pending = bit_and (slice_index words (n / 8) / 2 ^ (n % 8)) 1 == 1 } ∷ [] →
-        FilledBelow words raises takes n rows → FilledBelow words raises takes n' rows'
+    FilledBelow words raises takes n rows → FilledBelow words raises takes n' rows'
 filled_more words raises takes n n' rows rows' next is f =
     let word : ℕ = slice_index words (n / 8) in
     let p : Bool = bit_and (word / 2 ^ (n % 8)) 1 == 1 in

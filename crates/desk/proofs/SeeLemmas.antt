@@ -34,7 +34,7 @@ module _ {M C R S : Type 0} {G : Ghosts (View M C R)} (stands : M → S → Type
   -- the pass p, whose view became u by other steps, and then looked
   pub sees : (p q : Pass M C R G) (u : View M C R) (found : ℕ) (holding : Bool) → Looks (Stepped stands steps) u found holding q.seat.me.0 → u.opening ≡ p.seat.me.0.opening → u.first ≡ p.seat.me.0.first
       → number_of u.passes ≡ number_of p.seat.me.0.passes → calls_of u.passes ≡ calls_of p.seat.me.0.passes → IsPrefix p.seat.me.0.seen u.seen →
-          IsPrefix p.seat.me.0.notices u.notices → desk_of q ≡ desk_of p → length u.passes ≡ 1 → Sees stands steps p q
+      IsPrefix p.seat.me.0.notices u.notices → desk_of q ≡ desk_of p → length u.passes ≡ 1 → Sees stands steps p q
   sees p q u found holding l opened first numbers calls begins noticed table one =
       let v : View M C R = p.seat.me.0 in let w : View M C R = q.seat.me.0 in
       let opened_w : w.opening ≡ v.opening = ap (λ (x : View M C R). x.opening) l.is ∙ opened in

@@ -109,8 +109,18 @@ module _ {M C R : Type 0} (steps : M → C → R → M → Type 0) (owes : R →
   pub note_splits : (id : ℕ) (v : V) → Splits Holds id v v (note_view v)
   note_splits id v s r at = let f = r.seated id v at in
       split s r id v v (note_view v) r.seat_of at f
-          (record { opened = f.opened; seen = f.seen; told = prefix_nil r.history; holds = λ no. absurd (true≢false (sym no)); notices = f.notices; told_notices = prefix_nil
-          r.order; own = tt; differ = tt; few = λ s b. omega arith })
+      (record {
+        opened = f.opened;
+        seen = f.seen;
+        told = prefix_nil r.history;
+        holds = λ no. absurd (true≢false (sym no));
+        notices = f.notices;
+        told_notices = prefix_nil
+            r.order;
+        own = tt;
+        differ = tt;
+        few = λ s b. omega arith;
+      })
       refl refl (λ _. refl) (omega arith) (λ weigh. omega arith) (λ weigh. omega arith) (λ j k _ _ e. e)
 
   -- the pass n moves to the seat j
@@ -189,8 +199,18 @@ module _ {M C R : Type 0} (steps : M → C → R → M → Type 0) (owes : R →
         owed = r.owed;
         eight_bits = r.eight_bits;
         seated = all_views steps owes opening first passes (Sat r.history r.order r.turn seat_of) views other spent_view
-            (record { opened = λ m e. absurd (none_some m e); seen = prefix_nil r.history; told = prefix_nil r.history; holds = λ no. absurd (true≢false (sym no)); notices =
-                prefix_nil r.order; told_notices = prefix_nil r.order; own = tt; differ = tt; few = λ t b. omega arith })
+            (record {
+              opened = λ m e. absurd (none_some m e);
+              seen = prefix_nil r.history;
+              told = prefix_nil r.history;
+              holds = λ no. absurd (true≢false (sym no));
+              notices =
+                  prefix_nil r.order;
+              told_notices = prefix_nil r.order;
+              own = tt;
+              differ = tt;
+              few = λ t b. omega arith;
+            })
             (λ j u not_other e. all_views steps owes opening first passes (λ i x. i ≢ other → Sat r.history r.order r.turn seat_of i x) s.views id both (λ _. sits)
             (λ i x not_id at_i not_that. let g = r.seated i x at_i in record {
               opened = g.opened;

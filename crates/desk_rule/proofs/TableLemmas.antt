@@ -68,9 +68,18 @@ module _ {M C R : Type 0} (steps : M → C → R → M → Type 0) (owes : R →
     owed = tt;
     eight_bits = λ k below. subst (λ n. n < 256) (sym (zeros k below)) (omega arith);
     seated = λ j u e. only_view (opening_view opening first passes) u j (Sits steps owes opening first passes [] [] none (λ _. 0))
-        (record { opened = λ m e. (some_same m e, refl); seen = prefix_nil []; told = prefix_nil []; holds = λ no. absurd (true≢false (sym no)); notices = prefix_nil [];
-            told_notices = prefix_nil []; own = fresh_own passes (omega arith); differ = fresh_differ C R passes; few = λ t b.
-            (let none = weigh_fresh_notices C R (raised_at t b) passes in omega arith) }) e;
+        (record {
+          opened = λ m e. (some_same m e, refl);
+          seen = prefix_nil [];
+          told = prefix_nil [];
+          holds = λ no. absurd (true≢false (sym no));
+          notices = prefix_nil [];
+          told_notices = prefix_nil [];
+          own = fresh_own passes (omega arith);
+          differ = fresh_differ C R passes;
+          few = λ t b.
+              (let none = weigh_fresh_notices C R (raised_at t b) passes in omega arith);
+        }) e;
   }
 
   -- the passes of a view that holds the turn

@@ -104,9 +104,17 @@ module _ {M C R : Type 0} (steps : M → C → R → M → Type 0) (owes : R →
     eight_bits = λ k small. subst (λ n. n < 256) (sym (get_or-set_other s.words 0 (k + 1) (word + 1) 0 (λ e. omega arith))) (r.eight_bits k small);
     seated = all_views steps owes opening first passes (Sits steps owes opening first passes r.history r.order (some id) r.seat_of) s.views id w
         (record { opened = f.opened; seen = prefix_refl r.history; told = prefix_nil r.history; holds = λ _. (refl, refl); notices = prefix_refl r.order; told_notices = prefix_nil r.order; own = f.own; differ = f.differ; few = f.few })
-        (λ j u _ e. let g = r.seated j u e in record
-            { opened = g.opened; seen = g.seen; told = g.told; holds = λ h. absurd (some-ne-none j (sym (g.holds h).0 ∙ free)); notices = g.notices; told_notices = g.told_notices;
-            own = g.own; differ = g.differ; few = g.few });
+        (λ j u _ e. let g = r.seated j u e in record {
+          opened = g.opened;
+          seen = g.seen;
+          told = g.told;
+          holds = λ h. absurd (some-ne-none j (sym (g.holds h).0 ∙ free));
+          notices = g.notices;
+          told_notices = g.told_notices;
+          own = g.own;
+          differ = g.differ;
+          few = g.few;
+        });
   }
 
   pub hold_allowed : (slots id : ℕ) (me : AtSeat M C R) (word new k : ℕ) → word ≡ 2 * k → new ≡ word + 1 → k < 2 ^ 62 → 0 < length me.0.passes

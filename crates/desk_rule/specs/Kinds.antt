@@ -24,33 +24,57 @@ abbrev pub AtSeat : Type 0 → Type 0 → Type 0 → Type 0
 AtSeat M C R = Me (Option (Home M C R)) (View M C R)
 
 module _ {M C R : Type 0} where
-  -- The view that has seen this much of the history and of the order of notices, which include all that it was told.
+  -- The view that has seen this much of the history and of the order of notices, which include all that reached it by notes.
   abbrev pub after_look : View M C R → Bool → List (Entry C R) → List Notice → View M C R
   after_look v holding es ns = record {
-      opening = v.opening; first = v.first; holding = holding; seen = es; told = []; notices = ns; told_notices = [];
-      passes = v.passes;
+    opening = v.opening;
+    first = v.first;
+    holding = holding;
+    seen = es;
+    told = [];
+    notices = ns;
+    told_notices = [];
+    passes = v.passes;
   }
 
   -- The view that has seen this much of the history.
   abbrev pub with_seen : View M C R → List (Entry C R) → View M C R
   with_seen v es = record {
-      opening = v.opening; first = v.first; holding = v.holding; seen = es; told = []; notices = v.notices;
-      told_notices = v.told_notices; passes = v.passes;
+    opening = v.opening;
+    first = v.first;
+    holding = v.holding;
+    seen = es;
+    told = [];
+    notices = v.notices;
+    told_notices = v.told_notices;
+    passes = v.passes;
   }
 
   -- The view with one more entry, of its first pass.
   abbrev pub after_turn : View M C R → C → R → View M C R
   after_turn v c r = let e = entry (number_of v.passes) c r in
       record {
-          opening = v.opening; first = v.first; holding = false; seen = v.seen ++ e ∷ []; told = [];
-          notices = v.notices; told_notices = v.told_notices; passes = add_call v.passes e;
+        opening = v.opening;
+        first = v.first;
+        holding = false;
+        seen = v.seen ++ e ∷ [];
+        told = [];
+        notices = v.notices;
+        told_notices = v.told_notices;
+        passes = add_call v.passes e;
       }
 
   -- The view with one more notice, of its first pass, after these.
   abbrev pub with_notice : View M C R → List Notice → Notice → View M C R
   with_notice v before n = record {
-      opening = v.opening; first = v.first; holding = v.holding; seen = v.seen; told = v.told;
-      notices = before ++ n ∷ []; told_notices = []; passes = add_notice v.passes n;
+    opening = v.opening;
+    first = v.first;
+    holding = v.holding;
+    seen = v.seen;
+    told = v.told;
+    notices = before ++ n ∷ [];
+    told_notices = [];
+    passes = add_notice v.passes n;
   }
 
   -- A post for the last call that it has seen, and a take.
@@ -63,38 +87,68 @@ module _ {M C R : Type 0} where
   -- The view without passes, of what was seen.
   abbrev pub note_view : View M C R → View M C R
   note_view v = record {
-      opening = v.opening; first = v.first; holding = false; seen = v.seen; told = []; notices = v.notices;
-      told_notices = []; passes = [];
+    opening = v.opening;
+    first = v.first;
+    holding = false;
+    seen = v.seen;
+    told = [];
+    notices = v.notices;
+    told_notices = [];
+    passes = [];
   }
 
-  -- The view that was told what a note has seen.
+  -- The view after a note, with what the note has seen.
   abbrev pub after_note : View M C R → View M C R → View M C R
   after_note v w = record {
-      opening = v.opening; first = v.first; holding = v.holding; seen = v.seen; told = w.seen; notices = v.notices;
-      told_notices = w.notices; passes = v.passes;
+    opening = v.opening;
+    first = v.first;
+    holding = v.holding;
+    seen = v.seen;
+    told = w.seen;
+    notices = v.notices;
+    told_notices = w.notices;
+    passes = v.passes;
   }
 
   -- The view of the first pass alone, and that of the others.
   abbrev pub one_pass : View M C R → View M C R
   one_pass v = record {
-      opening = v.opening; first = v.first; holding = false; seen = v.seen; told = []; notices = v.notices;
-      told_notices = []; passes = std.take 1 v.passes;
+    opening = v.opening;
+    first = v.first;
+    holding = false;
+    seen = v.seen;
+    told = [];
+    notices = v.notices;
+    told_notices = [];
+    passes = std.take 1 v.passes;
   }
 
   abbrev pub other_passes : View M C R → View M C R
   other_passes v = record {
-      opening = v.opening; first = v.first; holding = v.holding; seen = v.seen; told = v.told; notices = v.notices;
-      told_notices = v.told_notices; passes = drop 1 v.passes;
+    opening = v.opening;
+    first = v.first;
+    holding = v.holding;
+    seen = v.seen;
+    told = v.told;
+    notices = v.notices;
+    told_notices = v.told_notices;
+    passes = drop 1 v.passes;
   }
 
-  -- The view with the passes of another seat, which was told what that one has seen.
+  -- The view after it takes over the passes of another seat, with what that one has seen.
   abbrev pub after_pass : View M C R → View M C R → View M C R
   after_pass v w = record {
-      opening = v.opening; first = v.first; holding = v.holding; seen = v.seen; told = w.seen; notices = v.notices;
-      told_notices = w.notices; passes = v.passes ++ w.passes;
+    opening = v.opening;
+    first = v.first;
+    holding = v.holding;
+    seen = v.seen;
+    told = w.seen;
+    notices = v.notices;
+    told_notices = w.notices;
+    passes = v.passes ++ w.passes;
   }
 
--- w is v after a load of word 0 that found this: the history that it has seen extends all that v saw and was told, is
+-- w is v after a load of word 0 that found this: the history that it has seen extends all that v saw itself or by notes, is
 -- legal, and has exactly the own entries of each pass; the same holds of the order of notices.
 pub record Looks {M C R : Type 0} (steps : M → C → R → M → Type 0) (v : View M C R) (found : ℕ) (holding : Bool)
     (w : View M C R) : Type 0 where
@@ -111,7 +165,7 @@ pub record Looks {M C R : Type 0} (steps : M → C → R → M → Type 0) (v : 
   pub order : IsOrder w.notices
   pub own_notices : OwnNotices w.notices w.passes
 
--- w is v after a notice, which comes after all that v saw of the order and was told, and found its word as the earlier
+-- w is v after a notice, which comes after all that v saw of the order itself or by notes, and found its word as the earlier
 -- ones left it.
 pub record MakesNotice {M C R : Type 0} (v : View M C R) (n : Notice) (w : View M C R) : Type 0 where
   pub before : List Notice

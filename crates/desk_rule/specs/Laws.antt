@@ -44,12 +44,12 @@ module _ {M C R : Type 0} (steps : M → C → R → M → Type 0) (owes : R →
       (opening : M) (first passes : ℕ) (s : TableState) → (r : RuleHolds steps owes opening first passes s) →
       IsOrder r.order × ((server : ℕ) → server < 16 → slice_index s.words (server + 1) ≡ pending_after r.order server)
 
-  -- Each bit was raised as often as it was taken, plus once if it is pending.
+  -- The raises of each bit are its takes, plus one if it is pending.
   abbrev pub NoticesBalance : Type 0
   NoticesBalance =
       (opening : M) (first passes : ℕ) (s : TableState) → RuleHolds steps owes opening first passes s → (server bit : ℕ) → server < 16
       → total_of (λ (v : View M C R). raised_by v.passes server bit) s.views ≡
-          total_of (λ (v : View M C R). taken_by v.passes server bit) s.views + bit_at (slice_index s.words (server + 1)) bit
+      total_of (λ (v : View M C R). taken_by v.passes server bit) s.views + bit_at (slice_index s.words (server + 1)) bit
 
   -- An entry of the history owes each pending bit.
   abbrev pub BitsAreOwed : Type 0

@@ -27,8 +27,14 @@ module _ {M C R : Type 0} where
   -- The view of the first seat, at which all passes sit.
   abbrev pub opening_view : M → ℕ → ℕ → View M C R
   opening_view m first passes = record {
-      opening = Some m; first = first; holding = false; seen = []; told = []; notices = []; told_notices = [];
-      passes = fresh passes;
+    opening = Some m;
+    first = first;
+    holding = false;
+    seen = [];
+    told = [];
+    notices = [];
+    told_notices = [];
+    passes = fresh passes;
   }
 
   -- The view of a seat that another one took over.
@@ -54,7 +60,7 @@ module _ {M C R : Type 0} where
 pub record Seated {M C R : Type 0} (opening : M) (first : ℕ) (history : List (Entry C R)) (order : List Notice) (turn : maybe.Option ℕ)
     (seat_of : ℕ → ℕ) (passes j : ℕ) (v : View M C R) : Type 0 where
   pub opened : (m : M) → v.opening ≡ Some m → (m ≡ opening) × (v.first ≡ first)
-  -- what it saw and was told is a prefix of the history; the holder of the turn has seen all of it
+  -- what it saw itself or by notes is a prefix of the history; the holder of the turn has seen all of it
   pub seen : IsPrefix v.seen history
   pub told : IsPrefix v.told history
   pub holds : v.holding ≡ true → (turn ≡ some j) × (v.seen ≡ history)

@@ -32,7 +32,7 @@ pub fn one_seat_holds<M: Machine>()
     ensures { OneSeatHolds (Stepped M.stands M.steps) M.owes }
 {}
 
-/// A law: each bit of each server was raised as often as it was taken, plus once if it is pending.
+/// A law: the raises of each bit of each server are its takes, plus one if it is pending.
 pub fn notices_balance<M: Machine>()
     ensures { NoticesBalance (Stepped M.stands M.steps) M.owes }
 {}

@@ -142,7 +142,7 @@ moves_are v t label state s =
 -- ---- the requests
 both_follow : (t : DriverTable) (answers : List (ℕ × Ending)) (sends : List (ℕ × EndpointRecord)) (ask : Request → Option Move) (requests : List Request) →
     AllByRecursion (λ (r : Request). values_of r.id answers ≡ cond (is_pending t.answers r) (endings (ask r)) []) requests →
-        AllByRecursion (λ (r : Request). values_of r.id sends ≡ cond (is_pending t.answers r) (targets (ask r)) []) requests →
+    AllByRecursion (λ (r : Request). values_of r.id sends ≡ cond (is_pending t.answers r) (targets (ask r)) []) requests →
     AllByRecursion (λ (r : Request). Follows t answers sends r (ask r)) requests
 both_follow t answers sends ask [] a s = tt
 both_follow t answers sends ask (r ∷ requests) a s = (record { answered = a.0; sent = s.0 }, both_follow t answers sends ask requests a.1 s.1)
@@ -204,7 +204,7 @@ current_still t label state old h other e k = by (is_same_name label other) refl
         let old_here : is_old (newest t.states other) (endpoint_now t.states other) (Some e) ≡ false =
         ap (is_old (newest t.states other) (endpoint_now t.states other)) (sym is) ∙ (ap (λ (l : List ℕ). is_old (newest t.states l) (endpoint_now t.states l) state) (sym (same_name label other q)) ∙ old) in
         newest_after t.states s other ∙ (ap (λ (b : Bool). cond b (newer (newest t.states other) state) (newest t.states other)) q ∙
-            (ap (newer (newest t.states other)) is ∙ newer_is (newest t.states other) (endpoint_now t.states other) e old_here))
+        (ap (newer (newest t.states other)) is ∙ newer_is (newest t.states other) (endpoint_now t.states other) e old_here))
     by false q =
         let before : endpoint_now t.states other ≡ Some e = sym (now_after t.states s other ∙ ap (λ (b : Bool). cond b state (endpoint_now t.states other)) q) ∙ k in
         newest_after t.states s other ∙ (ap (λ (b : Bool). cond b (newer (newest t.states other) state) (newest t.states other)) q ∙ h.current other e before)
@@ -330,7 +330,7 @@ stands_moved v t label state devices left s has old d e = subst (TableStands (re
   devices = d ∙ (ap (map (noted label state)) s.devices ∙ noted_all t.states t.units label state);
   pending = e ∙ (ap (λ (l : List (ℕ × Device)). retain_mut (is_kept_in l label state) (kept_in l label state) v.pending) s.devices ∙ (ap (retain_mut (is_kept_in kept label state) (kept_in kept label state)) s.pending
       ∙ pending_after t (more_answers t label state) (more_sends t label state) (settled_in kept label state) t.requests
-          (follow_kept t label state (more_answers t label state) (more_sends t label state) t.requests (all_follow t label state s.reached))));
+      (follow_kept t label state (more_answers t label state) (more_sends t label state) t.requests (all_follow t label state s.reached))));
   last = s.last;
   reached = reached_moved t label state s.reached has old;
 })

@@ -194,7 +194,7 @@ starts_go t u label state h same states (x ∷ units) f = by (is_same_name label
     by true q Network None n rest = rest
     by true q Network (Some e) n rest =
         let now : endpoint_now u.states x.1.label ≡ Some e = ap (λ (l : List LabelState). endpoint_now l x.1.label) states ∙
-            (ap (λ (s : Option EndpointRecord). endpoint_now (notes t label s).states x.1.label) (sym n) ∙ now_is t label e x.1 q) in
+        (ap (λ (s : Option EndpointRecord). endpoint_now (notes t label s).states x.1.label) (sym n) ∙ now_is t label e x.1 q) in
         (record { driver = x.1; found = ap (λ (l : List (ℕ × Driver)). driver_of l x.0) same ∙ f.0; now = now; greatest = h.current x.1.label e now }, rest)
 
 settles_go : (t u : DriverTable) (label : List ℕ) (state : Option EndpointRecord) → IsTableReached u → u.units ≡ t.units → u.states ≡ (notes t label state).states →

@@ -106,9 +106,11 @@ all_follow t id (r ∷ requests) o = (done_follows t id r o, all_follow t id req
 
 served_still : (t : DriverTable) (id : ℕ) (requests : List Request) → is_empty (values_of id t.answers) ≡ true → AllByRecursion (IsRequestServed t) requests → AllByRecursion (IsRequestServed (finishes t id)) requests
 served_still t id [] o h = tt
-served_still t id (r ∷ requests) o h =
-    (served_after t (finishes t id) ((id, Done) ∷ []) [] r (ending_for id r.id) (done_follows t id r o) h.0 refl refl h.0.found (λ p. fits (r.id == id) h.0.driver.class)
-        (λ p e now silent. inr (no_target (r.id == id), now)), served_still t id requests o h.1)
+served_still t id (r ∷ requests) o h = (
+  served_after t (finishes t id) ((id, Done) ∷ []) [] r (ending_for id r.id) (done_follows t id r o) h.0 refl refl h.0.found (λ p. fits (r.id == id) h.0.driver.class)
+      (λ p e now silent. inr (no_target (r.id == id), now)),
+  served_still t id requests o h.1,
+)
   where
     no_target : (c : Bool) → targets (cond c (Some (Answer id Done)) None) ≡ []
     no_target true = refl

@@ -78,8 +78,8 @@ pending_after t answers sends ask (r ∷ requests) h = by (is_pending t.answers 
 
     by : (b : Bool) → is_pending t.answers r ≡ b → values_of r.id answers ≡ cond b (endings m) [] → values_of r.id sends ≡ cond b (targets m) [] → kept ≡ is →
         retain_mut (λ p. stays_pending (ask p)) (λ p. kept_after (ask p) p)
-            (map (pending_of t.sends) (cond b (r ∷ filter (is_pending t.answers) requests) (filter (is_pending t.answers) requests))) ≡ map (pending_of (t.sends ++ sends))
-            (cond (is_pending (t.answers ++ answers) r) (r ∷ filter (is_pending (t.answers ++ answers)) requests) (filter (is_pending (t.answers ++ answers)) requests))
+        (map (pending_of t.sends) (cond b (r ∷ filter (is_pending t.answers) requests) (filter (is_pending t.answers) requests))) ≡ map (pending_of (t.sends ++ sends))
+        (cond (is_pending (t.answers ++ answers) r) (r ∷ filter (is_pending (t.answers ++ answers)) requests) (filter (is_pending (t.answers ++ answers)) requests))
     by false e a s rest =
         rest ∙ sym (ap (λ (b : Bool). map (pending_of (t.sends ++ sends)) (cond b (r ∷ filter (is_pending (t.answers ++ answers)) requests) (filter (is_pending (t.answers ++ answers)) requests)))
         (ap is_empty (values-append r.id t.answers answers) ∙ more_old old (values_of r.id answers) e))

@@ -84,7 +84,7 @@ pub settles_as : (states : List LabelState) (units : List (ℕ × Driver)) (labe
 settles_as states units label state r p i n =
     ap (λ (d : Option Device). option_map_or (settled_by label state p) d None) (device_is states units p.unit)
     ∙ (ap (λ (k : ℕ). option_map_or (settled_by label state p) (option_map (device_of states) (driver_of units k)) None) n ∙
-        (at (driver_of units r.unit) ∙ ap (λ (k : ℕ). option_map_or (settled_of label state k) (driver_of units r.unit) None) i))
+    (at (driver_of units r.unit) ∙ ap (λ (k : ℕ). option_map_or (settled_of label state k) (driver_of units r.unit) None) i))
   where
     at : (d : Option Driver) → option_map_or (settled_by label state p) (option_map (device_of states) d) None ≡ option_map_or (settled_of label state p.id) d None
     at None = refl

@@ -17,7 +17,7 @@ use Rattle.driver_tables.specs.Run.{Reply}
 abbrev pub ListsTell : Type 0
 ListsTell = (entries : List Entry) (t : DriverTable) → TableRun empty_table entries t →
     (t.requests ≡ requests_in entries) × (t.sends ≡ flat_map sends_of (all_moves_in entries)) ×
-        (t.answers ≡ flat_map answered_by (all_moves_in entries))
+    (t.answers ≡ flat_map answered_by (all_moves_in entries))
 
 -- Each id is answered at most once.
 abbrev pub AnswersOnce : Type 0

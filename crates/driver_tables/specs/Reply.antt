@@ -18,5 +18,5 @@ finishes t id = does t (Answer id Done ∷ [])
 abbrev pub replying : DriverTable → EndpointRecord → ℕ → Result Move TableFault × DriverTable
 replying t endpoint id =
     if is_requested (pending t) id then
-        (if is_same_state (last_sent t.sends id) (Some endpoint) then (Ok (Answer id Done), finishes t id) else (Err OldEndpoint, t))
+    (if is_same_state (last_sent t.sends id) (Some endpoint) then (Ok (Answer id Done), finishes t id) else (Err OldEndpoint, t))
     else (Err NotPending, t)

@@ -2,7 +2,7 @@
 //!
 //! A file server finds the driver of a major device in a table, a network server that of a port (Tanenbaum and
 //! Woodhull, third edition). When RS has restarted a driver, its server reintegrates it: a file server sends a block
-//! driver's pending requests again, a network server restarts its port, and the application is told of a character
+//! driver's pending requests again, a network server restarts its port, and the application learns of a character
 //! driver's fault (Herder and others, DSN 2007).
 #![tactic(auto)]
 

@@ -110,9 +110,15 @@ module _ (h : MarkedHolding Masks) (sub : ℕ) where
             let first = next.there.0 in
             let place : floor_count h.held + n ≡ at = omega (arith, is, few) in
             record {
-              there = (omega (arith, first, begins, is, few),
-                  (Changed r.0, ap (slice_get (held_items h.held)) (sym place) ∙ here, sym b.says ∙
-                  ap (says_unseen sub) (same_Some b.masks next.there.1.0 (sym b.here ∙ next.there.1.1)) ∙ next.there.1.2));
+              there = (
+                omega (arith, first, begins, is, few),
+                (
+                  Changed r.0,
+                  ap (slice_get (held_items h.held)) (sym place) ∙ here,
+                  sym b.says ∙
+                      ap (says_unseen sub) (same_Some b.masks next.there.1.0 (sym b.here ∙ next.there.1.1)) ∙ next.there.1.2,
+                ),
+              );
               none_before = λ k i e l below. passed_by (Some n) next k i e l (λ j above. omega (arith, above, below, place));
             }
 

@@ -129,7 +129,7 @@ module _ (keep : Key → Bool) where
     where
       by_test : still_to_come (passes keep) after (map change_item cs) ≡ map change_item (to_come keep after cs) → (k b d : Bool) → keep c.key ≡ k → is_behind_key after (Changed c) ≡ b → b ≡ d
           → filter (is_behind_key after) (cond k (Changed c ∷ filter (passes keep) (map change_item cs)) (filter (passes keep) (map change_item cs))) ≡ map change_item
-              (filter (λ (x : ChangeRecord). keep x.key) (cond d (c ∷ filter (comes_after after) cs) (filter (comes_after after) cs)))
+          (filter (λ (x : ChangeRecord). keep x.key) (cond d (c ∷ filter (comes_after after) cs) (filter (comes_after after) cs)))
       by_test rest k true false e f g = absurd (cc)
       by_test rest k false true e f g = absurd (cc)
       by_test rest true true true e f g = rw (e, f) (ap (λ l. Changed c ∷ l) rest)

@@ -98,7 +98,7 @@ module _ (h : MarkedHolding Masks) (ws : List (Option Watching)) (sub : ℕ) whe
       by_place None q = absurd (let no : None ≡ Some f = sym (shown_place ∙ ap (option_map (followed_by (held_items h.held) (unseen_at h) sub)) q) ∙ e in cc)
       by_place (Some w) q =
           let same : followed_by (held_items h.held) (unseen_at h) sub w ≡ f = same_Some (followed_by (held_items h.held) (unseen_at h) sub w) f
-              (sym (shown_place ∙ ap (option_map (followed_by (held_items h.held) (unseen_at h) sub)) q) ∙ e) in
+          (sym (shown_place ∙ ap (option_map (followed_by (held_items h.held) (unseen_at h) sub)) q) ∙ e) in
           is ∙ sym (flagged_are (is_to_show h sub) passed (held_items h.held)) ∙ ap (λ (x : Followed). flagged x.unseen (take passed (held_items h.held))) same
 
   -- ---- what the masks say is what the state says
@@ -133,8 +133,14 @@ module _ (old new : MarkedHolding Masks) (journal : Kept) (stamp : ℕ) (ws : Li
   seat = omega (arith, within, places)
 
   moved : (s : State) (t : State) (w : Watching) → new.held ≡ old.held
-      → ContentStands (record { held = held_items old.held; journal = journal; limits = old.held.limits; stamp = stamp + 1; subscriptions = followed_from (held_items old.held)
-          (unseen_at new) 0 (set ws sub (Some w)) }) t → ContentStands (value_of new journal (stamp + 1) (set ws sub (Some w))) t
+      → ContentStands (record {
+        held = held_items old.held;
+        journal = journal;
+        limits = old.held.limits;
+        stamp = stamp + 1;
+        subscriptions = followed_from (held_items old.held)
+            (unseen_at new) 0 (set ws sub (Some w));
+      }) t → ContentStands (value_of new journal (stamp + 1) (set ws sub (Some w))) t
   moved s t w e stood =
       subst (λ (h : Holding). ContentStands (record { held = held_items h; journal = journal; limits = h.limits; stamp = stamp + 1; subscriptions = followed_from (held_items h) (unseen_at new) 0 (set ws sub (Some w)) }) t) (sym e) stood
 
@@ -160,7 +166,7 @@ module _ (old new : MarkedHolding Masks) (journal : Kept) (stamp : ℕ) (ws : Li
         let one : t.seer ≡ seer = same_Some t.seer seer (sym t.here ∙ here) in
         let same = t.same ∙ ap (followed_of (held_items old.held)) one in
         let part : IsPartOf items (held_items old.held) = λ i h. Contains-from_take passed (held_items old.held) i
-            (Contains-from_filter (is_to_show old sub) (take passed (held_items old.held)) i (subst (λ (l : List Item). Contains l i) is h)).0 in
+        (Contains-from_filter (is_to_show old sub) (take passed (held_items old.held)) i (subst (λ (l : List Item). Contains l i) is h)).0 in
         moved s (subscribes s sub seer.query (seer.shown ++ items)) (watching w.query (stamp + 1)) all.held
         (stands_subscribed (value_of old journal stamp ws) s sub seer.query (seer.shown ++ items) (unseen_at old) (unseen_at new) ws (watching w.query (stamp + 1)) stands refl
         (check_others old new passed sub all)

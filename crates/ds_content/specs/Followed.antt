@@ -23,7 +23,9 @@ watches_item i (Some w) = passes (is_under w.query) i
 -- The subscription at the place.
 abbrev pub followed_by : List Item → (Item → List Bool) → ℕ → Watching → Followed
 followed_by held unseen place w = record {
-    query = w.query; stamp = w.stamp; unseen = map (λ (i : Item). slice_index_or (unseen i) place false) held;
+  query = w.query;
+  stamp = w.stamp;
+  unseen = map (λ (i : Item). slice_index_or (unseen i) place false) held;
 }
 
 -- The subscriptions from this place on.

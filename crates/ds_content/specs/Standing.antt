@@ -25,5 +25,7 @@ standing_in content c = standing_with content c.key (is_void content.held c)
 -- What a floor meets.
 abbrev pub floor_standing_in : ContentRecord → Floor → FloorStanding
 floor_standing_in content f = record {
-    held = floor_at content.held f.owner; count = length (floors_in content.held); position = content.journal.position;
+  held = floor_at content.held f.owner;
+  count = length (floors_in content.held);
+  position = content.journal.position;
 }

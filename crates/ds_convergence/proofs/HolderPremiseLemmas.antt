@@ -147,9 +147,13 @@ abbrev check_by : List Item → ℕ → List Item → CheckTurn
 check_by shown max accepted = record { feed = feed_of accepted; known = accepted; held = tops accepted; max = max; items = take max (unseen_by all shown (tops accepted)) }
 
 check_is : (shown accepted more : List Item) (max : ℕ) → IsTop (tops accepted) accepted → IsCheckTurn (feed_of []) (feed_of (accepted ++ more)) all shown (check_by shown max accepted)
-check_is shown accepted more max t = record
-    { later = record { incarnation = refl; first = refl; grown = (accepted, refl) }; front = record { incarnation = refl; first = refl; grown = (more, refl) }; knows = λ i h. h;
-    top = t; given = refl }
+check_is shown accepted more max t = record {
+  later = record { incarnation = refl; first = refl; grown = (accepted, refl) };
+  front = record { incarnation = refl; first = refl; grown = (more, refl) };
+  knows = λ i h. h;
+  top = t;
+  given = refl;
+}
 
 -- the first item of a store is new
 one_is_new : AreNew [] (a1 ∷ [])

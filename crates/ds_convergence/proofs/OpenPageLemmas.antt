@@ -161,7 +161,7 @@ paged_is_whole f scope other query pages last turns keep keeps before is l end s
     let o = first_of_all pages last in
     let are = last_page f scope None 0 pages last before is l end in
     let all : paged (pages ++ last ∷ []) ++ journaled turns ≡ paged pages ++ (last.page.items ++ journaled turns) = ap (λ (x : List Item). x ++ journaled turns)
-        (paged_more pages last) ∙ append_assoc (paged pages) last.page.items (journaled turns) in
+    (paged_more pages last) ∙ append_assoc (paged pages) last.page.items (journaled turns) in
     let law =
     by_law f scope other query keep keeps o.first o.pages turns (subst (ArePages f scope None 0) o.all are) (subst (λ (c : Cursor). AreSince f other c turns) o.from_is since)
     (subst (λ (c : Cursor). c.position ≤ (cursor_after o.first.page.cursor turns).position) (sym o.last_is) (subst (λ (c : Cursor). last.page.cursor.position ≤ (cursor_after c turns).position) o.from_is to)) in

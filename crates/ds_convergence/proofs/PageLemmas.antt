@@ -194,7 +194,7 @@ module _ (f : Feed) (scope : Key → Bool) where
       on_or_behind : (d : ChangeRecord) → covers (Changed d) (Changed c) ≡ true →
           Contains t.page.items (Changed d) ⊎ ((t.page.last ≡ false) × (is_behind_key (last_key after t.page.items) (Changed d) ≡ true)) →
           (ArePages f scope (last_key after t.page.items) t.page.cursor.position ts → is_behind_key (last_key after t.page.items) (Changed c) ≡ true →
-              Contains (stood_for (page_items ts)) (Changed c) ⊎ IsFloored f (last_cursor t.page.cursor ts).position (Changed c)) →
+          Contains (stood_for (page_items ts)) (Changed c) ⊎ IsFloored f (last_cursor t.page.cursor ts).position (Changed c)) →
           Contains (stood_for (page_items (t ∷ ts))) (Changed c) ⊎ IsFloored f (last_cursor t.page.cursor ts).position (Changed c)
       on_or_behind d e (inl k) more = inl (here (Changed d) e k)
       on_or_behind d e (inr k) more =
@@ -205,7 +205,7 @@ module _ (f : Feed) (scope : Key → Bool) where
 
       over : (d : Item) → Contains t.held d → covers d (Changed c) ≡ true →
           (ArePages f scope (last_key after t.page.items) t.page.cursor.position ts → is_behind_key (last_key after t.page.items) (Changed c) ≡ true →
-              Contains (stood_for (page_items ts)) (Changed c) ⊎ IsFloored f (last_cursor t.page.cursor ts).position (Changed c)) →
+          Contains (stood_for (page_items ts)) (Changed c) ⊎ IsFloored f (last_cursor t.page.cursor ts).position (Changed c)) →
           Contains (stood_for (page_items (t ∷ ts))) (Changed c) ⊎ IsFloored f (last_cursor t.page.cursor ts).position (Changed c)
       over (Floored g) k e more =
           let there : Contains (before f t.page.cursor.position) (Floored g) = subst (λ (l : List Item). Contains l (Floored g)) (sym (page_front f scope after t w.0)) (w.0.top.among (Floored g) k) in

@@ -82,8 +82,8 @@ one_owner owner items a front back (Floored f) e = tt
 one_owner owner items a front back (Changed c) e =
     λ d h v w q.
     let own : IsOf owner (Changed c) = of_one owner items (Changed c) a
-        (In-from_Contains (Changed c) items (subst (λ (l : List Item). Contains l (Changed c)) (sym e)
-        (Contains-append_right front (Changed c ∷ back) (Changed c) (Contains-head (Changed c) back)))) in
+    (In-from_Contains (Changed c) items (subst (λ (l : List Item). Contains l (Changed c)) (sym e)
+    (Contains-append_right front (Changed c ∷ back) (Changed c) (Contains-head (Changed c) back)))) in
     let other : IsOf owner (Changed d) = of_one owner items (Changed d) a (In-from_Contains (Changed d) items (subst (λ (l : List Item). Contains l (Changed d)) (sym e) (Contains-append_left front (Changed c ∷ back) (Changed d) h))) in
     own ∙ sym other
 
@@ -96,8 +96,11 @@ top_by items a = top_of_one (111 ∷ []) items a
 
 -- no item contradicts itself
 pub one_single : (i : Item) → AreSingleNumbered (i ∷ [])
-one_single i = record { one_change = λ c d h k e f. same c d (Contains-single i (Changed c) h) (Contains-single i (Changed d) k); one_owner = λ c d h k e. ap
-    (λ (x : ChangeRecord). x.owner) (same c d (Contains-single i (Changed c) h) (Contains-single i (Changed d) k)) }
+one_single i = record {
+  one_change = λ c d h k e f. same c d (Contains-single i (Changed c) h) (Contains-single i (Changed d) k);
+  one_owner = λ c d h k e. ap
+      (λ (x : ChangeRecord). x.owner) (same c d (Contains-single i (Changed c) h) (Contains-single i (Changed d) k));
+}
   where
     same : (c d : ChangeRecord) → Changed c ≡ i → Changed d ≡ i → c ≡ d
     same c d e f = let g : Changed c ≡ Changed d = e ∙ sym f in cc

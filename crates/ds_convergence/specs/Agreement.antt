@@ -17,7 +17,7 @@ pub record KnowSame (query : Key → Bool) (known other : List Item) : Type 0 wh
 abbrev pub HoldersAgree : Type 0
 HoldersAgree =
     (query : Key → Bool) (known other held too : List Item) → IsTop held known → IsTop too other → AreSingleNumbered (under query known) →
-        KnowSame query known other →
+    KnowSame query known other →
     (under query held ≡ under query too) × (entries_of (under query held) ≡ entries_of (under query too))
 
 -- A law: what is held under a query is the top of what is known under it.

@@ -21,7 +21,7 @@ abbrev pub HoldsTheStores : Type 0
 HoldsTheStores =
     (f : Feed) (query : Key → Bool) (items : List Sent) (stored held : List Item) → IsTop stored f.accepted → MapHolds query items held →
     IsWhole f query items (position f) → CoversAll stored (under query (learnt query items)) →
-        AreSingleNumbered (under query (learnt query items)) →
+    AreSingleNumbered (under query (learnt query items)) →
     (held ≡ under query stored) × IsTop held (under query f.accepted)
 
 -- A law: if the items may contradict each other, the map holds the same keys, owners and versions.
@@ -50,7 +50,7 @@ abbrev pub AnyHolderHoldsTheStores : Type 0
 AnyHolderHoldsTheStores =
     (f : Feed) (query : Key → Bool) (known stored held : List Item) → IsTop stored f.accepted → IsTop held known →
     IsPartOf (under query f.accepted) known → CoversAll stored (under query known) → AreSingleNumbered (under query known) →
-        under query held ≡ under query stored
+    under query held ≡ under query stored
 
 -- A law: a map holds nothing that isn't under its query.
 abbrev pub MapHoldsItsQuery : Type 0

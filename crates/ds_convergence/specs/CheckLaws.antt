@@ -15,16 +15,16 @@ use Rattle.ds_convergence.specs.Checked.{CheckTurn, AreChecks, check_items}
 abbrev pub ChecksAreWhole : Type 0
 ChecksAreWhole =
     (early f : Feed) (query : Key → Bool) (since : List Item) (turns : List CheckTurn) (last : CheckTurn) →
-        f.accepted ≡ early.accepted ++ since → AreNew early.accepted since →
+    f.accepted ≡ early.accepted ++ since → AreNew early.accepted since →
     AreChecks early f query [] (turns ++ last ∷ []) → length last.items < last.max →
-        IsWhole f query (check_items (turns ++ last ∷ [])) (position last.feed)
+    IsWhole f query (check_items (turns ++ last ∷ [])) (position last.feed)
 
 -- A law: if what had taken effect by then counted as shown, they are whole together with items that were whole up to
 -- then.
 abbrev pub ChecksGoOn : Type 0
 ChecksGoOn =
     (early begun f : Feed) (query : Key → Bool) (since shown : List Item) (items : List Sent) (turns : List CheckTurn) (last : CheckTurn) →
-        f.accepted ≡ early.accepted ++ since → AreNew early.accepted since →
+    f.accepted ≡ early.accepted ++ since → AreNew early.accepted since →
     IsFront early begun → IsFront begun f → IsPartOf shown begun.accepted → IsWhole f query items (position begun) →
     AreChecks early f query shown (turns ++ last ∷ []) → length last.items < last.max →
-        IsWhole f query (items ++ check_items (turns ++ last ∷ [])) (position last.feed)
+    IsWhole f query (items ++ check_items (turns ++ last ∷ [])) (position last.feed)

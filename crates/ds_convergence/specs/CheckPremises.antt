@@ -16,8 +16,8 @@ pub record ChecksNeed : Type 0 where
   pub initial : ¬ ((early f : Feed) (query : Key → Bool) (since shown : List Item) (turns : List CheckTurn) (last : CheckTurn) →
       f.accepted ≡ early.accepted ++ since → AreNew early.accepted since →
       AreChecks early f query shown (turns ++ last ∷ []) → length last.items < last.max →
-          IsWhole f query (check_items (turns ++ last ∷ [])) (position last.feed))
+      IsWhole f query (check_items (turns ++ last ∷ [])) (position last.feed))
   -- Nothing took effect meanwhile that was covered already.
   pub new : ¬ ((early f : Feed) (query : Key → Bool) (turns : List CheckTurn) (last : CheckTurn) →
       AreChecks early f query [] (turns ++ last ∷ []) → length last.items < last.max →
-          IsWhole f query (check_items (turns ++ last ∷ [])) (position last.feed))
+      IsWhole f query (check_items (turns ++ last ∷ [])) (position last.feed))

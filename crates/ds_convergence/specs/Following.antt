@@ -28,19 +28,19 @@ pub record HasTaken (query : Key → Bool) (stored held : List Item) (items take
 abbrev pub FollowsFromSnapshot : Type 0
 FollowsFromSnapshot =
     (f early : Feed) (known top stored held : List Item) (scope other query : Key → Bool) (turns : List SinceTurn) (taken : List Sent) →
-        KeepsQuery scope query → KeepsQuery other query →
+    KeepsQuery scope query → KeepsQuery other query →
     IsFront early f → IsPartOf early.accepted known → IsTop top early.accepted → AreSince f other (end_of early) turns →
-        position f ≤ (cursor_after (end_of early) turns).position → IsTop stored f.accepted →
+    position f ≤ (cursor_after (end_of early) turns).position → IsTop stored f.accepted →
     HasTaken query stored held (given known (snapshot_of (passes scope) top (end_of early)).items ++ since_items turns) taken →
-        held ≡ under query stored
+    held ≡ under query stored
 
 -- A law: so does a map that took all pages, and what the journal returned from the first page's cursor up to the
 -- store's position.
 abbrev pub FollowsFromPages : Type 0
 FollowsFromPages =
     (f : Feed) (stored held : List Item) (scope other query : Key → Bool) (first : PageTurn) (pages : List PageTurn)
-        (turns : List SinceTurn) (taken : List Sent) → KeepsQuery scope query → KeepsQuery other query →
+    (turns : List SinceTurn) (taken : List Sent) → KeepsQuery scope query → KeepsQuery other query →
     let from = first.page.cursor in
     ArePages f scope None 0 (first ∷ pages) → AreSince f other from turns → position f ≤ (cursor_after from turns).position →
-        IsTop stored f.accepted →
+    IsTop stored f.accepted →
     HasTaken query stored held (page_items (first ∷ pages) ++ since_items turns) taken → held ≡ under query stored

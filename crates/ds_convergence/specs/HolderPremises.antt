@@ -23,7 +23,7 @@ pub record CatchUpNeeds : Type 0 where
   pub whole : ¬ ((f : Feed) (query : Key → Bool) (items : List Sent) (stored held : List Item) → IsTop stored f.accepted →
       MapHolds query items held →
       CoversAll stored (under query (learnt query items)) → AreSingleNumbered (under query (learnt query items)) →
-          held ≡ under query stored)
+      held ≡ under query stored)
   pub nothing_else : ¬ ((f : Feed) (query : Key → Bool) (items : List Sent) (stored held : List Item) → IsTop stored f.accepted →
       MapHolds query items held →
       IsWhole f query items (position f) → AreSingleNumbered (under query (learnt query items)) → held ≡ under query stored)
@@ -33,14 +33,14 @@ pub record CatchUpNeeds : Type 0 where
   pub sent : ¬ ((f : Feed) (query : Key → Bool) (items : List Sent) (stored held : List Item) → IsTop stored f.accepted →
       IsTop held (learnt query items) →
       IsWhole f query items (position f) → CoversAll stored (under query (learnt query items)) →
-          AreSingleNumbered (under query (learnt query items)) → held ≡ under query stored)
+      AreSingleNumbered (under query (learnt query items)) → held ≡ under query stored)
   pub held : ¬ ((f : Feed) (query : Key → Bool) (items : List Sent) (stored held : List Item) → IsTop stored f.accepted →
       ((s : Sent) → Contains items s → IsSent s) →
       IsWhole f query items (position f) → CoversAll stored (under query (learnt query items)) →
-          AreSingleNumbered (under query (learnt query items)) → held ≡ under query stored)
+      AreSingleNumbered (under query (learnt query items)) → held ≡ under query stored)
   pub stored : ¬ ((f : Feed) (query : Key → Bool) (items : List Sent) (stored held : List Item) → MapHolds query items held →
       IsWhole f query items (position f) → CoversAll stored (under query (learnt query items)) →
-          AreSingleNumbered (under query (learnt query items)) → held ≡ under query stored)
+      AreSingleNumbered (under query (learnt query items)) → held ≡ under query stored)
 
 -- The premises of agreement: both holders know the same, and it doesn't contradict itself.
 pub record AgreementNeeds : Type 0 where

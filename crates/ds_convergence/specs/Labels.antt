@@ -62,5 +62,5 @@ IsNewest known name (Some e) = IsLive known name e
 abbrev pub LabelsAreNewest : Type 0
 LabelsAreNewest =
     (query : Key → Bool) (known held : List Item) (name : List ℕ) → ((i : Item) → Contains known i → IsItem i) → IsTop held known →
-        query (label_key name) ≡ true →
+    query (label_key name) ≡ true →
     IsNewest known name (label_in (under query held) name)

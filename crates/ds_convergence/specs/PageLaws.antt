@@ -15,8 +15,8 @@ use Rattle.ds_convergence.specs.Paged.{PageTurn, ArePages, page_items, last_curs
 abbrev pub PagesAreWhole : Type 0
 PagesAreWhole =
     (f : Feed) (scope other query : Key → Bool) (first : PageTurn) (pages : List PageTurn) (turns : List SinceTurn) →
-        KeepsQuery scope query → KeepsQuery other query →
+    KeepsQuery scope query → KeepsQuery other query →
     let from = first.page.cursor in
     let to = cursor_after first.page.cursor turns in
     ArePages f scope None 0 (first ∷ pages) → AreSince f other from turns → (last_cursor from pages).position ≤ to.position →
-        IsWhole f query (page_items (first ∷ pages) ++ since_items turns) to.position
+    IsWhole f query (page_items (first ∷ pages) ++ since_items turns) to.position

@@ -13,13 +13,13 @@ pub record PagesNeed : Type 0 where
   pub scope : ¬ ((f : Feed) (scope other query : Key → Bool) (first : PageTurn) (pages : List PageTurn) (turns : List SinceTurn) →
       KeepsQuery other query →
       ArePages f scope None 0 (first ∷ pages) → AreSince f other first.page.cursor turns →
-          (last_cursor first.page.cursor pages).position ≤ (cursor_after first.page.cursor turns).position →
+      (last_cursor first.page.cursor pages).position ≤ (cursor_after first.page.cursor turns).position →
       IsWhole f query (page_items (first ∷ pages) ++ since_items turns) (cursor_after first.page.cursor turns).position)
   -- So does the journal's.
   pub other : ¬ ((f : Feed) (scope other query : Key → Bool) (first : PageTurn) (pages : List PageTurn) (turns : List SinceTurn) →
       KeepsQuery scope query →
       ArePages f scope None 0 (first ∷ pages) → AreSince f other first.page.cursor turns →
-          (last_cursor first.page.cursor pages).position ≤ (cursor_after first.page.cursor turns).position →
+      (last_cursor first.page.cursor pages).position ≤ (cursor_after first.page.cursor turns).position →
       IsWhole f query (page_items (first ∷ pages) ++ since_items turns) (cursor_after first.page.cursor turns).position)
   -- The journal is read from the first page's cursor on; from the last page's isn't enough.
   pub from_first : ¬ ((f : Feed) (scope other query : Key → Bool) (first : PageTurn) (pages : List PageTurn) (turns : List SinceTurn) →
@@ -30,12 +30,12 @@ pub record PagesNeed : Type 0 where
   pub to_last : ¬ ((f : Feed) (scope other query : Key → Bool) (first : PageTurn) (pages : List PageTurn) (turns : List SinceTurn) →
       KeepsQuery scope query → KeepsQuery other query →
       ArePages f scope None 0 (first ∷ pages) → AreSince f other first.page.cursor turns →
-          IsWhole f query (page_items (first ∷ pages) ++ since_items turns) (cursor_after first.page.cursor turns).position)
+      IsWhole f query (page_items (first ∷ pages) ++ since_items turns) (cursor_after first.page.cursor turns).position)
   -- The first page is after no key.
   pub none_before : ¬ ((f : Feed) (scope other query : Key → Bool) (after : Option Key) (first : PageTurn) (pages : List PageTurn)
       (turns : List SinceTurn) → KeepsQuery scope query → KeepsQuery other query →
       ArePages f scope after 0 (first ∷ pages) → AreSince f other first.page.cursor turns →
-          (last_cursor first.page.cursor pages).position ≤ (cursor_after first.page.cursor turns).position →
+      (last_cursor first.page.cursor pages).position ≤ (cursor_after first.page.cursor turns).position →
       IsWhole f query (page_items (first ∷ pages) ++ since_items turns) (cursor_after first.page.cursor turns).position)
   -- Pages are requested until the last one.
   pub until_last : ¬ ((f : Feed) (scope query : Key → Bool) (first : PageTurn) → KeepsQuery scope query → IsPageTurn f scope None first →
@@ -44,11 +44,11 @@ pub record PagesNeed : Type 0 where
   pub in_turn : ¬ ((f : Feed) (scope query : Key → Bool) (first second : PageTurn) → KeepsQuery scope query →
       IsPageTurn f scope None first → first.page.last ≡ false →
       IsPageTurn f scope (last_key None first.page.items) second → second.page.last ≡ true →
-          second.page.cursor.position ≤ first.page.cursor.position →
+      second.page.cursor.position ≤ first.page.cursor.position →
       IsWhole f query (given first.known first.page.items ++ given second.known second.page.items) first.page.cursor.position)
   -- All pages are of one incarnation.
   pub front : ¬ ((f : Feed) (scope query : Key → Bool) (first second : PageTurn) → KeepsQuery scope query → IsPageTurn f scope None first →
       first.page.last ≡ false →
       IsPageTurn second.feed scope (last_key None first.page.items) second → second.page.last ≡ true →
-          first.page.cursor.position ≤ second.page.cursor.position → second.page.cursor.position ≤ first.page.cursor.position →
+      first.page.cursor.position ≤ second.page.cursor.position → second.page.cursor.position ≤ first.page.cursor.position →
       IsWhole f query (given first.known first.page.items ++ given second.known second.page.items) first.page.cursor.position)

@@ -38,7 +38,7 @@ abbrev pub ArePages : Feed → (Key → Bool) → Option Key → ℕ → List Pa
 ArePages f scope after p [] = ⊥
 ArePages f scope after p (t ∷ ts) =
     IsPageTurn f scope after t × (p ≤ t.page.cursor.position) ×
-        MatchBool t.page.last (ts ≡ []) (ArePages f scope (last_key after t.page.items) t.page.cursor.position ts)
+    MatchBool t.page.last (ts ≡ []) (ArePages f scope (last_key after t.page.items) t.page.cursor.position ts)
 
 -- The items of all pages.
 abbrev pub page_items : List PageTurn → List Sent

@@ -19,7 +19,7 @@ sent_under query sent = filter (λ s. passes query s.item) sent
 abbrev pub HolderTakes : Type 0
 HolderTakes =
     (known held new : List Item) (more : List Sent) → ((s : Sent) → Contains more s → IsSent s) → IsTop held known →
-        IsTop new (held ++ items_of more) → IsTop new (known ++ stood_for more)
+    IsTop new (held ++ items_of more) → IsTop new (known ++ stood_for more)
 
 -- A law: a new map has taken nothing.
 abbrev pub NewMapIsMap : Type 0
@@ -29,5 +29,5 @@ NewMapIsMap = (query : Key → Bool) → MapHolds query [] []
 abbrev pub MapsTake : Type 0
 MapsTake =
     (query : Key → Bool) (items more : List Sent) (held new : List Item) → ((s : Sent) → Contains more s → IsSent s) →
-        MapHolds query items held →
+    MapHolds query items held →
     IsTop new (held ++ items_of (sent_under query more)) → MapHolds query (items ++ more) new

@@ -89,25 +89,25 @@ pub record PagesGrow : Type 0 where
 abbrev pub FewerReachTheEnd : Type 0
 FewerReachTheEnd =
     (f : Feed) (test : Item → Bool) (at : Cursor) (max : ℕ) (since : Since) → IsGiven f test at max since → length since.items < max →
-        since.cursor.position ≡ position f
+    since.cursor.position ≡ position f
 
 -- A law: the items of all checks, returned by a store that knows what it accepted since, are whole up to the last
 -- check if that one returned fewer than it was asked for.
 abbrev pub CheckedIsWhole : Type 0
 CheckedIsWhole =
     (early f : Feed) (query : Key → Bool) (since : List Item) (turns : List CheckTurn) (last : CheckTurn) →
-        f.accepted ≡ early.accepted ++ since → AreNew early.accepted since →
+    f.accepted ≡ early.accepted ++ since → AreNew early.accepted since →
     AreChecks early f query [] turns → IsCheckTurn early f query (checked turns) last → length last.items < last.max →
-        IsWhole f query (given f.accepted (checked turns ++ last.items)) (position last.feed)
+    IsWhole f query (given f.accepted (checked turns ++ last.items)) (position last.feed)
 
 -- A law: so are the items of the pages so far, of the last page, and of the journal from the first page's cursor on.
 abbrev pub PagedIsWhole : Type 0
 PagedIsWhole =
     (f : Feed) (scope other query : Key → Bool) (pages : List PageTurn) (last : PageTurn) (turns : List SinceTurn) →
-        KeepsQuery scope query → KeepsQuery other query →
+    KeepsQuery scope query → KeepsQuery other query →
     AreOpenPages f scope None 0 pages → IsPageTurn f scope (key_after None pages) last →
-        position_after 0 pages ≤ last.page.cursor.position → last.page.last ≡ true →
+    position_after 0 pages ≤ last.page.cursor.position → last.page.last ≡ true →
     let from = unwrap_or (first_cursor pages) last.page.cursor in
     let to = cursor_after from turns in
     AreSince f other from turns → last.page.cursor.position ≤ to.position →
-        IsWhole f query (given f.accepted (paged pages ++ (last.page.items ++ journaled turns))) to.position
+    IsWhole f query (given f.accepted (paged pages ++ (last.page.items ++ journaled turns))) to.position

@@ -19,7 +19,7 @@ use Rattle.ds_convergence.specs.Journaled.{SinceTurn, AreSince, since_items, cur
 abbrev pub SnapshotIsWhole : Type 0
 SnapshotIsWhole =
     (f : Feed) (known held : List Item) (scope query : Key → Bool) → IsTop held f.accepted → IsPartOf f.accepted known →
-        KeepsQuery scope query → let taken = snapshot_of (passes scope) held (end_of f) in
+    KeepsQuery scope query → let taken = snapshot_of (passes scope) held (end_of f) in
     IsWhole f query (given known taken.items) taken.cursor.position
 
 -- A law: items that are whole up to a cursor, together with those that the journal returns from there under such a
@@ -27,14 +27,14 @@ SnapshotIsWhole =
 abbrev pub SinceExtends : Type 0
 SinceExtends =
     (f : Feed) (known : List Item) (scope query : Key → Bool) (items : List Sent) (at : Cursor) (max : ℕ) (since : Since) →
-        IsPartOf f.accepted known → KeepsQuery scope query → IsGiven f (passes scope) at max since →
+    IsPartOf f.accepted known → KeepsQuery scope query → IsGiven f (passes scope) at max since →
     IsWhole f query items at.position → IsWhole f query (items ++ given known since.items) since.cursor.position
 
 -- A law: the same for any number of such replies, whatever took effect between them.
 abbrev pub SincesExtend : Type 0
 SincesExtend =
     (f : Feed) (scope query : Key → Bool) (items : List Sent) (at : Cursor) (turns : List SinceTurn) → KeepsQuery scope query →
-        AreSince f scope at turns →
+    AreSince f scope at turns →
     IsWhole f query items at.position → IsWhole f query (items ++ since_items turns) (cursor_after at turns).position
 
 -- A law: any items, even none, are whole up to the first position.

@@ -1,4 +1,4 @@
-//! Laws of items, whoever holds them.
+//! Laws of items, for any holder.
 
 ghost use Rattle.std.specs.Cmp.{IsTotalOrder};
 ghost use Rattle.ds_entry.specs.CoverLaws.{CoversIsReflexive, CoversIsTransitive, CoversKeepsQueries, CoversIsExact, CoversNoneHeld};

@@ -31,6 +31,6 @@ PrefixesJoin =
 abbrev pub PagesGoOn : Type 0
 PagesGoOn =
     (test : Item → Bool) (after : Option Key) (max : ℕ) (held : List Item) (cursor : Cursor) (front : List Item) (c : ChangeRecord) →
-        IsStrictlySortedBy item_cmp held →
+    IsStrictlySortedBy item_cmp held →
     (page_of test after max held cursor).items ≡ front ++ Changed c ∷ [] →
-        still_to_come test (Some c.key) held ≡ drop max (changes_of (still_to_come test after held))
+    still_to_come test (Some c.key) held ≡ drop max (changes_of (still_to_come test after held))

@@ -132,7 +132,7 @@ module _ {M : Type 0} (f : Floor) where
       ap (λ (z : ChangeRecord). cond (voids f z) [] (n ∷ [])) (same_Some x c e) ∙ ap (λ z. cond (voids f c) [] (z ∷ [])) (same_Some n m g)
   left_next (suc i) (x ∷ cs) (n ∷ ms) c m e g =
       elim (voids f x) as (λ v. cond v (marks_left f (take (suc i) cs) (take (suc i) ms)) (n ∷ marks_left f (take (suc i) cs) (take (suc i) ms)) ≡ cond v
-          (marks_left f (take i cs) (take i ms)) (n ∷ marks_left f (take i cs) (take i ms)) ++ cond (voids f c) [] (m ∷ [])) [
+      (marks_left f (take i cs) (take i ms)) (n ∷ marks_left f (take i cs) (take i ms)) ++ cond (voids f c) [] (m ∷ [])) [
         | true ↦ left_next i cs ms c m e g
         | false ↦ ap (λ l. n ∷ l) (left_next i cs ms c m e g)
       ]

@@ -80,7 +80,7 @@ module _ (h : Holding) where
     changes_in_order =
         subst (IsStrictlySortedBy item_cmp) (sym (map_twice change_item (λ (e : Key × ChangeRecord). e.1) (entries h.changes)))
         (sorted_items key_cmp keys_total exact_keys item_cmp (λ (e : Key × ChangeRecord). Changed e.1) (entries h.changes) (entries_sorted h.changes)
-            (λ a b k m. ap (λ key. key_cmp key b.1.key) (own_entry a k) ∙ ap (key_cmp a.0) (own_entry b m)))
+        (λ a b k m. ap (λ key. key_cmp key b.1.key) (own_entry a k) ∙ ap (key_cmp a.0) (own_entry b m)))
 
     held_in_order : IsStrictlySortedBy item_cmp (held_items h)
     held_in_order =

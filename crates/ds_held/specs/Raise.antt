@@ -40,8 +40,9 @@ at_kept_keys f changes m = retain_keys m (λ key. stays f (get changes key))
 -- nothing changes.
 abbrev pub after_raise : Holding → Floor → Result Merge JoinFault → Holding
 after_raise old f (Ok Taken) = record {
-    floors = insert old.floors f.owner f.generation; changes = at_kept_keys f old.changes old.changes;
-    limits = old.limits;
+  floors = insert old.floors f.owner f.generation;
+  changes = at_kept_keys f old.changes old.changes;
+  limits = old.limits;
 }
 after_raise old f (Ok Known) = old
 after_raise old f (Ok Stale) = old

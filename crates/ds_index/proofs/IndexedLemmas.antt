@@ -221,7 +221,7 @@ module _ (changes : FinMap key_cmp ChangeRecord) (own : (key : Key) (c : ChangeR
       In-from_Contains (named_at (Some e) c.key.name) names
       (i.listed (named_at (Some e) c.key.name)
       (ap (λ (key : Key). option_map endpoint_left (get changes key)) (sym (held_label c k t)) ∙
-          ap (option_map endpoint_left) (held_at_key changes own c (Contains-from_In c (values changes) k)) ∙ ap (λ o. Some o) (value_holds e (value_of c) t)))
+      ap (option_map endpoint_left) (held_at_key changes own c (Contains-from_In c (values changes) k)) ∙ ap (λ o. Some o) (value_holds e (value_of c) t)))
 
   -- and a listed one of the endpoint is held
   pub record Holder (name : List ℕ) : Type 0 where

@@ -274,8 +274,8 @@ no_other c xs n d h e = n (Contains-from_In c xs (subst (λ (y : Named). In y xs
     same_named : (a b : Named) → named_cmp a b ≡ Equal → a ≡ b
     same_named a b h =
         let parts = exact_pairs (λ (x y : ℕ × ℕ). ordering_then (nat_cmp x.0 y.0) (nat_cmp x.1 y.1)) name_cmp
-            (λ x y k. exact_pairs nat_cmp nat_cmp exact_unsigned exact_unsigned x y k) exact_bytes ((slot_of a.endpoint, generation_of a.endpoint), a.name)
-            ((slot_of b.endpoint, generation_of b.endpoint), b.name) h in
+        (λ x y k. exact_pairs nat_cmp nat_cmp exact_unsigned exact_unsigned x y k) exact_bytes ((slot_of a.endpoint, generation_of a.endpoint), a.name)
+        ((slot_of b.endpoint, generation_of b.endpoint), b.name) h in
         let endpoint : a.endpoint ≡ b.endpoint = sym (holder_at-numbers a.endpoint) ∙ ap (λ (r : (ℕ × ℕ) × List ℕ). holder_at r.0) parts ∙ holder_at-numbers b.endpoint in
         let name : a.name ≡ b.name = ap (λ (r : (ℕ × ℕ) × List ℕ). r.1) parts in
         ap (λ (o : Option EndpointRecord). record { endpoint = o; name = a.name }) endpoint ∙ ap (λ (n : List ℕ). record { endpoint = b.endpoint; name = n }) name

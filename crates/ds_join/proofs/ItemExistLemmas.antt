@@ -188,8 +188,8 @@ top_of_all held set (c ∷ more) owners t =
     let grouped : (set ++ c ∷ []) ++ more ≡ set ++ c ∷ more = append_assoc set (c ∷ []) more in
     let first : FitsOwners set c = subst (λ l. FitsOwners l c) (append-nil set) (owners [] more c refl) in
     let later : (front back : List Item) (i : Item) → more ≡ front ++ i ∷ back →
-        FitsOwners ((set ++ c ∷ []) ++ front) i = λ front back i q. subst (λ l. FitsOwners l i) (sym (append_assoc set (c ∷ []) front))
-        (owners (c ∷ front) back i (ap (λ l. c ∷ l) q)) in
+    FitsOwners ((set ++ c ∷ []) ++ front) i = λ front back i q. subst (λ l. FitsOwners l i) (sym (append_assoc set (c ∷ []) front))
+    (owners (c ∷ front) back i (ap (λ l. c ∷ l) q)) in
     subst (IsTop (fold held_after (held_after held c) more)) grouped (top_of_all (held_after held c) (set ++ c ∷ []) more later (top_held_after c held set first t))
 
 pub tops_is_top : TopsIsTop
@@ -200,7 +200,7 @@ pub single_in_turn : (set : List Item) → AreSingleNumbered set → HasOneOwner
 single_in_turn set n front back (Floored f) q = tt
 single_in_turn set n front back (Changed c) q =
     λ d h v w e. n.one_owner c d (subst (λ l. Contains l (Changed c)) (sym q) (Contains-append_right front (Changed c ∷ back) (Changed c) (Contains-head (Changed c) back)))
-        (subst (λ l. Contains l (Changed d)) (sym q) (Contains-append_left front (Changed c ∷ back) (Changed d) h)) e
+    (subst (λ l. Contains l (Changed d)) (sym q) (Contains-append_left front (Changed c ∷ back) (Changed d) h)) e
 
 pub top_exists : TopExists
 top_exists set single = (tops set, tops_is_top set (single_in_turn set single))

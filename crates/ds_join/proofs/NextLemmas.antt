@@ -60,7 +60,7 @@ left_after low (x ∷ xs) c sorted h =
       | true ↦ λ t s. subst (λ (y : ChangeRecord). x ∷ filter (comes_after low) xs ≡ y ∷ filter (comes_after (Some y.key)) (x ∷ xs)) (same_Some x c s) (ap (λ l. x ∷ l) (
           filter_all (comes_after low) xs (λ d i. after_through low x.key d.key t (rest_after x xs sorted d i))
           ∙ sym (ap (λ r. cond (is_lt r) (x ∷ filter (comes_after (Some x.key)) xs) (filter (comes_after (Some x.key)) xs)) (tied_itself keys_total x.key) ∙
-              filter_all (comes_after (Some x.key)) xs (λ d i. ap is_lt (rest_after x xs sorted d i)))))
+          filter_all (comes_after (Some x.key)) xs (λ d i. ap is_lt (rest_after x xs sorted d i)))))
       | false ↦ λ t s.
           left_after low xs c (rest_in_order x xs sorted) s
           ∙ ap (λ l. c ∷ l) (sym (ap (λ r. cond (is_lt r) (x ∷ filter (comes_after (Some c.key)) xs) (filter (comes_after (Some c.key)) xs)) (turned_less x.key c.key (rest_after x xs sorted c (found_among (comes_after low) xs c s)))))

@@ -12,7 +12,12 @@ use Rattle.ds_names.specs.Limits.{most_items, last_place}
 -- A Subscribe with its query.
 abbrev pub machine_subscribe : SubscribeCase → Query → machine.SubscribeCase
 machine_subscribe x query = record {
-    places = x.places; taken = x.taken; stamp = x.stamp; sub = x.sub; query = query; overwrite = x.overwrite;
+  places = x.places;
+  taken = x.taken;
+  stamp = x.stamp;
+  sub = x.sub;
+  query = query;
+  overwrite = x.overwrite;
 }
 
 -- A Check, with whether something is to be shown, and with the last stamp.

@@ -274,7 +274,7 @@ pub seq_refused : (key : Key) (owner bytes r : List ℕ) (version : Version) (st
     version.seq < 2 ^ 32 → Begins is_ascii_digit bytes (decimal version.seq) r → ¬ HasBody key owner version → ReadsChange (up_to_seq key owner version.epoch) bytes (Err stop)
 seq_refused key owner bytes r version stop has at fits begins none =
     missing (up_to_seq key owner version.epoch) Number bytes stop (change_of key owner (version_of version.epoch has.0) has.1.0)
-        (drop 8 (change_parts (change_of key owner (version_of version.epoch has.0) has.1.0))) has.1.1 refl (seq_comes key owner version.epoch) at
+    (drop 8 (change_parts (change_of key owner (version_of version.epoch has.0) has.1.0))) has.1.1 refl (seq_comes key owner version.epoch) at
     (λ c more after is eq h.
     let first = subst (λ (x : List Part). Stand 1 x bytes after) (sym (ap (drop 8) eq)) h in
     let known = owner_known key owner c (part Number (decimal version.epoch) ∷ byte 46 ∷ more) eq in

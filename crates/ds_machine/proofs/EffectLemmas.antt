@@ -187,7 +187,7 @@ module _ (s t : State) (r : IsReached s) where
 
       by_cause : (o : Option Subscription) → subscription_at s sub ≡ o → (p : Option Refusal) → first_refusal (against_check (check_case s sub max o)) ≡ p
           → t ≡ (option_map_or {U = Reply × State} (λ refusal. (Refused refusal, s)) p
-              (option_map_or {U = Reply × State} (λ f. shows s sub f (take max (unseen s f))) o (Refused refusals.NotFound, s))).1 → Grows s learnt t ⊎ Serves s (Check sub max) t
+          (option_map_or {U = Reply × State} (λ f. shows s sub f (take max (unseen s f))) o (Refused refusals.NotFound, s))).1 → Grows s learnt t ⊎ Serves s (Check sub max) t
       by_cause o here (Some refusal) q f = inl (grows_none s t learnt f)
       by_cause None here None q f = inl (grows_none s t learnt f)
       by_cause (Some seer) here None q f =

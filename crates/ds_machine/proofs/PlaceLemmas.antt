@@ -122,8 +122,8 @@ module _ (s t : State) (sub max : ℕ) (seer : Subscription) (given : List Item)
       let a : after ≡ seer.stamp = cc in
       let same : seer ≡ record seer { stamp = after; shown = seer.shown ++ given } =
       sym (ap (λ (l : List Item). record seer { shown = l }) (append-nil seer.shown)) ∙
-          (ap (λ (n : ℕ). record seer { stamp = n; shown = seer.shown ++ [] }) (sym a) ∙ ap (λ (l : List Item). record seer { stamp = after; shown = seer.shown ++ l }) (sym none))
-          in
+      (ap (λ (n : ℕ). record seer { stamp = n; shown = seer.shown ++ [] }) (sym a) ∙ ap (λ (l : List Item). record seer { stamp = after; shown = seer.shown ++ l }) (sym none))
+      in
       record {
         items_are = none ∙ q;
         before_is = b;

@@ -38,7 +38,7 @@ course_of s done taken = record { state = s; done = done; taken = taken; stale =
 free_course : (items : List Item) (s : State) (done : ℕ) (taken : List Item) → AreFree s items → fold item_merged (course_of s done taken) items ≡ course_of (takes_effect s items) (done + length items) (taken ++ items)
 free_course [] s done taken free =
     ap (λ (l : List Item). course_of (with_accepted s l) done taken) (sym (append-nil s.feed.accepted)) ∙
-        ap (λ (l : List Item). course_of (takes_effect s []) done l) (sym (append-nil taken)) ∙ ap (λ (n : ℕ). course_of (takes_effect s []) n (taken ++ [])) (omega arith)
+    ap (λ (l : List Item). course_of (takes_effect s []) done l) (sym (append-nil taken)) ∙ ap (λ (n : ℕ). course_of (takes_effect s []) n (taken ++ [])) (omega arith)
 free_course (i ∷ items) s done taken free =
     let first : item_merged (course_of s done taken) i ≡ course_of (takes_effect s (i ∷ [])) (done + 1) (taken ++ i ∷ []) = ap (λ (o : Option Cause). item_judged (course_of s done taken) i o) free.0 in
     ap (λ (k : Course). fold item_merged k items) first

@@ -68,7 +68,7 @@ module _ (s : State) (w : IsWithin s) where
       let at = key_found (held s) c.key h e in
       let over : covers (Changed c) (Changed h) ≡ true = covers-make c h (sym at.1) room.0 (ap is_le room.1) in
       let less : total change_weight (filter (λ j. not (covers (Changed c) j)) (held s)) + 1 ≤ total change_weight (held s) = total_dropped change_weight
-          (λ j. not (covers (Changed c) j)) (held s) (Changed h) at.0 (not_from_true (covers (Changed c) (Changed h)) over) in
+      (λ j. not (covers (Changed c) j)) (held s) (Changed h) at.0 (not_from_true (covers (Changed c) (Changed h)) over) in
       omega (arith, less, few_changes)
 
   floor_room : (f : Floor) (o : Option Floor) → floor_at (held s) f.owner ≡ o → HasFloorRoom o (length (floors_in (held s))) f
@@ -84,7 +84,7 @@ module _ (s : State) (w : IsWithin s) where
       let low : g.generation < f.generation = room in
       let over : covers (Floored f) (Floored g) ≡ true = below-make g.owner f.owner g.generation f.generation (sym at.1) (omega (arith, low)) in
       let less : total floor_weight (filter (λ j. not (covers (Floored f) j)) (held s)) + 1 ≤ total floor_weight (held s) = total_dropped floor_weight
-          (λ j. not (covers (Floored f) j)) (held s) (Floored g) at.0 (not_from_true (covers (Floored f) (Floored g)) over) in
+      (λ j. not (covers (Floored f) j)) (held s) (Floored g) at.0 (not_from_true (covers (Floored f) (Floored g)) over) in
       omega (arith, less, few_floors)
 
   -- the position after one more

@@ -31,14 +31,14 @@ FreeInParts = (s : State) (part rest : List Item) → AreFree s (part ++ rest) �
 abbrev pub FreeAreAnswered : Type 0
 FreeAreAnswered =
     (s t : State) (items : List Item) (done taken stale owed_mask : ℕ) → AreFree s items → length items ≤ most_items →
-        Step s (Merge items) (Merged done taken stale owed_mask) t →
+    Step s (Merge items) (Merged done taken stale owed_mask) t →
     (t ≡ takes_effect s items) × (owed_mask ≡ owed s items) × (done ≡ length items) × (taken ≡ length items) × (stale ≡ 0)
 
 -- A law: changes of distinct keys that take the places of held ones are free.
 abbrev pub PlacesAreFree : Type 0
 PlacesAreFree =
     (s : State) (cs : List ChangeRecord) → IsReached s → HasNoFloor s → ((c : ChangeRecord) → Contains cs c → TakesHeld s c) →
-        KeysApart cs →
+    KeysApart cs →
     next_position s + length cs ≤ last_place → AreFree s (map Changed cs)
 
 -- A law: what is owed for the whole is what is owed for either part.

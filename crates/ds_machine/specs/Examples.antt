@@ -74,7 +74,7 @@ PublishRow =
     NameOf (endpoint_of 3 18) ∷ [])
     ≡ Accepted 0 ∷ Accepted 0 ∷ Accepted 0 ∷
     Refused NotOwner ∷ Refused Exists ∷ Known ∷ Refused (Clash (at 3 0)) ∷ Accepted 0 ∷ Refused Stale ∷ Refused NoCaller ∷
-        Refused NotAllowed ∷
+    Refused NotAllowed ∷
     Found (U32 1400) ∷ Named (codes "eth0") ∷ Refused NotFound ∷ []
 
 -- The floor of a dead driver: late changes are stale, and another owner may take the key.
@@ -94,18 +94,23 @@ SweepRow =
     Snapshot All ∷ [])
     ≡ Accepted 0 ∷ Accepted 0 ∷ Accepted 0 ∷
     Refused NotAllowed ∷ Swept 1 0 ∷ Swept 0 0 ∷ Swept 0 0 ∷ Merged 3 0 2 0 ∷ Refused Stale ∷ Refused Stale ∷
-    Snapped (record { items = Floored (floor_of (codes "eth0") 3) ∷ driver_item (codes "eth0") 3 17 ∷ driver_item (codes "tty") 4 18 ∷ [];
-        cursor = cursor_at 1 4 }) ∷
+    Snapped (record {
+      items = Floored (floor_of (codes "eth0") 3) ∷ driver_item (codes "eth0") 3 17 ∷ driver_item (codes "tty") 4 18 ∷ [];
+      cursor = cursor_at 1 4;
+    }) ∷
     Accepted 0 ∷ Merged 2 2 0 0 ∷
-    Snapped (record { items = Floored (floor_of (codes "eth0") 3) ∷ Floored (floor_of (codes "tty") 4) ∷ driver_item (codes "eth0") 3 17 ∷
-        put (codes "mtu") (codes "eth0") (at 4 0) 7 ∷ driver_item (codes "tty") 4 18 ∷ []; cursor = cursor_at 1 7 }) ∷ []
+    Snapped (record {
+      items = Floored (floor_of (codes "eth0") 3) ∷ Floored (floor_of (codes "tty") 4) ∷ driver_item (codes "eth0") 3 17 ∷
+          put (codes "mtu") (codes "eth0") (at 4 0) 7 ∷ driver_item (codes "tty") 4 18 ∷ [];
+      cursor = cursor_at 1 7;
+    }) ∷ []
 
 -- A ring of two, and cursors that it doesn't reach.
 abbrev pub RingRow : Type 0
 RingRow =
     replies_from (opening 1 0 2 larger) (
     Merge (put (codes "a") (codes "eth0") (at 1 0) 1 ∷ put (codes "b") (codes "eth0") (at 1 1) 2 ∷
-        put (codes "c") (codes "eth0") (at 1 2) 3 ∷ []) ∷
+    put (codes "c") (codes "eth0") (at 1 2) 3 ∷ []) ∷
     Since All (cursor_at 1 0) 8 ∷
     Since All (cursor_at 1 1) 8 ∷
     Since All (cursor_at 1 1) 1 ∷
@@ -116,8 +121,10 @@ RingRow =
     Since All (cursor_at 2 4) 257 ∷ [])
     ≡ Merged 3 3 0 0 ∷
     Refused Behind ∷
-    Journaled (record { items = put (codes "b") (codes "eth0") (at 1 1) 2 ∷ put (codes "c") (codes "eth0") (at 1 2) 3 ∷ [];
-        cursor = cursor_at 1 3 }) ∷
+    Journaled (record {
+      items = put (codes "b") (codes "eth0") (at 1 1) 2 ∷ put (codes "c") (codes "eth0") (at 1 2) 3 ∷ [];
+      cursor = cursor_at 1 3;
+    }) ∷
     Journaled (record { items = put (codes "b") (codes "eth0") (at 1 1) 2 ∷ []; cursor = cursor_at 1 2 }) ∷
     Journaled (record { items = []; cursor = cursor_at 1 3 }) ∷
     Refused Ahead ∷ Refused OldCursor ∷ Refused TooMany ∷ Refused TooMany ∷ []
@@ -132,8 +139,11 @@ PageRow =
     Page All (Some (label (codes "tty"))) 1 ∷
     Page All None 0 ∷ [])
     ≡ Accepted 0 ∷ Accepted 0 ∷ Accepted 0 ∷ Swept 1 0 ∷
-    Paged (record { items = Floored (floor_of (codes "eth0") 3) ∷ driver_item (codes "eth0") 3 17 ∷ []; last = false;
-        cursor = cursor_at 1 4 }) ∷
+    Paged (record {
+      items = Floored (floor_of (codes "eth0") 3) ∷ driver_item (codes "eth0") 3 17 ∷ [];
+      last = false;
+      cursor = cursor_at 1 4;
+    }) ∷
     Paged (record { items = driver_item (codes "tty") 4 18 ∷ []; last = true; cursor = cursor_at 1 4 }) ∷
     Paged (record { items = []; last = true; cursor = cursor_at 1 4 }) ∷
     Refused TooMany ∷ []
@@ -151,8 +161,11 @@ ChangingPagesRow =
     Paged (record { items = put (codes "a") (codes "eth0") (at 1 0) 1 ∷ []; last = false; cursor = cursor_at 1 2 }) ∷
     Merged 2 2 0 0 ∷
     Paged (record { items = put (codes "c") (codes "eth0") (at 1 1) 3 ∷ []; last = true; cursor = cursor_at 1 4 }) ∷
-    Journaled (record { items = Changed (change_of (number (codes "a")) (codes "eth0") (at 1 2) Gone) ∷
-        put (codes "A") (codes "eth0") (at 1 3) 5 ∷ []; cursor = cursor_at 1 4 }) ∷ []
+    Journaled (record {
+      items = Changed (change_of (number (codes "a")) (codes "eth0") (at 1 2) Gone) ∷
+          put (codes "A") (codes "eth0") (at 1 3) 5 ∷ [];
+      cursor = cursor_at 1 4;
+    }) ∷ []
 
 -- The last position: a repeat is known, a smaller floor is stale, and whatever would take effect is worn.
 abbrev pub LastPlaceRow : Type 0
@@ -160,7 +173,7 @@ LastPlaceRow =
     replies_from (opening 1 4611686018427387903 256 larger) (
     Merge (Floored (floor_of (codes "eth0") 3) ∷ []) ∷
     Merge (Floored (floor_of (codes "eth0") 3) ∷ put (codes "mtu") (codes "eth0") (at 3 0) 1500 ∷
-        put (codes "mtu") (codes "eth0") (at 4 0) 1500 ∷ []) ∷
+    put (codes "mtu") (codes "eth0") (at 4 0) 1500 ∷ []) ∷
     Sweep rs (codes "eth0") 3 ∷
     Sweep rs (codes "eth0") 4 ∷
     Sweep rs (codes "tty") 0 ∷

@@ -48,8 +48,11 @@ pub record Standing : Type 0 where
 
 abbrev pub standing_of : State → ChangeRecord → Standing
 standing_of s c = record {
-    held = held_at (held s) c.key; void = is_void (held s) c; count = length (changes_in (held s));
-    most = s.limits.keys; position = next_position s;
+  held = held_at (held s) c.key;
+  void = is_void (held s) c;
+  count = length (changes_in (held s));
+  most = s.limits.keys;
+  position = next_position s;
 }
 
 -- Whether a change is held and passes the test.

@@ -46,7 +46,7 @@ RunStampsSubscription =
 abbrev pub StampTells : Type 0
 StampTells =
     (s t : State) (commands : List Command) (replies : List Reply) (sub : ℕ) (early late : Subscription) → IsReached s →
-        Run s commands replies t →
+    Run s commands replies t →
     subscription_at s sub ≡ Some early → subscription_at t sub ≡ Some late → late.stamp ≡ early.stamp → late ≡ early
 
 -- The place has this subscription now, and nothing took effect.
@@ -59,7 +59,7 @@ pub record IsPlaced (s : State) (sub : ℕ) (seer : Subscription) (t : State) : 
 abbrev pub SubscribedLeaves : Type 0
 SubscribedLeaves =
     (s t : State) (sub : ℕ) (query : Query) (initial overwrite : Bool) (stamp owed : ℕ) → IsReached s →
-        Step s (Subscribe sub query initial overwrite) (Subscribed stamp owed) t →
+    Step s (Subscribe sub query initial overwrite) (Subscribed stamp owed) t →
     IsPlaced s sub (record { query = query; stamp = stamp; shown = shown_at_first (held s) initial }) t
 
 -- A Check returns the first unseen items, and leaves its subscription with those items shown.
@@ -71,5 +71,5 @@ pub record IsCheckedOn (s : State) (sub max : ℕ) (seer : Subscription) (items 
 abbrev pub CheckedLeaves : Type 0
 CheckedLeaves =
     (s t : State) (sub max : ℕ) (seer : Subscription) (items : List Item) (before after : ℕ) → IsReached s →
-        subscription_at s sub ≡ Some seer → Step s (Check sub max) (Checked items before after) t →
+    subscription_at s sub ≡ Some seer → Step s (Check sub max) (Checked items before after) t →
     IsCheckedOn s sub max seer items before after t

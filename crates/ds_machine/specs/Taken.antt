@@ -35,5 +35,5 @@ all_taken s items = record { state = takes_effect s items; done = length items; 
 abbrev pub PlacesAreTaken : Type 0
 PlacesAreTaken =
     (s : State) (cs : List ChangeRecord) → IsReached s → HasNoFloor s → ((c : ChangeRecord) → Contains cs c → TakesHeld s c) →
-        KeysApart cs →
+    KeysApart cs →
     next_position s + length cs ≤ last_place → course s (map Changed cs) ≡ all_taken s (map Changed cs)

@@ -25,8 +25,12 @@ shown_at_first held initial = cond initial [] held
 
 abbrev pub subscribe_case : State → ℕ → Query → Bool → SubscribeCase
 subscribe_case s sub query overwrite = record {
-    places = s.limits.subs; taken = is_some (subscription_at s sub); stamp = s.stamp; sub = sub; query = query;
-    overwrite = overwrite;
+  places = s.limits.subs;
+  taken = is_some (subscription_at s sub);
+  stamp = s.stamp;
+  sub = sub;
+  query = query;
+  overwrite = overwrite;
 }
 
 abbrev pub subscribing : State → ℕ → Query → Bool → Bool → Reply × State
@@ -45,8 +49,12 @@ has_unseen s seer = list_any (is_unseen seer.query seer.shown) (held s)
 
 abbrev pub check_case : State → ℕ → ℕ → Option Subscription → CheckCase
 check_case s sub max seer = record {
-    places = s.limits.subs; taken = is_some seer; some = option_map_or (has_unseen s) seer false; stamp = s.stamp;
-    sub = sub; max = max;
+  places = s.limits.subs;
+  taken = is_some seer;
+  some = option_map_or (has_unseen s) seer false;
+  stamp = s.stamp;
+  sub = sub;
+  max = max;
 }
 
 -- The reply and state of a Check, which shows the first `max` unseen items.

@@ -123,7 +123,7 @@ level x y o e = ap (λ (z : ℕ). ordering_then (nat_cmp x z) o) (sym e) ∙ ap 
 -- Eight bytes decide, or else those after them.
 pub word_more : (xs ys : List ℕ) (n : ℕ) → n < 8 → length xs ≡ 64 → length ys ≡ 64 → AreBytes xs → AreBytes ys
     → slice_cmp nat_cmp (drop (8 * n) xs) (drop (8 * n) ys) ≡ ordering_then (nat_cmp (from_be_bytes w64 (take 8 (drop (8 * n) xs))) (from_be_bytes w64 (take 8 (drop (8 * n) ys))))
-        (slice_cmp nat_cmp (drop (8 * (n + 1)) xs) (drop (8 * (n + 1)) ys))
+    (slice_cmp nat_cmp (drop (8 * (n + 1)) xs) (drop (8 * (n + 1)) ys))
 word_more xs ys n lt len_x len_y small_x small_y =
     let left_x : length (drop (8 * n) xs) ≡ 64 - 8 * n = length-drop (8 * n) xs ∙ omega (arith, len_x) in
     let left_y : length (drop (8 * n) ys) ≡ 64 - 8 * n = length-drop (8 * n) ys ∙ omega (arith, len_y) in

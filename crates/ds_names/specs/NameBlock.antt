@@ -29,7 +29,7 @@ pub block_of-name_of : (n : Inside) → KeepsName n → block_of (name_in_block 
 block_of-name_of n kept =
     let len : length (take n.len n.block) ≡ n.len = length-take-le n.len n.block (omega (arith, kept.whole, kept.fits)) in
     let block : take n.len n.block ++
-        replicate (64 - n.len) 0 ≡ n.block = ap (λ (z : List ℕ). take n.len n.block ++ z)
-        (sym kept.zeros) ∙ take-append-drop n.len n.block in
+    replicate (64 - n.len) 0 ≡ n.block = ap (λ (z : List ℕ). take n.len n.block ++ z)
+    (sym kept.zeros) ∙ take-append-drop n.len n.block in
     ap (λ (k : ℕ). record { block = take n.len n.block ++ replicate (64 - k) 0; len = k }) len ∙ ap
-        (λ (b : List ℕ). record { block = b; len = n.len }) block
+    (λ (b : List ℕ). record { block = b; len = n.len }) block

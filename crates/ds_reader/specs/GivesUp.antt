@@ -117,7 +117,7 @@ StopsSinces t reading from (Refused refusal) =
 StopsSinces t reading from Unfinished = (turns : List SinceTurn) × AreFullSinces t reading from turns × (length turns ≡ reading.questions)
 StopsSinces t reading from NoRoom =
     (turns : List SinceTurn) × (length turns < reading.questions) ×
-        (AreFullSinces t reading from turns ⊎ IsJournaledMore t reading from turns)
+    (AreFullSinces t reading from turns ⊎ IsJournaledMore t reading from turns)
 StopsSinces t reading from _ = Unit {0}
 
 -- ---- a reader by pages

@@ -197,7 +197,7 @@ judged_known : (s : State) (a : AskedChange) (body : Body) → cause_against s a
 unfolding is_known
 judged_known s a body e r h =
     passed (against_asked (standing_of s (asked_in s a body)) (name_of (held s) a.caller) a body) is_known (map causes.Refused by_command)
-        (by_version (Some a.version) ++ map causes.Refused by_room) (causes.Refused r) causes.Known e refl refl
+    (by_version (Some a.version) ++ map causes.Refused by_room) (causes.Refused r) causes.Known e refl refl
     (Contains-map causes.Refused by_command r h)
 
 pub one_item : (i : Item) → IsItem i → AreItems (i ∷ [])
@@ -208,8 +208,8 @@ no_items i h = absurd (Contains-nil i h)
 
 asking_items : (s : State) (a : AskedChange) (body : Body) (reply : Reply) → AreItems (held s) → AreParts a.key a.version body → (o : Option Cause) → cause_against s a body ≡ o
     → reply ≡ (option_map_or {U = Reply × State} (λ (cause : Cause). (answer_for cause, s)) o
-        (Accepted (owed s (Changed (asked_in s a body) ∷ [])), takes_effect s (Changed (asked_in s a body) ∷ []))).0 → AreItems (known_after reply
-        (Changed (asked_in s a body) ∷ []))
+    (Accepted (owed s (Changed (asked_in s a body) ∷ [])), takes_effect s (Changed (asked_in s a body) ∷ []))).0 → AreItems (known_after reply
+    (Changed (asked_in s a body) ∷ []))
 asking_items s a body reply items parts None q e =
     subst (λ (x : Reply). AreItems (known_after x (Changed (asked_in s a body) ∷ []))) (sym e) (one_item (Changed (asked_in s a body)) (asked_change s a body items parts (judged_free s a body q)))
 asking_items s a body reply items parts (Some causes.Known) q e =

@@ -134,7 +134,7 @@ module _ (brought : List Item) (n : AreSingleNumbered brought) where
             let same : fault ≡ stop = cc in
             let next = (took group (begun s) refl).stopped stop q in
             judged_not mid (held_on (MergeStopped done fault owes) (inl (inl is)) (λ i h. b i (Contains-from_take done group i h))) next.0 (b next.0 next.1) stop
-                (subst (λ (x : State). cause_of x next.0 ≡ Some (causes.Refused stop)) (sym f) next.2) (subst IsContradiction same t)
+            (subst (λ (x : State). cause_of x next.0 ≡ Some (causes.Refused stop)) (sym f) next.2) (subst IsContradiction same t)
 
         by_refusal : (o : Option Refusal) → MergeStopped done fault owes ≡ (merging s group o).0 → mid ≡ (merging s group o).1 → ⊥
         by_refusal (Some f) e q = cc

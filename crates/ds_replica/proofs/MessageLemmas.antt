@@ -164,7 +164,7 @@ since_is_turn account w late side scope at max k events h =
     let g = gave account w late side (Since scope at max) k events h in
     let none = nothing_stands a.state (first_refusal (against_since a.state.feed scope at max)) (Journaled (since_of a.state.feed (is_kept scope) at max)) g.items g.given_is in
     let same = given_unless a.state own.reached (first_refusal (against_since a.state.feed scope at max)) (Journaled (since_of a.state.feed (is_kept scope) at max))
-        (filter (is_kept scope) (piece a.state.feed (is_kept scope) at max)) g.items refl g.given_is in (
+    (filter (is_kept scope) (piece a.state.feed (is_kept scope) at max)) g.items refl g.given_is in (
       since_turn account side scope at max,
       refl,
       record { front = front account w late side (Since scope at max) k events h; knows = own.accepted; given = record { reached = reached_at a.state.feed scope at max none; given = refl } },
@@ -200,7 +200,7 @@ page_is_turn account w late side scope behind max k events h =
     let g = gave account w late side (Page scope behind max) k events h in
     let left = still_to_come (is_kept scope) behind (held a.state) in
     let same = given_unless a.state own.reached (first_refusal (against_page scope max)) (Paged (page_of (is_kept scope) behind max (held a.state) (cursor a.state)))
-        (floors_of left ++ take max (changes_of left)) g.items refl g.given_is in (
+    (floors_of left ++ take max (changes_of left)) g.items refl g.given_is in (
       page_turn account side scope behind max,
       refl,
       refl,

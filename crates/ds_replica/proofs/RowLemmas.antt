@@ -114,9 +114,18 @@ replicas_converge = record {
         delivered,
         (
           refl,
-          record { items = driver_label ∷ []; there = refl; tally = done 1 1; taken = record
-              { after = takes_effect (opening 2 0 4 larger) (driver_label ∷ []); takes = stored (opening 2 0 4 larger) driver_label
-              (inl (inl (record { reply_is = refl; state_is = refl }))); world_is = refl }; outcome_is = refl },
+          record {
+            items = driver_label ∷ [];
+            there = refl;
+            tally = done 1 1;
+            taken = record {
+              after = takes_effect (opening 2 0 4 larger) (driver_label ∷ []);
+              takes = stored (opening 2 0 4 larger) driver_label
+                  (inl (inl (record { reply_is = refl; state_is = refl })));
+              world_is = refl;
+            };
+            outcome_is = refl;
+          },
         ),
         refl,
       ),
@@ -239,8 +248,17 @@ module _ (query : Query) (asks : AsksFor query (label_key (codes "eth0"))) where
             (refl, does _ _ _),
             (
               arrived (sends at_a),
-              (refl, record { items = floor ∷ driver_label ∷ []; there = refl; tally = done 2 2; taken = record
-                  { old = map_with []; there = refl; after = map_with (floor ∷ driver_label ∷ []); takes = takes; world_is = refl }; outcome_is = refl }),
+              (
+                refl,
+                record {
+                  items = floor ∷ driver_label ∷ [];
+                  there = refl;
+                  tally = done 2 2;
+                  taken = record
+                      { old = map_with []; there = refl; after = map_with (floor ∷ driver_label ∷ []); takes = takes; world_is = refl };
+                  outcome_is = refl;
+                },
+              ),
               refl,
             ),
           ),
@@ -275,8 +293,17 @@ module _ (query : Query) (asks : AsksFor query (label_key (codes "eth0"))) where
             (refl, does _ _ _),
             (
               arrived (sends at_b),
-              (refl, record { items = floor ∷ driver_label ∷ []; there = refl; tally = done 2 2; taken = record
-                  { old = map_with []; there = refl; after = map_with (floor ∷ driver_label ∷ []); takes = takes; world_is = refl }; outcome_is = refl }),
+              (
+                refl,
+                record {
+                  items = floor ∷ driver_label ∷ [];
+                  there = refl;
+                  tally = done 2 2;
+                  taken = record
+                      { old = map_with []; there = refl; after = map_with (floor ∷ driver_label ∷ []); takes = takes; world_is = refl };
+                  outcome_is = refl;
+                },
+              ),
               refl,
             ),
           ),
@@ -302,9 +329,11 @@ maps_lead query asks = leads query asks
 -- ---- two replicas whose messages contradict each other
 -- a list of two, in the opposite order
 swapped : (x y i : Item) → Contains (x ∷ y ∷ []) i → Contains (y ∷ x ∷ []) i
-swapped x y i h = elim (Contains-cons x (y ∷ []) i h)
-    [ inl e ↦ subst (Contains (y ∷ x ∷ [])) (sym e) (Contains-tail y (x ∷ []) x (Contains-head x [])) | inr k ↦ subst (Contains (y ∷ x ∷ [])) (sym (Contains-single y i k))
-    (Contains-head y (x ∷ [])) ]
+swapped x y i h = elim (Contains-cons x (y ∷ []) i h) [
+  | inl e ↦ subst (Contains (y ∷ x ∷ [])) (sym e) (Contains-tail y (x ∷ []) x (Contains-head x []))
+  | inr k ↦ subst (Contains (y ∷ x ∷ [])) (sym (Contains-single y i k))
+      (Contains-head y (x ∷ []))
+]
 
 -- what the two stores hold isn't the same
 apart : other ∷ [] ≡ one ∷ [] → ⊥
@@ -349,14 +378,37 @@ contradicted_happen = (
             (refl, record { outcome_is = refl; world_is = refl }),
             (
               record fresh_world { a = takes_effect (opening 3 0 4 larger) (one ∷ []); b = opening 4 0 4 larger; messages = (one ∷ []) ∷ (other ∷ []) ∷ [] },
-              (refl, record { items = one ∷ []; there = refl; tally = done 1 1; taken = record
-                  { after = takes_effect (opening 3 0 4 larger) (one ∷ []); takes = stored (opening 3 0 4 larger) one (inl (inl (record { reply_is = refl; state_is = refl })));
-                  world_is = refl }; outcome_is = refl }),
+              (
+                refl,
+                record {
+                  items = one ∷ [];
+                  there = refl;
+                  tally = done 1 1;
+                  taken = record {
+                    after = takes_effect (opening 3 0 4 larger) (one ∷ []);
+                    takes = stored (opening 3 0 4 larger) one (inl (inl (record { reply_is = refl; state_is = refl })));
+                    world_is = refl;
+                  };
+                  outcome_is = refl;
+                },
+              ),
               (
                 record fresh_world { a = takes_effect (opening 3 0 4 larger) (one ∷ []); b = takes_effect (opening 4 0 4 larger) (other ∷ []); messages = (one ∷ []) ∷ (other ∷ []) ∷ [] },
-                (refl, record { items = other ∷ []; there = refl; tally = done 1 1; taken = record
-                    { after = takes_effect (opening 4 0 4 larger) (other ∷ []); takes = stored (opening 4 0 4 larger) other
-                    (inl (inl (record { reply_is = refl; state_is = refl }))); world_is = refl }; outcome_is = refl }),
+                (
+                  refl,
+                  record {
+                    items = other ∷ [];
+                    there = refl;
+                    tally = done 1 1;
+                    taken = record {
+                      after = takes_effect (opening 4 0 4 larger) (other ∷ []);
+                      takes = stored (opening 4 0 4 larger) other
+                          (inl (inl (record { reply_is = refl; state_is = refl })));
+                      world_is = refl;
+                    };
+                    outcome_is = refl;
+                  },
+                ),
                 refl,
               ),
             ),
@@ -373,9 +425,21 @@ replicas_clash = record {
   happen = contradicted_happen;
   same = record { there = swapped one other; here = swapped other one };
   differ = λ q. apart (sym q);
-  stops = (refl, record { items = other ∷ []; there = refl; tally = clashed; taken = record
-      { after = takes_effect (opening 3 0 4 larger) (one ∷ []); takes = stopped (takes_effect (opening 3 0 4 larger) (one ∷ [])) other
-      (inl (inl (record { reply_is = refl; state_is = refl }))); world_is = refl }; outcome_is = refl });
+  stops = (
+    refl,
+    record {
+      items = other ∷ [];
+      there = refl;
+      tally = clashed;
+      taken = record {
+        after = takes_effect (opening 3 0 4 larger) (one ∷ []);
+        takes = stopped (takes_effect (opening 3 0 4 larger) (one ∷ [])) other
+            (inl (inl (record { reply_is = refl; state_is = refl })));
+        world_is = refl;
+      };
+      outcome_is = refl;
+    },
+  );
 }
 
 module _ (query : Query) (asks : AsksFor query irq) where
@@ -400,9 +464,22 @@ module _ (query : Query) (asks : AsksFor query irq) where
       (asks.read, record { outcome_is = refl; world_is = refl }),
       (
         record clashing { maps = map_of (other ∷ []) ∷ [] },
-        (refl, record { items = other ∷ []; there = refl; tally = done 1 1; taken = record
-            { old = map_of []; there = refl; after = map_of (other ∷ []); takes = record { query = refl; top = other_top; counted = omega arith; owed = refl; ends = refl };
-            world_is = refl }; outcome_is = refl }),
+        (
+          refl,
+          record {
+            items = other ∷ [];
+            there = refl;
+            tally = done 1 1;
+            taken = record {
+              old = map_of [];
+              there = refl;
+              after = map_of (other ∷ []);
+              takes = record { query = refl; top = other_top; counted = omega arith; owed = refl; ends = refl };
+              world_is = refl;
+            };
+            outcome_is = refl;
+          },
+        ),
         refl,
       ),
     );

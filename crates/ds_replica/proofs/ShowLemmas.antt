@@ -133,7 +133,7 @@ module _ (account : Account) (w new : World) (side : Side) (sub : ℕ) (query : 
       by_side false q = ask_elsewhere s command out q a
       by_side true q =
           subst (λ (x : Side). event_fault w (Ask x command) ≡ None → subscribes_by side sub (Ask x command) out ≡ false → Asks w x command out new →
-              Shows (store_at new side) sub query (shown ++ items_of (check_sent side sub account (Ask x command) out)))
+          Shows (store_at new side) sub query (shown ++ items_of (check_sent side sub account (Ask x command) out)))
           (sym (one_side s side q)) (λ none e a. ask_here command out none e a) none e a
 
 -- ---- every event
@@ -176,7 +176,7 @@ module _ (account : Account) (w new : World) (side : Side) (sub : ℕ) (query : 
       by_side true q =
           with_none account w new side sub query shown f h [] refl
           (ap (λ (x : State). subscription_at x sub) (at_new ∙ (ap (λ (x : Side). store_at (with_state w x t.after) side) (one_side s side q) ∙ store_put w side t.after)) ∙
-              (kept ∙ ap (λ (x : Side). subscription_at (store_at w x) sub) (one_side s side q)))
+          (kept ∙ ap (λ (x : Side). subscription_at (store_at w x) sub) (one_side s side q)))
 
   pub event_shows : (event : Event) (out : Outcome) → Happens w event out new → empties_by (Store side) event out ≡ false → subscribes_by side sub event out ≡ false →
       Shows (store_at new side) sub query (shown ++ items_of (check_sent side sub account event out))

@@ -42,5 +42,5 @@ IsProperEvent _ = Unit {0}
 abbrev pub EventsBringItems : Type 0
 EventsBringItems =
     (account : Account) (old new : World) (events : List (Event × Outcome)) → Fits account old → HappenAll old events new →
-        ((e : Event × Outcome) → Contains events e → IsProperEvent e.0) →
+    ((e : Event × Outcome) → Contains events e → IsProperEvent e.0) →
     AreItems account.brought → AreItems (extended_all account events).brought

@@ -28,9 +28,9 @@ pub record HasAll (account : Account) (j : ℕ) (m : MapAccount) (side : Side) :
 abbrev pub WholeIsAll : Type 0
 WholeIsAll =
     (account : Account) (j : ℕ) (m : MapAccount) (side : Side) (items : List Sent) (r : ℕ) → slice_get account.maps j ≡ Some m →
-        ((s : Sent) → Contains items s → Contains m.taken s) →
+    ((s : Sent) → Contains items s → Contains m.taken s) →
     IsWhole (store_of account side).state.feed (is_under m.query) items r → position (store_of account side).state.feed ≤ r →
-        HasAll account j m side
+    HasAll account j m side
 
 -- The map was given nothing under its query that the store doesn't know.
 abbrev pub HasNothingElse : Account → MapAccount → Side → Type 0
@@ -43,14 +43,14 @@ HoldsTheStoresInWorlds =
     (account : Account) (w : World) (j : ℕ) (m : MapAccount) (side : Side) → Fits account w → AreExact account.brought →
     HasAll account j m side → HasNothingElse account m side →
     (held_by w (Map j) ≡ under (is_under m.query) (held_by w (Store side))) ×
-        (entries_of (held_by w (Map j)) ≡ entries_of (under (is_under m.query) (held_by w (Store side))))
+    (entries_of (held_by w (Map j)) ≡ entries_of (under (is_under m.query) (held_by w (Store side))))
 
 -- A law: a map that was given more, say by the other store, holds at least the store's version of each key under its
 -- query.
 abbrev pub HoldsAtLeastInWorlds : Type 0
 HoldsAtLeastInWorlds =
     (account : Account) (w : World) (j : ℕ) (m : MapAccount) (side : Side) → Fits account w → HasAll account j m side →
-        CoversAll (held_by w (Map j)) (under (is_under m.query) (held_by w (Store side)))
+    CoversAll (held_by w (Map j)) (under (is_under m.query) (held_by w (Store side)))
 
 -- All of them keep the rules of changes and floors.
 abbrev pub AreItems : List Item → Type 0

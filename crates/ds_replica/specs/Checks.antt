@@ -49,12 +49,12 @@ checks_sent side sub account (e ∷ es) = check_sent side sub account e.0 e.1 ++
 abbrev pub ChecksAreWholeInWorlds : Type 0
 ChecksAreWholeInWorlds =
     (account : Account) (w begun before late : World) (side : Side) (sub : ℕ) (query : Query) (overwrite : Bool) (stamp owed : ℕ)
-        (events : List (Event × Outcome)) (max k : ℕ) → Fits account w →
+    (events : List (Event × Outcome)) (max k : ℕ) → Fits account w →
     Happens w (Ask side (Subscribe sub query true overwrite)) (Replied (Subscribed stamp owed)) begun → HappenAll begun events before →
-        Stays (Store side) events → list_any (is_subscribing side sub) events ≡ false →
+    Stays (Store side) events → list_any (is_subscribing side sub) events ≡ false →
     Happens before (Ask side (Check sub max)) (Made k) late →
     let first = extended account (Ask side (Subscribe sub query true overwrite)) (Replied (Subscribed stamp owed)) in
     let mid = extended_all first events in
     let now = extended mid (Ask side (Check sub max)) (Made k) in
     length (sent_in now k) < max →
-        IsWhole (feed_of now side) (is_under query) (checks_sent side sub first events ++ sent_in now k) (position (feed_of mid side))
+    IsWhole (feed_of now side) (is_under query) (checks_sent side sub first events ++ sent_in now k) (position (feed_of mid side))

@@ -49,7 +49,7 @@ EqualWhereKnown =
 abbrev pub EqualOverEvents : Type 0
 EqualOverEvents =
     (a b : Seed) (limits : LimitsRecord) (w : World) (events : List (Event × Outcome)) (query : Key → Bool) (h i : Holder) →
-        IsLimits limits → HappenAll (new_world a b limits) events w →
+    IsLimits limits → HappenAll (new_world a b limits) events w →
     let account = extended_all (new_account a b limits) events in
     AreExact account.brought → KnowSame query (known_at account h) (known_at account i) → HoldSame w query h i
 
@@ -62,7 +62,7 @@ IsAbout w i = ((h : Holder) × Contains (held_by w h) i) ⊎ ((items : List Item
 abbrev pub NothingClashesInWorlds : Type 0
 NothingClashesInWorlds =
     (account : Account) (w : World) (c d : ChangeRecord) → Fits account w → AreSingleNumbered account.brought → IsAbout w (Changed c) →
-        IsAbout w (Changed d) → c.key ≡ d.key →
+    IsAbout w (Changed d) → c.key ≡ d.key →
     (c.owner ≡ d.owner) × (c.version ≡ d.version → c ≡ d)
 
 -- The fault means that an item contradicts what is held.
@@ -75,5 +75,5 @@ IsContradiction _ = ⊥
 abbrev pub NothingStopsInWorlds : Type 0
 NothingStopsInWorlds =
     (account : Account) (w new : World) (k : ℕ) (holder : Holder) (count : Option ℕ) (done : ℕ) (fault : Refusal) (owed : ℕ) →
-        Fits account w → AreSingleNumbered account.brought →
+    Fits account w → AreSingleNumbered account.brought →
     Happens w (Deliver k holder count) (Stopped done fault owed) new → ¬ IsContradiction fault

@@ -54,7 +54,7 @@ IsMessage account k sent = slice_get account.messages k ≡ Some sent
 abbrev pub SnapshotIsWholeInWorlds : Type 0
 SnapshotIsWholeInWorlds =
     (account : Account) (w late : World) (side : Side) (scope : Scope) (query : Key → Bool) (k : ℕ) (events : List (Event × Outcome)) →
-        IsAsked account w side (Snapshot scope) k events late → KeepsQuery (keeps scope) query →
+    IsAsked account w side (Snapshot scope) k events late → KeepsQuery (keeps scope) query →
     let now = account_after account side (Snapshot scope) k events in
     (sent : List Sent) × IsMessage now k sent × IsWhole (feed_of now side) query sent (position (feed_of account side))
 
@@ -62,7 +62,7 @@ SnapshotIsWholeInWorlds =
 abbrev pub SinceIsTurn : Type 0
 SinceIsTurn =
     (account : Account) (w late : World) (side : Side) (scope : Scope) (at : Cursor) (max k : ℕ) (events : List (Event × Outcome)) →
-        IsAsked account w side (Since scope at max) k events late →
+    IsAsked account w side (Since scope at max) k events late →
     let now = account_after account side (Since scope at max) k events in
     (t : SinceTurn) × (t.max ≡ max) × IsSinceTurn (feed_of now side) (keeps scope) at t × IsMessage now k (given t.known t.since.items)
 
@@ -70,30 +70,30 @@ SinceIsTurn =
 abbrev pub PageIsTurn : Type 0
 PageIsTurn =
     (account : Account) (w late : World) (side : Side) (scope : Scope) (behind : Option Key) (max k : ℕ) (events : List (Event × Outcome)) →
-        IsAsked account w side (Page scope behind max) k events late →
+    IsAsked account w side (Page scope behind max) k events late →
     let now = account_after account side (Page scope behind max) k events in
     (t : PageTurn) × (t.max ≡ max) × (t.feed ≡ feed_of account side) × IsPageTurn (feed_of now side) (keeps scope) behind t ×
-        IsMessage now k (given t.known t.page.items)
+    IsMessage now k (given t.known t.page.items)
 
 -- A law: items that are whole up to a cursor, with a journal message from that cursor under a scope that has all of the
 -- query, are whole up to the message's cursor.
 abbrev pub SinceExtendsInWorlds : Type 0
 SinceExtendsInWorlds =
     (account : Account) (w late : World) (side : Side) (scope : Scope) (query : Key → Bool) (at : Cursor) (max k : ℕ)
-        (events : List (Event × Outcome)) (items : List Sent) →
+    (events : List (Event × Outcome)) (items : List Sent) →
     IsAsked account w side (Since scope at max) k events late → KeepsQuery (keeps scope) query →
     let now = account_after account side (Since scope at max) k events in
     IsWhole (feed_of now side) query items at.position →
     (t : SinceTurn) × IsSinceTurn (feed_of now side) (keeps scope) at t × IsMessage now k (given t.known t.since.items) ×
-        IsWhole (feed_of now side) query (items ++ given t.known t.since.items) t.since.cursor.position
+    IsWhole (feed_of now side) query (items ++ given t.known t.since.items) t.since.cursor.position
 
 -- A law: a check message is a turn of its subscription, as the store has it at the Check. `early` is the feed of any
 -- earlier state.
 abbrev pub CheckIsTurn : Type 0
 CheckIsTurn =
     (account : Account) (w late : World) (side : Side) (sub max k : ℕ) (events : List (Event × Outcome)) (early : Feed) →
-        IsAsked account w side (Check sub max) k events late → IsFront early (feed_of account side) →
+    IsAsked account w side (Check sub max) k events late → IsFront early (feed_of account side) →
     let now = account_after account side (Check sub max) k events in
     (seer : Subscription) × (subscription_at (store_of account side).state sub ≡ Some seer) × (t : CheckTurn) × (t.max ≡ max) ×
-        IsCheckTurn early (feed_of now side) (is_under seer.query) seer.shown t
+    IsCheckTurn early (feed_of now side) (is_under seer.query) seer.shown t
     × IsMessage now k (given t.known t.items)

@@ -104,8 +104,8 @@ sent query side = only_told query side ++ snapshot side ∷ (Deliver 0 (Map 0) N
 -- What the map was then given.
 abbrev pub with_both : Query → MapAccount
 with_both query = record {
-    query = query;
-    taken = record { item = floor; stands_for = floor ∷ [] } ∷ record { item = driver_label; stands_for = driver_label ∷ [] } ∷ [];
+  query = query;
+  taken = record { item = floor; stands_for = floor ∷ [] } ∷ record { item = driver_label; stands_for = driver_label ∷ [] } ∷ [];
 }
 
 -- Then the map has all of that store and nothing else, and holds it, the label included.
@@ -229,7 +229,7 @@ renewed = Changed (change_of irq (codes "eth1") first_version (Put (Number 11)))
 abbrev pub renewal : List (Event × Outcome)
 renewal =
     (Ask A (Merge (one ∷ ended ∷ renewed ∷ [])), Replied (AllMerged 3 3 0 0)) ∷ snapshot A ∷
-        (Deliver 0 (Store B) None, Merged (counting 2 2 0) 0) ∷ []
+    (Deliver 0 (Store B) None, Merged (counting 2 2 0) 0) ∷ []
 
 -- Then everything brought is exact but not single-numbered, and both stores know and hold the same.
 pub record OwnersChange : Type 0 where

@@ -54,9 +54,9 @@ TurnsAreRunInWorlds =
 abbrev pub WholeStaysInWorlds : Type 0
 WholeStaysInWorlds =
     (account : Account) (old new : World) (side : Side) (events : List (Event × Outcome)) (query : Key → Bool) (items : List Sent) (r : ℕ) →
-        Fits account old → HappenAll old events new → Stays (Store side) events →
+    Fits account old → HappenAll old events new → Stays (Store side) events →
     r ≤ position (store_of account side).state.feed → IsWhole (store_of account side).state.feed query items r →
-        IsWhole (store_of (extended_all account events) side).state.feed query items r
+    IsWhole (store_of (extended_all account events) side).state.feed query items r
 
 -- A law: a holder knows what it knows over any events, until it is emptied.
 abbrev pub KnownStays : Type 0
@@ -75,5 +75,5 @@ NothingBelowFloorsInWorlds =
 abbrev pub FloorsStandInWorlds : Type 0
 FloorsStandInWorlds =
     (account : Account) (old new : World) (h : Holder) (events : List (Event × Outcome)) (f : Floor) (c : ChangeRecord) → Fits account old →
-        HappenAll old events new → Stays h events →
+    HappenAll old events new → Stays h events →
     Contains (known_at account h) (Floored f) → Contains (held_by new h) (Changed c) → voids f c ≡ false

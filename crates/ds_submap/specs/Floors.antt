@@ -5,7 +5,7 @@ use Rattle.ds_entry.specs.declared.item.Item.{Item}
 use Rattle.ds_entry.specs.declared.item.Item.TheVariants.{Floor as Floored}
 use Rattle.ds_join.specs.FloorStands.{IsDropped, FloorStands}
 
--- Whether each floor among what arrived stands.
+-- Whether of each floor among what arrived, it or a higher one of its owner is held, and nothing that it voids.
 abbrev pub EachFloorStands : List Item → List Item → Type 0
 EachFloorStands came held = (f : Floor) → Contains came (Floored f) → FloorStands held f
 

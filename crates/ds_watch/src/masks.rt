@@ -14,7 +14,7 @@ pub struct Masks {
 }
 
 impl Masks {
-    /// Returns the masks of what just took effect: none of those to whom it is owed has been shown it.
+    /// Returns the masks of what just took effect: no subscription that it is owed to has been shown it.
     pub fn fresh(under: Mask) -> Masks
         ensures { result ≡ fresh under }
     {

@@ -49,7 +49,7 @@ abbrev pub Agrees : Account → WorldRecord → Type 0
 Agrees account value =
     (query : Key → Bool) (h i : Holder) → AreExact account.brought → KnowSame query (known_at account h) (known_at account i) →
     (under query (held_in value h) ≡ under query (held_in value i)) ×
-        (entries_of (under query (held_in value h)) ≡ entries_of (under query (held_in value i)))
+    (entries_of (under query (held_in value h)) ≡ entries_of (under query (held_in value i)))
 
 -- *catch-up*: a map that has all of a store, and nothing else, holds exactly what the store holds under its query, if
 -- everything brought is exact.
@@ -57,7 +57,7 @@ abbrev pub CatchesUp : Account → WorldRecord → Type 0
 CatchesUp account value =
     (j : ℕ) (m : MapAccount) (side : Side) → AreExact account.brought → HasAll account j m side → HasNothingElse account m side →
     (held_in value (Map j) ≡ under (is_under m.query) (held_in value (Store side))) ×
-        (entries_of (held_in value (Map j)) ≡ entries_of (under (is_under m.query) (held_in value (Store side))))
+    (entries_of (held_in value (Map j)) ≡ entries_of (under (is_under m.query) (held_in value (Store side))))
 
 -- A map that was given more holds at least the store's version of each key under its query.
 abbrev pub KeepsUp : Account → WorldRecord → Type 0
@@ -83,13 +83,13 @@ IsFoundIn value i =
 abbrev pub NothingClashes : Account → WorldRecord → Type 0
 NothingClashes account value =
     (c d : ChangeRecord) → AreSingleNumbered account.brought → IsFoundIn value (Changed c) → IsFoundIn value (Changed d) → c.key ≡ d.key →
-        (c.owner ≡ d.owner) × (c.version ≡ d.version → c ≡ d)
+    (c.owner ≡ d.owner) × (c.version ≡ d.version → c ≡ d)
 
 -- No delivery among these events stops by such a fault.
 abbrev pub NothingStops : Account → List (Event × Outcome) → Type 0
 NothingStops account events =
     (before since : List (Event × Outcome)) (k : ℕ) (holder : Holder) (count : Option ℕ) (done : ℕ) (fault : Refusal) (owed : ℕ) →
-        before ++ (Deliver k holder count, Stopped done fault owed) ∷ since ≡ events →
+    before ++ (Deliver k holder count, Stopped done fault owed) ∷ since ≡ events →
     AreSingleNumbered (extended_all account before).brought → ¬ IsContradiction fault
 
 -- *floors*: a holder that knows a floor holds nothing that the floor makes void.
@@ -102,13 +102,13 @@ NothingBelowFloors account value =
 abbrev pub FloorsStand : Account → List (Event × Outcome) → WorldRecord → Type 0
 FloorsStand account events new =
     (h : Holder) (f : Floor) (c : ChangeRecord) → Stays h events → Contains (known_at account h) (Floored f) →
-        Contains (held_in new h) (Changed c) → voids f c ≡ false
+    Contains (held_in new h) (Changed c) → voids f c ≡ false
 
 -- *wholeness*: what is whole for a store stays whole over these events, unless they restart the store.
 abbrev pub StaysWhole : Account → List (Event × Outcome) → Type 0
 StaysWhole account events =
     (side : Side) (query : Key → Bool) (items : List Sent) (r : ℕ) → Stays (Store side) events →
-        r ≤ position (store_of account side).state.feed → IsWhole (store_of account side).state.feed query items r →
+    r ≤ position (store_of account side).state.feed → IsWhole (store_of account side).state.feed query items r →
     IsWhole (store_of (extended_all account events) side).state.feed query items r
 
 -- Everything brought keeps the rules of changes and floors, if everything brought before these events did.
@@ -120,4 +120,4 @@ abbrev pub TurnsAreRun : WorldRecord → List (Event × Outcome) → WorldRecord
 TurnsAreRun old events new =
     (w : World) (side : Side) → WorldStands old w → Stays (Store side) events →
     (after : World) × (commands : List Command) × (replies : List Reply) × Run (store_at w side) commands replies (store_at after side) ×
-        contents.ContentStands (store_in new side) (store_at after side)
+    contents.ContentStands (store_in new side) (store_at after side)

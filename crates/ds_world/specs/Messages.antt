@@ -58,7 +58,7 @@ pub record GivenPage : Type 0 where
 abbrev pub SnapshotsAreWhole : Account → List (Event × Outcome) → List Reply → Type 0
 SnapshotsAreWhole account events messages =
     (side : Side) (scope : Scope) (query : Key → Bool) (k : ℕ) (snapshot : snapshots.Snapshot) → WasGiven events side (Snapshot scope) k →
-        slice_get messages k ≡ Some (Snapped snapshot) → KeepsQuery (keeps scope) query →
+    slice_get messages k ≡ Some (Snapped snapshot) → KeepsQuery (keeps scope) query →
     let now = extended_all account events in
     IsWhole (feed_of now side) query (sent_in now k) snapshot.cursor.position
 
@@ -66,10 +66,10 @@ SnapshotsAreWhole account events messages =
 abbrev pub SincesAreTurns : Account → List (Event × Outcome) → List Reply → Type 0
 SincesAreTurns account events messages =
     (side : Side) (scope : Scope) (at : Cursor) (x : GivenSince) (g : WasGiven events side (Since scope at x.max) x.message) →
-        slice_get messages x.message ≡ Some (Journaled x.since) →
+    slice_get messages x.message ≡ Some (Journaled x.since) →
     let now = extended_all account events in
     (t : SinceTurn) × (t.max ≡ x.max) × (t.since ≡ x.since) × (t.feed ≡ feed_of (extended_all account g.before) side) ×
-        IsSinceTurn (feed_of now side) (keeps scope) at t × (sent_in now x.message ≡ given t.known x.since.items)
+    IsSinceTurn (feed_of now side) (keeps scope) at t × (sent_in now x.message ≡ given t.known x.since.items)
 
 -- Items that are whole up to a cursor, with a journal message from that cursor under a scope that has all of the query,
 -- are whole up to the message's cursor.
@@ -77,29 +77,29 @@ abbrev pub SinceMessagesExtend : Account → List (Event × Outcome) → List Re
 SinceMessagesExtend account events messages =
     (side : Side) (scope : Scope) (query : Key → Bool) (at : Cursor) (x : GivenSince) (items : List Sent) →
     WasGiven events side (Since scope at x.max) x.message → slice_get messages x.message ≡ Some (Journaled x.since) →
-        KeepsQuery (keeps scope) query →
+    KeepsQuery (keeps scope) query →
     let now = extended_all account events in
     IsWhole (feed_of now side) query items at.position →
-        IsWhole (feed_of now side) query (items ++ sent_in now x.message) x.since.cursor.position
+    IsWhole (feed_of now side) query (items ++ sent_in now x.message) x.since.cursor.position
 
 -- A page message is a turn of the store in its state at the Page, as the law of pages takes it.
 abbrev pub PagesAreTurns : Account → List (Event × Outcome) → List Reply → Type 0
 PagesAreTurns account events messages =
     (side : Side) (scope : Scope) (behind : Option Key) (x : GivenPage) (g : WasGiven events side (Page scope behind x.max) x.message) →
-        slice_get messages x.message ≡ Some (Paged x.page) →
+    slice_get messages x.message ≡ Some (Paged x.page) →
     let now = extended_all account events in
     (t : PageTurn) × (t.max ≡ x.max) × (t.page ≡ x.page) × (t.feed ≡ feed_of (extended_all account g.before) side) ×
-        IsPageTurn (feed_of now side) (keeps scope) behind t × (sent_in now x.message ≡ given t.known x.page.items)
+    IsPageTurn (feed_of now side) (keeps scope) behind t × (sent_in now x.message ≡ given t.known x.page.items)
 
 -- A check message is a turn of its subscription, in the store's state at the Check. `early` is the feed of any earlier
 -- state.
 abbrev pub ChecksAreTurns : Account → List (Event × Outcome) → Type 0
 ChecksAreTurns account events =
     (side : Side) (sub max k : ℕ) (early : Feed) (g : WasGiven events side (Check sub max) k) →
-        IsFront early (feed_of (extended_all account g.before) side) →
+    IsFront early (feed_of (extended_all account g.before) side) →
     let now = extended_all account events in
     (seer : Subscription) × (subscription_at (store_of (extended_all account g.before) side).state sub ≡ Some seer) × (t : CheckTurn) ×
-        (t.max ≡ max) × IsCheckTurn early (feed_of now side) (is_under seer.query) seer.shown t
+    (t.max ≡ max) × IsCheckTurn early (feed_of now side) (is_under seer.query) seer.shown t
     × IsMessage now k (given t.known t.items)
 
 -- Among the events, a subscription with the query was made with INITIAL and later checked. In between it wasn't made
@@ -121,9 +121,9 @@ abbrev pub AllChecksAreWhole : Account → List (Event × Outcome) → Type 0
 AllChecksAreWhole account events =
     (side : Side) (sub : ℕ) (query : Query) (max k : ℕ) (g : WasChecked events side sub query max k) →
     let begun = extended (extended_all account g.before) (Ask side (Subscribe sub query true g.overwrite))
-        (Replied (Subscribed g.stamp g.owed)) in
+    (Replied (Subscribed g.stamp g.owed)) in
     let asked = extended_all begun g.between in
     let told = extended asked (Ask side (Check sub max)) (Made k) in
     length (sent_in told k) < max →
-        IsWhole (feed_of told side) (is_under query) (checks_sent side sub begun g.between ++ sent_in told k)
-        (position (feed_of asked side))
+    IsWhole (feed_of told side) (is_under query) (checks_sent side sub begun g.between ++ sent_in told k)
+    (position (feed_of asked side))

@@ -25,7 +25,7 @@ abbrev pub WerePaged : List (Event × Outcome) → List Reply → Side → Scope
 WerePaged events messages side scope after p [] = ⊥
 WerePaged events messages side scope after p (x ∷ xs) =
     WasGiven events side (Page scope after x.max) x.message × (slice_get messages x.message ≡ Some (Paged x.page)) ×
-        (p ≤ x.page.cursor.position)
+    (p ≤ x.page.cursor.position)
     × MatchBool x.page.last (xs ≡ []) (WerePaged events messages side scope (last_key after x.page.items) x.page.cursor.position xs)
 
 -- Among the events, its journal made these messages, each read from the cursor of the one before.
@@ -33,7 +33,7 @@ abbrev pub WereJournaled : List (Event × Outcome) → List Reply → Side → S
 WereJournaled events messages side scope at [] = Unit {0}
 WereJournaled events messages side scope at (x ∷ xs) =
     WasGiven events side (Since scope at x.max) x.message × (slice_get messages x.message ≡ Some (Journaled x.since)) ×
-        WereJournaled events messages side scope x.since.cursor xs
+    WereJournaled events messages side scope x.since.cursor xs
 
 -- The cursor of the last of them, or `at` if there is none.
 abbrev pub last_page : Cursor → List GivenPage → Cursor
@@ -50,10 +50,10 @@ last_since at (x ∷ xs) = last_since x.since.cursor xs
 abbrev pub AllPagesAreWhole : Account → List (Event × Outcome) → List Reply → Type 0
 AllPagesAreWhole account events messages =
     (side : Side) (scope other : Scope) (query : Key → Bool) (first : GivenPage) (pages : List GivenPage) (sinces : List GivenSince) →
-        KeepsQuery (keeps scope) query → KeepsQuery (keeps other) query →
+    KeepsQuery (keeps scope) query → KeepsQuery (keeps other) query →
     WerePaged events messages side scope None 0 (first ∷ pages) → WereJournaled events messages side other first.page.cursor sinces →
     let now = extended_all account events in
     let to = last_since first.page.cursor sinces in
     (last_page first.page.cursor pages).position ≤ to.position →
     IsWhole (feed_of now side) query
-        (flat_map (λ x. sent_in now x.message) (first ∷ pages) ++ flat_map (λ x. sent_in now x.message) sinces) to.position
+    (flat_map (λ x. sent_in now x.message) (first ∷ pages) ++ flat_map (λ x. sent_in now x.message) sinces) to.position

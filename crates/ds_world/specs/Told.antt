@@ -79,11 +79,11 @@ abbrev pub IsTold : Event → Outcome → WorldRecord → WorldRecord → Type 0
 IsTold (Ask side command) outcome old new = IsProper command × IsAskTold side command outcome old new
 IsTold (Deliver k (Store side) count) outcome old new =
     ((items : List Item) → kept_items old.messages k ≡ Some items →
-        IsStoreTold (Deliver k (Store side) count) side (take (count_of count items) items) outcome old new)
+    IsStoreTold (Deliver k (Store side) count) side (take (count_of count items) items) outcome old new)
     × (new.messages ≡ old.messages)
 IsTold (Deliver k (Map j) count) outcome old new =
     ((items : List Item) (m n : SubMapRecord) → kept_items old.messages k ≡ Some items → slice_get old.maps j ≡ Some m →
-        slice_get new.maps j ≡ Some n →
+    slice_get new.maps j ≡ Some n →
     IsMapTold m.query m.held (take (count_of count items) items) outcome n.held)
     × (new.messages ≡ old.messages)
 IsTold event outcome old new = new.messages ≡ old.messages
@@ -102,7 +102,7 @@ MessagesStay old new = (made : List Reply) × (new.messages ≡ old.messages ++ 
 abbrev pub RepliesAreKept : WorldRecord → List (Event × Outcome) → WorldRecord → Type 0
 RepliesAreKept old events new =
     (before since : List (Event × Outcome)) (side : Side) (command : Command) (k : ℕ) (w : World) →
-        before ++ (Ask side command, Made k) ∷ since ≡ events → WorldStands old w →
+    before ++ (Ask side command, Made k) ∷ since ≡ events → WorldStands old w →
     (mid : World) × HappenAll w before mid × (after : World) × (a : Asks mid side command (Made k) after) ×
-        (slice_get new.messages k ≡ Some a.reply)
+    (slice_get new.messages k ≡ Some a.reply)
     × (late : World) × HappenAll after since late × WorldStands new late

@@ -16,7 +16,10 @@ no_lines = record { line = []; rest = []; count = 0; reads = 0 }
 -- The state for a buffer in which the line is at `start` to `end`.
 abbrev pub lines_of : List ℕ → (start end count reads : ℕ) → LinesContent
 lines_of bytes start end count reads = record {
-    line = take (end - start) (drop start bytes); rest = drop end bytes; count = count; reads = reads;
+  line = take (end - start) (drop start bytes);
+  rest = drop end bytes;
+  count = count;
+  reads = reads;
 }
 
 -- The invariant of the buffer: the line is inside it, and the counts fit the number of reads.

@@ -25,7 +25,7 @@ use Rattle.rs_core.specs.Step.{RsStep}
 abbrev pub is_due : ℕ → Service → State → Bool
 is_due tick service state =
     is_sought (sought.Missed tick) service state ||
-        (is_sought (sought.Silent tick) service state || is_sought (sought.Rested tick) service state)
+    (is_sought (sought.Silent tick) service state || is_sought (sought.Rested tick) service state)
 
 -- Whether something is due for any service.
 abbrev pub any_due : ℕ → List Service → List State → Bool

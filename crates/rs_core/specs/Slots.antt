@@ -21,7 +21,7 @@ new_slots first = slots_from first [] 0
 abbrev pub slots_code : Coded SlotsRecord
 slots_code =
     code_by (ℕ × (List ℕ × ℕ)) (coded× coded_ℕ (coded× (coded_list coded_ℕ) coded_ℕ)) (λ s. (s.first, (s.freed, s.given)))
-        (λ p. slots_from p.0 p.1.0 p.1.1) (λ _. refl)
+    (λ p. slots_from p.0 p.1.0 p.1.1) (λ _. refl)
 
 -- The key that is taken next: the last one freed, or else the first never taken.
 abbrev pub next_of : List ℕ → ℕ → ℕ

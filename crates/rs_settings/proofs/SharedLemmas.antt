@@ -17,8 +17,15 @@ first_clash-step : (share : Service → Service → Bool) (ds : List Draft) (i :
     first_clash share (map service_of_draft (take i ds)) (map service_of_draft (drop i ds)) ≡ cond
     (list_any (λ e. share (service_of_draft (get_or ds i d)) (service_of_draft e)) (take i ds)) (Some i)
     (first_clash share (map service_of_draft (take (i + 1) ds)) (map service_of_draft (drop (i + 1) ds)))
-first_clash-step share ds i d h = rw (drop_more ds i d h, take_more ds i d h, map-append service_of_draft (take i ds) (get_or ds i d ∷ []), list_any-map
-    (share (service_of_draft (get_or ds i d))) service_of_draft (take i ds), length-map (take i ds) service_of_draft, length-take-le i ds (omega arith))
+first_clash-step share ds i d h = rw (
+  drop_more ds i d h,
+  take_more ds i d h,
+  map-append service_of_draft (take i ds) (get_or ds i d ∷ []),
+  list_any-map
+      (share (service_of_draft (get_or ds i d))) service_of_draft (take i ds),
+  length-map (take i ds) service_of_draft,
+  length-take-le i ds (omega arith),
+)
 
 module _ (share : Service → Service → Bool) (ds : List Draft) (i : ℕ) (d : Draft) (l : i < length ds) (is : d ≡ get_or ds i d)
     (so : first_clash share (map service_of_draft (take i ds)) (map service_of_draft (drop i ds)) ≡ first_clash share [] (map service_of_draft ds)) where

@@ -16,8 +16,12 @@ text_in_value value = unwrap_or (as_str (view value)) []
 -- The service that a draft becomes.
 abbrev pub service_of_draft : Draft → Service
 service_of_draft d = record {
-    label = d.label; class = d.class; unit = d.unit; period = d.period; limit = d.limit;
-    publishes = map text_in_value d.publishes.now;
+  label = d.label;
+  class = d.class;
+  unit = d.unit;
+  period = d.period;
+  limit = d.limit;
+  publishes = map text_in_value d.publishes.now;
 }
 
 -- Whether the two services share the mark.

@@ -98,7 +98,7 @@ RsRefuses rs event tick fault = refusal rs event tick ≡ Some fault
 abbrev pub RsServes : Event → ℕ → RsRecord → ContentRecord → RsReply → Option RsRecord → ContentRecord → Type 0
 RsServes event tick rs old (Acted actions replies given) after new =
     ((t : RsRecord) × RsStep rs event tick actions t × (after ≡ Some t)) × TurnsFor old actions replies new ×
-        (given ≡ given_up rs event tick)
+    (given ≡ given_up rs event tick)
 RsServes event tick rs old (Refused fault) after new = RsRefuses rs event tick fault × (after ≡ Some rs) × (new ≡ old)
 RsServes event tick rs old _ after new = ⊥
 

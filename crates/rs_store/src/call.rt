@@ -42,7 +42,7 @@ pub enum RsReply {
     Exists,
     /// Why RS didn't begin.
     NotBegun(NewFault),
-    /// RS's actions in order, and the store's reply to each: `None` for a kill, a start and a ping, which are no
+    /// RS's actions in order, and the store's reply to each: `None` for a kill, a start and a ping, which aren't
     /// commands to the store. `given_up` is the index in the settings of the service that RS gave up by them.
     Acted {
         actions: Actions,

@@ -6,7 +6,7 @@ ghost use Rattle.std.specs.Option.{option_copied};
 use ds_machine::Reply;
 use std::marker::Model;
 
-/// The store's reply to each of a list of actions, in order: `None` for an action that is no command to the store.
+/// The store's reply to each of a list of actions, in order: `None` for an action that isn't a command to the store.
 #[derive(Drop)]
 pub struct Replies {
     replies: Vec<Option<Reply>>,

@@ -45,7 +45,7 @@ abbrev pub Follows : List Item → List (List ℕ) → DriverTable → List (Lis
 Follows held [] t rounds fault u = (rounds ≡ []) × (fault ≡ None) × (u ≡ t)
 Follows held (label ∷ labels) t rounds fault u =
     ((later : List (List Move)) × (rounds ≡ (taking t label (news_of held t label)).0 ++ later) ×
-        Follows held labels (taking t label (news_of held t label)).1 later fault u)
+    Follows held labels (taking t label (news_of held t label)).1 later fault u)
     ⊎ EndsForRoom t (taking t label (news_of held t label)).0 rounds fault u
 
 -- The table followed a map that holds these items: its rounds are appended to those before, and `fault` is what ended
@@ -53,5 +53,5 @@ Follows held (label ∷ labels) t rounds fault u =
 abbrev pub HasFollowed : List Item → TableRecord → TableRecord → List (List Move) → List (List Move) → Option TableFault → Type 0
 HasFollowed held old new before after fault =
     (t : DriverTable) → TableStands old t →
-        (u : DriverTable) × (rounds : List (List Move)) × (after ≡ before ++ rounds) × Follows held (labels_of t) t rounds fault u ×
-        TableStands new u
+    (u : DriverTable) × (rounds : List (List Move)) × (after ≡ before ++ rounds) × Follows held (labels_of t) t rounds fault u ×
+    TableStands new u

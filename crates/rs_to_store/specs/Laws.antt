@@ -26,14 +26,14 @@ pub record IsRunOf (labels : List (List ℕ)) (t : DriverTable) (rounds : List (
 abbrev pub FollowsAreRuns : Type 0
 FollowsAreRuns =
     (held : List Item) (labels : List (List ℕ)) (t u : DriverTable) (rounds : List (List Move)) (fault : Option TableFault) →
-        Follows held labels t rounds fault u →
+    Follows held labels t rounds fault u →
     IsRunOf labels t rounds u
 
 -- No follow changes the units or the requests.
 abbrev pub FollowsKeepUnits : Type 0
 FollowsKeepUnits =
     (held : List Item) (labels : List (List ℕ)) (t u : DriverTable) (rounds : List (List Move)) (fault : Option TableFault) →
-        Follows held labels t rounds fault u →
+    Follows held labels t rounds fault u →
     (u.units ≡ t.units) × (u.requests ≡ t.requests)
 
 -- Memory ran out at a label that has a round, and the labels before it were followed to their end.
@@ -50,5 +50,5 @@ pub record EndsAtLabel (held : List Item) (labels : List (List ℕ)) (t : Driver
 abbrev pub FollowsEndForRoom : Type 0
 FollowsEndForRoom =
     (held : List Item) (labels : List (List ℕ)) (t u : DriverTable) (rounds : List (List Move)) (fault : TableFault) →
-        Follows held labels t rounds (Some fault) u →
+    Follows held labels t rounds (Some fault) u →
     (fault ≡ NoRoom) × EndsAtLabel held labels t rounds u

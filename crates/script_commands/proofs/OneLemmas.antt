@@ -36,7 +36,7 @@ one_view p q v one back a b bytes r s fa fb =
     let xa = v.from a fa.can in
     let xb = v.from b fb.can in
     let e = one xa.0 xb.0 bytes r s (record { can = xa.1; front = subst (λ (x : List Part). Stand (length x) x bytes r) (sym xa.2) fa.front })
-        (record { can = xb.1; front = subst (λ (x : List Part). Stand (length x) x bytes s) (sym xb.2) fb.front }) in
+    (record { can = xb.1; front = subst (λ (x : List Part). Stand (length x) x bytes s) (sym xb.2) fb.front }) in
     (sym (back b fb.can) ∙ ap v.to e.0 ∙ back a fa.can, e.1)
 
 pub end_one : One an_end

@@ -224,7 +224,7 @@ version_one =
     one_by a_version (λ a b is_a is_b. (refl, λ _. (refl, λ _. (refl, λ _. (refl, λ _. tt)))))
     (λ a is. (refl, ((a.epoch, omega (arith, is.epoch), refl), (refl, ((a.seq, omega (arith, is.seq), refl), tt)))))
     (λ a b is_a is_b same. version_is a b (decimal_injective a.epoch b.epoch (omega (arith, is_a.epoch)) (omega (arith, is_b.epoch)) (ap (text_at 1) same))
-        (decimal_injective a.seq b.seq (omega (arith, is_a.seq)) (omega (arith, is_b.seq)) (ap (text_at 3) same)))
+    (decimal_injective a.seq b.seq (omega (arith, is_a.seq)) (omega (arith, is_b.seq)) (ap (text_at 3) same)))
 
 -- ---- values
 

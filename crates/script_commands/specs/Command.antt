@@ -103,7 +103,7 @@ ReadsAs May bytes (Err (BadLine place expected)) = IsFaultAmong May bytes place
 ReadsAs May bytes (Err NoRoom) =
     (command : ScriptCommand) × May command × (bytes ≡ texts (command_parts command)) × CommandTakesMemory command
 
--- The bytes are no command's line.
+-- The bytes aren't a command's line.
 abbrev pub IsCommandFault : List ℕ → ℕ → Type 0
 IsCommandFault bytes place = IsFaultAmong IsCommand bytes place
 

@@ -37,15 +37,17 @@ an_endpoint = record { Of = EndpointRecord; Can = IsEndpoint; parts = λ (e : En
 -- `new`, or `over`.
 abbrev pub a_mode : Piece
 a_mode = record {
-    Of = Bool; Can = λ (overwrite : Bool). Unit {0};
-    parts = λ (overwrite : Bool). space ∷ part AWord (mode_word overwrite) ∷ [];
+  Of = Bool;
+  Can = λ (overwrite : Bool). Unit {0};
+  parts = λ (overwrite : Bool). space ∷ part AWord (mode_word overwrite) ∷ [];
 }
 
 -- `first`, or `later`.
 abbrev pub an_initial : Piece
 an_initial = record {
-    Of = Bool; Can = λ (initial : Bool). Unit {0};
-    parts = λ (initial : Bool). space ∷ part AWord (initial_word initial) ∷ [];
+  Of = Bool;
+  Can = λ (initial : Bool). Unit {0};
+  parts = λ (initial : Bool). space ∷ part AWord (initial_word initial) ∷ [];
 }
 
 abbrev pub a_name : Piece

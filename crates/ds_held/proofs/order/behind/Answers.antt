@@ -19,4 +19,4 @@ returns c =
     take_rest xs c.partition_point-past.result
     ∙ all_behind (comes_after low) xs c.partition_point-past.result
     (IsPartitionPoint-from_clause (λ (x : ChangeRecord). not (comes_after low x)) xs c.partition_point-past.result c.partition_point-past.ensures.partitioned
-        (after_partitioned low xs (rising_order key_cmp keys_total exact_keys keyed xs c.requires)) (λ a r f' t. search rules))
+    (after_partitioned low xs (rising_order key_cmp keys_total exact_keys keyed xs c.requires)) (λ a r f' t. search rules))

@@ -28,4 +28,4 @@ pub returns-else-ends_digits-2-clause-none : goal.returns-else-ends_digits-2-cla
 returns-else-ends_digits-2-clause-none c =
     let end : c.loop-len.len ≡ 1024 = omega (arith, c.loop-len-test.false, c.loop-len.auto.len-end) in
     paired_full c.args.bytes.now c.loop-len.block c.loop-len.rest.now (subst (IsPaired c.args.bytes.now c.loop-len.block c.loop-len.rest.now) end c.loop-len.invariant)
-        (λ ends. false≢true (sym c.if-ends_digits-2.false ∙ c.ends_digits-2.ensures.1 ends))
+    (λ ends. false≢true (sym c.if-ends_digits-2.false ∙ c.ends_digits-2.ensures.1 ends))

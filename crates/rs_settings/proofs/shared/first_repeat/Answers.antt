@@ -21,7 +21,7 @@ returns-then-repeats c =
     let d = c.index-drafts-i.result in
     let h : repeats c.loop-i.seen (service_of_draft d).publishes ≡ true = sym c.repeats.ensures.value ∙ c.if-repeats.true in
     sym (first_repeat-here c.loop-i.seen c.args.drafts.now c.loop-i.i d (omega arith) c.loop-i.invariant.value c.loop-i.invariant.same
-        (subst (λ (z : Draft). repeats c.loop-i.seen (service_of_draft z).publishes ≡ true) c.index-drafts-i.is h))
+    (subst (λ (z : Draft). repeats c.loop-i.seen (service_of_draft z).publishes ≡ true) c.index-drafts-i.is h))
 
 pub loop-i-preserved : goal.loop-i-preserved
 loop-i-preserved c =

@@ -41,7 +41,7 @@ free c = free_in (content_of c.self.inside) c.args.self.now c.args.change.now c.
 pub put_at-requires-clause-place : goal.put_at-requires-clause-place
 put_at-requires-clause-place c =
     let here = subst (λ l. IsPlace l c.args.change.now.key c.args.place) (changes_are c.self.inside.held.held)
-        (subst (λ (v : ContentRecord). IsPlace (changes_in v.held) c.args.change.now.key c.args.place) (sym c.self.view_is) c.requires.place) in
+    (subst (λ (v : ContentRecord). IsPlace (changes_in v.held) c.args.change.now.key c.args.place) (sym c.self.view_is) c.requires.place) in
     subst (λ (x : ChangeRecord). IsPlace (held_changes c.self.inside.held.held) x.key c.args.place) (sym c.again.ensures) here
 
 pub put_at-requires-clause-taken : goal.put_at-requires-clause-taken
@@ -54,7 +54,7 @@ returns-in_err-put_at-clause-wants c =
     let new : held_at (held_items c.self.inside.held.held) c.args.change.now.key ≡ None =
     held_at-is c.self.inside.held.held c.held-held.ensures.sound c.args.change.now.key ∙ subst (λ (x : ChangeRecord). held_for c.self.inside.held.held x.key ≡ None) c.again.ensures c.in_err-put_at.ensures.new in
     on_err c.from_residual-in_err-put_at.result ((held_at c.args.self.now.held c.args.change.now.key ≡ None) ⊎ (IsBodyInPlace c.args.change.now.body → ⊥))
-        (inl (subst (λ (v : ContentRecord). held_at v.held c.args.change.now.key ≡ None) c.self.view_is new))
+    (inl (subst (λ (v : ContentRecord). held_at v.held c.args.change.now.key ≡ None) c.self.view_is new))
 
 -- the copy was put, which is the change
 put : (c : In_ok-put_at) → IsPutMarked c.self.inside.held c.args.change.now c.fresh.result c.put_at.new.self

@@ -60,7 +60,7 @@ pub returns-clause-count : goal.returns-clause-count
 returns-clause-count c =
     let b = (goal.at.returns-clause-count c).In_ok-count in
     b.in_ok-count.ensures.count ∙ ap (λ (l : List ChangeRecord). length (puts_void_by c.args.floor l)) (sym (changes_are c.self.inside.held.held)) ∙
-        ap (λ (v : ContentRecord). length (puts_void_by c.args.floor (changes_in v.held))) c.self.view_is
+    ap (λ (v : ContentRecord). length (puts_void_by c.args.floor (changes_in v.held))) c.self.view_is
 
 held : (c : In_ok-count) → c.raise_at.new.self.held ≡ after_raise c.self.inside.held.held c.args.floor (Ok Taken)
 held c = c.in_ok-count.ensures.raised.held

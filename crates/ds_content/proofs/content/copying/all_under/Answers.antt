@@ -16,7 +16,7 @@ overflow_add-index g c =
     let within : c.loop-items.index < length hs = slice_get_within hs c.loop-items.index i.0 i.1 in
     let few : length hs ≤ 4160 =
     few_items c.args.held.now c.limits.result c.len-count.result c.floor_count-floors.result c.limits.ensures c.keys-keys.ensures.limits c.len-count.ensures.count
-        c.len-count.ensures.few c.floor_count-floors.ensures.count c.floor_count-floors.ensures.few in
+    c.len-count.ensures.few c.floor_count-floors.ensures.count c.floor_count-floors.ensures.few in
     omega (arith, within, few)
 
 pub loop-items-smaller : goal.loop-items-smaller

@@ -24,8 +24,8 @@ few : (c : After-len-changes) → length (held_items c.args.held.now.held) ≤ 4
 few c =
     few_items c.args.held.now.held c.limits.result c.len-changes.result c.floor_count-floors.result (c.limits.ensures ∙ ap (λ (h : Holding). h.limits) c.held-content.ensures.value) c.keys-keys.ensures.limits
     (c.len-changes.ensures.count ∙ ap held_count c.held-content.ensures.value)
-        (omega (arith, c.len-changes.ensures.few, ap (λ (h : Holding). h.limits.keys) c.held-content.ensures.value))
-        (c.floor_count-floors.ensures.count ∙ ap (λ (h : Holding). floor_count h) c.held-content.ensures.value) c.floor_count-floors.ensures.few
+    (omega (arith, c.len-changes.ensures.few, ap (λ (h : Holding). h.limits.keys) c.held-content.ensures.value))
+    (c.floor_count-floors.ensures.count ∙ ap (λ (h : Holding). floor_count h) c.held-content.ensures.value) c.floor_count-floors.ensures.few
 
 all : (c : After-len-changes) → length (held_items c.args.held.now.held) ≡ c.floor_count-floors.result + c.len-changes.result
 all c = items_counted c.args.held.now.held c.len-changes.result c.floor_count-floors.result (c.len-changes.ensures.count ∙ ap held_count c.held-content.ensures.value)

@@ -37,7 +37,7 @@ returns-in-Ok-accept_at-clause-step c = λ s stands.
     let change = c.change_asked-change.result in
     let none = sym (c.cause_against.ensures.first s stands) ∙ c.in_default.is in
     let bits : c.number.result ≡ owed s (Changed change ∷ []) = owed_number s (Changed change) c.in-Ok.owed c.number.result c.number.ensures
-        (c.in-Ok.ensures.owed s change (subst (λ (x : ContentRecord). ContentStands x s) (sym c.deref-3.ensures) here) (ap (λ x. x.key) c.change_asked-change.ensures)) in (
+    (c.in-Ok.ensures.owed s change (subst (λ (x : ContentRecord). ContentStands x s) (sym c.deref-3.ensures) here) (ap (λ x. x.key) c.change_asked-change.ensures)) in (
       takes_effect s (Changed change ∷ []),
       asked_taken v s a c.args.body change c.number.result here none
           (c.change_asked-change.ensures ∙ ap (λ m. change_asked m a c.args.body)

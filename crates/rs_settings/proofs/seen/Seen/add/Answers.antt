@@ -40,8 +40,8 @@ invariant_of-self c =
     let rise : AreAscending text c.self.inside.names.items = c.self.invariant in
     let le : c.in-Err.place ≤ length c.self.inside.names.items = subst (λ (z : Names). c.in-Err.place ≤ length z) c.as_slice.ensures.value c.in-Err.ensures.bound in
     subst (λ (z : Names). AreAscending text z) (sym c.insert.ensures.items)
-        (ascending-insert text c.self.inside.names.items c.in-Err.place c.args.name le rise
-        (place c.self.inside.names.items c.as_slice.result.now c.args.name.now c.in-Err.place c.as_slice.ensures.value rise c.in-Err.ensures.position))
+    (ascending-insert text c.self.inside.names.items c.in-Err.place c.args.name le rise
+    (place c.self.inside.names.items c.as_slice.result.now c.args.name.now c.in-Err.place c.as_slice.ensures.value rise c.in-Err.ensures.position))
 
 pub returns-in-Ok-clause-added : goal.returns-in-Ok-clause-added
 returns-in-Ok-clause-added c = rw (there c) refl
@@ -62,4 +62,4 @@ returns-in-Err-clause-after c = λ n.
     let v : map text c.self.inside.names.items ≡ c.args.self.now = c.self.view_is in
     subst (λ (z : Names). has_name (map text z) n ≡ (has_name c.args.self.now n || is_same n c.args.name.now)) (sym c.insert.ensures.items)
     (subst (λ (z : List (List ℕ)). has_name (map text (insert c.self.inside.names.items c.in-Err.place c.args.name)) n ≡ (has_name z n || is_same n c.args.name.now)) v
-        (has_name-insert text c.self.inside.names.items c.in-Err.place c.args.name n))
+    (has_name-insert text c.self.inside.names.items c.in-Err.place c.args.name n))
