@@ -1,5 +1,5 @@
 -- A table's turn follows its map rightly.
-use Rattle.std.proofs.Common.{◌≡◌, ◌==◌, ◌&&◌, ◌||◌, ℕ, ◌≤◌, nat_lt, Bool, true, false, not, List, [], ◌∷◌, ◌++◌, Option, Some, None, Ok, refl, ap, sym, ◌∙◌, subst, inl, inr, ◌⊎◌, arith, Contains}
+use Rattle.std.proofs.Common.{◌≡◌, ◌==◌, ◌&&◌, ◌||◌, ℕ, ◌≤◌, ◌<◌, nat_lt, Bool, true, false, not, List, [], ◌∷◌, ◌++◌, Option, Some, None, Ok, refl, ap, sym, ◌∙◌, subst, inl, inr, ◌⊎◌, arith, Contains}
 use Rattle.std.proofs.lemmas.Bool.Decides.{nat_tests}
 use Rattle.std.proofs.lemmas.List.Elements.{Contains-append_cases}
 use Rattle.ds_names.specs.Endpoint.{EndpointRecord}
@@ -216,6 +216,17 @@ own_living : (followed : DriverTable) (stop : Option TableFault) (own : Move) (a
 own_living followed None own after came h = (refl, (none_to_older came.0 followed after (Submit h.0 h.1) (own ∷ []) came.1 (submit_step followed after h.0 h.1 own h.2)).0)
 own_living followed (Some stop) own after came h = absurd h
 
+-- no endpoint is no endpoint of this one, and none is old
+none_some : (e : EndpointRecord) (o : Option EndpointRecord) → o ≡ None → o ≡ Some e → ⊥
+none_some e o n s = let q : None ≡ Some e = sym n ∙ s in cc
+
+below_newest_is : (epoch : ℕ) (newest : Option ℕ) (n : ℕ) → newest ≡ Some n → is_below_newest newest epoch ≡ true → epoch < n
+below_newest_is epoch newest n e l = let k : nat_lt epoch n ≡ true = sym (ap (λ (g : Option ℕ). is_below_newest g epoch) e) ∙ l in grind (arith, nat_tests, k)
+
+never_old : (newest : Option ℕ) (now : Option EndpointRecord) → is_old newest now None ≡ false
+never_old None now = refl
+never_old (Some g) now = refl
+
 -- ---- a turn
 -- a map's change of a living label is of the endpoint's generation
 abbrev pub TellsGenerations : List Item → Type 0
@@ -267,6 +278,7 @@ module _ (held : List Item) (tells : TellsGenerations held) (turn : TableTurn) (
     label = k.label;
     under = about m i;
     of_map = λ c q. equal_at_most c.version.epoch e.generation (tells k.label c e q (subst (λ (z : ChangeRecord). endpoint_in z.body ≡ Some e) (one_change k.label k.label k.change c refl k.there q) (k.goes e g)));
+    gone = λ c q n. absurd (none_some e (endpoint_in c.body) n (subst (λ (z : ChangeRecord). endpoint_in z.body ≡ Some e) (one_change k.label k.label k.change c refl k.there q) (k.goes e g)));
     of_earlier = λ x j same. elim (Contains-append_cases earlier (sendings turn.after front) x j) [
       | inl a ↦ (let p = seen x a in at_most p.2 (k.above e p.0 g (ap (newest turn.before.states) (sym same) ∙ p.1)))
       | inr b ↦ of_round x same (sent_is turn.after front x b)
@@ -332,6 +344,18 @@ module _ (held : List Item) (tells : TellsGenerations held) (turn : TableTurn) (
             let less : old.1.generation ≤ old.0 = old.4 in
             omega arith
 
+    -- a tombstone that was passed over is of a lesser generation
+    passed_below : (c : ChangeRecord) → held_at held (label_key o.label) ≡ Some c → endpoint_in c.body ≡ None → is_passed turn.before o.label c ≡ true → newest turn.before.states o.label ≡ Some e.generation → c.version.epoch < e.generation
+    passed_below c q none p n = by (is_late turn.before o.label c) refl p
+      where
+        by_body : (body : Body) → is_old_tombstone (newest turn.before.states o.label) c.version.epoch body ≡ true → c.version.epoch < e.generation
+        by_body (Put value) k = opposed false k refl
+        by_body Gone k = below_newest_is c.version.epoch (newest turn.before.states o.label) e.generation n k
+
+        by : (late : Bool) → is_late turn.before o.label c ≡ late → late || is_old_for turn.before.states o.label (endpoint_in c.body) ≡ true → c.version.epoch < e.generation
+        by true l k = by_body c.body l
+        by false l k = opposed (is_old_for turn.before.states o.label (endpoint_in c.body)) k (ap (is_old_for turn.before.states o.label) none ∙ never_old (newest turn.before.states o.label) (endpoint_now turn.before.states o.label))
+
     own_goes_right : (earlier : List Sending) → HasSeen turn.before earlier → (front back : List Move) → turn_moves turn ≡ front ++ m ∷ back → GoesToNoOlder held turn (earlier ++ sendings turn.after front) m e
     own_goes_right earlier seen front back split = record {
       label = o.label;
@@ -339,6 +363,10 @@ module _ (held : List Item) (tells : TellsGenerations held) (turn : TableTurn) (
       of_map = λ c q. elim (settled c q) [
         | inl now ↦ equal_at_most c.version.epoch e.generation (tells o.label c e q (sym now ∙ now_so))
         | inr p ↦ passed_at_most c q p.0 (sym p.1.newest ∙ newest_so)
+      ];
+      gone = λ c q n. elim (settled c q) [
+        | inl now ↦ absurd (none_some e (endpoint_in c.body) n (sym now ∙ now_so))
+        | inr p ↦ passed_below c q n p.0 (sym p.1.newest ∙ newest_so)
       ];
       of_earlier = λ x j same. elim (Contains-append_cases earlier (sendings turn.after front) x j) [
         | inl a ↦ (let p = seen x a in let h = calls_rise turn.before turn.followed x.label led p.0 p.1 in below_newest x.label x.endpoint.generation same (h.0, h.1, at_most p.2 h.2))

@@ -1,5 +1,5 @@
 -- None of the wrong ways to follow a map is right.
-use Rattle.std.proofs.Common.{◌≡◌, ℕ, ◌≤◌, true, false, List, [], Some, None, refl, ap, subst, inl, inr, arith}
+use Rattle.std.proofs.Common.{◌≡◌, ℕ, ◌≤◌, ◌<◌, true, false, List, [], Some, None, refl, ap, subst, inl, inr, arith}
 use Rattle.ds_names.specs.Endpoint.{EndpointRecord}
 use Rattle.ds_names.specs.Key.{label_key}
 use Rattle.ds_entry.proofs.Members.{Contains-head}
@@ -9,7 +9,7 @@ use Rattle.driver_tables.specs.declared.moves.Move.{Move}
 use Rattle.driver_tables.specs.declared.moves.Move.TheVariants.{Send}
 use Rattle.system_model.specs.Turn.{TableTurn}
 use Rattle.system_model.specs.Sending.{Sending, GoesToNoOlder}
-use Rattle.system_model.specs.Wrong.{disk, old, young, lives_at, DoesNothing, SendsToOld, SubmitsUnseen, FollowsAnotherMap, EndsByOldTombstone, GoesBack, WrongTurns}
+use Rattle.system_model.specs.Wrong.{disk, old, young, lives_at, gone_since, DoesNothing, SendsToOld, SubmitsUnseen, SendsToGone, FollowsAnotherMap, EndsByOldTombstone, GoesBack, WrongTurns}
 use Rattle.system_model.proofs.NewsLemmas.{same_some}
 
 differ : old ≡ young → ⊥
@@ -33,6 +33,14 @@ old_fails f = let g = f.sends [] [] (Send 7 old) old refl refl in not_to_old _ _
 unseen_fails : ¬ SubmitsUnseen
 unseen_fails f = let g = f.sends [] [] (Send 7 old) old refl refl in not_to_old _ _ (Send 7 old) g (same_some disk g.label g.under)
 
+gone_fails : ¬ SendsToGone
+gone_fails f =
+    let g = f.sends [] [] (Send 7 young) young refl refl in
+    let there : held_at (gone_since 2) (label_key g.label) ≡ Some (label_gone disk 2) =
+    subst (λ (z : List ℕ). held_at (gone_since 2) (label_key z) ≡ Some (label_gone disk 2)) (same_some disk g.label g.under) refl in
+    let l : 2 < 2 = g.gone (label_gone disk 2) there refl in
+    omega arith
+
 another_fails : ¬ FollowsAnotherMap
 another_fails f = elim (f.knows refl disk (label_put disk young) refl refl) [
   | inl e ↦ differ (same_some old young e)
@@ -49,4 +57,4 @@ back_fails f =
     omega arith
 
 pub wrong_turns : WrongTurns
-wrong_turns = (nothing_fails, old_fails, unseen_fails, another_fails, tombstone_fails, back_fails)
+wrong_turns = (nothing_fails, old_fails, unseen_fails, gone_fails, another_fails, tombstone_fails, back_fails)

@@ -1,5 +1,5 @@
 -- Where the Sends and Starts of a turn go: none goes to an older generation.
-use Rattle.std.specs.Prelude.{◌≡◌, ◌⊎◌, ℕ, ◌≤◌, Bool, true, false, ◌||◌, List, [], ◌∷◌, ◌++◌, Option, Some, None, is_some, Contains}
+use Rattle.std.specs.Prelude.{◌≡◌, ◌⊎◌, ℕ, ◌≤◌, ◌<◌, Bool, true, false, ◌||◌, List, [], ◌∷◌, ◌++◌, Option, Some, None, is_some, Contains}
 use Rattle.std.specs.List.{find, filter_map, flat_map}
 use Rattle.std.specs.Option.{option_map, option_and_then}
 use Rattle.ds_names.specs.Endpoint.{EndpointRecord}
@@ -88,7 +88,9 @@ pub record GoesToNoOlder (held : List Item) (turn : TableTurn) (earlier : List S
   pub under : label_of turn.after m ≡ Some label
   -- its endpoint's generation isn't below that of the map's change of the label
   pub of_map : (c : ChangeRecord) → held_at held (label_key label) ≡ Some c → c.version.epoch ≤ e.generation
-  -- nor below that of an earlier Send or Start under the label
+  -- and is above that of a tombstone: nothing goes to an instance that the map says is gone
+  pub gone : (c : ChangeRecord) → held_at held (label_key label) ≡ Some c → endpoint_in c.body ≡ None → c.version.epoch < e.generation
+  -- nor is it below that of an earlier Send or Start under the label
   pub of_earlier : (x : Sending) → Contains earlier x → x.label ≡ label → x.endpoint.generation ≤ e.generation
   -- and if the label lives in the map, and isn't passed over, the endpoint is the map's
   pub own : (c : ChangeRecord) (f : EndpointRecord) → held_at held (label_key label) ≡ Some c → endpoint_in c.body ≡ Some f → is_passed turn.before label c ≡ false → e ≡ f

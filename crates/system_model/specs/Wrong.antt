@@ -56,6 +56,10 @@ SendsToOld = FollowsRightly (lives_at young) (plain_turn (disk_table (Some old �
 abbrev pub SubmitsUnseen : Type 0
 SubmitsUnseen = FollowsRightly (lives_at young) (request_turn (disk_table (Some old ∷ [])) (Send 7 old)) []
 
+-- The table sends to the very endpoint that its map says is gone, without following its map.
+abbrev pub SendsToGone : Type 0
+SendsToGone = FollowsRightly (gone_since 2) (request_turn (disk_table (Some young ∷ [])) (Send 7 young)) []
+
 -- The table takes the state of another, older map.
 abbrev pub FollowsAnotherMap : Type 0
 FollowsAnotherMap = FollowsRightly (lives_at young) (plain_turn (disk_table []) ((Send 7 old ∷ []) ∷ []) (disk_table (Some old ∷ []))) []
@@ -70,4 +74,4 @@ GoesBack = FollowsRightly (lives_at old) (plain_turn (disk_table (Some young ∷
 
 -- A law: none of them is right.
 abbrev pub WrongTurns : Type 0
-WrongTurns = (¬ DoesNothing) × (¬ SendsToOld) × (¬ SubmitsUnseen) × (¬ FollowsAnotherMap) × (¬ EndsByOldTombstone) × (¬ GoesBack)
+WrongTurns = (¬ DoesNothing) × (¬ SendsToOld) × (¬ SubmitsUnseen) × (¬ SendsToGone) × (¬ FollowsAnotherMap) × (¬ EndsByOldTombstone) × (¬ GoesBack)
