@@ -338,8 +338,8 @@ while True:
     notify("STATUS=as ever\\nWATCHDOG=1")
 '''
     foreign = 'if not os.fork():\n    while True: notify("WATCHDOG=1"), time.sleep(0.05)\ntime.sleep(1000)\n'
-    host.start({"line": ({"period": 200}, LIVES), "notify": ({"period": 200}, watchdog), "mute": ({"period": 60}, "live(False)\n"),
-                "child": ({"period": 60}, foreign)})
+    host.start({"line": ({"period": 200}, LIVES), "notify": ({"period": 200}, watchdog), "mute": ({"period": 200}, "live(False)\n"),
+                "child": ({"period": 200}, foreign)})
     host.logged("kill mute 3/18 cause 4"), host.logged("kill child 4/19 cause 4")
     host.noted("watchdog 4000000 True")
     host.logged("ready notify 2/17")
