@@ -338,12 +338,12 @@ while True:
     notify("STATUS=as ever\\nWATCHDOG=1")
 '''
     foreign = 'if not os.fork():\n    while True: notify("WATCHDOG=1"), time.sleep(0.05)\ntime.sleep(1000)\n'
-    host.start({"line": ({"period": 60}, LIVES), "notify": ({"period": 80}, watchdog), "mute": ({"period": 60}, "live(False)\n"),
-                "child": ({"period": 60}, foreign)})
+    host.start({"line": ({"period": 200}, LIVES), "notify": ({"period": 200}, watchdog), "mute": ({"period": 200}, "live(False)\n"),
+                "child": ({"period": 200}, foreign)})
     host.logged("kill mute 3/18 cause 4"), host.logged("kill child 4/19 cause 4")
-    host.noted("watchdog 1600000 True")
+    host.noted("watchdog 4000000 True")
     host.logged("ready notify 2/17")
-    time.sleep(1)
+    time.sleep(3)
     assert not host.has_logged("kill line") and not host.has_logged("kill notify"), host.log()
     status = host.status()
     equal([status["notify"][0], status["notify"][6], status["line"][0]], ["ready", "as ever", "up"])
@@ -352,7 +352,7 @@ while True:
 
 @scene
 def a_service_that_stands_still(host):
-    host.start({"a": ({"period": 30, "limit": 5}, LIVES)})
+    host.start({"a": ({"period": 100, "limit": 5}, LIVES)})
     host.logged("began a 1/16")
     os.kill(host.pid("a"), signal.SIGSTOP)
     host.logged("kill a 1/16 cause 4")
@@ -362,11 +362,11 @@ def a_service_that_stands_still(host):
 
 @scene
 def a_supervisor_that_stood_still_kills_nobody(host):
-    host.start({"a": ({"period": 60}, LIVES), "b": ({"period": 70}, LIVES)})
+    host.start({"a": ({"period": 130}, LIVES), "b": ({"period": 140}, LIVES)})
     host.logged("began b 2/17")
-    time.sleep(0.7)
+    time.sleep(1.5)
     host.process.send_signal(signal.SIGSTOP)
-    time.sleep(2.5)
+    time.sleep(4)
     host.process.send_signal(signal.SIGCONT)
     host.logged("late")
     time.sleep(1)
@@ -495,7 +495,7 @@ def a_start_that_is_refused(host):
 @scene
 def one_that_talks_without_end_holds_up_nobody(host):
     flood = 'while True: dsrs.sendall(b"show\\n" * 1000)\n'
-    host.start({"flood": ({"period": 100}, flood), "a": ({"period": 100}, LIVES)})
+    host.start({"flood": ({"period": 150}, flood), "a": ({"period": 150}, LIVES)})
     host.logged("kill flood")
     equal(host.ask("retrieve a label"), "found 2/17")
     assert not host.has_logged("kill a"), host.log()
