@@ -48,7 +48,8 @@ module _ {J : Type 0} (back : J → J → Type 0) where
   one_of_none None old vs ws new v p w was is all same one = one_back 0 old vs ws new v p w was is (omega arith) all same one
   one_of_none (Some n) old vs ws new v p w was is all same one = tt
 
-  pub one_of_some : (r : Option ℕ) (old vs ws new : List J) (v p w : J) → old ≡ vs ++ v ∷ [] → new ≡ ws ++ w ∷ [] → IfSome r (λ n. n < length vs) → IfSome r (λ n. AreBack back n vs ws) → p ≡ v → back p w → IfSome r (λ n. AreBack back n old new)
+  pub one_of_some : (r : Option ℕ) (old vs ws new : List J) (v p w : J) → old ≡ vs ++ v ∷ [] → new ≡ ws ++ w ∷ [] → IfSome r (λ n. n < length vs) →
+      IfSome r (λ n. AreBack back n vs ws) → p ≡ v → back p w → IfSome r (λ n. AreBack back n old new)
   one_of_some None old vs ws new v p w was is few all same one = tt
   one_of_some (Some n) old vs ws new v p w was is few all same one = one_back n old vs ws new v p w was is (omega (arith, few)) all same one
 

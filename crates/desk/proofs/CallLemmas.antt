@@ -1,4 +1,4 @@
--- What a call and a take leave of the views, and of what a pass counts.
+-- The effects of a call and a take on views and on a pass's counts.
 use Rattle.std.proofs.Common.{◌≡◌, ℕ, ◌+◌, ◌-◌, ◌^◌, ◌<◌, ◌==◌, Bool, List, [], ◌∷◌, length, cond, refl, ap, sym, ◌∙◌, subst, arith, eq-eqb, ne_eqb}
 use Rattle.std.specs.Prelude.{is_some}
 use Rattle.std.specs.Int.{bit_at}
@@ -25,7 +25,7 @@ use Rattle.desk.specs.Sight.{TurnAt}
 use Rattle.desk.specs.Tally.{CanPost, Counts, Posts, RaisesMask, row_at, Tallies}
 use Rattle.desk.proofs.PassLemmas.{call_added, call_keeps_notices, call_number, notice_weighs, weigh_one_notices}
 
--- a post gives nothing
+-- a post takes nothing
 post_gives : (place found : ℕ) (act : Act) → IsPostAt place act → given_by found act ≡ 0
 post_gives place found (Post bits at) is = refl
 post_gives place found Take is = absurd is
@@ -102,11 +102,12 @@ module _ {M C R : Type 0} (owes : R → ℕ) where
   take_grows : (v w : View M C R) (server n : ℕ) → TakesBits owes v server n w → length v.passes ≡ 1 → (s b : ℕ) → taken_by w.passes s b ≡ taken_by v.passes s b + taken_at s b (take_of v server n)
   take_grows v w server n h one s b = ap (λ (l : List (PassLog C R)). taken_by l s b) (take_passes v w server n h) ∙ notice_weighs v.passes (take_of v server n) (taken_at s b) one
 
-  -- the rows of the server can be counted on
+  -- the server's rows have room to count
   pub take_room : (v w : View M C R) (server n : ℕ) (rows : List ℕ) → server < 16 → TakesBits owes v server n w → length v.passes ≡ 1 → Tallies rows (taken_by v.passes) → (b : ℕ) → b < 8 → row_at rows server b < 2 ^ 63
   take_room v w server n rows small h one counted b hb = let c = counted server b small hb in let g = take_grows v w server n h one server b in let f = h.few b in omega arith
 
-  pub take_counts : (steps : M → C → R → M → Type 0) (v w x : View M C R) (server n found : ℕ) (holding : Bool) (rows rows' : List ℕ) → TakesBits owes v server n w → Looks steps w found holding x → length v.passes ≡ 1 → Counts rows server n rows' → Tallies rows (taken_by v.passes) → Tallies rows' (taken_by x.passes)
+  pub take_counts : (steps : M → C → R → M → Type 0) (v w x : View M C R) (server n found : ℕ) (holding : Bool) (rows rows' : List ℕ) → TakesBits owes v server n w →
+      Looks steps w found holding x → length v.passes ≡ 1 → Counts rows server n rows' → Tallies rows (taken_by v.passes) → Tallies rows' (taken_by x.passes)
   take_counts steps v w x server n found holding rows rows' h l one counts counted = tallies_taken w x rows' (λ s b. ap (λ (y : View M C R). taken_by y.passes s b) l.is) (λ s b hs hb. counts s b hs hb ∙ dite (ℕ_discrete s server)
       (λ e.
       let c = counted s b hs hb in let g = take_grows v w server n h one s b in
@@ -117,15 +118,17 @@ module _ {M C R : Type 0} (owes : R → ℕ) where
       let y : cond (s == server) (bit_at n b) 0 ≡ 0 = ap (λ t. cond t (bit_at n b) 0) (ne_eqb s server other) in
       let z = taken_elsewhere s b (take_of v server n) (λ e. other (sym e)) in omega arith))
 
-  pub take_raises : (steps : M → C → R → M → Type 0) (v w x : View M C R) (server n found : ℕ) (holding : Bool) (rows : List ℕ) → TakesBits owes v server n w → Looks steps w found holding x → length v.passes ≡ 1 → Tallies rows (raised_by v.passes) → Tallies rows (raised_by x.passes)
+  pub take_raises : (steps : M → C → R → M → Type 0) (v w x : View M C R) (server n found : ℕ) (holding : Bool) (rows : List ℕ) → TakesBits owes v server n w →
+      Looks steps w found holding x → length v.passes ≡ 1 → Tallies rows (raised_by v.passes) → Tallies rows (raised_by x.passes)
   take_raises steps v w x server n found holding rows h l one counted s b hs hb =
       let c = counted s b hs hb in
       let looked : raised_by x.passes s b ≡ raised_by w.passes s b = ap (λ (y : View M C R). raised_by y.passes s b) l.is in
-      let grown : raised_by w.passes s b ≡ raised_by v.passes s b + raised_at s b (take_of v server n) = ap (λ (y : List (PassLog C R)). raised_by y s b) (take_passes v w server n h) ∙ notice_weighs v.passes (take_of v server n) (raised_at s b) one in
+      let grown : raised_by w.passes s b ≡ raised_by v.passes s b + raised_at s b (take_of v server n) = ap (λ (y : List (PassLog C R)). raised_by y s b)
+      (take_passes v w server n h) ∙ notice_weighs v.passes (take_of v server n) (raised_at s b) one in
       let none = take_raises_nothing (take_of v server n) s b refl in
       omega arith
 
-  -- what owes a bit that was taken is there still
+  -- the call that owes a taken bit is still there
   pub owed_later : (steps : M → C → R → M → Type 0) (v w x : View M C R) (server n found b : ℕ) (holding : Bool) → TakesBits owes v server n w → Looks steps w found holding x → bit_at n b ≡ 1 → OwedIn owes server b x.seen
   owed_later steps v w x server n found b holding h l set_bit = let k = h.owed b set_bit in
       (k.0, k.1, at_prefix w.seen x.seen k.0 k.1 l.seen (ap (λ (y : View M C R). get_elem? y.seen k.0) h.notices.is ∙ k.2), k.3)

@@ -1,4 +1,4 @@
--- Passes that are gathered, and what a closed desk leaves.
+-- Passes gathered at a seat, and what a closed desk leaves.
 use Rattle.std.proofs.Common.{◌≡◌, ℕ, ◌+◌, ◌*◌, ◌/◌, ◌%◌, ◌^◌, ◌≤◌, ◌<◌, true, List, [], ◌∷◌, ◌++◌, length, refl, ap, sym, ◌∙◌, subst, arith, length-append}
 use Rattle.std.specs.Prelude.{slice_index}
 use Rattle.std.specs.List.{AllByRecursion}
@@ -30,7 +30,7 @@ use Rattle.desk.proofs.PassLemmas.{own_notices_one, own_one, weigh_one, weigh_on
 use Rattle.desk.proofs.SightLemmas.{rests_facts}
 use Rattle.history.proofs.RunLemmas.{values_run}
 
--- what is pending in a row is the bit of the word
+-- a row's pending flag is the bit of the word
 row_pending : (pending raises takes' : List ℕ) (rows : List Row) (s b : ℕ) → s < 16 → b < 8 → ((k : ℕ) → k < 128 → IsRow pending raises takes' rows k)
     → (r : Row) × (get_elem? rows (8 * s + b) ≡ some r) × (pending_bit r ≡ bit_at (slice_index pending s) b)
 row_pending pending raises takes' rows s b hs hb row =
@@ -40,7 +40,7 @@ row_pending pending raises takes' rows s b hs hb row =
 pub all_last : {A : Type 0} (P : A → Type 0) (xs ys : List A) (x : A) → ys ≡ xs ++ x ∷ [] → AllByRecursion P ys → AllByRecursion P xs × P x
 all_last P xs ys x e all = let both = all_split P xs (x ∷ []) (subst (λ l. AllByRecursion P l) e all) in (both.0, both.1.0)
 
--- what passes say of rests is what the rule's view says
+-- `rests` of a pass agrees with the rule's view
 abbrev pub Tells : {M C R : Type 0} → Ghosts (View M C R) → Type 0
 Tells {M} {C} {R} G = (v : View M C R) → G.rests v ≡ true → rests_of v ≡ true
 
@@ -54,7 +54,7 @@ module _ {M C R : Type 0} {G : Ghosts (View M C R)} where
     pub same_table : q.table_id ≡ p0.table_id
     pub same_holding : q.me.0.holding ≡ p0.me.0.holding
     pub passes : gathered q.me.0.passes ps ≡ gathered p0.me.0.passes all
-    -- what begins with all that it has seen begins with all that p0 and those that aren't among ps have seen
+    -- a history that extends what q has seen extends what p0 and the passes that aren't among ps have seen
     pub seen : (h : List (Entry C R)) → IsPrefix q.me.0.seen h → HasAllSeen h ps → IsPrefix p0.me.0.seen h × HasAllSeen h all
     pub noticed : (ns : List Notice) → IsPrefix q.me.0.notices ns → HasAllNoticed ns ps → IsPrefix p0.me.0.notices ns × HasAllNoticed ns all
     pub rows_raised : Wraps raises (raised_by q.me.0.passes)
@@ -82,16 +82,18 @@ module _ {M C R : Type 0} {G : Ghosts (View M C R)} where
         rows_taken = wraps_more takes' gone takes'' _ _ _ g.rows_taken tt' st (λ s b. weighs (taken_at s b));
       }
 
-  -- what begins with all that the last one and the others have seen
-  pub all_seen : (h : List (Entry C R)) (all ps : List (Pass M C R G)) (p : Pass M C R G) (es : List (Entry C R)) → all ≡ ps ++ p ∷ [] → IsPrefix es h → IsPrefix p.seat.me.0.seen es → AllByRecursion (λ (x : Pass M C R G). IsPrefix (history x) es) ps → HasAllSeen h all
+  -- a history that extends what the last one and the others have seen
+  pub all_seen : (h : List (Entry C R)) (all ps : List (Pass M C R G)) (p : Pass M C R G) (es : List (Entry C R)) → all ≡ ps ++ p ∷ [] → IsPrefix es h →
+      IsPrefix p.seat.me.0.seen es → AllByRecursion (λ (x : Pass M C R G). IsPrefix (history x) es) ps → HasAllSeen h all
   all_seen h all ps p es is begins last others = subst (HasAllSeen h) (sym is)
       (all_append (λ (x : Pass M C R G). IsPrefix (history x) h) ps (p ∷ []) (all_map _ _ (λ x b. prefix_trans _ _ _ b begins) ps others) (prefix_trans _ _ _ last begins, tt))
 
-  pub all_noticed : (ns : List Notice) (all ps : List (Pass M C R G)) (p : Pass M C R G) (seen : List Notice) → all ≡ ps ++ p ∷ [] → IsPrefix seen ns → IsPrefix p.seat.me.0.notices seen → AllByRecursion (λ (x : Pass M C R G). IsPrefix (order x) seen) ps → HasAllNoticed ns all
+  pub all_noticed : (ns : List Notice) (all ps : List (Pass M C R G)) (p : Pass M C R G) (seen : List Notice) → all ≡ ps ++ p ∷ [] → IsPrefix seen ns →
+      IsPrefix p.seat.me.0.notices seen → AllByRecursion (λ (x : Pass M C R G). IsPrefix (order x) seen) ps → HasAllNoticed ns all
   all_noticed ns all ps p seen is begins last others = subst (HasAllNoticed ns) (sym is)
       (all_append (λ (x : Pass M C R G). IsPrefix (order x) ns) ps (p ∷ []) (all_map _ _ (λ x b. prefix_trans _ _ _ b begins) ps others) (prefix_trans _ _ _ last begins, tt))
 
-  -- all passes sit at the seat of the last one
+  -- all passes sit at the last one's seat
   pub all_gathered : (all ps : List (Pass M C R G)) (p : Pass M C R G) (l : List (PassLog C R)) → all ≡ ps ++ p ∷ [] → l ≡ gathered p.seat.me.0.passes ps → l ≡ gathered [] all
   all_gathered all ps p l is e = e ∙ (sym (gathered_last [] ps p) ∙ ap (gathered []) (sym is))
 
@@ -123,7 +125,9 @@ module _ {M C R : Type 0} {G : Ghosts (View M C R)} where
       let one = weigh_one_notices weigh p.seat.me.0.passes (rests_facts p.seat.me.0 (tells p.seat.me.0 p.resting)).1 in omega arith
 
   -- the history of a closed table, and the order of its notices, are those of the passes
-  pub left_of_passes : {S : Type 0} → Tells G → (stands : M → S → Type 0) (steps : S → C → R → S → Type 0) (owes : R → ℕ) (opened m : M) (first : ℕ) (ps : List (Pass M C R G)) (v : View M C R) (pending raises takes' : List ℕ) (rows : List Row)
+  pub left_of_passes : {S : Type 0} → Tells G →
+      (stands : M → S → Type 0) (steps : S → C → R → S → Type 0) (owes : R → ℕ) (opened m : M) (first : ℕ) (ps : List (Pass M C R G)) (v : View M C R)
+      (pending raises takes' : List ℕ) (rows : List Row)
       → IsClosed (Stepped stands steps) owes opened first v m pending → v.passes ≡ gathered [] ps
       → ((h : List (Entry C R)) → IsPrefix v.seen h → HasAllSeen h ps) → ((ns : List Notice) → IsPrefix v.notices ns → HasAllNoticed ns ps) → ((k : ℕ) → k < 128 → IsRow pending raises takes' rows k)
       → LeavesHistory stands steps owes opened first ps record { machine = m; account = rows }
@@ -146,7 +150,7 @@ module _ {M C R : Type 0} {G : Ghosts (View M C R)} where
     },
   )
 
-  -- what begins one history, and one order, agrees
+  -- prefixes of one history, and of one order, agree
   agrees_with : (log : List (Entry C R)) (ns : List Notice) (p : Pass M C R G) (qs : List (Pass M C R G))
       → IsPrefix (history p) log → IsPrefix (order p) ns → HasAllSeen log qs → HasAllNoticed ns qs → AllByRecursion (PassesAgree p) qs
   agrees_with log ns p [] here there seen noticed = tt

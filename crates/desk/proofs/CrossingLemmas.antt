@@ -1,4 +1,5 @@
--- Threads may share a desk, and passes and notes may go to another thread, where the machine may: for any machine, by its row.
+-- Threads may share a desk, and passes and notes may go to another thread, if the machine may: for any machine, by its
+-- row.
 use denote.RattleType.{RattleType}
 use denote.Param.Send.{IsSend, IsSync, sendable}
 use denote.Param.SendFields.{declared_send, declared_sync}
@@ -23,7 +24,7 @@ use Rattle.desk.specs.contracts.pass.PassOf as PassOf
 pub last_send : (C R : RattleType) → IsSend (LastCall.the_row C R)
 last_send C R = declared_send (LastCall.the_type C R) (search (sendable, crosses) depth 40, (search (sendable, crosses) depth 40, tt))
 
--- what a slot holds while no turn is held
+-- the slot's contents while no turn is held
 pub home_send : (M C R : RattleType) → IsSend M → IsSend (Home.the_row M C R)
 home_send M C R m = declared_send (Home.the_type M C R) (search (m, sendable) depth 40, (search (last_send, sendable) depth 40, tt))
 
@@ -56,7 +57,7 @@ pub desk_sync : (S V K Q : RattleType) (g : Made.Ghosts K.Denot) (h : TableRule.
 desk_sync S V K Q g h s =
     declared_sync (DeskOf.the_type S V K Q g h) (search (table_sync S V K Q h s, sendable) depth 40, (search sendable depth 40, tt))
 
--- a pass, and a note, of such a desk may go there
+-- a pass and a note of such a desk may go to another thread
 pub pass_send : (S V : RattleType) (g : Sight.Ghosts V.Denot) → IsSend S → IsSend (PassOf.the_row S V g)
 pass_send S V g s = declared_send (PassOf.the_type S V g) (
   search (s, seat.the_send, sendable) depth 40,

@@ -1,4 +1,4 @@
--- Passes that are dealt one by one.
+-- Passes dealt one by one.
 use Rattle.std.proofs.Common.{◌≡◌, ℕ, zero, suc, ◌+◌, ◌-◌, ◌<◌, true, false, List, [], ◌∷◌, ◌++◌, length, drop, take, refl, ap, sym, ◌∙◌, subst, arith, append_assoc, length-append, Option, Some}
 use Rattle.std.specs.Prelude.{is_some}
 use Rattle.std.specs.List.{AllByRecursion}
@@ -19,7 +19,7 @@ use Rattle.desk.specs.Pass.{desk_of, Pass}
 use Rattle.desk.specs.Sight.{rests_of}
 use Rattle.desk.proofs.SightLemmas.{rests}
 
--- n less one more
+-- n as two more than n - 2
 pub one_back : (n : ℕ) → 1 < n → n ≡ (n - 1 - 1) + 2
 one_back n h = omega arith
 
@@ -27,7 +27,7 @@ pub next_of : (n : ℕ) → 0 < n → n ≡ suc (n - 1)
 next_of n h = omega arith
 
 module _ {M C R : Type 0} where
-  -- the view of the seat where the last n passes sit still
+  -- the view of the seat where the last n passes still sit
   pub record LeftOver (opened : M) (first n : ℕ) (v : View M C R) : Type 0 where
     pub opening : v.opening ≡ Some opened
     pub first_is : v.first ≡ first
@@ -94,7 +94,8 @@ module _ {M C R : Type 0} where
   }
 
 module _ {M C R : Type 0} {G : Ghosts (View M C R)} where
-  pub is_new_pass : (id : TableId) (opened : M) (first n : ℕ) (p : Pass M C R G) (seat : SeatOf M C R) → p.seat ≡ seat → p.made ≡ 0 → p.learnt ≡ 0 → seat.table_id ≡ id → IsNewView opened first n seat.me.0 → IsNewPass id (Some opened) first n p
+  pub is_new_pass : (id : TableId) (opened : M) (first n : ℕ) (p : Pass M C R G) (seat : SeatOf M C R) → p.seat ≡ seat → p.made ≡ 0 → p.learnt ≡ 0 → seat.table_id ≡ id →
+      IsNewView opened first n seat.me.0 → IsNewPass id (Some opened) first n p
   is_new_pass id opened first n p seat is made learnt table e =
       let same : p.seat.me.0 ≡ seat.me.0 = ap (λ (x : SeatOf M C R). x.me.0) is in record {
         desk = ap (λ (x : SeatOf M C R). x.table_id) is ∙ table;
@@ -126,12 +127,14 @@ module _ {M C R : Type 0} {G : Ghosts (View M C R)} where
   pub dealt_none : (id : TableId) (opened : Option M) (first count : ℕ) (ps : List (Pass M C R G)) → ps ≡ [] → Dealt id opened first count count ps
   dealt_none id opened first count ps e = record { dealt = (let l : length ps ≡ 0 = ap length e in omega arith); all = λ rest new. subst (λ l. AreNewPasses id opened first count (l ++ rest)) (sym e) new }
 
-  pub dealt_more : (id : TableId) (opened : Option M) (first count n : ℕ) (ps qs : List (Pass M C R G)) (p : Pass M C R G) → 0 < n → qs ≡ ps ++ p ∷ [] → IsNewPass id opened first (n - 1) p → Dealt id opened first count n ps → Dealt id opened first count (n - 1) qs
+  pub dealt_more : (id : TableId) (opened : Option M) (first count n : ℕ) (ps qs : List (Pass M C R G)) (p : Pass M C R G) → 0 < n → qs ≡ ps ++ p ∷ [] →
+      IsNewPass id opened first (n - 1) p → Dealt id opened first count n ps → Dealt id opened first count (n - 1) qs
   dealt_more id opened first count n ps qs p more e new d = record {
     dealt = (let l : length qs ≡ length ps + 1 = ap length e ∙ length-append ps (p ∷ []) in let k = d.dealt in omega arith);
     all = λ rest is. subst (λ l. AreNewPasses id opened first count l) (sym (append_assoc ps (p ∷ []) rest) ∙ ap (λ l. l ++ rest) (sym e))
         (d.all (p ∷ rest) (subst (λ k. AreNewPasses id opened first k (p ∷ rest)) (sym (next_of n more)) (new, is)));
   }
 
-  pub dealt_all : (id : TableId) (opened : Option M) (first count n : ℕ) (ps qs : List (Pass M C R G)) (p : Pass M C R G) → n ≡ 1 → qs ≡ ps ++ p ∷ [] → IsNewPass id opened first 0 p → Dealt id opened first count n ps → AreNewPasses id opened first count qs
+  pub dealt_all : (id : TableId) (opened : Option M) (first count n : ℕ) (ps qs : List (Pass M C R G)) (p : Pass M C R G) → n ≡ 1 → qs ≡ ps ++ p ∷ [] →
+      IsNewPass id opened first 0 p → Dealt id opened first count n ps → AreNewPasses id opened first count qs
   dealt_all id opened first count n ps qs p one e new d = subst (λ l. AreNewPasses id opened first count l) (sym e) (d.all (p ∷ []) (subst (λ k. AreNewPasses id opened first k (p ∷ [])) (sym one) (new, refl)))

@@ -1,4 +1,4 @@
--- Posts to one server after another, with the rows and the mask of what they raised.
+-- Posts to servers in sequence, with the rows and the mask of what they raised.
 use Rattle.std.proofs.Common.{◌≡◌, ◌≢◌, ⊎_elim, ℕ, ◌+◌, ◌-◌, ◌*◌, ◌/◌, ◌%◌, ◌^◌, ◌≤◌, ◌<◌, ◌==◌, List, [], ◌∷◌, ◌++◌, length, cond, refl, ap, sym, ◌∙◌, subst, arith, append_assoc, eq-eqb, ne_eqb, bit_and, w64}
 use Rattle.std.specs.Int.{bit_at, bit_not}
 use Rattle.std.proofs.lemmas.Nat.{pow-add, and_le_l, and_le_r}
@@ -40,7 +40,7 @@ module _ {M C R : Type 0} where
     own = can.own;
   }
 
-  -- nothing is owed to the server k
+  -- nothing is owed to server k
   posts_skip : (v u : View M C R) (k k' owed : ℕ) → k' ≡ k + 1 → bits_for owed k ≡ 0 → Posts v u k owed → Posts v u k' owed
   posts_skip v u k k' owed next none p = record {
     opening = p.opening;
@@ -62,7 +62,7 @@ module _ {M C R : Type 0} where
     own = p.own;
   }
 
-  -- what is owed to the server k is posted
+  -- what is owed to server k is posted
   posts_more : (v u w : View M C R) (k k' owed found : ℕ) → k' ≡ k + 1 → MakesNotice u (post_of u k (bits_for owed k) found) w → Posts v u k owed → Posts v w k' owed
   posts_more v u w k k' owed found next n p =
       let bits : ℕ = bits_for owed k in
@@ -105,7 +105,7 @@ le_pow i j le = let p : 0 < 2 = omega arith in pow-le-pow_right p le
 above : (k s : ℕ) → k ≢ s → k ≤ s → k < s
 above k s apart le = ⊎_elim (λ e. absurd (apart e)) (λ lt. lt) (eq-or-lt_of_le le)
 
--- the bits of the server k stand above the mask so far
+-- the bits of server k are above the mask so far
 mask_more : (mask mask' fresh k k' : ℕ) → k < 16 → k' ≡ k + 1 → fresh < 256 → mask < 2 ^ (8 * k) → mask' ≡ mask + fresh * 2 ^ (8 * k) % 2 ^ 128 → (mask' ≡ fresh * 2 ^ (8 * k) + mask) × (mask' < 2 ^ (8 * k'))
 mask_more mask mask' fresh k k' low next small below is =
     let p : ℕ = 2 ^ (8 * k) in
@@ -159,25 +159,28 @@ module _ {M C R : Type 0} where
             (λ other.
             let g = grows s b in let r = raised_elsewhere s b x other in let old = p.raised s b hs hb in
             let same_bit : bit_at mask' (8 * s + b) ≡ bit_at mask (8 * s + b) = mask_at (8 * s + b) ∙ dite (dec_le k s)
-            (λ le. bit_at_cat_high fresh (8 * k) mask (8 * s + b) p.small (omega arith) ∙ (let over : k < s = above k s other le in bit_at_above fresh 8 ((8 * s + b) - 8 * k) (omega arith) (omega arith) ∙ sym (bit_at_above mask (8 * k) (8 * s + b) p.small (omega arith))))
+            (λ le. bit_at_cat_high fresh (8 * k) mask (8 * s + b) p.small (omega arith) ∙
+            (let over : k < s = above k s other le in bit_at_above fresh 8 ((8 * s + b) - 8 * k) (omega arith) (omega arith) ∙
+            sym (bit_at_above mask (8 * k) (8 * s + b) p.small (omega arith))))
             (λ no. let below : s < k = lt_of_not-le no in bit_at_cat_low fresh (8 * k) mask (8 * s + b) (omega arith)) in
             omega arith);
         same = λ s b le. grows s b ∙ (let r = raised_elsewhere s b x (λ e. omega arith) in let old = p.same s b (omega arith) in omega arith);
       }
 
-  -- what a post asks for
+  -- the premise of a post still holds
   pub owes_still : (owes : R → ℕ) (v w : View M C R) (k owed : ℕ) → LastOwes owes v owed → Posts v w k owed → LastOwes owes w owed
   owes_still owes v w k owed l p = (l.0, l.1, p.seen ∙ l.2, l.3 ∙ sym p.number, l.4)
 
   pub few_still : (v w : View M C R) (k owed : ℕ) (rows : List ℕ) (mask : ℕ) → CanPost v → Posted v w k owed rows mask → (b : ℕ) → raised_by w.passes k b < count_calls w.passes
   few_still v w k owed rows mask can p b =
-      let a : count_calls w.passes ≡ count_calls v.passes = weigh_one (λ _. 1) w.passes p.posts.one_pass ∙ (ap (total_of (λ _. 1)) p.posts.calls ∙ sym (weigh_one (λ _. 1) v.passes can.one_pass)) in let s = p.same k b (omega arith) in let f = can.few k b in omega arith
+      let a : count_calls w.passes ≡ count_calls v.passes = weigh_one (λ _. 1) w.passes p.posts.one_pass ∙
+      (ap (total_of (λ _. 1)) p.posts.calls ∙ sym (weigh_one (λ _. 1) v.passes can.one_pass)) in let s = p.same k b (omega arith) in let f = can.few k b in omega arith
 
-  -- the rows can be counted on
+  -- the rows have room to count
   pub rows_small : (v w : View M C R) (k owed : ℕ) (rows : List ℕ) (mask : ℕ) → CanPost v → k < 16 → Posted v w k owed rows mask → (b : ℕ) → b < 8 → row_at rows k b < 2 ^ 63
   rows_small v w k owed rows mask can low p b hb = let c = p.counted k b low hb in let s = p.same k b (omega arith) in let f = can.few k b in let n = can.short in omega arith
 
-  -- the mask can be added to
+  -- the mask has room for the sum
   pub mask_fits : (v u : View M C R) (k owed found mask : ℕ) (rows : List ℕ) → k < 16 → Posted v u k owed rows mask
       → mask + bit_and (bits_for owed k) (bit_not w64 found) * 2 ^ (8 * k) % 2 ^ 128 < 2 ^ 128
   mask_fits v u k owed found mask rows low p =

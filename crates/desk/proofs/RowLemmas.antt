@@ -1,4 +1,4 @@
--- Rows that are added up, and the rows of the account.
+-- Sums of rows, and the rows of the account.
 use Rattle.std.proofs.Common.{◌≡◌, ℕ, zero, suc, ◌+◌, ◌*◌, ◌/◌, ◌%◌, ◌^◌, ◌≤◌, ◌<◌, ◌==◌, Bool, List, [], ◌∷◌, ◌++◌, length, set, get_or, take, refl, ap, sym, ◌∙◌, subst, arith, get_or-set_same, get_or-set_other, length-set, length-append, bit_and}
 use Rattle.std.specs.Prelude.{if◌then◌else◌, slice_index}
 use Rattle.std.specs.Int.{bit_at}
@@ -27,7 +27,9 @@ added_more old rows new n n' x low long next is a =
     let wide : n < length new = (let e = a.long in omega arith) in record {
       long = length-set new n x ∙ a.long;
       done = λ k h. dite (ℕ_discrete k n)
-          (λ here. ap (λ j. get_or (set new n x) j 0) here ∙ (get_or-set_same new n x 0 wide ∙ (is ∙ (ap (λ y. (y + slice_index rows n) % 2 ^ 64) (a.undone n (omega arith)) ∙ ap (λ j. (slice_index old j + slice_index rows j) % 2 ^ 64) (sym here)))))
+          (λ here. ap (λ j. get_or (set new n x) j 0) here ∙
+          (get_or-set_same new n x 0 wide ∙ (is ∙ (ap (λ y. (y + slice_index rows n) % 2 ^ 64) (a.undone n (omega arith)) ∙
+          ap (λ j. (slice_index old j + slice_index rows j) % 2 ^ 64) (sym here)))))
           (λ other. get_or-set_other new n k x 0 (λ e. other (omega arith)) ∙ a.done k (omega arith));
       undone = λ k h. get_or-set_other new n k x 0 (λ e. absurd (omega arith)) ∙ a.undone k (omega arith);
     }
@@ -42,7 +44,7 @@ wraps_more rows more rows' f g h w t sums is s b hs hb =
     let r : row_at rows' s b ≡ (row_at rows s b + row_at more s b) % 2 ^ 64 = sums (8 * s + b) (omega arith) in
     r ∙ ((λ i. (p i + q i) % 2 ^ 64) ∙ (omega arith ∙ ap (λ n. n % 2 ^ 64) (sym e)))
 
--- rows that count what f says count it modulo 2^64 too
+-- rows that count f also count it modulo 2^64
 pub wraps_first : (rows : List ℕ) (f : ℕ → ℕ → ℕ) → Tallies rows f → ((k : ℕ) → slice_index rows k < 2 ^ 64) → Wraps rows f
 wraps_first rows f t low s b hs hb =
     let x : ℕ = row_at rows s b in let y : ℕ = f s b in
@@ -53,7 +55,7 @@ flag zero h = refl
 flag (suc zero) h = refl
 flag (suc (suc n)) h = absurd (omega arith)
 
--- the first n rows are there
+-- the first n rows are filled
 pub record FilledBelow (words raises takes : List ℕ) (n : ℕ) (rows : List Row) : Type 0 where
   pub long : length rows ≡ n
   pub each : (k : ℕ) → k < n → IsRow words raises takes rows k
@@ -62,7 +64,8 @@ pub filled_none : (words raises takes : List ℕ) (rows : List Row) → rows ≡
 filled_none words raises takes rows e = record { long = ap length e; each = λ k h. absurd (omega arith) }
 
 pub filled_more : (words raises takes : List ℕ) (n n' : ℕ) (rows rows' : List Row) → n' ≡ n + 1
-    → rows' ≡ rows ++ record { raises = slice_index raises n; takes = slice_index takes n; pending = bit_and (slice_index words (n / 8) / 2 ^ (n % 8)) 1 == 1 } ∷ [] → FilledBelow words raises takes n rows → FilledBelow words raises takes n' rows'
+    → rows' ≡ rows ++ record { raises = slice_index raises n; takes = slice_index takes n; pending = bit_and (slice_index words (n / 8) / 2 ^ (n % 8)) 1 == 1 } ∷ [] →
+    FilledBelow words raises takes n rows → FilledBelow words raises takes n' rows'
 filled_more words raises takes n n' rows rows' next is f =
     let word : ℕ = slice_index words (n / 8) in
     let p : Bool = bit_and (word / 2 ^ (n % 8)) 1 == 1 in

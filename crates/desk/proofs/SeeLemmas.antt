@@ -1,4 +1,4 @@
--- What looks, and a call, leave with a pass, in the machine's states.
+-- The effects of loads and of a call on a pass, in the machine's states.
 use Rattle.std.proofs.Common.{◌≡◌, ℕ, ◌+◌, ◌-◌, ◌^◌, Bool, true, List, [], ◌∷◌, ◌++◌, length, refl, ap, sym, ◌∙◌, subst, arith, length-append, Some}
 use Rattle.std.specs.Prelude.{is_some}
 use mathlib.Core.List.{IsPrefix}
@@ -22,7 +22,7 @@ use Rattle.desk.proofs.CallLemmas.{turn_notices}
 use Rattle.desk.proofs.PassLemmas.{call_added, notice_added, own_notices_one, own_one}
 use Rattle.history.proofs.RunLemmas.{values_legal}
 
--- who was told what a seat with the view n has seen, and then looked, has seen all of that
+-- a seat that was told what the view n has seen, and then looked, has seen all of that
 pub told_seen : {M C R : Type 0} (steps : M → C → R → M → Type 0) (v u n w : View M C R) (found : ℕ) (holding : Bool) → u ≡ after_note v n
     → Looks steps u found holding w → IsPrefix n.seen w.seen × IsPrefix n.notices w.notices
 told_seen {M} {C} {R} steps v u n w found holding is l = (
@@ -33,7 +33,8 @@ told_seen {M} {C} {R} steps v u n w found holding is l = (
 module _ {M C R S : Type 0} {G : Ghosts (View M C R)} (stands : M → S → Type 0) (steps : S → C → R → S → Type 0) where
   -- the pass p, whose view became u by other steps, and then looked
   pub sees : (p q : Pass M C R G) (u : View M C R) (found : ℕ) (holding : Bool) → Looks (Stepped stands steps) u found holding q.seat.me.0 → u.opening ≡ p.seat.me.0.opening → u.first ≡ p.seat.me.0.first
-      → number_of u.passes ≡ number_of p.seat.me.0.passes → calls_of u.passes ≡ calls_of p.seat.me.0.passes → IsPrefix p.seat.me.0.seen u.seen → IsPrefix p.seat.me.0.notices u.notices → desk_of q ≡ desk_of p → length u.passes ≡ 1 → Sees stands steps p q
+      → number_of u.passes ≡ number_of p.seat.me.0.passes → calls_of u.passes ≡ calls_of p.seat.me.0.passes → IsPrefix p.seat.me.0.seen u.seen →
+      IsPrefix p.seat.me.0.notices u.notices → desk_of q ≡ desk_of p → length u.passes ≡ 1 → Sees stands steps p q
   sees p q u found holding l opened first numbers calls begins noticed table one =
       let v : View M C R = p.seat.me.0 in let w : View M C R = q.seat.me.0 in
       let opened_w : w.opening ≡ v.opening = ap (λ (x : View M C R). x.opening) l.is ∙ opened in
@@ -51,7 +52,7 @@ module _ {M C R S : Type 0} {G : Ghosts (View M C R)} (stands : M → S → Type
         };
       }
 
-  -- the pass looked, and no more
+  -- the pass looked, and did nothing else
   pub sees_looked : (p q : Pass M C R G) (found : ℕ) (holding : Bool) → Looks (Stepped stands steps) p.seat.me.0 found holding q.seat.me.0 → desk_of q ≡ desk_of p → length p.seat.me.0.passes ≡ 1 → Sees stands steps p q
   sees_looked p q found holding l table one = sees p q p.seat.me.0 found holding l refl refl refl refl (prefix_refl _) (prefix_refl _) table one
 
@@ -62,7 +63,7 @@ module _ {M C R S : Type 0} {G : Ghosts (View M C R)} (stands : M → S → Type
       let m = some_of p.seat.me.0.opening opened in let place = l.place m.0 m.1 in let first : q.seat.me.0.first ≡ p.seat.me.0.first = ap (λ (x : View M C R). x.first) l.is in
       (sees_looked p q (2 ^ 63) holding l table one, ap (λ (x : View M C R). notices_of x.passes) l.is, omega arith)
 
-  -- what a pass had seen, and what it has learnt, begin what it has then seen: so of the two one begins the other
+  -- what a pass had seen and what it learnt are prefixes of what it has seen then, so one is a prefix of the other
   pub note_agrees : (p q : Pass M C R G) (n : Note M C R G) → Sees stands steps p q → HasSeenNote n q → NoteAgrees n p
   note_agrees p q n s h = (
     prefixes_agree (told_by n) (history p) (history q) h.0 s.begins,
@@ -80,7 +81,8 @@ module _ {M C R S : Type 0} {G : Ghosts (View M C R)} (stands : M → S → Type
       table (ap (λ (x : View M C R). length x.passes) is ∙ one)
 
   -- the pass took what is pending, and then looked
-  pub sees_taken : (owes : R → ℕ) (p q : Pass M C R G) (u : View M C R) (server n found : ℕ) (holding : Bool) → TakesBits owes p.seat.me.0 server n u → Looks (Stepped stands steps) u found holding q.seat.me.0 → desk_of q ≡ desk_of p → length p.seat.me.0.passes ≡ 1
+  pub sees_taken : (owes : R → ℕ) (p q : Pass M C R G) (u : View M C R) (server n found : ℕ) (holding : Bool) → TakesBits owes p.seat.me.0 server n u →
+      Looks (Stepped stands steps) u found holding q.seat.me.0 → desk_of q ≡ desk_of p → length p.seat.me.0.passes ≡ 1
       → Sees stands steps p q
   sees_taken owes p q u server n found holding h l table one =
       let v : View M C R = p.seat.me.0 in let t = h.notices in
@@ -91,7 +93,8 @@ module _ {M C R S : Type 0} {G : Ghosts (View M C R)} (stands : M → S → Type
       (prefix_trans v.notices t.before u.notices t.seen (take_of v server n ∷ [], sym (ap (λ (x : View M C R). x.notices) t.is)))
       table (ap length passes ∙ added.0)
 
-  pub takes_pending : (owes : R → ℕ) (p q : Pass M C R G) (u : View M C R) (server n bits found : ℕ) (holding : Bool) → TakesBits owes p.seat.me.0 server n u → Looks (Stepped stands steps) u found holding q.seat.me.0 → length p.seat.me.0.passes ≡ 1 → n ≡ bits
+  pub takes_pending : (owes : R → ℕ) (p q : Pass M C R G) (u : View M C R) (server n bits found : ℕ) (holding : Bool) → TakesBits owes p.seat.me.0 server n u →
+      Looks (Stepped stands steps) u found holding q.seat.me.0 → length p.seat.me.0.passes ≡ 1 → n ≡ bits
       → TakesPending p q server bits
   takes_pending owes p q u server n bits found holding h l one same =
       let v : View M C R = p.seat.me.0 in let t = h.notices in let taken : Notice = take_of v server n in
@@ -102,7 +105,7 @@ module _ {M C R S : Type 0} {G : Ghosts (View M C R)} (stands : M → S → Type
         all = t.found ∙ ap (λ ns. pending_after ns server) (sym t.seen.1);
       }
 
-  -- one call: the turn was taken, the machine stepped, and what is owed posted
+  -- one call: the turn was taken, the machine stepped, and what is owed was posted
   pub calls_once : (p q : Pass M C R G) (v1 v2 : View M C R) (place owed : ℕ) (c : C) (r : R) → TurnAt (Stepped stands steps) p.seat.me.0 place v1 → v2 ≡ after_turn v1 c r → Posts v2 q.seat.me.0 16 owed
       → OwnCalls v2.seen v2.passes → ((m : M) → v1.opening ≡ Some m → IsLegal (Stepped stands steps) m v2.seen) → desk_of q ≡ desk_of p → length p.seat.me.0.passes ≡ 1 → is_some p.seat.me.0.opening ≡ true
       → Calls stands steps p q c r place

@@ -1,4 +1,4 @@
--- What the tests of a view say.
+-- The meaning of the tests of a view.
 use Rattle.std.proofs.Common.{◌≡◌, ◌==◌, true, false, not, ◌&&◌, [], length, ap, ◌∙◌, eq-eqb, eqb-true}
 use Rattle.std.specs.Prelude.{is_some}
 use Rattle.desk_rule.specs.declared.view.View.{View}

@@ -7,7 +7,7 @@ use native.Mathlib.Decide.{ℕ_discrete}
 use Rattle.desk.specs.Tally.{Counts, row_at, Tallies}
 use Rattle.desk_rule.proofs.TableLemmas.{zero_at}
 
--- of one server the bits below k were counted
+-- the bits of one server below k are counted
 pub record CountsBelow (old : List ℕ) (server bits k : ℕ) (new : List ℕ) : Type 0 where
   pub long : length new ≡ length old
   pub others : (s b : ℕ) → s < 16 → b < 8 → s ≢ server → row_at new s b ≡ row_at old s b
@@ -17,7 +17,8 @@ pub record CountsBelow (old : List ℕ) (server bits k : ℕ) (new : List ℕ) :
 pub counts_none : (old : List ℕ) (server bits : ℕ) → CountsBelow old server bits 0 old
 counts_none old server bits = record { long = refl; others = λ s b _ _ _. refl; done = λ b _ h. absurd (omega arith); undone = λ b _ _. refl }
 
-pub counts_more : (old new : List ℕ) (server bits k k' x : ℕ) → server < 16 → k < 8 → length old ≡ 128 → k' ≡ k + 1 → x ≡ row_at new server k + bit_at bits k → CountsBelow old server bits k new → CountsBelow old server bits k' (set new (8 * server + k) x)
+pub counts_more : (old new : List ℕ) (server bits k k' x : ℕ) → server < 16 → k < 8 → length old ≡ 128 → k' ≡ k + 1 → x ≡ row_at new server k + bit_at bits k →
+    CountsBelow old server bits k new → CountsBelow old server bits k' (set new (8 * server + k) x)
 counts_more old new server bits k k' x small low long next is c =
     let at : ℕ = 8 * server + k in
     let wide : at < length new = (let e = c.long in omega arith) in record {

@@ -1,4 +1,4 @@
--- Looks one after another, until the turn is taken or no place is left; and what a turn leaves.
+-- Loads of word 0 until the turn is taken or no place is left; and the effect of a turn.
 use Rattle.std.proofs.Common.{◌≡◌, ℕ, ◌+◌, ◌/◌, ◌%◌, ◌^◌, ◌≤◌, Bool, true, false, List, [], ◌∷◌, ◌++◌, length, refl, ap, sym, ◌∙◌, subst, arith, Some, None}
 use Rattle.std.specs.Prelude.{is_some}
 use Rattle.std.specs.declared.snapshot.Snapshot.{Snapshot}
@@ -41,7 +41,7 @@ module _ {M C R : Type 0} where
     notices = λ ns p q. let h = g.notices ns p q in f.notices ns h.0 h.1;
   }
 
-  -- a seat in the loop: it is the same, nothing is out with it, and its view was looked up
+  -- a seat in the loop: it is the same seat, nothing is out with it, and its view is up to date
   pub record Waits (p q : SeatOf M C R) : Type 0 where
     pub table : q.table_id ≡ p.table_id
     pub id : q.id ≡ p.id
@@ -84,7 +84,7 @@ module _ {M C R : Type 0} (steps : M → C → R → M → Type 0) where
     notices = λ ns p q. (prefix_trans v.notices w.notices ns l.notices p, prefix_trans v.told_notices w.notices ns l.told_notices p);
   }
 
-  -- one look more
+  -- one more load
   pub waits_look : (p q q' : SeatOf M C R) (found : ℕ) → Waits p q → (q'.table_id ≡ q.table_id) × (q'.id ≡ q.id) → q'.me.1 ≡ q.me.1 → Looks steps q.me.0 found q.me.0.holding q'.me.0 → Waits p q'
   waits_look p q q' found w same out l = record {
     table = same.0 ∙ w.table;
@@ -93,7 +93,7 @@ module _ {M C R : Type 0} (steps : M → C → R → M → Type 0) where
     follows = follows_trans p.me.0 q.me.0 q'.me.0 w.follows (follows_look q.me.0 q'.me.0 found l);
   }
 
-  -- a look that finds that no place is left
+  -- a load that finds that no place is left
   pub worn : (p q q' : SeatOf M C R) (word : ℕ) → Rests p → Waits p q → Looks steps q.me.0 word q.me.0.holding q'.me.0 → (q'.table_id ≡ q.table_id) × (q'.id ≡ q.id) → q'.me.1 ≡ q.me.1 → word ≡ 2 ^ 63
       → Looks steps p.me.0 (2 ^ 63) false q'.me.0 × Rests q'
   worn p q q' word r w l same out end =
@@ -153,12 +153,13 @@ module _ {M C R : Type 0} (steps : M → C → R → M → Type 0) where
       (n, subst (λ (es : List (Entry C R)). Run steps m es n) (sym (ap (λ (x : AtSeat M C R). x.0.seen) is)) (run_push steps m home.machine n p.me.0.seen (entry (number_of p.me.0.passes) c r) (run m from) step))
 
 module _ {M C R : Type 0} where
-  -- the machine came out and another went back
+  -- the machine left the slot and another one returned
   pub put_back : (p q q' : SeatOf M C R) (h : Home M C R) → q.me ≡ (p.me.0, (0, None) ∷ []) → q'.me ≡ (q.me.0, (0, Some h) ∷ []) → q'.me ≡ (p.me.0, (0, Some h) ∷ [])
   put_back p q q' h out back = back ∙ ap (λ (m : AtSeat M C R). (m.0, (0, Some h) ∷ [])) out
 
-  -- what the end of the turn left
-  pub ended : (p q q' : SeatOf M C R) (n : M) (said : Snapshot C) (told : Snapshot R) (c : C) (r : R) → q.me ≡ (p.me.0, (0, Some record { machine = n; last = Some record { command = said; reply = told } }) ∷ []) → said.value ≡ c → told.value ≡ r
+  -- the effect of the end of the turn
+  pub ended : (p q q' : SeatOf M C R) (n : M) (said : Snapshot C) (told : Snapshot R) (c : C) (r : R) →
+      q.me ≡ (p.me.0, (0, Some record { machine = n; last = Some record { command = said; reply = told } }) ∷ []) → said.value ≡ c → told.value ≡ r
       → ((h : Home M C R) (l : LastCall C R) → q.me.1 ≡ (0, Some h) ∷ [] → h.last ≡ Some l → (q'.me ≡ (after_turn q.me.0 l.command.value l.reply.value, [])) × OwnCalls q'.me.0.seen q'.me.0.passes)
       → (q'.me ≡ (after_turn p.me.0 c r, [])) × OwnCalls q'.me.0.seen q'.me.0.passes
   ended p q q' n said told c r back is_c is_r did =

@@ -1,4 +1,4 @@
--- What the calls of a desk say of a pass.
+-- What a desk's calls say of a pass.
 use Rattle.std.specs.Prelude.{◌≡◌, ℕ, ◌+◌, ◌^◌, ◌<◌, ◌≤◌, List, [], ◌∷◌, ◌++◌, length, Some}
 use Rattle.std.specs.List.{AllByRecursion}
 use Rattle.std.specs.Int.{bit_at}
@@ -17,7 +17,7 @@ use Rattle.desk.specs.Pass.{calls, desk_of, first_place, history, notes_learnt, 
 use Rattle.desk.specs.Pass.{Note, order_told_by, told_by}
 
 module _ {M C R : Type 0} {G : Ghosts (View M C R)} where
-  -- q is the pass p at another time
+  -- q is the pass p at another time.
   pub record IsSamePass (p q : Pass M C R G) : Type 0 where
     pub same_desk : desk_of q ≡ desk_of p
     pub same_number : number q ≡ number p
@@ -30,20 +30,22 @@ module _ {M C R : Type 0} {G : Ghosts (View M C R)} where
   abbrev pub SameNotices : Pass M C R G → Pass M C R G → Type 0
   SameNotices p q = notices q ≡ notices p
 
-  -- the pass knows what it knew, and called nothing
+  -- The pass knows the same, and called nothing.
   pub record KnowsAsMuch (p q : Pass M C R G) : Type 0 where
     pub same : IsSamePass p q
     pub same_calls : calls q ≡ calls p
     pub same_history : history q ≡ history p
     pub same_order : order q ≡ order p
 
-  -- the order of all notices that the pass has seen begins with what it had seen of it, each of them found its word as those before it left it, and those of the pass are just its notices
+  -- The pass has seen at least as much of the order of all notices; each of them found its word as the earlier ones
+  -- left it, and those of the pass are exactly its notices.
   pub record SeesOrder (p q : Pass M C R G) : Type 0 where
     pub begins : IsPrefix (order p) (order q)
     pub found : IsOrder (order q)
     pub own : notices_by (number p) (order q) ≡ notices q
 
-  -- the pass may have seen more and called nothing: the history that it has seen begins with what it had seen, is legal, and its entries of the pass are just the pass's calls
+  -- The pass may have seen more, and called nothing: the history that it has seen extends the earlier one, is legal,
+  -- and its entries of the pass are exactly the pass's calls.
   pub record Sees {S : Type 0} (stands : M → S → Type 0) (steps : S → C → R → S → Type 0) (p q : Pass M C R G) : Type 0 where
     pub same : IsSamePass p q
     pub same_calls : calls q ≡ calls p
@@ -52,8 +54,10 @@ module _ {M C R : Type 0} {G : Ghosts (View M C R)} where
     pub own : calls_by (number p) (history q) ≡ calls q
     pub notices : SeesOrder p q
 
-  -- the pass made one call: the history that it has seen begins with what it had seen, ends with the call, is legal, and its entries of the pass are just the pass's calls, of which there is one more
-  pub record Calls {S : Type 0} (stands : M → S → Type 0) (steps : S → C → R → S → Type 0) (p q : Pass M C R G) (command : C) (reply : R) (place : ℕ) : Type 0 where
+  -- The pass made one call: the history that it has seen extends the earlier one, ends with the call, is legal, and its
+  -- entries of the pass are exactly the pass's calls, one more than before.
+  pub record Calls {S : Type 0} (stands : M → S → Type 0) (steps : S → C → R → S → Type 0) (p q : Pass M C R G) (command : C) (reply : R)
+      (place : ℕ) : Type 0 where
     pub same : IsSamePass p q
     pub between : List (Entry C R)
     pub ends : history q ≡ (history p ++ between) ++ entry (number p) command reply ∷ []
@@ -63,7 +67,7 @@ module _ {M C R : Type 0} {G : Ghosts (View M C R)} where
     pub own : calls_by (number p) (history q) ≡ calls q
     pub notices : SeesOrder p q
 
-  -- the notices of the pass are more by posts of just the bits of the mask, each with this place
+  -- The new notices of the pass are posts of exactly the bits of the mask, each with this place.
   pub record PostsOwed (p q : Pass M C R G) (place owed : ℕ) : Type 0 where
     pub new : List Notice
     pub grown : notices q ≡ notices p ++ new
@@ -71,33 +75,34 @@ module _ {M C R : Type 0} {G : Ghosts (View M C R)} where
     pub exact : (s b : ℕ) → s < 16 → total_of (posted_at s b) new ≡ bit_at (bits_for owed s) b
     pub no_others : (s b : ℕ) → 16 ≤ s → total_of (posted_at s b) new ≡ 0
 
-  -- the notices of the pass are more by one take, which gave all that was pending of the server behind what the pass had seen of the order, and others' notices
+  -- The one new notice of the pass is a take, which returned all that was pending of the server after what the pass had
+  -- seen of the order and others' notices.
   pub record TakesPending (p q : Pass M C R G) (server bits : ℕ) : Type 0 where
     pub one_more : notices q ≡ notices p ++ notice (number p) server bits Take ∷ []
     pub between : List Notice
     pub at : IsPrefix ((order p ++ between) ++ notice (number p) server bits Take ∷ []) (order q)
     pub all : bits ≡ pending_after (order p ++ between) server
 
-  -- the first place that the history which the pass has seen leaves free
+  -- The first place after the history that the pass has seen.
   abbrev pub next_place : Pass M C R G → ℕ
   next_place p = first_place p + length (history p)
 
-  -- refused as worn, where no place below 2 ^ 62 is left: the pass has seen that, and nothing was entered
+  -- A refusal as Worn: no place below 2 ^ 62 is left, the pass has seen that, and nothing was entered.
   abbrev pub FindsNoPlace : {S : Type 0} → (M → S → Type 0) → (S → C → R → S → Type 0) → DeskFault → Pass M C R G → Pass M C R G → Type 0
   FindsNoPlace stands steps fault p q = (fault ≡ Worn) × Sees stands steps p q × SameNotices p q × (next_place q ≡ 2 ^ 62)
 
-  -- the note carries all that the pass has seen, of the history and of the order of notices
+  -- The note carries all that the pass has seen of the history and of the order of notices.
   abbrev pub CarriesAll : Note M C R G → Pass M C R G → Type 0
   CarriesAll n p = (told_by n ≡ history p) × (order_told_by n ≡ order p)
 
-  -- the pass has seen all that the note carries
+  -- The pass has seen all that the note carries.
   abbrev pub HasSeenNote : Note M C R G → Pass M C R G → Type 0
   HasSeenNote n p = IsPrefix (told_by n) (history p) × IsPrefix (order_told_by n) (order p)
 
-  -- of what two passes have seen, one begins the other: of the history, and of the order of all notices
+  -- Of what two passes have seen, one is a prefix of the other: of the history, and of the order of all notices.
   abbrev pub PassesAgree : Pass M C R G → Pass M C R G → Type 0
   PassesAgree p q = OneBegins (history p) (history q) × OneBegins (order p) (order q)
 
-  -- and of what a note carries and a pass has seen
+  -- The same for a note and a pass.
   abbrev pub NoteAgrees : Note M C R G → Pass M C R G → Type 0
   NoteAgrees n p = OneBegins (told_by n) (history p) × OneBegins (order_told_by n) (order p)

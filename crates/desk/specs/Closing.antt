@@ -1,4 +1,4 @@
--- What is left of a desk that is closed.
+-- What a closed desk leaves.
 use Rattle.std.specs.Prelude.{◌≡◌, ◌≢◌, ℕ, ◌+◌, ◌*◌, ◌/◌, ◌%◌, ◌^◌, ◌<◌, ◌≤◌, List, [], ◌∷◌, ◌++◌, length, if◌then◌else◌, slice_index}
 use Rattle.std.specs.List.{AllByRecursion}
 use Rattle.std.specs.Int.{bit_at}
@@ -21,63 +21,70 @@ use Rattle.desk.specs.Calls.{PassesAgree}
 use Rattle.desk.specs.Pass.{calls, history as seen_by, notes_learnt, notes_made, notices, number, order as order_seen_by, Pass}
 use Rattle.desk.specs.Tally.{row_at}
 
--- rows, each with another added to it modulo 2^64
+-- Rows, each with another one added modulo 2^64.
 abbrev pub Sums : List ℕ → List ℕ → List ℕ → Type 0
 Sums old rows new = (k : ℕ) → k < 128 → slice_index new k ≡ (slice_index old k + slice_index rows k) % 2 ^ 64
 
--- each row is what f says of its server and bit, modulo 2^64
+-- Each row is f of its server and bit, modulo 2^64.
 abbrev pub Wraps : List ℕ → (ℕ → ℕ → ℕ) → Type 0
 Wraps rows f = (s b : ℕ) → s < 16 → b < 8 → row_at rows s b ≡ f s b % 2 ^ 64
 
--- 1 for a bit that is pending
+-- 1 for a pending bit.
 abbrev pub pending_bit : Row → ℕ
 pending_bit r = if r.pending then 1 else 0
 
--- the row k is that of the bit k % 8 of the server k / 8
+-- The row k is that of bit k % 8 of server k / 8.
 abbrev pub IsRow : List ℕ → List ℕ → List ℕ → List Row → ℕ → Type 0
-IsRow words raises takes rows k = (r : Row) × (get_elem? rows k ≡ some r) × (r.raises ≡ slice_index raises k) × (r.takes ≡ slice_index takes k)
+IsRow words raises takes rows k =
+    (r : Row) × (get_elem? rows k ≡ some r) × (r.raises ≡ slice_index raises k) × (r.takes ≡ slice_index takes k)
     × (pending_bit r ≡ bit_at (slice_index words (k / 8)) (k % 8))
 
 module _ {M C R : Type 0} {G : Ghosts (View M C R)} where
-  -- what the passes did, gathered at one seat from the last pass on
+  -- The records of the passes, gathered at one seat from the last pass on.
   abbrev pub gathered : List (PassLog C R) → List (Pass M C R G) → List (PassLog C R)
   gathered l [] = l
   gathered l (p ∷ ps) = gathered l ps ++ p.seat.me.0.passes
 
-  -- the history begins with all that each of these passes has seen of it, and the order with all that each has seen of that
+  -- The history extends all that each of these passes has seen of it, and the order all that each has seen of that.
   abbrev pub HasAllSeen : List (Entry C R) → List (Pass M C R G) → Type 0
   HasAllSeen history passes = AllByRecursion (λ p. IsPrefix (seen_by p) history) passes
 
   abbrev pub HasAllNoticed : List Notice → List (Pass M C R G) → Type 0
   HasAllNoticed order passes = AllByRecursion (λ p. IsPrefix (order_seen_by p) order) passes
 
-  -- of what any two of these passes have seen, one begins the other
+  -- Of what any two of these passes have seen, one is a prefix of the other.
   abbrev pub AllAgree : List (Pass M C R G) → Type 0
   AllAgree passes = AllByRecursion (λ p. AllByRecursion (PassesAgree p) passes) passes
 
-  -- the machine after one legal history, which begins with all that each pass has seen, in which the entries of each pass are just its calls, and there are no others
-  pub record IsHistory {S : Type 0} (stands : M → S → Type 0) (steps : S → C → R → S → Type 0) (opened : M) (passes : List (Pass M C R G)) (machine : M) (history : List (Entry C R)) : Type 0 where
+  -- The machine is that after one legal history, which extends all that each pass has seen, and whose entries are
+  -- exactly the passes' calls.
+  pub record IsHistory {S : Type 0} (stands : M → S → Type 0) (steps : S → C → R → S → Type 0) (opened : M) (passes : List (Pass M C R G))
+      (machine : M) (history : List (Entry C R)) : Type 0 where
     pub leads : LeadsTo stands steps opened history machine
     pub begins : HasAllSeen history passes
     pub own : AllByRecursion (λ p. calls_by (number p) history ≡ calls p) passes
     pub no_others : (weigh : Entry C R → ℕ) → total_of weigh history ≡ total_of (λ p. total_of weigh (calls p)) passes
 
-  -- one order of all notices, which begins with all that each pass has seen of it, in which those of each pass are just its notices, and there are no others; each found its word as those before it left it, each post is of a call of its pass in the history, and just what that owes, and what is pending in a row is what they left
-  pub record IsOrderOf (owes : R → ℕ) (first : ℕ) (passes : List (Pass M C R G)) (rows : List Row) (history : List (Entry C R)) (order : List Notice) : Type 0 where
+  -- One order of all notices, which extends all that each pass has seen of it, and has exactly the passes' notices.
+  -- Each found its word as the earlier ones left it; each post is exactly what a call of its pass in the history owes;
+  -- what they left is pending in the rows.
+  pub record IsOrderOf (owes : R → ℕ) (first : ℕ) (passes : List (Pass M C R G)) (rows : List Row) (history : List (Entry C R))
+      (order : List Notice) : Type 0 where
     pub found : IsOrder order
     pub owed : AllByRecursion (IsOwed owes first history) order
     pub begins : HasAllNoticed order passes
     pub own : AllByRecursion (λ p. notices_by (number p) order ≡ notices p) passes
     pub no_others : (weigh : Notice → ℕ) → total_of weigh order ≡ total_of (λ p. total_of weigh (notices p)) passes
-    pub left : (s b : ℕ) → s < 16 → b < 8 → (r : Row) × (get_elem? rows (8 * s + b) ≡ some r) × (pending_bit r ≡ bit_at (pending_after order s) b)
+    pub left : (s b : ℕ) → s < 16 → b < 8 →
+        (r : Row) × (get_elem? rows (8 * s + b) ≡ some r) × (pending_bit r ≡ bit_at (pending_after order s) b)
 
-  -- the machine that is left was left by one such history, and the account by one such order
+  -- One such history left the machine, and one such order the account.
   abbrev pub LeavesHistory : {S : Type 0} → (M → S → Type 0) → (S → C → R → S → Type 0) → (R → ℕ) → M → ℕ → List (Pass M C R G)
       → Closed M → Type 0
   LeavesHistory stands steps owes opened first passes closed = (history : List (Entry C R)) × (order : List Notice)
       × IsHistory stands steps opened passes closed.machine history × IsOrderOf owes first passes closed.account history order
 
-  -- 128 rows, each with the sums of the passes' own posts and takes, and in each raises are takes and what is pending
+  -- 128 rows, each with the sums of the passes' own posts and takes; in each row raises are takes plus what is pending.
   pub record IsAccount (passes : List (Pass M C R G)) (rows : List Row) : Type 0 where
     pub long : length rows ≡ 128
     pub each : (s b : ℕ) → s < 16 → b < 8 → (r : Row) × (get_elem? rows (8 * s + b) ≡ some r)
@@ -87,7 +94,7 @@ module _ {M C R : Type 0} {G : Ghosts (View M C R)} where
   abbrev pub AllLearnt : List (Pass M C R G) → Type 0
   AllLearnt passes = total_of notes_made passes ≡ total_of notes_learnt passes
 
-  -- why a desk that was made with so many passes isn't closed with these, each cause where none before it stands
+  -- Why these passes don't close a desk of `made` passes; each cause applies only if no earlier one does.
   abbrev pub IsCloseFault : DeskFault → ℕ → List (Pass M C R G) → Type 0
   IsCloseFault PassesOut made passes = length passes < made
   IsCloseFault Noted made passes = (made ≤ length passes) × (total_of notes_made passes ≢ total_of notes_learnt passes)

@@ -1,23 +1,22 @@
--- Words for desks.
+-- Terms for desks.
 use Rattle.std.specs.Prelude.{ℕ}
 use Rattle.atomic_table.specs.Seated.{TableId}
 use Rattle.desk_rule.specs.declared.table.Opening.{Opening}
 use Rattle.desk.specs.declared.desk.Made.{Ghosts}
 use Rattle.desk.specs.declared.desk.DeskOf.{DeskOf}
 
--- the desk itself, by its table: a pass or a note is of it whose own desk this is
+-- The desk's identity, which is its table: passes and notes of the desk have the same.
 abbrev pub identity : {S V K Q : Type 0} {G : Ghosts K} → DeskOf S V K Q G → TableId
 identity d = d.table.shared.table_id
 
 module _ {S V M Q : Type 0} {G : Ghosts (Opening M)} where
-  -- the machine that it was opened with
+  -- The machine that it was opened with.
   abbrev pub opened_with : DeskOf S V (Opening M) Q G → M
   opened_with d = d.table.shared.key.machine.value
 
-  -- how many passes it has
   abbrev pub pass_count : DeskOf S V (Opening M) Q G → ℕ
   pass_count d = d.table.shared.key.passes
 
-  -- the place of its first call
+  -- The place of its first call.
   abbrev pub first_call : DeskOf S V (Opening M) Q G → ℕ
   first_call d = d.table.shared.key.first

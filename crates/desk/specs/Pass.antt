@@ -1,4 +1,4 @@
--- Words for passes and notes.
+-- Terms for passes and notes.
 use Rattle.std.specs.Prelude.{ℕ, List, Option}
 use Rattle.atomic_table.specs.Seated.{TableId}
 use Rattle.history.specs.declared.entry.Entry.{Entry}
@@ -17,48 +17,46 @@ abbrev pub Note : (M C R : Type 0) → Ghosts (View M C R) → Type 0
 Note M C R G = NoteOf (Option (Home M C R)) (View M C R) G
 
 module _ {M C R : Type 0} {G : Ghosts (View M C R)} where
-  -- the desk of a pass, and of a note, by its table
+  -- The desk of a pass, and of a note, by its table.
   abbrev pub desk_of : Pass M C R G → TableId
   desk_of p = p.seat.table_id
 
   abbrev pub desk_of_note : Note M C R G → TableId
   desk_of_note n = n.seat.table_id
 
-  -- the number of a pass
   abbrev pub number : Pass M C R G → ℕ
   number p = number_of p.seat.me.0.passes
 
-  -- the calls that it made
+  -- Its calls.
   abbrev pub calls : Pass M C R G → List (Entry C R)
   calls p = calls_of p.seat.me.0.passes
 
-  -- the history that it has seen
   abbrev pub history : Pass M C R G → List (Entry C R)
   history p = p.seat.me.0.seen
 
-  -- its posts and its takes
+  -- Its posts and takes.
   abbrev pub notices : Pass M C R G → List Notice
   notices p = notices_of p.seat.me.0.passes
 
-  -- what it has seen of the order of all notices
+  -- What it has seen of the order of all notices.
   abbrev pub order : Pass M C R G → List Notice
   order p = p.seat.me.0.notices
 
-  -- the history, and the order of all notices, that the pass had seen when it made the note
+  -- The history and the order of notices that the pass had seen when it made the note.
   abbrev pub told_by : Note M C R G → List (Entry C R)
   told_by n = n.seat.me.0.seen
 
   abbrev pub order_told_by : Note M C R G → List Notice
   order_told_by n = n.seat.me.0.notices
 
-  -- the machine that its desk was opened with, and the place of the first call
+  -- The machine that its desk was opened with, and the place of the first call.
   abbrev pub opening : Pass M C R G → Option M
   opening p = p.seat.me.0.opening
 
   abbrev pub first_place : Pass M C R G → ℕ
   first_place p = p.seat.me.0.first
 
-  -- how many notes it made, and how many it learnt
+  -- The numbers of notes that it made and learnt.
   abbrev pub notes_made : Pass M C R G → ℕ
   notes_made p = p.made
 

@@ -1,4 +1,4 @@
-//! The account of notices that a closed desk leaves.
+//! The account of notices of a closed desk.
 
 ghost use Rattle.std.specs.Prelude.{◌≡◌, ◌≤◌, ◌<◌, ℕ, [], length, slice_get, vec_capacity};
 ghost use Rattle.std.specs.Option.{option_copied};
@@ -6,18 +6,18 @@ ghost use Rattle.desk.specs.Closing.{IsRow, Sums};
 
 use std::marker::Model;
 
-/// What became of one bit of a server's pending word.
+/// The account of one bit of a server's pending word.
 #[derive(Clone, Copy, Debug, PartialEq, Eq)]
 pub struct Row {
     /// How often a post found the bit 0 and set it.
     pub raises: u64,
-    /// How often a take gave it.
+    /// How often a take returned it.
     pub takes: u64,
-    /// Whether it is set.
+    /// Whether it is still set.
     pub pending: bool,
 }
 
-/// The rows of an account, 128: that of subscription k of server s is at 8 s + k.
+/// An account of 128 rows: the row of subscription k of server s has the index 8 s + k.
 #[derive(Debug, Drop)]
 pub struct Account {
     pub(crate) rows: Vec<Row>,
@@ -33,14 +33,14 @@ impl Model for Account {
 }
 
 impl Account {
-    /// How many rows there are.
+    /// Returns the number of rows.
     pub fn len(&self) -> usize
         ensures { result ≡ length self.now }
     {
         self.rows.len()
     }
 
-    /// The row at an index from 0; `None` behind the last.
+    /// Returns the row at an index from 0; `None` past the end.
     pub fn get(&self, index: usize) -> Option<&Row>
         ensures { option_copied result ≡ slice_get self.now index }
     {
@@ -57,7 +57,7 @@ pub(crate) fn add_rows(sums: &mut [u64; 128], rows: &[u64; 128])
     }
 }
 
-/// A row for each bit of each pending word.
+/// Appends a row for each bit of each pending word.
 pub(crate) fn fill_rows(
     pending: &[u64; 16],
     raises: &[u64; 128],

@@ -21,8 +21,8 @@ use std::sync::Wait;
 const MOST_NOTES: u64 = 1 << 62;
 
 impl<M: Machine> Desk<M> {
-    /// Waits for the turn, steps the machine once, and ends the turn; then posts what the reply owes. It takes no memory but
-    /// what the machine takes. Worn where no place below 2^62 is left; then nothing is entered, and the command is dropped.
+    /// Waits for the turn, steps the machine once, ends the turn, and then posts what the reply owes. Only the machine
+    /// takes memory. Refuses Worn if no place below 2^62 is left; nothing is entered then, and the command is dropped.
     pub fn call<W: Wait>(
         &self,
         rt: &W,
@@ -55,9 +55,9 @@ impl<M: Machine> Desk<M> {
         })
     }
 
-    /// Takes every bit that is pending for a server, and then looks how far the history goes: each of the bits is owed by a
-    /// call below `floor`. Pending are all bits that were posted to the server and not taken, in the one order of all notices.
-    /// It takes no memory and waits for nobody. BadServer from 16 on.
+    /// Takes every pending bit of a server, and then reads how far the history goes: a call below `floor` owes each of
+    /// the bits. Pending are all bits that were posted to the server and not taken yet, in the one order of all
+    /// notices. It takes no memory and never waits. Refuses BadServer from 16 on.
     pub fn take(&self, pass: &mut Pass<M>, server: u32) -> Result<Taken, DeskFault>
         requires { desk_of pass.old ≡ identity self.now }
         ensures stays { desk_of pass.new ≡ desk_of pass.old }
@@ -81,7 +81,7 @@ impl<M: Machine> Desk<M> {
         })
     }
 
-    /// Looks how far the history goes: the first place that no call has entered. It takes no memory and waits for nobody.
+    /// Returns how far the history goes: the first place that no call has entered. It takes no memory and never waits.
     pub fn front(&self, pass: &mut Pass<M>) -> u64
         requires { desk_of pass.old ≡ identity self.now }
         ensures stays { desk_of pass.new ≡ desk_of pass.old }
@@ -92,7 +92,8 @@ impl<M: Machine> Desk<M> {
         look(&self.table.shared, &mut pass.seat) / 2
     }
 
-    /// How far the pass has seen the history and the notices, for another pass to learn. It waits for nobody. Worn after 2^62 notes.
+    /// Returns a note of how far the pass has seen the history and the notices, for another pass to learn. It never
+    /// waits. Refuses Worn after 2^62 notes.
     pub fn note(&self, pass: &mut Pass<M>) -> Result<Note<M>, DeskFault>
         requires { desk_of pass.old ≡ identity self.now }
         ensures stays { desk_of pass.new ≡ desk_of pass.old }
@@ -110,8 +111,8 @@ impl<M: Machine> Desk<M> {
         })
     }
 
-    /// From now on the pass has seen all that the note says. Of what the note says and the pass had seen, one began with the
-    /// other. It waits for nobody. Worn after 2^62 notes; the note then comes back.
+    /// Learns a note: from now on the pass has seen all that the note carries. Of the note's history and the pass's,
+    /// one was a prefix of the other. It never waits. Refuses Worn after 2^62 notes, and hands the note back.
     pub fn learn(&self, pass: &mut Pass<M>, note: Note<M>) -> Result<(), LearnStop<Note<M>>>
         requires pass { desk_of pass.old ≡ identity self.now }
         requires note { desk_of_note note ≡ identity self.now }

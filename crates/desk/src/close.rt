@@ -1,4 +1,4 @@
-//! How a desk is closed.
+//! Closing a desk.
 
 ghost use Rattle.std.specs.Prelude.{◌≡◌, ◌≤◌, ◌+◌, ℕ, [], length, vec_capacity, IfOk, IfErr, OnOk};
 ghost use Rattle.std.specs.List.{AllByRecursion};
@@ -25,11 +25,11 @@ use std::alloc::Global;
 pub struct Closed<M> {
     /// The machine after every call.
     pub machine: M,
-    /// What became of each notice.
+    /// The account of all notices.
     pub account: Account,
 }
 
-/// Why a desk wasn't closed. The desk and the passes come back untouched.
+/// Why a desk wasn't closed. The desk and the passes are handed back unchanged.
 #[derive(Drop)]
 pub struct CloseStop<D, P> {
     /// The cause.
@@ -40,7 +40,7 @@ pub struct CloseStop<D, P> {
     pub passes: P,
 }
 
-// How many notes the passes made, and how many they learnt.
+// Returns how many notes the passes made, and how many they learnt.
 fn count_notes<M: Machine>(passes: &Vec<Pass<M>>) -> (u128, u128)
     ensures made { result.0 ≡ total_of notes_made passes.now.items }
     ensures learnt { result.1 ≡ total_of notes_learnt passes.now.items }
@@ -55,7 +55,7 @@ fn count_notes<M: Machine>(passes: &Vec<Pass<M>>) -> (u128, u128)
     (made, learnt)
 }
 
-// Room for the rows of the account, where these passes close a desk of so many, or why it stays open.
+// Returns room for the rows of the account, if these passes close a desk of `made` passes, or why the desk stays open.
 fn room_to_close<M: Machine>(
     alloc: Global,
     made: u32,
@@ -78,7 +78,8 @@ fn room_to_close<M: Machine>(
     }
 }
 
-// One seat takes the passes of all others in, sees all that these have seen, and their rows are added to its pass's own.
+// Gathers all passes at one seat, which sees all that the others have seen, and adds their rows to the rows of its own
+// pass.
 fn gather<M: Machine>(
     shared: &DeskShared<M>,
     seat: &mut DeskSeat<M>,
@@ -111,10 +112,12 @@ fn gather<M: Machine>(
 }
 
 impl<M: Machine> Desk<M> {
-    /// Ends the desk: gives the machine after one legal history, which begins with all that each pass has seen and whose
-    /// entries are just the passes' calls, and the account of the notices, which came in one order: each post found what those
-    /// before it left, each take took it, and what the last ones left is pending. Refused: PassesOut, where not all passes are back;
-    /// Noted, where not as many notes were learnt as were made; NoRoom.
+    /// Closes the desk. Returns the machine after one legal history and the account of the notices. The history extends
+    /// all that each pass has seen, and its entries are exactly the passes' calls. The notices have one order: each
+    /// found what the earlier ones left, and what the last ones left is pending.
+    ///
+    /// Refusals in order: PassesOut unless all passes are back; Noted unless as many notes were learnt as were made;
+    /// NoRoom.
     pub fn close(
         self,
         alloc: Global,

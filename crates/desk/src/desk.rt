@@ -1,4 +1,4 @@
-//! The desk, and what its calls answer.
+//! The desk, and the results of its calls.
 
 ghost use Rattle.std.specs.Prelude.{◌≡◌, ◌<◌, ℕ};
 
@@ -6,7 +6,7 @@ use atomic_table::{Table, TableRule};
 use desk_rule::{DeskRule, DeskView, Opening, Slot};
 use std::alloc::Global;
 
-/// How many passes a table was made for.
+/// The number of passes that a table was made for.
 pub trait Made {
     ghost passes: { Self → ℕ };
 }
@@ -15,7 +15,7 @@ impl<M> Made for Opening<M> {
     ghost passes = { λ opening. opening.passes };
 }
 
-/// A table of a desk, with the number of its passes.
+/// A desk's table, with the number of its passes.
 #[derive(Drop)]
 pub struct DeskOf<S, V, K: Made, Q: TableRule<S, V, K>> {
     pub(crate) table: Table<S, V, K, Q, Global>,
@@ -29,23 +29,23 @@ pub struct DeskOf<S, V, K: Made, Q: TableRule<S, V, K>> {
 /// A machine that threads call in turns.
 pub type Desk<M> = DeskOf<Slot<M>, DeskView<M>, Opening<M>, DeskRule<M>>;
 
-/// What a call answers.
+/// The result of a call.
 #[derive(Drop)]
 pub struct Answer<R> {
-    /// What the machine answered.
+    /// The machine's reply.
     pub reply: R,
     /// The place of the call in the history, counted from the desk's first place.
     pub place: u64,
-    /// What the reply owes: bit 8 s + k is that of subscription k of server s.
+    /// The mask that the reply owes: bit 8 s + k is subscription k of server s.
     pub owed: u128,
     /// The bits of `owed` that weren't pending.
     pub raised: u128,
 }
 
-/// What a take gives.
+/// The result of a take.
 #[derive(Clone, Copy, Debug, PartialEq, Eq)]
 pub struct Taken {
-    /// The bits that were pending, of which bit k is that of the server's subscription k.
+    /// The bits that were pending; bit k is the server's subscription k.
     pub bits: u8,
     /// The first place that no call had entered when word 0 was loaded, after the bits were taken.
     pub floor: u64,

@@ -1,9 +1,10 @@
-//! A desk: one machine that many threads call in turns, with one history, and notices for those who wait for a change.
+//! A desk: one machine that many threads call in turns, with one history, and notices for subscribers that wait for a
+//! change.
 //!
-//! Whoever holds the turn is alone with the machine, as under a lock; what each thread knows of the history is kept by its
-//! pass, and another learns it by a note. A call that changes something for a subscriber sets a bit of that server's
-//! pending word, once its turn has ended; who takes the word gets every bit at once, and repeats coalesce, as with MINIX
-//! 3's notifications. The desk, its refusals and its account are of this project.
+//! The holder of the turn has the machine to itself, as under a lock. Each thread's pass keeps what the thread knows of
+//! the history; a note carries that to another pass. A call that changes something for a subscriber sets a bit of that
+//! server's pending word, after its turn. A take of the word gets every bit at once, and repeats coalesce, as with
+//! MINIX 3's notifications. The desk, its refusals and its account are of this project.
 #![tactic(auto)]
 
 mod account;

@@ -19,7 +19,7 @@ pub(crate) fn tally(rows: &mut [u64; 128], server: u32, bits: u64)
     }
 }
 
-/// Posts to each server what the last call owes it. Gives the mask of the bits that weren't pending.
+/// Posts to each server what the last call owes it. Returns the mask of the bits that weren't pending.
 pub(crate) fn post_owed<M: Machine>(
     shared: &DeskShared<M>,
     seat: &mut DeskSeat<M>,

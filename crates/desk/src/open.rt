@@ -1,4 +1,4 @@
-//! How a desk is opened.
+//! Opening a desk.
 
 ghost use Rattle.std.specs.Prelude.{◌≡◌, ◌<◌, ◌≤◌, ◌^◌, [], length, vec_capacity, true, Some, IfOk, IfErr, OnOk};
 ghost use Rattle.std.specs.List.{AllByRecursion};
@@ -18,7 +18,7 @@ use desk_rule::{DeskSeat, DeskShared, Machine, new_table, split_pass};
 use std::alloc::Global;
 use std::snapshot::Snapshot;
 
-/// Why a desk wasn't opened. The machine comes back.
+/// Why a desk wasn't opened. The machine is handed back.
 #[derive(Drop)]
 pub struct OpenStop<M> {
     /// The cause.
@@ -27,7 +27,7 @@ pub struct OpenStop<M> {
     pub machine: M,
 }
 
-// A pass between its calls, which has counted nothing yet.
+// Returns a pass between its calls that has counted nothing yet.
 fn new_pass<M: Machine>(seat: DeskSeat<M>) -> Pass<M>
     requires nothing_out { seat.me.1 ≡ [] }
     requires resting { rests_of seat.me.0 ≡ true }
@@ -43,7 +43,7 @@ fn new_pass<M: Machine>(seat: DeskSeat<M>) -> Pass<M>
     }
 }
 
-// A pass for each of those that sit at the seat, which has room in the list.
+// Deals a pass for each pass at the seat. The list has room for them.
 fn deal<M: Machine>(
     shared: &DeskShared<M>,
     mut seat: DeskSeat<M>,
@@ -66,7 +66,7 @@ fn deal<M: Machine>(
     passes.push_reserved(new_pass(seat));
 }
 
-// Room for as many passes, where a desk is opened for them from that place on, or why it isn't.
+// Returns room for `passes` passes, or why a desk of that many passes can't be opened at the place `first`.
 fn room_for<M: Machine>(alloc: Global, passes: u32, first: u64) -> Result<Vec<Pass<M>>, DeskFault>
     ensures room { IfOk result (λ dealt. (dealt.items ≡ []) × (passes ≤ vec_capacity dealt)) }
     ensures accepted { OnOk result ((0 < passes) × (passes ≤ 64) × (first ≤ 2 ^ 62)) }
@@ -85,8 +85,10 @@ fn room_for<M: Machine>(alloc: Global, passes: u32, first: u64) -> Result<Vec<Pa
 }
 
 impl<M: Machine> Desk<M> {
-    /// A desk over the machine, whose first call gets the place `first`, and 1 to 64 passes to call it with, whose numbers
-    /// differ. Refused: BadCount, BadFirst above 2^62, NoRoom.
+    /// Opens a desk over the machine. Its first call gets the place `first`. Returns it with 1 to 64 passes to call it
+    /// with, whose numbers differ.
+    ///
+    /// Refusals in order: BadCount; BadFirst above 2^62; NoRoom.
     pub fn open(
         alloc: Global,
         machine: M,

@@ -1,6 +1,6 @@
-//! What a thread calls a desk with, and what it tells another.
+//! Passes, with which a thread calls a desk, and notes, with which it informs another.
 //!
-//! The structs have plain type parameters: only so are they found to be `Send` for every machine.
+//! The structs have plain type parameters, so that they are found to be `Send` for every machine.
 
 ghost use Rattle.std.specs.Prelude.{◌≡◌, ◌≤◌, ◌^◌, ℕ, Bool, true, length};
 ghost use Rattle.desk.specs.Tally.{Tallies};
@@ -8,15 +8,15 @@ ghost use Rattle.desk.specs.Tally.{Tallies};
 use atomic_table::Seat;
 use desk_rule::{DeskView, Slot, View};
 
-/// What a pass or a note says of its view.
+/// What the structs of passes and notes need of a view.
 pub trait Sight {
-    // The view is that of one pass, which holds no turn.
+    // Whether the view is that of one pass without a turn.
     ghost rests: { Self → Bool };
 
-    // The view is that of a note.
+    // Whether the view is that of a note.
     ghost listens: { Self → Bool };
 
-    // How often each server's bit was raised by it, and how often taken.
+    // How often it raised each server's bit, and how often it took it.
     ghost raised: { Self → ℕ → ℕ → ℕ };
 
     ghost taken: { Self → ℕ → ℕ → ℕ };
@@ -34,14 +34,14 @@ impl<M, C, R> Sight for View<M, C, R> {
     ghost taken = { taken_of };
 }
 
-/// A seat that one thread calls from, with what it counted.
+/// A seat that one thread calls from, with its counts.
 #[derive(Drop)]
 pub struct PassOf<S, V: Sight> {
     pub(crate) seat: Seat<S, V>,
-    // How many notes it made, and how many it learnt.
+    // The numbers of notes that it made and learnt.
     pub(crate) made: u64,
     pub(crate) learnt: u64,
-    // Of each bit, eight for a server: how often the pass raised it, and how often it took it.
+    // For each bit, eight to a server: how often the pass raised it, and how often it took it.
     pub(crate) raises: [u64; 128],
     pub(crate) takes: [u64; 128],
     ghost few_notes: { (made ≤ 2 ^ 62) × (learnt ≤ 2 ^ 62) },
@@ -59,8 +59,8 @@ pub struct NoteOf<S, V: Sight> {
     ghost listening: { V.listens seat.me.0 ≡ true },
 }
 
-/// The right to call a desk. It knows how far it has seen the history, and which of its entries are its own.
+/// The right to call a desk. It knows how far it has seen the history, and which entries are its own.
 pub type Pass<M> = PassOf<Slot<M>, DeskView<M>>;
 
-/// How far one pass had seen the history and the order of notices, for another to learn.
+/// What one pass had seen of the history and of the order of notices, for another pass to learn.
 pub type Note<M> = NoteOf<Slot<M>, DeskView<M>>;

@@ -1,4 +1,4 @@
-//! A list of passes.
+//! Lists of passes.
 
 ghost use Rattle.std.specs.Prelude.{◌≡◌, ◌++◌, ◌∷◌, [], length, IfSome, IfNone, OnOk, OnErr, IfErr};
 
@@ -6,7 +6,7 @@ use crate::pass::Pass;
 use std::alloc::{AllocFailed, Global};
 use std::marker::Model;
 
-/// Passes in their order, or whatever a list of them holds.
+/// A list of passes, or of another type.
 #[derive(Drop)]
 pub struct PassesOf<P> {
     pub(crate) passes: Vec<P>,
@@ -24,7 +24,7 @@ impl<P> Model for PassesOf<P> {
 pub type Passes<M> = PassesOf<Pass<M>>;
 
 impl<P> PassesOf<P> {
-    /// No passes. It takes no memory.
+    /// Returns an empty list. It takes no memory.
     pub fn new(alloc: Global) -> PassesOf<P>
         ensures { result ≡ [] }
     {
@@ -33,21 +33,21 @@ impl<P> PassesOf<P> {
         }
     }
 
-    /// The passes of a `Vec`. It takes no memory.
+    /// Takes over the passes of a `Vec`. It takes no memory.
     pub fn of(passes: Vec<P>) -> PassesOf<P>
         ensures { result ≡ passes.items }
     {
         PassesOf { passes }
     }
 
-    /// Gives the `Vec` back. It takes no memory.
+    /// Returns the `Vec`. It takes no memory.
     pub fn into_vec(self) -> Vec<P>
         ensures { result.items ≡ self }
     {
         self.passes
     }
 
-    /// Adds a pass at the end. Where there is no room, the error gives it back.
+    /// Appends a pass. If memory runs out, the error hands the pass back.
     pub fn push(&mut self, pass: P) -> Result<(), AllocFailed<P>>
         ensures added { OnOk result (self.new ≡ self.old ++ pass ∷ []) }
         ensures unchanged { OnErr result (self.new ≡ self.old) }
@@ -56,7 +56,7 @@ impl<P> PassesOf<P> {
         self.passes.push(pass)
     }
 
-    /// Takes the last pass out; `None` where there is none.
+    /// Removes and returns the last pass; `None` if there is none.
     pub fn pop(&mut self) -> Option<P>
         ensures taken { IfSome result (λ pass. self.old ≡ self.new ++ pass ∷ []) }
         ensures none { IfNone result ((self.old ≡ []) × (self.new ≡ [])) }
@@ -64,7 +64,7 @@ impl<P> PassesOf<P> {
         self.passes.pop()
     }
 
-    /// How many passes they are.
+    /// Returns the number of passes.
     pub fn len(&self) -> usize
         ensures { result ≡ length self.now }
     {

@@ -1,4 +1,4 @@
--- Beginnings of lists, elements at an index, facts of every element, and sums.
+-- Prefixes of lists, elements at an index, facts of every element, and sums.
 use Rattle.std.proofs.Common.{◌≡◌, ◌⊎◌, ℕ, zero, suc, ◌+◌, ◌≤◌, ◌<◌, true, All, List, [], ◌∷◌, ◌++◌, length, set, get_or, Option, Some, None}
 use Rattle.std.proofs.Common.{refl, ap, sym, ◌∙◌, inl, inr, subst, arith, add-one, append_assoc}
 use Rattle.std.specs.Prelude.{is_some}
@@ -25,7 +25,7 @@ module _ {A : Type 0} where
   pub prefix_append : (xs ys zs : List A) → IsPrefix xs ys → IsPrefix xs (ys ++ zs)
   prefix_append xs ys zs p = (p.0 ++ zs, sym (append_assoc xs p.0 zs) ∙ ap (λ ws. ws ++ zs) p.1)
 
-  -- of two beginnings of a list, one begins the other
+  -- of two prefixes of a list, one is a prefix of the other
   pub prefixes_agree : (xs ys zs : List A) → IsPrefix xs zs → IsPrefix ys zs → IsPrefix xs ys ⊎ IsPrefix ys xs
   prefixes_agree [] ys zs p q = inl (prefix_nil ys)
   prefixes_agree (x ∷ xs) [] zs p q = inr (prefix_nil (x ∷ xs))
@@ -72,7 +72,7 @@ module _ {A : Type 0} where
   all_split P [] m all = (tt, all)
   all_split P (x ∷ xs) m all = let rest = all_split P xs m all.1 in ((all.0, rest.0), rest.1)
 
-  -- the two ways to say that something holds of every element
+  -- two forms of a fact of every element
   all_by_shape : (P : A → Type 0) (l : List A) → All P l → AllByRecursion P l
   all_by_shape P [] each = tt
   all_by_shape P (x ∷ xs) each =
@@ -83,7 +83,7 @@ module _ {A : Type 0} where
   all_by_index P (x ∷ xs) all zero d below = all.0
   all_by_index P (x ∷ xs) all (suc i) d below = all_by_index P xs all.1 i d (omega arith)
 
-  -- of a list whose last element is taken out, and of one that gets one more
+  -- the fact for a list that loses its last element, and for one that gets one more
   pub all_popped : (P : A → Type 0) (l m : List A) (x : A) → m ≡ l ++ x ∷ [] → All P m → All P l × P x
   all_popped P l m x e all = let both = all_split P l (x ∷ []) (subst (λ k. AllByRecursion P k) e (all_by_shape P m all)) in
       (all_by_index P l both.0, both.1.0)
@@ -100,7 +100,7 @@ module _ {A : Type 0} where
   total_set f (x ∷ xs) zero a b e = let same : f x ≡ f a = ap f (some-injective x a e) in omega arith
   total_set f (x ∷ xs) (suc i) a b e = let rest = total_set f xs i a b e in omega arith
 
-  -- no element has more than all
+  -- no element has more than the total
   pub total_part : (f : A → ℕ) (l : List A) (i : ℕ) (a : A) → get_elem? l i ≡ some a → f a ≤ total_of f l
   total_part f [] i a e = absurd (some-ne-none a (sym e))
   total_part f (x ∷ xs) zero a e = let same : f x ≡ f a = ap f (some-injective x a e) in omega arith
@@ -110,12 +110,12 @@ module _ {A : Type 0} where
   total_le f g [] le = omega arith
   total_le f g (x ∷ xs) le = let here = le 0 x refl in let rest = total_le f g xs (λ j a e. le (suc j) a e) in omega arith
 
-  -- where f is 0 of all together, and g is 0 of each element of which f is, g is 0 of all together
+  -- if f totals 0, and g is 0 at each element where f is, g totals 0
   pub total_none : (f g : A → ℕ) (l : List A) → ((j : ℕ) (a : A) → get_elem? l j ≡ some a → f a ≡ 0 → g a ≡ 0) → total_of f l ≡ 0 → total_of g l ≡ 0
   total_none f g [] zeros e = refl
   total_none f g (x ∷ xs) zeros e = let here = zeros 0 x refl (omega arith) in let rest = total_none f g xs (λ j a. zeros (suc j) a) (omega arith) in omega arith
 
-  -- where one element has all of f, and g is 0 of each of which f is, it has all of g
+  -- if one element has the whole total of f, and g is 0 wherever f is, it has the whole total of g
   pub total_only : (f g : A → ℕ) (l : List A) (i : ℕ) (a : A) → get_elem? l i ≡ some a → total_of f l ≡ f a → ((j : ℕ) (b : A) → get_elem? l j ≡ some b → f b ≡ 0 → g b ≡ 0) → total_of g l ≡ g a
   total_only f g [] i a e all zeros = absurd (some-ne-none a (sym e))
   total_only f g (x ∷ xs) zero a e all zeros =

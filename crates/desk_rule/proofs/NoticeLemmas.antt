@@ -42,7 +42,7 @@ module _ {M C R : Type 0} (steps : M → C → R → M → Type 0) (owes : R →
   abbrev Owns : (s : State S V) → Holds s → List Notice → ℕ → PassLog C R → Type 0
   Owns s r order j p = Own steps owes opening first passes r.history order r.seat_of j p
 
-  -- the passes of a seat, the first of which made a notice
+  -- the passes of a seat whose first pass made a notice
   own_more : (s : State S V) (r : Holds s) (id : ℕ) (at_seat : List (PassLog C R)) (n : Notice) → n.pass ≡ number_of at_seat → AreDifferent at_seat → AllByRecursion (Owns s r r.order id) at_seat
       → AllByRecursion (Owns s r (r.order ++ n ∷ []) id) (add_notice at_seat n)
   own_more s r id [] n by differ owns = tt
@@ -55,13 +55,13 @@ module _ {M C R : Type 0} (steps : M → C → R → M → Type 0) (owes : R →
       go [] apart own = tt
       go (q ∷ l) apart own = ((own.0.0, notices_by_other r.order n q.pass (λ e. apart.0 (sym e ∙ by)) ∙ own.0.1, own.0.2, own.0.3), go l apart.1 own.1)
 
-  -- the number of the notice's pass is that of no pass at another seat
+  -- no pass at another seat has the number of the notice's pass
   apart : (s : State S V) (r : Holds s) (id j : ℕ) (at_seat : List (PassLog C R)) (b : PassLog C R) (n : Notice) → 0 < length at_seat → n.pass ≡ number_of at_seat → AllByRecursion (Owns s r r.order id) at_seat
       → j ≢ id → r.seat_of b.pass ≡ j → n.pass ≢ b.pass
   apart s r id j [] b n some_pass by owns other at same = absurd (omega arith)
   apart s r id j (p ∷ others) b n some_pass by owns other at same = other (sym at ∙ (ap r.seat_of (sym same ∙ by) ∙ owns.0.2))
 
-  -- the rule, where a seat makes a notice
+  -- the rule after a seat's notice
   noticed : (s : State S V) (r : Holds s) (id : ℕ) (v w : V) (n : Notice) → n.server < 16 → n.found ≡ get_or s.words (n.server + 1) 0 → left_of n.found n.act < 256 → get_elem? s.views id ≡ some v
       → 0 < length v.passes → n.pass ≡ number_of v.passes → IsOwed owes first r.history n → w.passes ≡ add_notice v.passes n → w.holding ≡ v.holding → Sat s r (r.order ++ n ∷ []) id w
       → Holds record { words = set s.words (n.server + 1) (left_of n.found n.act); homes = s.homes; views = set s.views id w }
@@ -80,8 +80,10 @@ module _ {M C R : Type 0} (steps : M → C → R → M → Type 0) (owes : R →
         home = r.home;
         holder = λ j e. holder_stays steps owes opening first passes s.views id j v w at (λ h _. (same_holding ∙ h, omega arith)) (r.holder j e);
         all_passes = (let t = total_set pass_count s.views id v w at in let all = r.all_passes in omega arith);
-        all_calls = λ weigh. (let t = total_set (weight_of weigh) s.views id v w at in let e : weigh_all weigh w.passes ≡ weigh_all weigh v.passes = ap (weigh_all weigh) more ∙ no_call_more v.passes n weigh in let all = r.all_calls weigh in omega arith);
-        all_notices = λ weigh. (let t = total_set (notice_weight_of weigh) s.views id v w at in let e : weigh_notices weigh w.passes ≡ weigh_notices weigh v.passes + weigh n = ap (weigh_notices weigh) more ∙ one_notice_more v.passes n weigh some_pass in
+        all_calls = λ weigh. (let t = total_set (weight_of weigh) s.views id v w at in
+            let e : weigh_all weigh w.passes ≡ weigh_all weigh v.passes = ap (weigh_all weigh) more ∙ no_call_more v.passes n weigh in let all = r.all_calls weigh in omega arith);
+        all_notices = λ weigh. (let t = total_set (notice_weight_of weigh) s.views id v w at in
+            let e : weigh_notices weigh w.passes ≡ weigh_notices weigh v.passes + weigh n = ap (weigh_notices weigh) more ∙ one_notice_more v.passes n weigh some_pass in
             let all = r.all_notices weigh in let a = total_append weigh r.order (n ∷ []) in omega arith);
         found = found_push none_pending r.order n r.found (found ∙ r.pending n.server small);
         pending = λ k below. dite (ℕ_discrete n.server k)
@@ -106,13 +108,14 @@ module _ {M C R : Type 0} (steps : M → C → R → M → Type 0) (owes : R →
         });
       }
 
-  -- who called is there
+  -- a pass that called exists
   some_called : (l : List (PassLog C R)) → 0 < count_calls l → 0 < length l
   some_called [] called = absurd (omega arith)
   some_called (p ∷ others) called = omega arith
 
-  -- no bit was raised more often than the seat called, once it was raised less often at the notice's server
-  few_more : (at_seat : List (PassLog C R)) (n : Notice) (most : ℕ) → 0 < length at_seat → ((b : ℕ) → raised_by at_seat n.server b < most) → ((s b : ℕ) → raised_by at_seat s b ≤ most) → (s b : ℕ) → raised_by (add_notice at_seat n) s b ≤ most
+  -- no bit was raised more often than the seat called, if at the notice's server it was raised less often before
+  few_more : (at_seat : List (PassLog C R)) (n : Notice) (most : ℕ) → 0 < length at_seat → ((b : ℕ) → raised_by at_seat n.server b < most) →
+      ((s b : ℕ) → raised_by at_seat s b ≤ most) → (s b : ℕ) → raised_by (add_notice at_seat n) s b ≤ most
   few_more at_seat n most some_pass room few s b =
       let all = one_notice_more at_seat n (raised_at s b) some_pass in
       dite (ℕ_discrete n.server s)
@@ -159,7 +162,7 @@ module _ {M C R : Type 0} (steps : M → C → R → M → Type 0) (owes : R →
         (subst (λ z. MakesNotice v (post_of v z bits word) w) back told, refl),
       )
 
-  -- a pending bit is owed by an entry of the history
+  -- an entry of the history owes each pending bit
   pub pending_owed : (s : State S V) (r : Holds s) (server b : ℕ) → server < 16 → bit_at (get_or s.words (server + 1) 0) b ≡ 1 → OwedIn owes server b r.history
   pending_owed s r server b small is =
       let h = pending_notice r.order server b r.found (ap (λ x. bit_at x b) (sym (r.pending server small)) ∙ is) in
@@ -172,7 +175,7 @@ module _ {M C R : Type 0} (steps : M → C → R → M → Type 0) (owes : R →
       owed_by : (n : Notice) → IsOwed owes first r.history n → n.server ≡ server → bit_at (set_by n.act) b ≡ 1 → OwedIn owes server b r.history
       owed_by n k same set_bit = owed_act n.pass server n.server n.act k same set_bit
 
-  -- no bit was taken more often than all called
+  -- no bit was taken more often than there are calls
   taken_few : (s : State S V) (r : Holds s) (t b : ℕ) → taken_in r.order t b ≤ length r.history
   taken_few s r t b =
       let less = order_taken r.order t b r.found in

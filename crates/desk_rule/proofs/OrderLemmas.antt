@@ -1,4 +1,4 @@
--- Orders of notices: what they leave of the pending words, and what they raised and took.
+-- Orders of notices: what they leave of the pending words, and what they raise and take.
 use Rattle.std.proofs.Common.{◌≡◌, ◌≢◌, ℕ, ◌+◌, ◌-◌, ◌≤◌, List, [], ◌∷◌, ◌++◌, cond, refl, ap, sym, ◌∙◌, arith, eq-eqb, ne_eqb}
 use Rattle.std.specs.Int.{bit_at}
 use Rattle.std.proofs.lemmas.Nat.Bits.{bit_at_or, bit_at-zero, bit_at-lt}
@@ -42,7 +42,7 @@ pub words_append : (words : Words) (ns more : List Notice) → words_after words
 words_append words [] more = refl
 words_append words (n ∷ ns) more = words_append (after_notice words n) ns more
 
--- one notice more, which found its word as those before it left it
+-- one more notice, which found its word as the earlier ones left it
 pub found_push : (words : Words) (ns : List Notice) (n : Notice) → AreFound words ns → n.found ≡ words_after words ns n.server → AreFound words (ns ++ n ∷ [])
 found_push words [] n found is = (is, tt)
 found_push words (k ∷ ns) n found is = (found.0, found_push (after_notice words k) ns n found.1 is)
@@ -55,7 +55,7 @@ found_back : (words : Words) (ns more : List Notice) → AreFound words (ns ++ m
 found_back words [] more found = found
 found_back words (n ∷ ns) more found = found_back (after_notice words n) ns more found.1
 
--- what was done, where a bit was found so: raised and found before are taken and left
+-- one step balances: raised and found before are taken and left
 act_balanced : (found b : ℕ) (act : Act) → (bit_at (set_by act) b - bit_at found b) + bit_at found b ≡ bit_at (given_by found act) b + bit_at (left_of found act) b
 act_balanced found b (Post bits place) = let o = bit_at_or found bits b in let z = bit_at-zero b in omega arith
 act_balanced found b Take = let z = bit_at-zero b in omega arith
@@ -75,7 +75,7 @@ one_balanced words n s b found = dite (ℕ_discrete n.server s)
     let after : bit_at (after_notice words n s) b ≡ bit_at (words s) b = ap (λ w. bit_at w b) (left_elsewhere words n s other) in
     omega arith)
 
--- of each bit: raises, and one more where it was set before, are takes, and one more where it is set after
+-- an order balances for each bit: raises, plus one if it was set before, are takes, plus one if it is set after
 pub balanced : (words : Words) (ns : List Notice) (s b : ℕ) → AreFound words ns → raised_in ns s b + bit_at (words s) b ≡ taken_in ns s b + bit_at (words_after words ns s) b
 balanced words [] s b found = omega arith
 balanced words (n ∷ ns) s b found = let one = one_balanced words n s b found.0 in let rest = balanced (after_notice words n) ns s b found.1 in omega arith
@@ -83,7 +83,7 @@ balanced words (n ∷ ns) s b found = let one = one_balanced words n s b found.0
 pub order_balanced : (ns : List Notice) (s b : ℕ) → IsOrder ns → raised_in ns s b ≡ taken_in ns s b + bit_at (pending_after ns s) b
 order_balanced ns s b order = let z = bit_at-zero b in let e = balanced none_pending ns s b order in omega arith
 
--- a pending bit was set by a notice to its server
+-- a notice to its server set each pending bit
 pub pending_notice : (ns : List Notice) (s b : ℕ) → IsOrder ns → bit_at (pending_after ns s) b ≡ 1
     → (i : ℕ) × (n : Notice) × (get_elem? ns i ≡ some n) × (n.server ≡ s) × (bit_at (set_by n.act) b ≡ 1)
 pending_notice ns s b order is =
@@ -95,7 +95,7 @@ pending_notice ns s b order is =
     (λ other. let r = raised_elsewhere s b n other in let some_bit = one.3 in absurd (omega arith)) in
     (one.0, n, one.2, both.0, both.1)
 
--- a bit that is set stays set, where nothing takes its word
+-- a set bit stays set while nothing takes its word
 bit_stays : (words : Words) (ns : List Notice) (s b : ℕ) → AreFound words ns → NoTakes s ns → bit_at (words s) b ≡ 1 → bit_at (words_after words ns s) b ≡ 1
 bit_stays words [] s b found none is = is
 bit_stays words (n ∷ ns) s b found none is = bit_stays (after_notice words n) ns s b found.1 none.1 (dite (ℕ_discrete n.server s)
@@ -110,7 +110,7 @@ act_sets : (found : ℕ) (act : Act) (b : ℕ) → bit_at (set_by act) b ≡ 1 �
 act_sets found (Post bits place) b set = let o = bit_at_or found bits b in let below = bit_at-lt found b in omega arith
 act_sets found Take b set = let z = bit_at-zero b in absurd (omega arith)
 
--- a bit that a notice set is pending as long as no later one takes its server's word
+-- a bit that a notice set stays pending until a later one takes its server's word
 pub posted_stays : (before : List Notice) (n : Notice) (after : List Notice) (b : ℕ) → IsOrder (before ++ n ∷ after) → bit_at (set_by n.act) b ≡ 1 → NoTakes n.server after
     → bit_at (pending_after (before ++ n ∷ after) n.server) b ≡ 1
 posted_stays before n after b order set none =
@@ -119,6 +119,6 @@ posted_stays before n after b order set none =
     ap (λ (w : Words). bit_at (w n.server) b) (words_append none_pending before (n ∷ after))
     ∙ bit_stays (after_notice words n) after n.server b found.1 none (ap (λ w. bit_at w b) (left_here words n n.server refl) ∙ act_sets n.found n.act b set)
 
--- an order's notices took no more than they raised
+-- an order's notices take no more than they raise
 pub order_taken : (ns : List Notice) (s b : ℕ) → IsOrder ns → taken_in ns s b ≤ raised_in ns s b
 order_taken ns s b order = let e = order_balanced ns s b order in omega arith

@@ -1,4 +1,4 @@
--- Parts of the rule that each kind of step needs.
+-- Parts of the rule that every kind of step needs.
 use Rattle.std.proofs.Common.{◌≡◌, ◌≢◌, ⊎_elim, ℕ, ◌+◌, ◌^◌, ◌≤◌, ◌<◌, ◌==◌, Bool, true, List, [], ◌∷◌, ◌++◌, length, set, get_or, refl, ap, sym, ◌∙◌, subst, arith, cond, eq-eqb, ne_eqb, Option}
 use Rattle.std.proofs.lemmas.List.{append-nil, set-get_or}
 use Rattle.std.proofs.lemmas.List.Elements.{filter-append}
@@ -41,7 +41,7 @@ module _ {C R : Type 0} where
   calls_by_other history n k c r other = filter-append (λ (e : Entry C R). e.pass == k) history (entry n c r ∷ [])
       ∙ (ap (λ b. calls_by k history ++ cond b (entry n c r ∷ []) []) (ne_eqb n k other) ∙ append-nil (calls_by k history))
 
-  -- one call more of the one pass
+  -- one more call of the one pass
   pub one_call_more : (passes : List (PassLog C R)) (p : PassLog C R) (e : Entry C R) (weigh : Entry C R → ℕ) → passes ≡ p ∷ [] → weigh_all weigh (add_call passes e) ≡ weigh_all weigh passes + weigh e
   one_call_more passes p e weigh one =
       let before : weigh_all weigh passes ≡ total_of weigh p.calls + 0 = ap (weigh_all weigh) one in
@@ -52,7 +52,7 @@ module _ {C R : Type 0} where
   no_notice_more [] e weigh = refl
   no_notice_more (p ∷ others) e weigh = refl
 
-  -- one notice more of the first pass
+  -- one more notice of the first pass
   pub one_notice_more : (passes : List (PassLog C R)) (n : Notice) (weigh : Notice → ℕ) → 0 < length passes → weigh_notices weigh (add_notice passes n) ≡ weigh_notices weigh passes + weigh n
   one_notice_more [] n weigh some_pass = absurd (omega arith)
   one_notice_more (p ∷ others) n weigh some_pass = let all = total_append weigh p.notices (n ∷ []) in omega arith
@@ -61,7 +61,7 @@ module _ {C R : Type 0} where
   same_length [] n = refl
   same_length (p ∷ others) n = refl
 
-  -- numbers that differ, with a call or a notice more
+  -- numbers still differ with one more call or notice
   pub differ_called : (passes : List (PassLog C R)) (e : Entry C R) → AreDifferent passes → AreDifferent (add_call passes e)
   differ_called [] e d = d
   differ_called (p ∷ others) e d = d
@@ -113,7 +113,7 @@ module _ {M C R : Type 0} (steps : M → C → R → M → Type 0) (owes : R →
   abbrev pub word_0 : State Slot Seen → ℕ
   word_0 s = get_or s.words 0 0
 
-  -- a fact of each view, where one view changes
+  -- a fact of each view, when one view changes
   pub all_views : (F : ℕ → Seen → Type 0) (views : List Seen) (i : ℕ) (w : Seen) → F i w → ((j : ℕ) (u : Seen) → j ≢ i → get_elem? views j ≡ some u → F j u)
       → (j : ℕ) (u : Seen) → get_elem? (set views i w) j ≡ some u → F j u
   all_views F views i w here others j u e = ⊎_elim (λ (x : (j ≡ i) × (w ≡ u)). subst (λ (y : ℕ × Seen). F y.0 y.1) (λ k. (sym x.0 k, x.1 k)) here)
@@ -125,11 +125,11 @@ module _ {M C R : Type 0} (steps : M → C → R → M → Type 0) (owes : R →
   pub word_same : (s : State Slot Seen) → set s.words 0 (word_0 s) ≡ s.words
   word_same s = set-get_or s.words 0 0
 
-  -- the passes of a seat called no more often than all
+  -- a seat's passes called no more often than all passes
   pub calls_short : (s : State Slot Seen) (r : Rule s) (id : ℕ) (v : Seen) → get_elem? s.views id ≡ some v → count_calls v.passes ≤ length r.history
   calls_short s r id v at = let part = total_part (weight_of (λ _. 1)) s.views id v at in let all = r.all_calls (λ _. 1) in let ones = count_ones r.history in omega arith
 
-  -- what a seat is after it has seen the whole history and all notices
+  -- a seat that has seen the whole history and all notices
   pub sits_looked : (history : List (Entry C R)) (order : List Notice) (turn : maybe.Option ℕ) (seat_of : ℕ → ℕ) (j : ℕ) (v : Seen) (holding : Bool) → Sits history order turn seat_of j v → (holding ≡ true → turn ≡ some j)
       → Sits history order turn seat_of j (after_look v holding history order)
   sits_looked history order turn seat_of j v holding f held = record {
@@ -144,7 +144,7 @@ module _ {M C R : Type 0} (steps : M → C → R → M → Type 0) (owes : R →
     few = f.few;
   }
 
-  -- what a look at the word tells it
+  -- what a load of word 0 tells it
   pub looked : (s : State Slot Seen) (r : Rule s) (id : ℕ) (v : Seen) (holding : Bool) → get_elem? s.views id ≡ some v → Looks steps v (word_0 s) holding (after_look v holding r.history r.order)
   looked s r id v holding at =
       let f = r.seated id v at in let small = turn_bit_small r.turn in let word = r.word in record {
@@ -165,7 +165,7 @@ module _ {M C R : Type 0} (steps : M → C → R → M → Type 0) (owes : R →
   abbrev Holder : List Seen → ℕ → Type 0
   Holder views j = (v : Seen) × (get_elem? views j ≡ some v) × (v.holding ≡ true) × (0 < length v.passes)
 
-  -- the holder of the turn is there still, where one view changes
+  -- the holder of the turn still exists when one view changes
   pub holder_stays : (views : List Seen) (id j : ℕ) (v w : Seen) → get_elem? views id ≡ some v → (v.holding ≡ true → 0 < length v.passes → (w.holding ≡ true) × (0 < length w.passes)) → Holder views j → Holder (set views id w) j
   holder_stays views id j v w at keep h = dite (ℕ_discrete j id)
       (λ here. let same : h.0 ≡ v = some-injective h.0 v (sym h.1 ∙ (ap (λ k. get_elem? views k) here ∙ at)) in
@@ -173,7 +173,7 @@ module _ {M C R : Type 0} (steps : M → C → R → M → Type 0) (owes : R →
       (w, ap (λ k. get_elem? (set views id w) k) here ∙ set_here views id w (at_inside views v id at), kept.0, kept.1))
       (λ other. (h.0, set_else views id j w other ∙ h.1, h.2, h.3))
 
-  -- the rule, where a seat learns more and nothing else changes
+  -- the rule after a seat learns more and nothing else changes
   pub stays : (s : State Slot Seen) (r : Rule s) (id : ℕ) (v w : Seen) → get_elem? s.views id ≡ some v → Sits r.history r.order r.turn r.seat_of id w → w.passes ≡ v.passes → w.holding ≡ v.holding
       → (words : List ℕ) → words ≡ s.words → Rule record { words = words; homes = s.homes; views = set s.views id w }
   stays s r id v w at sits same_passes same_holding words same = record {
@@ -190,7 +190,8 @@ module _ {M C R : Type 0} (steps : M → C → R → M → Type 0) (owes : R →
     holder = λ j e. holder_stays s.views id j v w at (λ h some_pass. (same_holding ∙ h, subst (λ l. 0 < length l) (sym same_passes) some_pass)) (r.holder j e);
     all_passes = (let t = total_set pass_count s.views id v w at in let e : length w.passes ≡ length v.passes = ap length same_passes in let all = r.all_passes in omega arith);
     all_calls = λ weigh. (let t = total_set (weight_of weigh) s.views id v w at in let e : weigh_all weigh w.passes ≡ weigh_all weigh v.passes = ap (weigh_all weigh) same_passes in let all = r.all_calls weigh in omega arith);
-    all_notices = λ weigh. (let t = total_set (notice_weight_of weigh) s.views id v w at in let e : weigh_notices weigh w.passes ≡ weigh_notices weigh v.passes = ap (weigh_notices weigh) same_passes in let all = r.all_notices weigh in omega arith);
+    all_notices = λ weigh. (let t = total_set (notice_weight_of weigh) s.views id v w at in
+        let e : weigh_notices weigh w.passes ≡ weigh_notices weigh v.passes = ap (weigh_notices weigh) same_passes in let all = r.all_notices weigh in omega arith);
     found = r.found;
     pending = λ k small. ap (λ l. get_or l (k + 1) 0) same ∙ r.pending k small;
     owed = r.owed;

@@ -1,4 +1,4 @@
--- Splitting seats and joining them keeps the rule.
+-- Splitting and joining of seats keep the rule.
 use Rattle.std.proofs.Common.{◌≡◌, ◌≢◌, ⊎_elim, ℕ, zero, suc, ◌+◌, ◌≤◌, ◌<◌, true, false, true≢false, List, [], ◌∷◌, ◌++◌, length, set, drop, take, refl, ap, sym, ◌∙◌, subst, arith, length-append, length-set, eqb, eq-eqb, ne_eqb, cond, Option, Some, None}
 use Rattle.std.specs.List.{AllByRecursion}
 use mathlib.Core.Option as maybe
@@ -60,7 +60,7 @@ module _ {M C R : Type 0} (steps : M → C → R → M → Type 0) (owes : R →
   abbrev Owns : List (Entry C R) → List Notice → (ℕ → ℕ) → ℕ → PassLog C R → Type 0
   Owns = Own steps owes opening first passes
 
-  -- a new seat comes with a part of the view v
+  -- a new seat gets a part of the view v
   split : (s : State S V) (r : Holds s) (id : ℕ) (v left right : V) (seat_of : ℕ → ℕ) → get_elem? s.views id ≡ some v
       → Sat r.history r.order r.turn seat_of id left → Sat r.history r.order r.turn seat_of (length s.views) right → right.holding ≡ false
       → left.holding ≡ v.holding → (v.holding ≡ true → left.passes ≡ v.passes)
@@ -84,7 +84,8 @@ module _ {M C R : Type 0} (steps : M → C → R → M → Type 0) (owes : R →
             (h.0, at_longer views (right ∷ []) j h.0 h.1, h.2, h.3));
         all_passes = (let t = total_set pass_count s.views id v left at in let a = total_append pass_count views (right ∷ []) in let all = r.all_passes in omega arith);
         all_calls = λ weigh. (let t = total_set (weight_of weigh) s.views id v left at in let a = total_append (weight_of weigh) views (right ∷ []) in let all = r.all_calls weigh in let w = weights weigh in omega arith);
-        all_notices = λ weigh. (let t = total_set (notice_weight_of weigh) s.views id v left at in let a = total_append (notice_weight_of weigh) views (right ∷ []) in let all = r.all_notices weigh in let w = notice_weights weigh in omega arith);
+        all_notices = λ weigh. (let t = total_set (notice_weight_of weigh) s.views id v left at in let a = total_append (notice_weight_of weigh) views (right ∷ []) in
+            let all = r.all_notices weigh in let w = notice_weights weigh in omega arith);
         found = r.found;
         pending = r.pending;
         owed = r.owed;
@@ -107,7 +108,19 @@ module _ {M C R : Type 0} (steps : M → C → R → M → Type 0) (owes : R →
 
   pub note_splits : (id : ℕ) (v : V) → Splits Holds id v v (note_view v)
   note_splits id v s r at = let f = r.seated id v at in
-      split s r id v v (note_view v) r.seat_of at f (record { opened = f.opened; seen = f.seen; told = prefix_nil r.history; holds = λ no. absurd (true≢false (sym no)); notices = f.notices; told_notices = prefix_nil r.order; own = tt; differ = tt; few = λ s b. omega arith })
+      split s r id v v (note_view v) r.seat_of at f
+      (record {
+        opened = f.opened;
+        seen = f.seen;
+        told = prefix_nil r.history;
+        holds = λ no. absurd (true≢false (sym no));
+        notices = f.notices;
+        told_notices = prefix_nil
+            r.order;
+        own = tt;
+        differ = tt;
+        few = λ s b. omega arith;
+      })
       refl refl (λ _. refl) (omega arith) (λ weigh. omega arith) (λ weigh. omega arith) (λ j k _ _ e. e)
 
   -- the pass n moves to the seat j
@@ -156,7 +169,7 @@ module _ {M C R : Type 0} (steps : M → C → R → M → Type 0) (owes : R →
   none_some : (m : M) → let t : Option M = None in t ≡ Some m → ⊥
   none_some m e = cc
 
-  -- a seat takes in another's view, which is spent
+  -- a seat takes over another's view, which is spent
   join : (s : State S V) (r : Holds s) (id : ℕ) (v : V) (other : ℕ) (w both : V) (seat_of : ℕ → ℕ) → get_elem? s.views id ≡ some v → other ≢ id → get_elem? (set s.views id both) other ≡ some w
       → Sat r.history r.order r.turn seat_of id both → w.holding ≡ false → both.holding ≡ v.holding
       → length both.passes ≡ length v.passes + length w.passes → ((weigh : Entry C R → ℕ) → weigh_all weigh both.passes ≡ weigh_all weigh v.passes + weigh_all weigh w.passes)
@@ -179,13 +192,25 @@ module _ {M C R : Type 0} (steps : M → C → R → M → Type 0) (owes : R →
             (holder_stays steps owes opening first passes s.views id j v both at (λ h some_pass. (same_holding ∙ h, omega arith)) (r.holder j e));
         all_passes = (let t = total_set pass_count s.views id v both at in let u = total_set pass_count views other w spent_view at_other in let all = r.all_passes in omega arith);
         all_calls = λ weigh. (let t = total_set (weight_of weigh) s.views id v both at in let u = total_set (weight_of weigh) views other w spent_view at_other in let all = r.all_calls weigh in let x = weights weigh in omega arith);
-        all_notices = λ weigh. (let t = total_set (notice_weight_of weigh) s.views id v both at in let u = total_set (notice_weight_of weigh) views other w spent_view at_other in let all = r.all_notices weigh in let x = notice_weights weigh in omega arith);
+        all_notices = λ weigh. (let t = total_set (notice_weight_of weigh) s.views id v both at in let u = total_set (notice_weight_of weigh) views other w spent_view at_other in
+            let all = r.all_notices weigh in let x = notice_weights weigh in omega arith);
         found = r.found;
         pending = r.pending;
         owed = r.owed;
         eight_bits = r.eight_bits;
         seated = all_views steps owes opening first passes (Sat r.history r.order r.turn seat_of) views other spent_view
-            (record { opened = λ m e. absurd (none_some m e); seen = prefix_nil r.history; told = prefix_nil r.history; holds = λ no. absurd (true≢false (sym no)); notices = prefix_nil r.order; told_notices = prefix_nil r.order; own = tt; differ = tt; few = λ t b. omega arith })
+            (record {
+              opened = λ m e. absurd (none_some m e);
+              seen = prefix_nil r.history;
+              told = prefix_nil r.history;
+              holds = λ no. absurd (true≢false (sym no));
+              notices =
+                  prefix_nil r.order;
+              told_notices = prefix_nil r.order;
+              own = tt;
+              differ = tt;
+              few = λ t b. omega arith;
+            })
             (λ j u not_other e. all_views steps owes opening first passes (λ i x. i ≢ other → Sat r.history r.order r.turn seat_of i x) s.views id both (λ _. sits)
             (λ i x not_id at_i not_that. let g = r.seated i x at_i in record {
               opened = g.opened;

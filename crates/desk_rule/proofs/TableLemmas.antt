@@ -1,4 +1,4 @@
--- The rule holds of a new table, and what it says of a table that ends.
+-- The rule holds of a new table, and what it says of a table that is closed.
 use Rattle.std.proofs.Common.{◌≡◌, ℕ, zero, suc, ◌+◌, ◌*◌, ◌^◌, ◌≤◌, ◌<◌, Bool, true, false, true≢false, List, [], ◌∷◌, length, get_or, replicate, refl, ap, sym, ◌∙◌, subst, arith, add-one, cond, set, length-set, get_or-set_same, get_or-set_other, Option, Some, None}
 use Rattle.std.specs.Prelude.{IfSome, slice_index}
 use Rattle.std.specs.Int.{bit_at}
@@ -68,7 +68,18 @@ module _ {M C R : Type 0} (steps : M → C → R → M → Type 0) (owes : R →
     owed = tt;
     eight_bits = λ k below. subst (λ n. n < 256) (sym (zeros k below)) (omega arith);
     seated = λ j u e. only_view (opening_view opening first passes) u j (Sits steps owes opening first passes [] [] none (λ _. 0))
-        (record { opened = λ m e. (some_same m e, refl); seen = prefix_nil []; told = prefix_nil []; holds = λ no. absurd (true≢false (sym no)); notices = prefix_nil []; told_notices = prefix_nil []; own = fresh_own passes (omega arith); differ = fresh_differ C R passes; few = λ t b. (let none = weigh_fresh_notices C R (raised_at t b) passes in omega arith) }) e;
+        (record {
+          opened = λ m e. (some_same m e, refl);
+          seen = prefix_nil [];
+          told = prefix_nil [];
+          holds = λ no. absurd (true≢false (sym no));
+          notices = prefix_nil [];
+          told_notices = prefix_nil [];
+          own = fresh_own passes (omega arith);
+          differ = fresh_differ C R passes;
+          few = λ t b.
+              (let none = weigh_fresh_notices C R (raised_at t b) passes in omega arith);
+        }) e;
   }
 
   -- the passes of a view that holds the turn
@@ -91,7 +102,7 @@ module _ {M C R : Type 0} (steps : M → C → R → M → Type 0) (owes : R →
       go true = e
       go false = refl
 
-  -- where the one seat with all passes doesn't hold the turn, nobody does
+  -- if the one seat with all passes doesn't hold the turn, nobody does
   nobody_holds : (s : State S V) (r : Holds s) (id : ℕ) (v : V) → get_elem? s.views id ≡ some v → v.holding ≡ false → length v.passes ≡ passes → (turn : maybe.Option ℕ) → r.turn ≡ turn → turn ≡ none
   unfolding held_passes
   nobody_holds s r id v at free all none is = refl
@@ -107,7 +118,7 @@ module _ {M C R : Type 0} (steps : M → C → R → M → Type 0) (owes : R →
   all_here : (s : State S V) (r : Holds s) (id : ℕ) (v : V) → get_elem? s.views id ≡ some v → passes ≤ length v.passes → length v.passes ≡ passes
   all_here s r id v at enough = let part = total_part pass_count s.views id v at in let all = r.all_passes in omega arith
 
-  -- where all passes sit at one seat, its notices are all
+  -- if all passes sit at one seat, its notices are all notices
   all_its_notices : (s : State S V) (r : Holds s) (id : ℕ) (v : V) → get_elem? s.views id ≡ some v → passes ≤ length v.passes → (weigh : Notice → ℕ) → total_of weigh r.order ≡ weigh_notices weigh v.passes
   all_its_notices s r id v at enough weigh =
       let all : total_of pass_count s.views ≡ pass_count v = r.all_passes ∙ sym (all_here s r id v at enough) in
@@ -123,7 +134,7 @@ module _ {M C R : Type 0} (steps : M → C → R → M → Type 0) (owes : R →
       let few = (r.seated id v at).few t b in let short = calls_short steps owes opening first passes s r id v at in let room = r.room in
       (omega arith, omega arith)
 
-  -- where all passes sit at one seat, the machine is at home
+  -- if all passes sit at one seat, the machine is in the slot
   pub machine_at_end : (s : State S V) (r : Holds s) (id : ℕ) (v : V) → get_elem? s.views id ≡ some v → v.holding ≡ false → passes ≤ length v.passes
       → (words : List ℕ) → ((t : ℕ) → t < 16 → slice_index words t ≡ get_or s.words (t + 1) 0)
       → (h : Home M C R) × (s.homes ≡ some (Some h) ∷ []) × IsClosed steps owes opening first v h.machine words
@@ -150,7 +161,7 @@ module _ {M C R : Type 0} (steps : M → C → R → M → Type 0) (owes : R →
         },
       )
 
-  -- the same of what is left of the table
+  -- the same for what is left of the table
   pub final_machine : (words pending : List ℕ) (slots : List S) (id : ℕ) (v : V) (slot : S) → Final (Seen Holds id v) words slots → v.holding ≡ false → passes ≤ length v.passes → get_elem? slots 0 ≡ some slot
       → ((t : ℕ) → t < 16 → slice_index pending t ≡ slice_index words (t + 1)) → (h : Home M C R) × (slot ≡ Some h) × IsClosed steps owes opening first v h.machine pending
   final_machine words pending slots id v slot final free enough at same =
@@ -184,7 +195,7 @@ at_index [] k x e = absurd (some-ne-none x (sym e))
 at_index (y ∷ ys) zero x e = some-injective y x e
 at_index (y ∷ ys) (suc k) x e = at_index ys k x e
 
--- one pending word more was read
+-- one more pending word is read
 pub words_more : (words pending : List ℕ) (n n' word : ℕ) → n < 16 → n' ≡ n + 1 → length pending ≡ 16 → get_elem? words (n + 1) ≡ some word → ((s : ℕ) → s < n → slice_index pending s ≡ slice_index words (s + 1))
     → (length (set pending n word) ≡ 16) × ((s : ℕ) → s < n' → slice_index (set pending n word) s ≡ slice_index words (s + 1))
 words_more words pending n n' word small next long at read = (
@@ -194,8 +205,9 @@ words_more words pending n n' word small next long at read = (
       (λ other. get_or-set_other pending n s word 0 (λ e. other (omega arith)) ∙ read s (omega arith)),
 )
 
--- the machine that came out of the slot
-pub closed_machine : {M C R : Type 0} (steps : M → C → R → M → Type 0) (owes : R → ℕ) (opening : M) (first : ℕ) (v : View M C R) (slot : Option (Home M C R)) (m : M) (pending : List ℕ) → ((h : Home M C R) × (slot ≡ Some h) × IsClosed steps owes opening first v h.machine pending)
+-- the machine from the slot
+pub closed_machine : {M C R : Type 0} (steps : M → C → R → M → Type 0) (owes : R → ℕ) (opening : M) (first : ℕ) (v : View M C R) (slot : Option (Home M C R)) (m : M)
+    (pending : List ℕ) → ((h : Home M C R) × (slot ≡ Some h) × IsClosed steps owes opening first v h.machine pending)
     → IfSome slot (λ h. m ≡ h.machine) → IsClosed steps owes opening first v m pending
 closed_machine steps owes opening first v (Some k) m pending e is = let same : e.0 ≡ k = cc in subst (λ x. IsClosed steps owes opening first v x pending) (ap (λ h. h.machine) same ∙ sym is) e.2
 closed_machine steps owes opening first v None m pending e is = absurd (cc)

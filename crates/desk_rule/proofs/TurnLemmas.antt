@@ -1,4 +1,4 @@
--- Looks, and a turn from its start to its end.
+-- Loads of word 0, and a turn from start to end.
 use Rattle.std.proofs.Common.{◌≡◌, ℕ, ◌+◌, ◌*◌, ◌%◌, ◌^◌, ◌<◌, ◌==◌, true, true≢false, List, [], ◌∷◌, ◌++◌, length, set, get_or, refl, ap, sym, ◌∙◌, subst, arith, eq-eqb, ne_eqb, length-append, length-set, get_or-set_same, get_or-set_other, Option, Some}
 use Rattle.std.specs.List.{AllByRecursion}
 use mathlib.Core.Logic.{dite}
@@ -27,7 +27,7 @@ use Rattle.desk_rule.specs.Seat.{EndsTurn, SeatOf}
 use Rattle.desk_rule.proofs.ListLemmas.{all_map, at_inside, only_of, prefix_append, prefix_nil, prefix_refl, some_of, total_append, total_set}
 use Rattle.desk_rule.proofs.RuleLemmas.{all_views, calls_by_other, calls_by_own, differ_called, looked, no_notice_more, one_call_more, Own, owed_still, Rule, sits_looked, Sits, stays, word_same, word_small}
 
--- the low bit is 1, so a seat holds the turn
+-- if the low bit is 1, a seat holds the turn
 turn_is_held : (turn : maybe.Option ℕ) (n word : ℕ) → word ≡ 2 * n + turn_bit turn → word % 2 ≡ 1 → (j : ℕ) × (turn ≡ some j)
 turn_is_held none n word is odd = absurd (omega arith)
 turn_is_held (some j) n word is odd = (j, refl)
@@ -47,7 +47,7 @@ module _ {M C R : Type 0} (steps : M → C → R → M → Type 0) (owes : R →
   abbrev Holds : State S V → Type 0
   Holds = Rule steps owes opening first passes
 
-  -- what word 0 tells of the turn
+  -- what word 0 says of the turn
   tells_turn : (s : State S V) (r : Holds s) (id : ℕ) (v : V) → get_elem? s.views id ≡ some v → TellsTurn steps owes v (get_or s.words 0 0)
   tells_turn s r id v at = let word = r.word in record {
     opening = opening;
@@ -69,7 +69,9 @@ module _ {M C R : Type 0} (steps : M → C → R → M → Type 0) (owes : R →
     after_look v v.holding r.history r.order,
     keeps,
     tt,
-    stays steps owes opening first passes s r id v (after_look v v.holding r.history r.order) at (sits_looked steps owes opening first passes r.history r.order r.turn r.seat_of id v v.holding f (λ h. (f.holds h).0)) refl refl _ (word_same steps owes opening first passes s),
+    stays steps owes opening first passes s r id v (after_look v v.holding r.history r.order) at
+        (sits_looked steps owes opening first passes r.history r.order r.turn r.seat_of id v v.holding f (λ h. (f.holds h).0)) refl refl _
+        (word_same steps owes opening first passes s),
     (
       (looked steps owes opening first passes s r id v v.holding at, refl),
       word_small steps owes opening first passes s r,
@@ -77,7 +79,7 @@ module _ {M C R : Type 0} (steps : M → C → R → M → Type 0) (owes : R →
     ),
   )
 
-  -- the rule, where a seat takes the turn
+  -- the rule after a seat takes the turn
   held : (s : State S V) (r : Holds s) (id : ℕ) (v : V) → get_elem? s.views id ≡ some v → 0 < length v.passes → r.turn ≡ none → first + length r.history < 2 ^ 62 → (homes : List (maybe.Option S)) → homes ≡ none ∷ []
       → Holds record { words = set s.words 0 (get_or s.words 0 0 + 1); homes = homes; views = set s.views id (after_look v true r.history r.order) }
   held s r id v at some_pass free room homes out = let w : V = after_look v true r.history r.order in let f = r.seated id v at in let word : ℕ = get_or s.words 0 0 in record {
@@ -87,7 +89,8 @@ module _ {M C R : Type 0} (steps : M → C → R → M → Type 0) (owes : R →
     turn = some id;
     seat_of = r.seat_of;
     wide = length-set s.words 0 _ ∙ r.wide;
-    word = get_or-set_same s.words 0 (word + 1) 0 (let l = r.wide in omega arith) ∙ (let n : ℕ = length r.history in let e : word ≡ 2 * (first + n) + turn_bit r.turn = r.word in let z : turn_bit r.turn ≡ 0 = ap turn_bit free in omega arith);
+    word = get_or-set_same s.words 0 (word + 1) 0 (let l = r.wide in omega arith) ∙
+        (let n : ℕ = length r.history in let e : word ≡ 2 * (first + n) + turn_bit r.turn = r.word in let z : turn_bit r.turn ≡ 0 = ap turn_bit free in omega arith);
     room = (let n : ℕ = length r.history in omega arith);
     legal = r.legal;
     home = out;
@@ -101,7 +104,17 @@ module _ {M C R : Type 0} (steps : M → C → R → M → Type 0) (owes : R →
     eight_bits = λ k small. subst (λ n. n < 256) (sym (get_or-set_other s.words 0 (k + 1) (word + 1) 0 (λ e. omega arith))) (r.eight_bits k small);
     seated = all_views steps owes opening first passes (Sits steps owes opening first passes r.history r.order (some id) r.seat_of) s.views id w
         (record { opened = f.opened; seen = prefix_refl r.history; told = prefix_nil r.history; holds = λ _. (refl, refl); notices = prefix_refl r.order; told_notices = prefix_nil r.order; own = f.own; differ = f.differ; few = f.few })
-        (λ j u _ e. let g = r.seated j u e in record { opened = g.opened; seen = g.seen; told = g.told; holds = λ h. absurd (some-ne-none j (sym (g.holds h).0 ∙ free)); notices = g.notices; told_notices = g.told_notices; own = g.own; differ = g.differ; few = g.few });
+        (λ j u _ e. let g = r.seated j u e in record {
+          opened = g.opened;
+          seen = g.seen;
+          told = g.told;
+          holds = λ h. absurd (some-ne-none j (sym (g.holds h).0 ∙ free));
+          notices = g.notices;
+          told_notices = g.told_notices;
+          own = g.own;
+          differ = g.differ;
+          few = g.few;
+        });
   }
 
   pub hold_allowed : (slots id : ℕ) (me : AtSeat M C R) (word new k : ℕ) → word ≡ 2 * k → new ≡ word + 1 → k < 2 ^ 62 → 0 < length me.0.passes

@@ -6,24 +6,23 @@ use Rattle.history.specs.declared.entry.Entry.{Entry}
 use Rattle.history.specs.History.{calls_by}
 use Rattle.desk_rule.specs.declared.view.PassLog.{PassLog}
 
--- what f makes of each element, added up
+-- The sum of f over a list.
 abbrev pub total_of : {A : Type 0} → (A → ℕ) → List A → ℕ
 total_of f [] = 0
 total_of f (x ∷ xs) = f x + total_of f xs
 
--- of two lists, one begins the other
+-- One of two lists is a prefix of the other.
 abbrev pub OneBegins : {A : Type 0} → List A → List A → Type 0
 OneBegins xs ys = IsPrefix xs ys ⊎ IsPrefix ys xs
 
 module _ {C R : Type 0} where
-  -- what the calls of these passes weigh together
+  -- The total weight of these passes' calls.
   abbrev pub weigh_all : (Entry C R → ℕ) → List (PassLog C R) → ℕ
   weigh_all weigh passes = total_of (λ (p : PassLog C R). total_of weigh p.calls) passes
 
-  -- how many calls these passes made
   abbrev pub count_calls : List (PassLog C R) → ℕ
   count_calls passes = weigh_all (λ _. 1) passes
 
-  -- the calls of each pass are just the entries that the history has of it
+  -- The calls of each pass are exactly its entries in the history.
   abbrev pub OwnCalls : List (Entry C R) → List (PassLog C R) → Type 0
   OwnCalls history passes = AllByRecursion (λ (p : PassLog C R). calls_by p.pass history ≡ p.calls) passes

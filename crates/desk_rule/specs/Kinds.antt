@@ -1,4 +1,4 @@
--- The kinds of step: what each tells, and the view after it.
+-- The kinds of step: what each returns, and the view after it.
 use Rattle.std.specs.Prelude.{◌≡◌, ◌≢◌, ℕ, ◌+◌, ◌-◌, ◌*◌, ◌/◌, ◌%◌, ◌^◌, ◌<◌, ◌≤◌, Bool, true, false}
 use Rattle.std.specs.Prelude.{List, [], ◌∷◌, ◌++◌, length, drop, slice_index, Option, Some}
 use Rattle.std.specs.Prelude as std
@@ -19,56 +19,139 @@ use Rattle.desk_rule.specs.Notices.{IsOrder, notice, OwedIn, OwnNotices, pending
 use Rattle.desk_rule.specs.Passes.{add_call, add_notice, number_of}
 use Rattle.desk_rule.specs.Rule.{RuleHolds}
 
--- a seat's view, and the slots that are out with it
+-- A seat's view, and the slots that are out with it.
 abbrev pub AtSeat : Type 0 → Type 0 → Type 0 → Type 0
 AtSeat M C R = Me (Option (Home M C R)) (View M C R)
 
 module _ {M C R : Type 0} where
-  -- with this seen of the history and of the order of notices, which have all that it was told
+  -- The view that has seen this much of the history and of the order of notices, which include all that reached it by notes.
   abbrev pub after_look : View M C R → Bool → List (Entry C R) → List Notice → View M C R
-  after_look v holding es ns = record { opening = v.opening; first = v.first; holding = holding; seen = es; told = []; notices = ns; told_notices = []; passes = v.passes }
+  after_look v holding es ns = record {
+    opening = v.opening;
+    first = v.first;
+    holding = holding;
+    seen = es;
+    told = [];
+    notices = ns;
+    told_notices = [];
+    passes = v.passes;
+  }
 
-  -- with this seen of the history alone
+  -- The view that has seen this much of the history.
   abbrev pub with_seen : View M C R → List (Entry C R) → View M C R
-  with_seen v es = record { opening = v.opening; first = v.first; holding = v.holding; seen = es; told = []; notices = v.notices; told_notices = v.told_notices; passes = v.passes }
+  with_seen v es = record {
+    opening = v.opening;
+    first = v.first;
+    holding = v.holding;
+    seen = es;
+    told = [];
+    notices = v.notices;
+    told_notices = v.told_notices;
+    passes = v.passes;
+  }
 
-  -- one entry more, of its first pass
+  -- The view with one more entry, of its first pass.
   abbrev pub after_turn : View M C R → C → R → View M C R
   after_turn v c r = let e = entry (number_of v.passes) c r in
-      record { opening = v.opening; first = v.first; holding = false; seen = v.seen ++ e ∷ []; told = []; notices = v.notices; told_notices = v.told_notices; passes = add_call v.passes e }
+      record {
+        opening = v.opening;
+        first = v.first;
+        holding = false;
+        seen = v.seen ++ e ∷ [];
+        told = [];
+        notices = v.notices;
+        told_notices = v.told_notices;
+        passes = add_call v.passes e;
+      }
 
-  -- one notice more, of its first pass, behind these
+  -- The view with one more notice, of its first pass, after these.
   abbrev pub with_notice : View M C R → List Notice → Notice → View M C R
-  with_notice v before n = record { opening = v.opening; first = v.first; holding = v.holding; seen = v.seen; told = v.told; notices = before ++ n ∷ []; told_notices = []; passes = add_notice v.passes n }
+  with_notice v before n = record {
+    opening = v.opening;
+    first = v.first;
+    holding = v.holding;
+    seen = v.seen;
+    told = v.told;
+    notices = before ++ n ∷ [];
+    told_notices = [];
+    passes = add_notice v.passes n;
+  }
 
-  -- a post of the call that ends what it has seen
+  -- A post for the last call that it has seen, and a take.
   abbrev pub post_of : View M C R → ℕ → ℕ → ℕ → Notice
   post_of v server bits found = notice (number_of v.passes) server found (Post bits ((v.first + length v.seen) - 1))
 
   abbrev pub take_of : View M C R → ℕ → ℕ → Notice
   take_of v server found = notice (number_of v.passes) server found Take
 
-  -- what was seen, and no pass
+  -- The view without passes, of what was seen.
   abbrev pub note_view : View M C R → View M C R
-  note_view v = record { opening = v.opening; first = v.first; holding = false; seen = v.seen; told = []; notices = v.notices; told_notices = []; passes = [] }
+  note_view v = record {
+    opening = v.opening;
+    first = v.first;
+    holding = false;
+    seen = v.seen;
+    told = [];
+    notices = v.notices;
+    told_notices = [];
+    passes = [];
+  }
 
-  -- told what a note has seen
+  -- The view after a note, with what the note has seen.
   abbrev pub after_note : View M C R → View M C R → View M C R
-  after_note v w = record { opening = v.opening; first = v.first; holding = v.holding; seen = v.seen; told = w.seen; notices = v.notices; told_notices = w.notices; passes = v.passes }
+  after_note v w = record {
+    opening = v.opening;
+    first = v.first;
+    holding = v.holding;
+    seen = v.seen;
+    told = w.seen;
+    notices = v.notices;
+    told_notices = w.notices;
+    passes = v.passes;
+  }
 
-  -- the first pass alone, and the others
+  -- The view of the first pass alone, and that of the others.
   abbrev pub one_pass : View M C R → View M C R
-  one_pass v = record { opening = v.opening; first = v.first; holding = false; seen = v.seen; told = []; notices = v.notices; told_notices = []; passes = std.take 1 v.passes }
+  one_pass v = record {
+    opening = v.opening;
+    first = v.first;
+    holding = false;
+    seen = v.seen;
+    told = [];
+    notices = v.notices;
+    told_notices = [];
+    passes = std.take 1 v.passes;
+  }
 
   abbrev pub other_passes : View M C R → View M C R
-  other_passes v = record { opening = v.opening; first = v.first; holding = v.holding; seen = v.seen; told = v.told; notices = v.notices; told_notices = v.told_notices; passes = drop 1 v.passes }
+  other_passes v = record {
+    opening = v.opening;
+    first = v.first;
+    holding = v.holding;
+    seen = v.seen;
+    told = v.told;
+    notices = v.notices;
+    told_notices = v.told_notices;
+    passes = drop 1 v.passes;
+  }
 
-  -- with the passes of another seat, and told what that one has seen
+  -- The view after it takes over the passes of another seat, with what that one has seen.
   abbrev pub after_pass : View M C R → View M C R → View M C R
-  after_pass v w = record { opening = v.opening; first = v.first; holding = v.holding; seen = v.seen; told = w.seen; notices = v.notices; told_notices = w.notices; passes = v.passes ++ w.passes }
+  after_pass v w = record {
+    opening = v.opening;
+    first = v.first;
+    holding = v.holding;
+    seen = v.seen;
+    told = w.seen;
+    notices = v.notices;
+    told_notices = w.notices;
+    passes = v.passes ++ w.passes;
+  }
 
--- w is v after it found word 0 so: the history then begins with all that v saw and was told, is legal, and has just the own entries of each pass; and the like of the notices' order
-pub record Looks {M C R : Type 0} (steps : M → C → R → M → Type 0) (v : View M C R) (found : ℕ) (holding : Bool) (w : View M C R) : Type 0 where
+-- w is v after a load of word 0 that found this: the history that it has seen extends all that v saw itself or by notes, is
+-- legal, and has exactly the own entries of each pass; the same holds of the order of notices.
+pub record Looks {M C R : Type 0} (steps : M → C → R → M → Type 0) (v : View M C R) (found : ℕ) (holding : Bool)
+    (w : View M C R) : Type 0 where
   pub is : w ≡ after_look v holding w.seen w.notices
   pub seen : IsPrefix v.seen w.seen
   pub told : IsPrefix v.told w.seen
@@ -82,7 +165,8 @@ pub record Looks {M C R : Type 0} (steps : M → C → R → M → Type 0) (v : 
   pub order : IsOrder w.notices
   pub own_notices : OwnNotices w.notices w.passes
 
--- w is v after a notice, behind all that v saw of the order and was told: it found its word as those before it left it
+-- w is v after a notice, which comes after all that v saw of the order itself or by notes, and found its word as the earlier
+-- ones left it.
 pub record MakesNotice {M C R : Type 0} (v : View M C R) (n : Notice) (w : View M C R) : Type 0 where
   pub before : List Notice
   pub is : w ≡ with_notice v before n
@@ -92,7 +176,7 @@ pub record MakesNotice {M C R : Type 0} (v : View M C R) (n : Notice) (w : View 
   pub order : IsOrder w.notices
   pub own : OwnNotices w.notices w.passes
 
--- w is v after it took a pending word, which was found so: the history then has, for each bit, an entry that owes it
+-- w is v after it took a pending word that was `found`: for each bit, the history then has an entry that owes it.
 pub record TakesBits {M C R : Type 0} (owes : R → ℕ) (v : View M C R) (server found : ℕ) (w : View M C R) : Type 0 where
   pub es : List (Entry C R)
   pub seen : IsPrefix v.seen es
@@ -102,12 +186,13 @@ pub record TakesBits {M C R : Type 0} (owes : R → ℕ) (v : View M C R) (serve
   pub few : (b : ℕ) → taken_by w.passes server b ≤ 2 ^ 62
   pub owed : (b : ℕ) → bit_at found b ≡ 1 → OwedIn owes server b es
 
--- the call that ends what was seen is the first pass's, and owes this
+-- The last call that was seen is the first pass's, and owes this.
 abbrev pub LastOwes : {M C R : Type 0} → (R → ℕ) → View M C R → ℕ → Type 0
-LastOwes {M} {C} {R} owes v owed = (es : List (Entry C R)) × (e : Entry C R) × (v.seen ≡ es ++ e ∷ []) × (e.pass ≡ number_of v.passes) × (owed ≡ owes e.reply)
+LastOwes {M} {C} {R} owes v owed =
+    (es : List (Entry C R)) × (e : Entry C R) × (v.seen ≡ es ++ e ∷ []) × (e.pass ≡ number_of v.passes) × (owed ≡ owes e.reply)
 
--- what word 0 tells of the turn, where a seat with the view v found it so: the table was then in a state that keeps the rule, and in
--- it some seat held the turn where the low bit was 1, and none where it was 0
+-- What word 0 says of the turn to a seat with the view v: the table was in a state that keeps the rule, in which some
+-- seat held the turn if the low bit was 1, and none if it was 0.
 pub record TellsTurn {M C R : Type 0} (steps : M → C → R → M → Type 0) (owes : R → ℕ) (v : View M C R) (found : ℕ) : Type 0 where
   pub opening : M
   pub first : ℕ
@@ -123,33 +208,34 @@ pub record TellsTurn {M C R : Type 0} (steps : M → C → R → M → Type 0) (
   pub own : v.holding ≡ true → found % 2 ≡ 1
 
 module _ {M C R : Type 0} (steps : M → C → R → M → Type 0) where
-  -- word 0 was looked at, and nothing else was done
+  -- Word 0 was loaded, and nothing else happened.
   abbrev pub LooksAlone : AtSeat M C R → ℕ → AtSeat M C R → Type 0
   LooksAlone m r m' = Looks steps m.0 r m.0.holding m'.0 × (m'.1 ≡ m.1)
 
-  -- the number is at most 2 ^ 63, where no place is left; its low bit tells whether the turn is held
+  -- The number is at most 2 ^ 63, which means that no place is left; its low bit says whether the turn is held.
   abbrev pub look : (R → ℕ) → Step (Option (Home M C R)) → AtSeat M C R → ℕ → AtSeat M C R → Type 0
   look owes st m r m' = LooksAlone m r m' × (r ≤ 2 ^ 63) × TellsTurn steps owes m.0 r
 
-  -- the machine comes out of the slot, as it is after the history
+  -- The machine leaves the slot, as it is after the history.
   abbrev pub GetsMachine : View M C R → List (ℕ × Option (Home M C R)) → View M C R → List (ℕ × Option (Home M C R)) → Type 0
   GetsMachine v c w c' = (h : Home M C R) × (c' ≡ (0, Some h) ∷ c) × ((m : M) → v.opening ≡ Some m → Run steps m w.seen h.machine)
 
-  -- the turn is held from now on
+  -- The turn is taken.
   abbrev pub TakesTurn : AtSeat M C R → ℕ → AtSeat M C R → Type 0
   TakesTurn m r m' = Looks steps m.0 r true m'.0 × GetsMachine m.0 m.1 m'.0 m'.1
 
-  -- where the word was as expected the turn is held; else it was looked at, and no more. Either way its low bit tells of the turn as it was
+  -- The turn is taken if the word was as expected; otherwise the word was only loaded. Either way its low bit says
+  -- whether the turn was held.
   abbrev pub hold : (R → ℕ) → Step (Option (Home M C R)) → AtSeat M C R → ℕ → AtSeat M C R → Type 0
   hold owes st m r m' = (r ≡ st.first → TakesTurn m r m') × (r ≢ st.first → LooksAlone m r m') × (r ≤ 2 ^ 63) × TellsTurn steps owes m.0 r
 
 module _ {M C R : Type 0} where
-  -- the call that the slot's last call names ends the history
+  -- The slot's last call becomes the last entry of the history.
   abbrev pub end_of_turn : Step (Option (Home M C R)) → AtSeat M C R → ℕ → AtSeat M C R → Type 0
   end_of_turn st m r m' = (h : Home M C R) (l : LastCall C R) (c : List (ℕ × Option (Home M C R))) → m.1 ≡ (0, Some h) ∷ c → h.last ≡ Some l
       → (m' ≡ (after_turn m.0 l.command.value l.reply.value, c)) × OwnCalls m'.0.seen m'.0.passes
 
-  -- where nothing else is out with the seat
+  -- The same, if nothing else is out with the seat.
   abbrev pub EntersCall : AtSeat M C R → AtSeat M C R → Type 0
   EntersCall m m' = (h : Home M C R) (l : LastCall C R) → m.1 ≡ (0, Some h) ∷ [] → h.last ≡ Some l
       → (m' ≡ (after_turn m.0 l.command.value l.reply.value, [])) × OwnCalls m'.0.seen m'.0.passes

@@ -1,4 +1,4 @@
--- What follows of the rule.
+-- The consequences of the rule.
 use Rattle.std.specs.Prelude.{◌≡◌, ℕ, ◌+◌, ◌<◌, true, List, ◌∷◌, ◌++◌, slice_index, Option}
 use Rattle.std.specs.List.{AllByRecursion}
 use Rattle.std.specs.Int.{bit_at}
@@ -17,40 +17,56 @@ module _ {M C R : Type 0} (steps : M → C → R → M → Type 0) (owes : R →
   abbrev TableState : Type 0
   TableState = State (Option (Home M C R)) (View M C R)
 
-  -- of what two seats have seen, one begins the other, and each is legal
+  -- Of what two seats have seen, one is a prefix of the other, and each is legal.
   abbrev pub HistoriesAgree : Type 0
-  HistoriesAgree = (opening : M) (first passes : ℕ) (s : TableState) → RuleHolds steps owes opening first passes s → (i j : ℕ) (v w : View M C R) → get_elem? s.views i ≡ some v → get_elem? s.views j ≡ some w
+  HistoriesAgree =
+      (opening : M) (first passes : ℕ) (s : TableState) → RuleHolds steps owes opening first passes s → (i j : ℕ) (v w : View M C R) →
+      get_elem? s.views i ≡ some v → get_elem? s.views j ≡ some w
       → OneBegins v.seen w.seen × IsLegal steps opening v.seen × IsLegal steps opening w.seen
 
-  -- and of what they have seen of the notices, where each found its word as those before it left it
+  -- The same for the notices that they have seen, each of which found its word as the earlier ones left it.
   abbrev pub NoticesAgree : Type 0
-  NoticesAgree = (opening : M) (first passes : ℕ) (s : TableState) → RuleHolds steps owes opening first passes s → (i j : ℕ) (v w : View M C R) → get_elem? s.views i ≡ some v → get_elem? s.views j ≡ some w
+  NoticesAgree =
+      (opening : M) (first passes : ℕ) (s : TableState) → RuleHolds steps owes opening first passes s → (i j : ℕ) (v w : View M C R) →
+      get_elem? s.views i ≡ some v → get_elem? s.views j ≡ some w
       → OneBegins v.notices w.notices × IsOrder v.notices × IsOrder w.notices
 
-  -- two seats that hold the turn are one
+  -- Two seats that hold the turn are the same.
   abbrev pub OneSeatHolds : Type 0
-  OneSeatHolds = (opening : M) (first passes : ℕ) (s : TableState) → RuleHolds steps owes opening first passes s → (i j : ℕ) (v w : View M C R) → get_elem? s.views i ≡ some v → get_elem? s.views j ≡ some w
+  OneSeatHolds =
+      (opening : M) (first passes : ℕ) (s : TableState) → RuleHolds steps owes opening first passes s → (i j : ℕ) (v w : View M C R) →
+      get_elem? s.views i ≡ some v → get_elem? s.views j ≡ some w
       → v.holding ≡ true → w.holding ≡ true → i ≡ j
 
-  -- the pending words are as the notices left them, in the one order in which they came
+  -- The pending words are what the notices left, in their one order.
   abbrev pub WordsFollow : Type 0
-  WordsFollow = (opening : M) (first passes : ℕ) (s : TableState) → (r : RuleHolds steps owes opening first passes s) → IsOrder r.order × ((server : ℕ) → server < 16 → slice_index s.words (server + 1) ≡ pending_after r.order server)
+  WordsFollow =
+      (opening : M) (first passes : ℕ) (s : TableState) → (r : RuleHolds steps owes opening first passes s) →
+      IsOrder r.order × ((server : ℕ) → server < 16 → slice_index s.words (server + 1) ≡ pending_after r.order server)
 
-  -- each bit was raised as often as it was taken, and once more where it is pending
+  -- The raises of each bit are its takes, plus one if it is pending.
   abbrev pub NoticesBalance : Type 0
-  NoticesBalance = (opening : M) (first passes : ℕ) (s : TableState) → RuleHolds steps owes opening first passes s → (server bit : ℕ) → server < 16
-      → total_of (λ (v : View M C R). raised_by v.passes server bit) s.views ≡ total_of (λ (v : View M C R). taken_by v.passes server bit) s.views + bit_at (slice_index s.words (server + 1)) bit
+  NoticesBalance =
+      (opening : M) (first passes : ℕ) (s : TableState) → RuleHolds steps owes opening first passes s → (server bit : ℕ) → server < 16
+      → total_of (λ (v : View M C R). raised_by v.passes server bit) s.views ≡
+      total_of (λ (v : View M C R). taken_by v.passes server bit) s.views + bit_at (slice_index s.words (server + 1)) bit
 
-  -- a pending bit is owed by an entry of the history
+  -- An entry of the history owes each pending bit.
   abbrev pub BitsAreOwed : Type 0
-  BitsAreOwed = (opening : M) (first passes : ℕ) (s : TableState) → (r : RuleHolds steps owes opening first passes s) → (server bit : ℕ) → server < 16 → bit_at (slice_index s.words (server + 1)) bit ≡ 1
+  BitsAreOwed =
+      (opening : M) (first passes : ℕ) (s : TableState) → (r : RuleHolds steps owes opening first passes s) → (server bit : ℕ) →
+      server < 16 → bit_at (slice_index s.words (server + 1)) bit ≡ 1
       → OwedIn owes server bit r.history
 
-  -- each post is of a call of its pass that is in the history and owes just its bits
+  -- Each post is of a call of its pass; the call is in the history and owes exactly the post's bits.
   abbrev pub PostsAreOwed : Type 0
-  PostsAreOwed = (opening : M) (first passes : ℕ) (s : TableState) → (r : RuleHolds steps owes opening first passes s) → AllByRecursion (IsOwed owes first r.history) r.order
+  PostsAreOwed =
+      (opening : M) (first passes : ℕ) (s : TableState) → (r : RuleHolds steps owes opening first passes s) →
+      AllByRecursion (IsOwed owes first r.history) r.order
 
--- a bit that a notice set is pending as long as no later one takes its server's word
+-- A bit that a notice set stays pending until a later notice takes its server's word.
 abbrev pub PostedBitsStay : Type 0
-PostedBitsStay = (before : List Notice) (n : Notice) (after : List Notice) (bit : ℕ) → IsOrder (before ++ n ∷ after) → bit_at (set_by n.act) bit ≡ 1 → NoTakes n.server after
+PostedBitsStay =
+    (before : List Notice) (n : Notice) (after : List Notice) (bit : ℕ) → IsOrder (before ++ n ∷ after) → bit_at (set_by n.act) bit ≡ 1 →
+    NoTakes n.server after
     → bit_at (pending_after (before ++ n ∷ after) n.server) bit ≡ 1

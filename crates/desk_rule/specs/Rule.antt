@@ -1,4 +1,5 @@
--- The rule of a desk's table. Word 0 is twice the place of the next call, and one more while a turn is held; the slot has the machine while none is.
+-- The rule of a desk's table. Word 0 is twice the place of the next call, plus 1 while a turn is held. The slot has the
+-- machine while no turn is held.
 use Rattle.std.specs.Prelude.{◌≡◌, ℕ, ◌+◌, ◌*◌, ◌^◌, ◌<◌, ◌≤◌, true, false, List, [], ◌∷◌, length, slice_index, Option, Some, None}
 use Rattle.std.specs.List.{AllByRecursion}
 use mathlib.Core.Option as maybe
@@ -17,17 +18,26 @@ use Rattle.desk_rule.specs.History.{count_calls, total_of, weigh_all}
 use Rattle.desk_rule.specs.Notices.{IsOrder, IsOwed, notices_by, pending_after, raised_by, weigh_notices}
 use Rattle.desk_rule.specs.Passes.{AreDifferent, fresh}
 
--- the low bit of word 0, by the seat that holds the turn
+-- The low bit of word 0, by the seat that holds the turn.
 abbrev pub turn_bit : maybe.Option ℕ → ℕ
 turn_bit none = 0
 turn_bit (some j) = 1
 
 module _ {M C R : Type 0} where
-  -- the view of the first seat, where all passes sit
+  -- The view of the first seat, at which all passes sit.
   abbrev pub opening_view : M → ℕ → ℕ → View M C R
-  opening_view m first passes = record { opening = Some m; first = first; holding = false; seen = []; told = []; notices = []; told_notices = []; passes = fresh passes }
+  opening_view m first passes = record {
+    opening = Some m;
+    first = first;
+    holding = false;
+    seen = [];
+    told = [];
+    notices = [];
+    told_notices = [];
+    passes = fresh passes;
+  }
 
-  -- the view of a seat that another took in
+  -- The view of a seat that another one took over.
   abbrev pub spent_view : View M C R
   spent_view = record { opening = None; first = 0; holding = false; seen = []; told = []; notices = []; told_notices = []; passes = [] }
 
@@ -40,29 +50,34 @@ module _ {M C R : Type 0} where
   abbrev pub notice_weight_of : (Notice → ℕ) → View M C R → ℕ
   notice_weight_of weigh v = weigh_notices weigh v.passes
 
-  -- the slot has the machine, unless a seat holds the turn
+  -- The slot has the machine, unless a seat holds the turn.
   abbrev pub IsAtHome : M → List (maybe.Option (Option (Home M C R))) → maybe.Option ℕ → Type 0
   IsAtHome m homes none = (l : Option (LastCall C R)) × (homes ≡ some (Some record { machine = m; last = l }) ∷ [])
   IsAtHome m homes (some j) = homes ≡ none ∷ []
 
--- what the rule says of the seat j with the view v, by the whole history, the order of all notices, the holder of the turn and the seat that each pass sits at
-pub record Seated {M C R : Type 0} (opening : M) (first : ℕ) (history : List (Entry C R)) (order : List Notice) (turn : maybe.Option ℕ) (seat_of : ℕ → ℕ) (passes j : ℕ) (v : View M C R) : Type 0 where
+-- What the rule says of seat j with the view v, by the whole history, the order of all notices, the holder of the turn
+-- and the seat of each pass.
+pub record Seated {M C R : Type 0} (opening : M) (first : ℕ) (history : List (Entry C R)) (order : List Notice) (turn : maybe.Option ℕ)
+    (seat_of : ℕ → ℕ) (passes j : ℕ) (v : View M C R) : Type 0 where
   pub opened : (m : M) → v.opening ≡ Some m → (m ≡ opening) × (v.first ≡ first)
-  -- what it saw and was told begins the history; who holds the turn has seen all of it
+  -- what it saw itself or by notes is a prefix of the history; the holder of the turn has seen all of it
   pub seen : IsPrefix v.seen history
   pub told : IsPrefix v.told history
   pub holds : v.holding ≡ true → (turn ≡ some j) × (v.seen ≡ history)
-  -- and of the notices it begins their order
+  -- the same for the order of notices
   pub notices : IsPrefix v.notices order
   pub told_notices : IsPrefix v.told_notices order
-  -- each pass that sits here has a number of its own, and just its own entries and notices
-  pub own : AllByRecursion (λ (p : PassLog C R). (calls_by p.pass history ≡ p.calls) × (notices_by p.pass order ≡ p.notices) × (seat_of p.pass ≡ j) × (p.pass < passes)) v.passes
+  -- each pass at this seat has a number of its own, and exactly its own entries and notices
+  pub own : AllByRecursion (λ (p : PassLog C R). (calls_by p.pass history ≡ p.calls) × (notices_by p.pass order ≡ p.notices) ×
+      (seat_of p.pass ≡ j) × (p.pass < passes)) v.passes
   pub differ : AreDifferent v.passes
   -- no bit was raised here more often than the passes here called
   pub few : (s b : ℕ) → raised_by v.passes s b ≤ count_calls v.passes
 
--- the rule: there is one legal history, and one order of all notices, of which each seat knows a beginning; the pending words are as the notices left them
-pub record RuleHolds {M C R : Type 0} (steps : M → C → R → M → Type 0) (owes : R → ℕ) (opening : M) (first passes : ℕ) (s : State (Option (Home M C R)) (View M C R)) : Type 0 where
+-- The rule: there is one legal history and one order of all notices, and each seat knows a prefix of each; the pending
+-- words are what the notices left.
+pub record RuleHolds {M C R : Type 0} (steps : M → C → R → M → Type 0) (owes : R → ℕ) (opening : M) (first passes : ℕ)
+    (s : State (Option (Home M C R)) (View M C R)) : Type 0 where
   pub history : List (Entry C R)
   pub order : List Notice
   pub machine : M
@@ -74,7 +89,7 @@ pub record RuleHolds {M C R : Type 0} (steps : M → C → R → M → Type 0) (
   pub legal : Run steps opening history machine
   pub home : IsAtHome machine s.homes turn
   pub holder : (j : ℕ) → turn ≡ some j → (v : View M C R) × (get_elem? s.views j ≡ some v) × (v.holding ≡ true) × (0 < length v.passes)
-  -- all passes sit somewhere, and each entry and each notice is of one of them
+  -- every pass sits at a seat, and each entry and each notice is of one of them
   pub all_passes : total_of pass_count s.views ≡ passes
   pub all_calls : (weigh : Entry C R → ℕ) → total_of (weight_of weigh) s.views ≡ total_of weigh history
   pub all_notices : (weigh : Notice → ℕ) → total_of (notice_weight_of weigh) s.views ≡ total_of weigh order

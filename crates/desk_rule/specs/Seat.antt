@@ -19,18 +19,18 @@ abbrev pub SeatOf : Type 0 → Type 0 → Type 0 → Type 0
 SeatOf M C R = Seat (Option (Home M C R)) (View M C R)
 
 module _ {M C R : Type 0} where
-  -- the seat is at this table, which has 17 words and one slot
+  -- The seat is at this table, which has 17 words and one slot.
   abbrev pub IsAtTable : TableId → SeatOf M C R → Type 0
   IsAtTable id p = (p.table_id ≡ id) × (id.words ≡ 17) × (id.slots ≡ 1)
 
   abbrev pub SameSeat : SeatOf M C R → SeatOf M C R → Type 0
   SameSeat p q = (q.table_id ≡ p.table_id) × (q.id ≡ p.id)
 
--- what the table was told as it was made: the machine, how many passes there are, and the place of the first call
+-- The parameters of a table: the machine, the number of passes, and the place of the first call.
 abbrev pub IsOpening : {M : Type 0} → Opening M → M → ℕ → ℕ → Type 0
 IsOpening key machine passes first = (key.machine.value ≡ machine) × (key.passes ≡ passes) × (key.first ≡ first)
 
--- the seat of one pass holds the turn, and has the machine as it is after all that it has seen
+-- The seat of one pass holds the turn, and has the machine as it is after all that the seat has seen.
 pub record HoldsTurn {M C R : Type 0} (steps : M → C → R → M → Type 0) (p : SeatOf M C R) : Type 0 where
   pub holding : p.me.0.holding ≡ true
   pub one_pass : length p.me.0.passes ≡ 1
@@ -41,7 +41,7 @@ pub record HoldsTurn {M C R : Type 0} (steps : M → C → R → M → Type 0) (
   pub few : (s b : ℕ) → raised_by p.me.0.passes s b ≤ count_calls p.me.0.passes
   pub short : count_calls p.me.0.passes < 2 ^ 62
 
--- the machine is back in the slot, as its last call left it, and the turn is still held
+-- The machine is back in the slot, as its last call left it, and the turn is still held.
 pub record EndsTurn {M C R : Type 0} (steps : M → C → R → M → Type 0) (p : SeatOf M C R) : Type 0 where
   pub holding : p.me.0.holding ≡ true
   pub one_pass : length p.me.0.passes ≡ 1
@@ -50,10 +50,14 @@ pub record EndsTurn {M C R : Type 0} (steps : M → C → R → M → Type 0) (p
   pub last : LastCall C R
   pub back : p.me.1 ≡ (0, Some home) ∷ []
   pub said : home.last ≡ Some last
-  pub machine : (m : M) → p.me.0.opening ≡ Some m → Run steps m (p.me.0.seen ++ entry (number_of p.me.0.passes) last.command.value last.reply.value ∷ []) home.machine
+  pub machine : (m : M) → p.me.0.opening ≡ Some m →
+      Run steps m (p.me.0.seen ++ entry (number_of p.me.0.passes) last.command.value last.reply.value ∷ []) home.machine
 
--- what is left of a table where all passes sat at one seat: the machine after one legal history, and the pending words after one order of all notices; each begins with what the seat had seen, and has the passes' entries, or notices, and no others; each post is of a call of the history that owes it
-pub record IsClosed {M C R : Type 0} (steps : M → C → R → M → Type 0) (owes : R → ℕ) (opening : M) (first : ℕ) (v : View M C R) (machine : M) (pending : List ℕ) : Type 0 where
+-- What is left of a table if all passes sat at one seat: the machine after one legal history, and the pending words
+-- after one order of all notices. Both extend what the seat had seen, and have exactly the passes' entries and notices;
+-- each post is of a call of the history that owes it.
+pub record IsClosed {M C R : Type 0} (steps : M → C → R → M → Type 0) (owes : R → ℕ) (opening : M) (first : ℕ) (v : View M C R)
+    (machine : M) (pending : List ℕ) : Type 0 where
   pub history : List (Entry C R)
   pub legal : Run steps opening history machine
   pub seen : IsPrefix v.seen history
@@ -67,6 +71,6 @@ pub record IsClosed {M C R : Type 0} (steps : M → C → R → M → Type 0) (o
   pub own_notices : OwnNotices order v.passes
   pub no_other_notices : (weigh : Notice → ℕ) → total_of weigh order ≡ weigh_notices weigh v.passes
 
--- the same of a table by what it was told as it was made
+-- The same, by the parameters of the table.
 abbrev pub LeavesTable : {M C R : Type 0} → (M → C → R → M → Type 0) → (R → ℕ) → Opening M → View M C R → M → List ℕ → Type 0
 LeavesTable steps owes key v machine pending = IsClosed steps owes key.machine.value key.first v machine pending

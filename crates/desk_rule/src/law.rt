@@ -1,4 +1,4 @@
-//! The laws of the rule, by its definitions alone.
+//! The laws of the rule, over definitions only.
 
 ghost use Rattle.history.specs.History.{Stepped};
 ghost use Rattle.desk_rule.specs.Laws.{BitsAreOwed, HistoriesAgree, NoticesAgree, NoticesBalance};
@@ -6,43 +6,43 @@ ghost use Rattle.desk_rule.specs.Laws.{OneSeatHolds, PostedBitsStay, PostsAreOwe
 
 use history::Machine;
 
-/// There is one history: of what any two seats have seen, one begins the other, and each is legal.
+/// A law: there is one history. Of what any two seats have seen, one is a prefix of the other, and each is legal.
 pub fn histories_agree<M: Machine>()
     ensures { HistoriesAgree (Stepped M.stands M.steps) M.owes }
 {}
 
-/// There is one order of all notices: of what any two seats have seen of it, one begins the other, and each notice found its
-/// word as those before it left it.
+/// A law: all notices have one order. Of what any two seats have seen of it, one is a prefix of the other, and each
+/// notice found its word as the earlier ones left it.
 pub fn notices_agree<M: Machine>()
     ensures { NoticesAgree (Stepped M.stands M.steps) M.owes }
 {}
 
-/// The pending words are as the notices left them.
+/// A law: the pending words are what the notices left.
 pub fn words_follow<M: Machine>()
     ensures { WordsFollow (Stepped M.stands M.steps) M.owes }
 {}
 
-/// A bit that a notice set is pending as long as no later one takes its server's word.
+/// A law: a bit that a notice set stays pending until a later notice takes its server's word.
 pub fn posted_bits_stay()
     ensures { PostedBitsStay }
 {}
 
-/// At most one seat holds the turn.
+/// A law: at most one seat holds the turn.
 pub fn one_seat_holds<M: Machine>()
     ensures { OneSeatHolds (Stepped M.stands M.steps) M.owes }
 {}
 
-/// Each bit of each server was raised as often as it was taken, and once more where it is pending.
+/// A law: the raises of each bit of each server are its takes, plus one if it is pending.
 pub fn notices_balance<M: Machine>()
     ensures { NoticesBalance (Stepped M.stands M.steps) M.owes }
 {}
 
-/// Each pending bit is owed by an entry of the history.
+/// A law: an entry of the history owes each pending bit.
 pub fn bits_are_owed<M: Machine>()
     ensures { BitsAreOwed (Stepped M.stands M.steps) M.owes }
 {}
 
-/// Each post is of a call of its pass that is in the history and owes just its bits.
+/// A law: each post is of a call of its pass; the call is in the history and owes exactly the post's bits.
 pub fn posts_are_owed<M: Machine>()
     ensures { PostsAreOwed (Stepped M.stands M.steps) M.owes }
 {}

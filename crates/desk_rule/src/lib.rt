@@ -1,10 +1,10 @@
-//! What threads that share one machine may rely on between any two steps of theirs.
+//! The rule of a desk: what threads that share one machine may rely on between any two of their steps.
 //!
-//! A desk keeps a machine in the one slot of a table of atomic words. Word 0 tells whose turn it is, as the sequence
-//! number of a sequence lock does, and each of 16 servers has a word of pending notices, as MINIX 3 keeps pending
-//! notifications as bits of a bitmap of the receiver. The rule here relates the words, the slot and what each thread
-//! knows; each kind of step is a function, whose contract says what it tells and that it keeps the rule. The rule and
-//! its kinds of step are of this project.
+//! A desk keeps a machine in the one slot of a table of atomic words. Word 0 says whose turn it is, like the sequence
+//! number of a sequence lock. Each of 16 servers has a word of pending notices, as MINIX 3 keeps pending notifications
+//! in a bitmap of the receiver. The rule relates the words, the slot and what each thread knows. Each kind of step is a
+//! function; its contract says what the step returns, and that it keeps the rule. The rule and its kinds of step are of
+//! this project.
 #![tactic(auto)]
 
 mod law;

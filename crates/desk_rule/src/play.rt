@@ -1,5 +1,4 @@
-//! The kinds of step, as the table knows them: what each tells, and what becomes of the views. No value of these types is
-//! made.
+//! The kinds of step of the table: what each returns, and the views after it. These types have no values at run time.
 
 ghost use Rattle.history.specs.History.{Stepped};
 ghost use Rattle.desk_rule.specs.Kinds.{after_note, after_pass, end_of_turn, hold, look, note_view, one_pass, other_passes, post, take};
@@ -16,35 +15,35 @@ impl<M: Machine> Play<Slot<M>, DeskView<M>> for Look {
     ghost then = { look (Stepped M.stands M.steps) M.owes };
 }
 
-/// A compare and exchange of word 0, which takes the turn if it is free.
+/// A compare-and-exchange of word 0, which takes the turn if it is free.
 pub struct Hold;
 
 impl<M: Machine> Play<Slot<M>, DeskView<M>> for Hold {
     ghost then = { hold (Stepped M.stands M.steps) M.owes };
 }
 
-/// One more in word 0, which ends the turn.
+/// An increment of word 0, which ends the turn.
 pub struct EndTurn;
 
 impl<M: Machine> Play<Slot<M>, DeskView<M>> for EndTurn {
     ghost then = { end_of_turn };
 }
 
-/// Bits set in a pending word.
+/// An OR of bits into a pending word.
 pub struct PostBits;
 
 impl<M: Machine> Play<Slot<M>, DeskView<M>> for PostBits {
     ghost then = { post };
 }
 
-/// A pending word swapped for 0.
+/// A swap of a pending word for 0.
 pub struct TakeBits;
 
 impl<M: Machine> Play<Slot<M>, DeskView<M>> for TakeBits {
     ghost then = { take M.owes };
 }
 
-/// A new seat for one of the passes that have called nothing.
+/// A new seat for a pass that has called nothing.
 pub struct SplitPass;
 
 impl<M: Machine> Split<DeskView<M>> for SplitPass {
@@ -53,7 +52,7 @@ impl<M: Machine> Split<DeskView<M>> for SplitPass {
     ghost right = { one_pass };
 }
 
-/// A new seat that knows what was seen, and is no pass.
+/// A new seat that knows what was seen, without a pass.
 pub struct SplitNote;
 
 impl<M: Machine> Split<DeskView<M>> for SplitNote {
@@ -62,7 +61,7 @@ impl<M: Machine> Split<DeskView<M>> for SplitNote {
     ghost right = { note_view };
 }
 
-/// A seat that is told what a note knows.
+/// A seat that learns what a note knows.
 pub struct JoinNote;
 
 impl<M: Machine> Join<DeskView<M>> for JoinNote {
@@ -71,7 +70,7 @@ impl<M: Machine> Join<DeskView<M>> for JoinNote {
     ghost spent = { spent_view };
 }
 
-/// A seat that takes another's passes in.
+/// A seat that takes over another seat's passes.
 pub struct JoinPass;
 
 impl<M: Machine> Join<DeskView<M>> for JoinPass {

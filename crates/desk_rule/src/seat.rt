@@ -1,4 +1,4 @@
-//! Seats that are split, and seats that are joined.
+//! Splitting and joining of seats.
 
 ghost use Rattle.std.specs.Prelude.{◌≡◌, ℕ, ◌+◌, ◌<◌, [], false};
 ghost use Rattle.desk_rule.specs.Kinds.{after_note, after_pass, note_view, one_pass, other_passes};
@@ -9,7 +9,7 @@ use crate::play::{JoinNote, JoinPass, SplitNote, SplitPass};
 use crate::table::{DeskSeat, DeskShared};
 use history::Machine;
 
-/// A seat for one of the passes that sit here, of which none has called anything; at least one stays.
+/// Splits off a seat for one of the passes at this seat, none of which has called anything. At least one stays.
 pub fn split_pass<M: Machine>(shared: &DeskShared<M>, seat: &mut DeskSeat<M>) -> DeskSeat<M>
     requires at { IsAtTable shared.now.table_id seat.old }
     requires fresh { (n : ℕ) × (seat.old.me.0.passes ≡ fresh (n + 2)) }
@@ -21,7 +21,7 @@ pub fn split_pass<M: Machine>(shared: &DeskShared<M>, seat: &mut DeskSeat<M>) ->
     shared.split_seat::<SplitPass>(seat)
 }
 
-/// A seat that knows what this one has seen, and is no pass.
+/// Splits off a seat that knows what this one has seen, without a pass.
 pub fn split_note<M: Machine>(shared: &DeskShared<M>, seat: &mut DeskSeat<M>) -> DeskSeat<M>
     requires { IsAtTable shared.now.table_id seat.old }
     ensures same { SameSeat seat.old seat.new × (seat.new.me ≡ seat.old.me) }
@@ -30,7 +30,7 @@ pub fn split_note<M: Machine>(shared: &DeskShared<M>, seat: &mut DeskSeat<M>) ->
     shared.split_seat::<SplitNote>(seat)
 }
 
-/// The seat is told what a note has seen, and the note's view is spent.
+/// Teaches the seat what a note has seen, and spends the note's view.
 pub fn join_note<M: Machine>(shared: &DeskShared<M>, seat: &mut DeskSeat<M>, note: DeskSeat<M>)
     requires at { IsAtTable shared.now.table_id seat.old }
     requires note { IsAtTable shared.now.table_id note × (note.me.1 ≡ []) }
@@ -41,7 +41,7 @@ pub fn join_note<M: Machine>(shared: &DeskShared<M>, seat: &mut DeskSeat<M>, not
     shared.join_seat::<JoinNote>(seat, note);
 }
 
-/// The passes of the other seat sit here from now on, with all that they did. The seat is told what the other has seen, whose
+/// Moves the other seat's passes to this seat, with all that they did. This seat learns what the other has seen, whose
 /// view is spent.
 pub fn join_pass<M: Machine>(shared: &DeskShared<M>, seat: &mut DeskSeat<M>, other: DeskSeat<M>)
     requires at { IsAtTable shared.now.table_id seat.old }

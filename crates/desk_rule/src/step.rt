@@ -1,4 +1,4 @@
-//! Steps on the words that a seat makes at any time.
+//! The steps on the words that a seat may make at any time.
 
 ghost use Rattle.std.specs.Prelude.{◌≡◌, ℕ, ◌^◌, ◌<◌, ◌≤◌, true, length, is_some};
 ghost use Rattle.history.specs.History.{Stepped};
@@ -11,8 +11,8 @@ use crate::play::{Look, PostBits, TakeBits};
 use crate::table::{DeskSeat, DeskShared};
 use history::Machine;
 
-/// Loads word 0: twice the place of the next call, and one more while a turn is held, by this seat or by another. The seat
-/// has seen the history as it is then.
+/// Loads word 0: twice the place of the next call, plus 1 while this or another seat holds a turn. The seat has then
+/// seen the whole history.
 pub fn look<M: Machine>(shared: &DeskShared<M>, seat: &mut DeskSeat<M>) -> u64
     requires { IsAtTable shared.now.table_id seat.old }
     ensures same { SameSeat seat.old seat.new × (seat.new.me.1 ≡ seat.old.me.1) }
@@ -23,8 +23,8 @@ pub fn look<M: Machine>(shared: &DeskShared<M>, seat: &mut DeskSeat<M>) -> u64
     shared.load::<Look>(seat, 0)
 }
 
-/// Sets bits of a server's pending word, which the call that ends what the seat has seen owes. Gives the word as it was, which is
-/// as the notices before this one left it.
+/// Sets bits of a server's pending word; the last call that the seat has seen must owe them. Returns the word before,
+/// which is what the earlier notices left.
 pub fn post<M: Machine>(
     shared: &DeskShared<M>,
     seat: &mut DeskSeat<M>,
@@ -43,7 +43,7 @@ pub fn post<M: Machine>(
     shared.fetch_or::<PostBits>(seat, server + 1, bits)
 }
 
-/// Swaps a server's pending word for 0. Gives the word as it was, which is as the notices before this one left it; for each of
+/// Swaps a server's pending word for 0. Returns the word before, which is what the earlier notices left. For each of
 /// its bits the seat has then seen a call that owes it.
 pub fn take<M: Machine>(shared: &DeskShared<M>, seat: &mut DeskSeat<M>, server: usize) -> u64
     requires at { IsAtTable shared.now.table_id seat.old }

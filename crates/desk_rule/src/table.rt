@@ -1,4 +1,4 @@
-//! The table that threads share: word 0, one pending word for each server, and a slot with the machine.
+//! The table that threads share: word 0, one pending word for each server, and a slot for the machine.
 
 ghost use Rattle.std.specs.Prelude.{◌≡◌, ◌≤◌, ◌<◌, ◌+◌, ◌^◌, ℕ, [], true, false, length, is_some, slice_index, IfSome, IfOk, IfErr};
 ghost use Rattle.std.specs.Mem.Slots.{slots_items, slots_len, IsFull};
@@ -17,29 +17,29 @@ use std::snapshot::Snapshot;
 /// The call that the turn was held for. It has no bytes: it hands the call to the step that ends the turn.
 #[derive(Drop)]
 pub struct LastCall<C, R> {
-    /// What was asked.
+    /// The command.
     pub command: Snapshot<C>,
-    /// What the machine answered.
+    /// The machine's reply.
     pub reply: Snapshot<R>,
 }
 
-/// What the slot holds while no turn is held.
+/// The contents of the slot while no turn is held.
 #[derive(Drop)]
 pub struct Home<M, C, R> {
     /// The machine after every call so far.
     pub machine: M,
-    /// The last of them, if there was one.
+    /// The last call, if there was one.
     pub last: Option<LastCall<C, R>>,
 }
 
-/// What the table is told when it is made.
+/// The parameters with which a table is made.
 #[derive(Drop)]
 pub struct Opening<M> {
     /// The place of the first call.
     pub first: u64,
-    /// How many passes there are.
+    /// The number of passes.
     pub passes: u32,
-    /// The machine as it is then.
+    /// The machine at that time.
     pub machine: Snapshot<M>,
 }
 
@@ -72,8 +72,8 @@ pub type DeskShared<M> = Shared<Slot<M>, DeskView<M>, Opening<M>, DeskRule<M>>;
 /// A seat at the table. It has no bytes.
 pub type DeskSeat<M> = Seat<Slot<M>, DeskView<M>>;
 
-/// A table with the machine in its slot and no notice pending, and the one seat, where all passes sit. Where there is no
-/// room, the machine comes back.
+/// Returns a table with the machine in its slot and no pending notice, and the one seat, at which all passes sit. If
+/// memory runs out, hands the machine back.
 pub fn new_table<M: Machine>(
     alloc: Global,
     machine: M,
@@ -111,7 +111,6 @@ pub fn new_table<M: Machine>(
     }
 }
 
-// The machine of a slot that has it.
 fn machine_of<M: Machine>(slot: Slot<M>) -> M
     requires { is_some slot ≡ true }
     ensures { IfSome slot (λ home. result ≡ home.machine) }
@@ -122,7 +121,6 @@ fn machine_of<M: Machine>(slot: Slot<M>) -> M
     }
 }
 
-// The pending word of each server.
 fn pending_words<S>(closed: &Closed<S, Global>) -> [u64; 16]
     requires { IsFull closed.now.words × (slots_len closed.now.words ≡ 17) }
     ensures { (s : ℕ) → s < 16 → slice_index result s ≡ slice_index (slots_items closed.now.words) (s + 1) }
@@ -134,8 +132,8 @@ fn pending_words<S>(closed: &Closed<S, Global>) -> [u64; 16]
     pending
 }
 
-/// Ends the table with the seat where all passes sit: gives the machine after the history, and the pending words after all
-/// notices.
+/// Closes the table with the seat at which all passes sit. Returns the machine after the history, and the pending words
+/// after all notices.
 pub fn close_table<M: Machine>(table: DeskTable<M>, seat: DeskSeat<M>) -> (M, [u64; 16])
     requires at { IsAtTable table.shared.table_id seat }
     requires resting { seat.me.0.holding ≡ false }

@@ -1,4 +1,4 @@
-//! A turn: it is held, the machine comes out of the slot and goes back, and the turn ends.
+//! A turn: it is taken, the machine leaves the slot and returns to it, and the turn ends.
 
 ghost use Rattle.std.specs.Prelude.{◌≡◌, ◌≢◌, ℕ, ◌+◌, ◌*◌, ◌^◌, ◌<◌, ◌≤◌, [], ◌∷◌, length, is_some, Some, None, true};
 ghost use Rattle.history.specs.History.{Run, Stepped};
@@ -9,8 +9,9 @@ use crate::play::{EndTurn, Hold};
 use crate::table::{DeskSeat, DeskShared, Home};
 use history::Machine;
 
-/// Takes the turn if word 0 still is `word`, which says that it is free. Gives the word as it was, which tells all that a look
-/// tells: how far the history goes, and whether the turn was held. Where it was another word, nothing else was done.
+/// Takes the turn if word 0 is still `word`, a word that says the turn is free. Returns the word before, which tells
+/// what `look` tells: how far the history goes, and whether the turn was held. If it was another word, nothing else
+/// happened.
 pub fn hold<M: Machine>(shared: &DeskShared<M>, seat: &mut DeskSeat<M>, word: u64) -> u64
     requires at { IsAtTable shared.now.table_id seat.old }
     requires some_pass { 0 < length seat.old.me.0.passes }
@@ -24,8 +25,7 @@ pub fn hold<M: Machine>(shared: &DeskShared<M>, seat: &mut DeskSeat<M>, word: u6
     shared.compare_exchange::<Hold>(seat, 0, word, word + 1)
 }
 
-/// Takes out of the slot just what it held: the machine as the history that the seat has seen left it, and the call that was put
-/// back with it.
+/// Takes the slot's contents: the machine, as the history that the seat has seen left it, and the last call.
 pub fn machine_out<M: Machine>(
     shared: &DeskShared<M>,
     seat: &mut DeskSeat<M>,

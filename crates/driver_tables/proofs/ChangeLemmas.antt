@@ -1,4 +1,4 @@
--- What a new state of a label leaves.
+-- A new state of a label leaves a table that stands.
 use Rattle.std.proofs.Common.{◌≡◌, ℕ, ◌==◌, nat_lt, ◌&&◌, Bool, true, false, not, cond, List, [], ◌∷◌, ◌++◌, map, Option, Some, None, Result, Ok, Err, refl, sym, ap, ◌∙◌, subst, arith, append-nil, inl, inr}
 use Rattle.std.specs.Option.{option_map, option_map_or}
 use Rattle.std.specs.List.{retain_mut, filter_map, flat_map, find, cons_option, AllByRecursion}
@@ -35,7 +35,8 @@ abbrev judged : DriverTable → List ℕ → Option EndpointRecord → Bool → 
 judged t label state has old same =
     cond (not has) (Ok [], t) (cond old (Err OldEndpoint, t) (Ok (cond same [] (all_moves t label state)), does (notes t label state) (cond same [] (all_moves t label state))))
 
-pub change_nothing : (v : TableRecord) (t : DriverTable) (label : List ℕ) (state : Option EndpointRecord) → TableStands v t → option_map (λ (u : ℕ × Device). u.1) (find (is_of_label label) v.devices) ≡ None → changing t label state ≡ (Ok [], t)
+pub change_nothing : (v : TableRecord) (t : DriverTable) (label : List ℕ) (state : Option EndpointRecord) → TableStands v t →
+    option_map (λ (u : ℕ × Device). u.1) (find (is_of_label label) v.devices) ≡ None → changing t label state ≡ (Ok [], t)
 change_nothing v t label state s e =
     ap (λ (b : Bool). judged t label state b (is_old (newest t.states label) (endpoint_now t.states label) state) (is_same_state (endpoint_now t.states label) state)) (no_device v t label s e)
 
@@ -48,7 +49,7 @@ change_judged v t label state d old same s e o h =
     ∙ (ap (λ (x : Option EndpointRecord). judged t label state true (is_old d.newest x state) (is_same_state x state)) (sym k.1)
     ∙ (ap (λ (b : Bool). judged t label state true b (is_same_state d.endpoint state)) o ∙ ap (judged t label state true old) h)))
 
--- a state that the device finds not old isn't
+-- a state that isn't old for the device isn't old for the table
 pub not_old : (v : TableRecord) (t : DriverTable) (label : List ℕ) (state : Option EndpointRecord) (d : Device) → TableStands v t → option_map (λ (u : ℕ × Device). u.1) (find (is_of_label label) v.devices) ≡ Some d →
     is_old d.newest d.endpoint state ≡ false → is_old (newest t.states label) (endpoint_now t.states label) state ≡ false
 not_old v t label state d s e o =
@@ -82,7 +83,9 @@ starts_answer : (units : List (ℕ × Driver)) (label : List ℕ) (state : Optio
 starts_answer [] label state = refl
 starts_answer (u ∷ units) label state = by (is_same_name label u.1.label) u.1.class state ∙ starts_answer units label state
   where
-    by : (b : Bool) (class : Class) (s : Option EndpointRecord) → flat_map answered_by (cons_option (cond b (network_start class u.0 s) None) (filter_map (start label state) units)) ≡ flat_map answered_by (filter_map (start label state) units)
+    by : (b : Bool) (class : Class) (s : Option EndpointRecord) →
+        flat_map answered_by (cons_option (cond b (network_start class u.0 s) None) (filter_map (start label state) units)) ≡ flat_map answered_by
+        (filter_map (start label state) units)
     by false class s = refl
     by true Block s = refl
     by true Character s = refl
@@ -128,7 +131,8 @@ settled_are states units label state sends (r ∷ requests) =
     ap (λ (o : Option Move). cons_option o (filter_map (settled_in (map (unit_of states) units) label state) (map (pending_of sends) requests))) (settles_as states units label state r (pending_of sends r) refl refl)
     ∙ ap (cons_option (settle units label state r)) (settled_are states units label state sends requests)
 
-pub moves_are : (v : TableRecord) (t : DriverTable) (label : List ℕ) (state : Option EndpointRecord) → TableStands v t → filter_map (start_move label state) v.devices ++ filter_map (settled_in v.devices label state) v.pending ≡ all_moves t label state
+pub moves_are : (v : TableRecord) (t : DriverTable) (label : List ℕ) (state : Option EndpointRecord) → TableStands v t →
+    filter_map (start_move label state) v.devices ++ filter_map (settled_in v.devices label state) v.pending ≡ all_moves t label state
 moves_are v t label state s =
     ap (λ (d : List (ℕ × Device)). filter_map (start_move label state) d ++ filter_map (settled_in d label state) v.pending) s.devices
     ∙ (ap (λ (l : List Pending). filter_map (start_move label state) (map (unit_of t.states) t.units) ++ filter_map (settled_in (map (unit_of t.states) t.units) label state) l) s.pending
@@ -137,12 +141,14 @@ moves_are v t label state s =
 
 -- ---- the requests
 both_follow : (t : DriverTable) (answers : List (ℕ × Ending)) (sends : List (ℕ × EndpointRecord)) (ask : Request → Option Move) (requests : List Request) →
-    AllByRecursion (λ (r : Request). values_of r.id answers ≡ cond (is_pending t.answers r) (endings (ask r)) []) requests → AllByRecursion (λ (r : Request). values_of r.id sends ≡ cond (is_pending t.answers r) (targets (ask r)) []) requests →
+    AllByRecursion (λ (r : Request). values_of r.id answers ≡ cond (is_pending t.answers r) (endings (ask r)) []) requests →
+    AllByRecursion (λ (r : Request). values_of r.id sends ≡ cond (is_pending t.answers r) (targets (ask r)) []) requests →
     AllByRecursion (λ (r : Request). Follows t answers sends r (ask r)) requests
 both_follow t answers sends ask [] a s = tt
 both_follow t answers sends ask (r ∷ requests) a s = (record { answered = a.0; sent = s.0 }, both_follow t answers sends ask requests a.1 s.1)
 
-pub all_follow : (t : DriverTable) (label : List ℕ) (state : Option EndpointRecord) → IsTableReached t → AllByRecursion (λ (r : Request). Follows t (more_answers t label state) (more_sends t label state) r (settle t.units label state r)) t.requests
+pub all_follow : (t : DriverTable) (label : List ℕ) (state : Option EndpointRecord) → IsTableReached t →
+    AllByRecursion (λ (r : Request). Follows t (more_answers t label state) (more_sends t label state) r (settle t.units label state r)) t.requests
 all_follow t label state h =
     both_follow t (more_answers t label state) (more_sends t label state) ask t.requests
     (each_left answered endings answers_left ask (settle_own t.units label state) (is_pending t.answers) t.requests h.distinct)
@@ -157,7 +163,7 @@ all_differ [] id e = tt
 all_differ (r ∷ requests) id e = let l = or_parts (r.id == id) (is_requested requests id) e in (l.0, all_differ requests id l.1)
 
 -- ---- labels
--- a new state of a label that has a unit says nothing of one that has none
+-- a new state of a label that has a unit changes nothing for a label that has none
 labels_still : (t : DriverTable) (label : List ℕ) (state : Option EndpointRecord) → has_label t.units label ≡ true → IsTableReached t → (other : List ℕ) → has_label t.units other ≡ false →
     (endpoint_now (notes t label state).states other ≡ None) × (newest (notes t label state).states other ≡ None)
 labels_still t label state has h other none = by (is_same_name label other) refl
@@ -197,13 +203,15 @@ current_still t label state old h other e k = by (is_same_name label other) refl
         let is : state ≡ Some e = sym (now_after t.states s other ∙ ap (λ (b : Bool). cond b state (endpoint_now t.states other)) q) ∙ k in
         let old_here : is_old (newest t.states other) (endpoint_now t.states other) (Some e) ≡ false =
         ap (is_old (newest t.states other) (endpoint_now t.states other)) (sym is) ∙ (ap (λ (l : List ℕ). is_old (newest t.states l) (endpoint_now t.states l) state) (sym (same_name label other q)) ∙ old) in
-        newest_after t.states s other ∙ (ap (λ (b : Bool). cond b (newer (newest t.states other) state) (newest t.states other)) q ∙ (ap (newer (newest t.states other)) is ∙ newer_is (newest t.states other) (endpoint_now t.states other) e old_here))
+        newest_after t.states s other ∙ (ap (λ (b : Bool). cond b (newer (newest t.states other) state) (newest t.states other)) q ∙
+        (ap (newer (newest t.states other)) is ∙ newer_is (newest t.states other) (endpoint_now t.states other) e old_here))
     by false q =
         let before : endpoint_now t.states other ≡ Some e = sym (now_after t.states s other ∙ ap (λ (b : Bool). cond b state (endpoint_now t.states other)) q) ∙ k in
         newest_after t.states s other ∙ (ap (λ (b : Bool). cond b (newer (newest t.states other) state) (newest t.states other)) q ∙ h.current other e before)
 
 -- ---- each request is served by the driver that there is now
-served_moved : (t : DriverTable) (label : List ℕ) (state : Option EndpointRecord) (requests : List Request) → AllByRecursion (λ (r : Request). Follows t (more_answers t label state) (more_sends t label state) r (settle t.units label state r)) requests →
+served_moved : (t : DriverTable) (label : List ℕ) (state : Option EndpointRecord) (requests : List Request) →
+    AllByRecursion (λ (r : Request). Follows t (more_answers t label state) (more_sends t label state) r (settle t.units label state r)) requests →
     AllByRecursion (IsRequestServed t) requests → AllByRecursion (IsRequestServed (moved t label state)) requests
 served_moved t label state [] f h = tt
 served_moved t label state (r ∷ requests) f h = (
@@ -229,7 +237,8 @@ served_moved t label state (r ∷ requests) f h = (
     fits true Character state = tt
     fits true Network state = tt
 
-    reaches : (b : Bool) → is_same_name label d.label ≡ b → (class : Class) (new : Option EndpointRecord) → new ≡ state → Reaches (endpoint_now t.states d.label) (endpoint_now (t.states ++ s ∷ []) d.label) (cond b (settled class r.id new) None)
+    reaches : (b : Bool) → is_same_name label d.label ≡ b → (class : Class) (new : Option EndpointRecord) → new ≡ state →
+        Reaches (endpoint_now t.states d.label) (endpoint_now (t.states ++ s ∷ []) d.label) (cond b (settled class r.id new) None)
     reaches false q class new n e now silent = inr (refl, sym (now_after t.states s d.label ∙ ap (λ (b : Bool). cond b state (endpoint_now t.states d.label)) q) ∙ now)
     reaches true q Block None n e now silent = let k : None ≡ Some e = n ∙ (sym (now_after t.states s d.label ∙ ap (λ (b : Bool). cond b state (endpoint_now t.states d.label)) q) ∙ now) in cc
     reaches true q Block (Some f) n e now silent = let k : f ≡ e = same f e (n ∙ (sym (now_after t.states s d.label ∙ ap (λ (b : Bool). cond b state (endpoint_now t.states d.label)) q) ∙ now)) in inl (ap (λ (x : EndpointRecord). x ∷ []) k)
@@ -239,7 +248,8 @@ served_moved t label state (r ∷ requests) f h = (
     reaches true q Character new n e now silent = cc
     reaches true q Network new n e now silent = cc
 
-pub reached_moved : (t : DriverTable) (label : List ℕ) (state : Option EndpointRecord) → IsTableReached t → has_label t.units label ≡ true → is_old (newest t.states label) (endpoint_now t.states label) state ≡ false → IsTableReached (moved t label state)
+pub reached_moved : (t : DriverTable) (label : List ℕ) (state : Option EndpointRecord) → IsTableReached t → has_label t.units label ≡ true →
+    is_old (newest t.states label) (endpoint_now t.states label) state ≡ false → IsTableReached (moved t label state)
 reached_moved t label state h has old = record {
   units = h.units;
   labels = labels_still t label state has h;
@@ -248,8 +258,12 @@ reached_moved t label state h has old = record {
   unasked = λ k none.
       let before = h.unasked k none in
       let differ = all_differ t.requests k none in (
-        values-append k t.sends (more_sends t label state) ∙ (ap (λ (l : List EndpointRecord). l ++ values_of k (more_sends t label state)) before.0 ∙ none_left sent targets sends_left ask (settle_own t.units label state) (is_pending t.answers) k t.requests differ),
-        values-append k t.answers (more_answers t label state) ∙ (ap (λ (l : List Ending). l ++ values_of k (more_answers t label state)) before.1 ∙ none_left answered endings answers_left ask (settle_own t.units label state) (is_pending t.answers) k t.requests differ),
+        values-append k t.sends (more_sends t label state) ∙
+            (ap (λ (l : List EndpointRecord). l ++ values_of k (more_sends t label state)) before.0 ∙
+            none_left sent targets sends_left ask (settle_own t.units label state) (is_pending t.answers) k t.requests differ),
+        values-append k t.answers (more_answers t label state) ∙
+            (ap (λ (l : List Ending). l ++ values_of k (more_answers t label state)) before.1 ∙
+            none_left answered endings answers_left ask (settle_own t.units label state) (is_pending t.answers) k t.requests differ),
       );
   served = served_moved t label state t.requests (all_follow t label state h) h.served;
 }
@@ -257,7 +271,7 @@ reached_moved t label state h has old = record {
     ask : Request → Option Move
     ask = settle t.units label state
 
--- the state that a label has already leaves all but its note as it is
+-- the state that a label has already changes nothing but the list of states
 pub same_state : (a b : Option EndpointRecord) → is_same_state a b ≡ true → a ≡ b
 same_state None None h = refl
 same_state None (Some e) h = cc
@@ -278,12 +292,14 @@ now_still t label state same other = now_after t.states s other ∙ by (is_same_
     by true q = sym (same_state (endpoint_now t.states label) state same) ∙ ap (endpoint_now t.states) (same_name label other q)
     by false q = refl
 
-served_noted : (t : DriverTable) (label : List ℕ) (state : Option EndpointRecord) → is_same_state (endpoint_now t.states label) state ≡ true → (requests : List Request) → AllByRecursion (IsRequestServed t) requests → AllByRecursion (IsRequestServed (notes t label state)) requests
+served_noted : (t : DriverTable) (label : List ℕ) (state : Option EndpointRecord) → is_same_state (endpoint_now t.states label) state ≡ true → (requests : List Request) →
+    AllByRecursion (IsRequestServed t) requests → AllByRecursion (IsRequestServed (notes t label state)) requests
 served_noted t label state same [] h = tt
 served_noted t label state same (r ∷ requests) h =
     (record { driver = h.0.driver; found = h.0.found; answered = h.0.answered; sent = λ none e now. h.0.sent none e (sym (now_still t label state same h.0.driver.label) ∙ now) }, served_noted t label state same requests h.1)
 
-pub reached_noted : (t : DriverTable) (label : List ℕ) (state : Option EndpointRecord) → IsTableReached t → has_label t.units label ≡ true → is_old (newest t.states label) (endpoint_now t.states label) state ≡ false → is_same_state (endpoint_now t.states label) state ≡ true → IsTableReached (notes t label state)
+pub reached_noted : (t : DriverTable) (label : List ℕ) (state : Option EndpointRecord) → IsTableReached t → has_label t.units label ≡ true →
+    is_old (newest t.states label) (endpoint_now t.states label) state ≡ false → is_same_state (endpoint_now t.states label) state ≡ true → IsTableReached (notes t label state)
 reached_noted t label state h has old same = record {
   units = h.units;
   labels = labels_still t label state has h;
@@ -298,20 +314,23 @@ notes_is t label state =
     ap (λ (l : List (ℕ × EndpointRecord)). record (notes t label state) { sends = l; answers = t.answers ++ [] }) (append-nil t.sends)
     ∙ ap (λ (l : List (ℕ × Ending)). record (notes t label state) { answers = l }) (append-nil t.answers)
 
--- ---- what the value stands for afterwards
-follow_kept : (t : DriverTable) (label : List ℕ) (state : Option EndpointRecord) (answers : List (ℕ × Ending)) (sends : List (ℕ × EndpointRecord)) (requests : List Request) → AllByRecursion (λ (r : Request). Follows t answers sends r (settle t.units label state r)) requests →
+-- ---- the table that the value stands for afterwards
+follow_kept : (t : DriverTable) (label : List ℕ) (state : Option EndpointRecord) (answers : List (ℕ × Ending)) (sends : List (ℕ × EndpointRecord)) (requests : List Request) →
+    AllByRecursion (λ (r : Request). Follows t answers sends r (settle t.units label state r)) requests →
     AllByRecursion (λ (r : Request). Follows t answers sends r (settled_in (map (unit_of t.states) t.units) label state (pending_of t.sends r))) requests
 follow_kept t label state answers sends [] f = tt
 follow_kept t label state answers sends (r ∷ requests) f =
     (subst (Follows t answers sends r) (sym (settles_as t.states t.units label state r (pending_of t.sends r) refl refl)) f.0, follow_kept t label state answers sends requests f.1)
 
-pub stands_moved : (v : TableRecord) (t : DriverTable) (label : List ℕ) (state : Option EndpointRecord) (devices : List (ℕ × Device)) (left : List Pending) → TableStands v t → has_label t.units label ≡ true → is_old (newest t.states label) (endpoint_now t.states label) state ≡ false →
+pub stands_moved : (v : TableRecord) (t : DriverTable) (label : List ℕ) (state : Option EndpointRecord) (devices : List (ℕ × Device)) (left : List Pending) → TableStands v t →
+    has_label t.units label ≡ true → is_old (newest t.states label) (endpoint_now t.states label) state ≡ false →
     devices ≡ map (noted label state) v.devices → left ≡ retain_mut (is_kept_in v.devices label state) (kept_in v.devices label state) v.pending →
     TableStands (record { devices = devices; pending = left; last = v.last }) (does (notes t label state) (all_moves t label state))
 stands_moved v t label state devices left s has old d e = subst (TableStands (record { devices = devices; pending = left; last = v.last })) (sym (does_is t label state)) (record {
   devices = d ∙ (ap (map (noted label state)) s.devices ∙ noted_all t.states t.units label state);
   pending = e ∙ (ap (λ (l : List (ℕ × Device)). retain_mut (is_kept_in l label state) (kept_in l label state) v.pending) s.devices ∙ (ap (retain_mut (is_kept_in kept label state) (kept_in kept label state)) s.pending
-      ∙ pending_after t (more_answers t label state) (more_sends t label state) (settled_in kept label state) t.requests (follow_kept t label state (more_answers t label state) (more_sends t label state) t.requests (all_follow t label state s.reached))));
+      ∙ pending_after t (more_answers t label state) (more_sends t label state) (settled_in kept label state) t.requests
+      (follow_kept t label state (more_answers t label state) (more_sends t label state) t.requests (all_follow t label state s.reached))));
   last = s.last;
   reached = reached_moved t label state s.reached has old;
 })
@@ -319,7 +338,8 @@ stands_moved v t label state devices left s has old d e = subst (TableStands (re
     kept : List (ℕ × Device)
     kept = map (unit_of t.states) t.units
 
-pub stands_noted : (v : TableRecord) (t : DriverTable) (label : List ℕ) (state : Option EndpointRecord) (devices : List (ℕ × Device)) → TableStands v t → has_label t.units label ≡ true → is_old (newest t.states label) (endpoint_now t.states label) state ≡ false →
+pub stands_noted : (v : TableRecord) (t : DriverTable) (label : List ℕ) (state : Option EndpointRecord) (devices : List (ℕ × Device)) → TableStands v t →
+    has_label t.units label ≡ true → is_old (newest t.states label) (endpoint_now t.states label) state ≡ false →
     is_same_state (endpoint_now t.states label) state ≡ true → devices ≡ map (noted label state) v.devices → TableStands (record { devices = devices; pending = v.pending; last = v.last }) (does (notes t label state) [])
 stands_noted v t label state devices s has old same d = subst (TableStands (record { devices = devices; pending = v.pending; last = v.last })) (sym (notes_is t label state)) (record {
   devices = d ∙ (ap (map (noted label state)) s.devices ∙ noted_all t.states t.units label state);

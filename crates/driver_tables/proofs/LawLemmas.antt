@@ -164,7 +164,8 @@ unfolding IsDistinct
 find_itself [] h = tt
 find_itself (r ∷ requests) h = (ap (λ (b : Bool). cond b (Some r) (find (is_for r.id) requests)) (equal_itself r.id), later requests h.0 (find_itself requests h.1))
   where
-    later : (l : List Request) → AllByRecursion (λ (s : Request). r.id == s.id ≡ false) l → AllByRecursion (λ (s : Request). find (is_for s.id) requests ≡ Some s) l → AllByRecursion (λ (s : Request). find (is_for s.id) (r ∷ requests) ≡ Some s) l
+    later : (l : List Request) → AllByRecursion (λ (s : Request). r.id == s.id ≡ false) l → AllByRecursion (λ (s : Request). find (is_for s.id) requests ≡ Some s) l →
+        AllByRecursion (λ (s : Request). find (is_for s.id) (r ∷ requests) ≡ Some s) l
     later [] d f = tt
     later (s ∷ l) d f = (ap (λ (b : Bool). cond b (Some r) (find (is_for s.id) requests)) d.0 ∙ f.0, later l d.1 f.1)
 
@@ -176,7 +177,8 @@ find_new (r ∷ requests) new h = ap (λ (b : Bool). cond b (Some r) (find (is_f
 now_is : (t : DriverTable) (label : List ℕ) (e : EndpointRecord) (d : Driver) → is_same_name label d.label ≡ true → endpoint_now (notes t label (Some e)).states d.label ≡ Some e
 now_is t label e d q = now_after t.states (record { label = label; endpoint = Some e }) d.label ∙ ap (λ (b : Bool). cond b (Some e) (endpoint_now t.states d.label)) q
 
-starts_go : (t u : DriverTable) (label : List ℕ) (state : Option EndpointRecord) → IsTableReached u → u.units ≡ t.units → u.states ≡ (notes t label state).states → (units : List (ℕ × Driver)) → AllByRecursion (λ (x : ℕ × Driver). driver_of t.units x.0 ≡ Some x.1) units →
+starts_go : (t u : DriverTable) (label : List ℕ) (state : Option EndpointRecord) → IsTableReached u → u.units ≡ t.units → u.states ≡ (notes t label state).states →
+    (units : List (ℕ × Driver)) → AllByRecursion (λ (x : ℕ × Driver). driver_of t.units x.0 ≡ Some x.1) units →
     AllByRecursion (GoesToLiving u) (filter_map (start label state) units)
 starts_go t u label state h same states [] f = tt
 starts_go t u label state h same states (x ∷ units) f = by (is_same_name label x.1.label) refl x.1.class state refl (starts_go t u label state h same states units f.1)
@@ -184,16 +186,19 @@ starts_go t u label state h same states (x ∷ units) f = by (is_same_name label
     rest_of : List Move
     rest_of = filter_map (start label state) units
 
-    by : (b : Bool) → is_same_name label x.1.label ≡ b → (class : Class) (s : Option EndpointRecord) → s ≡ state → AllByRecursion (GoesToLiving u) rest_of → AllByRecursion (GoesToLiving u) (cons_option (cond b (network_start class x.0 s) None) rest_of)
+    by : (b : Bool) → is_same_name label x.1.label ≡ b → (class : Class) (s : Option EndpointRecord) → s ≡ state → AllByRecursion (GoesToLiving u) rest_of →
+        AllByRecursion (GoesToLiving u) (cons_option (cond b (network_start class x.0 s) None) rest_of)
     by false q class s n rest = rest
     by true q Block s n rest = rest
     by true q Character s n rest = rest
     by true q Network None n rest = rest
     by true q Network (Some e) n rest =
-        let now : endpoint_now u.states x.1.label ≡ Some e = ap (λ (l : List LabelState). endpoint_now l x.1.label) states ∙ (ap (λ (s : Option EndpointRecord). endpoint_now (notes t label s).states x.1.label) (sym n) ∙ now_is t label e x.1 q) in
+        let now : endpoint_now u.states x.1.label ≡ Some e = ap (λ (l : List LabelState). endpoint_now l x.1.label) states ∙
+        (ap (λ (s : Option EndpointRecord). endpoint_now (notes t label s).states x.1.label) (sym n) ∙ now_is t label e x.1 q) in
         (record { driver = x.1; found = ap (λ (l : List (ℕ × Driver)). driver_of l x.0) same ∙ f.0; now = now; greatest = h.current x.1.label e now }, rest)
 
-settles_go : (t u : DriverTable) (label : List ℕ) (state : Option EndpointRecord) → IsTableReached u → u.units ≡ t.units → u.states ≡ (notes t label state).states → u.requests ≡ t.requests → (test : Request → Bool) (requests : List Request) → AllByRecursion (λ (r : Request). find (is_for r.id) t.requests ≡ Some r) requests →
+settles_go : (t u : DriverTable) (label : List ℕ) (state : Option EndpointRecord) → IsTableReached u → u.units ≡ t.units → u.states ≡ (notes t label state).states →
+    u.requests ≡ t.requests → (test : Request → Bool) (requests : List Request) → AllByRecursion (λ (r : Request). find (is_for r.id) t.requests ≡ Some r) requests →
     AllByRecursion (GoesToLiving u) (filter_map (settle t.units label state) (filter test requests))
 settles_go t u label state h same states asked test [] f = tt
 settles_go t u label state h same states asked test (r ∷ requests) f = by_pending (test r) (settles_go t u label state h same states asked test requests f.1)
@@ -201,7 +206,8 @@ settles_go t u label state h same states asked test (r ∷ requests) f = by_pend
     rest_of : List Move
     rest_of = filter_map (settle t.units label state) (filter test requests)
 
-    by_class : (d : Driver) → driver_of t.units r.unit ≡ Some d → is_same_name label d.label ≡ true → (class : Class) (s : Option EndpointRecord) → s ≡ state → AllByRecursion (GoesToLiving u) rest_of → AllByRecursion (GoesToLiving u) (cons_option (settled class r.id s) rest_of)
+    by_class : (d : Driver) → driver_of t.units r.unit ≡ Some d → is_same_name label d.label ≡ true → (class : Class) (s : Option EndpointRecord) → s ≡ state →
+        AllByRecursion (GoesToLiving u) rest_of → AllByRecursion (GoesToLiving u) (cons_option (settled class r.id s) rest_of)
     by_class d found q Block None n rest = rest
     by_class d found q Block (Some e) n rest =
         let now : endpoint_now u.states d.label ≡ Some e = ap (λ (l : List LabelState). endpoint_now l d.label) states ∙ (ap (λ (s : Option EndpointRecord). endpoint_now (notes t label s).states d.label) (sym n) ∙ now_is t label e d q) in
@@ -209,7 +215,8 @@ settles_go t u label state h same states asked test (r ∷ requests) f = by_pend
     by_class d found q Character s n rest = (tt, rest)
     by_class d found q Network s n rest = (tt, rest)
 
-    by_test : (b : Bool) (d : Driver) → driver_of t.units r.unit ≡ Some d → is_same_name label d.label ≡ b → AllByRecursion (GoesToLiving u) rest_of → AllByRecursion (GoesToLiving u) (cons_option (cond b (settled d.class r.id state) None) rest_of)
+    by_test : (b : Bool) (d : Driver) → driver_of t.units r.unit ≡ Some d → is_same_name label d.label ≡ b → AllByRecursion (GoesToLiving u) rest_of →
+        AllByRecursion (GoesToLiving u) (cons_option (cond b (settled d.class r.id state) None) rest_of)
     by_test false d found q rest = rest
     by_test true d found q rest = by_class d found q d.class state refl rest
 
@@ -244,16 +251,19 @@ goes_so t (Submit id unit) moves h after e = by (is_above t.requests id) refl (d
     r : Request
     r = record { id = id; unit = unit }
 
-    one : (d : Driver) → is_above t.requests id ≡ true → driver_of t.units unit ≡ Some d → IsTableReached (does (with_request t r) (move_of t r d ∷ [])) → (s : Option EndpointRecord) → endpoint_now t.states d.label ≡ s → (class : Class) → GoesToLiving (does (with_request t r) (move_of t r d ∷ [])) (submitted class id s)
+    one : (d : Driver) → is_above t.requests id ≡ true → driver_of t.units unit ≡ Some d → IsTableReached (does (with_request t r) (move_of t r d ∷ [])) →
+        (s : Option EndpointRecord) → endpoint_now t.states d.label ≡ s → (class : Class) → GoesToLiving (does (with_request t r) (move_of t r d ∷ [])) (submitted class id s)
     one d above found after (Some e) now class = (r, find_new t.requests r (other_ids t.requests id above), record { driver = d; found = found; now = now; greatest = after.current d.label e now })
     one d above found after None now Block = tt
     one d above found after None now Character = tt
     one d above found after None now Network = tt
 
-    by : (above : Bool) → is_above t.requests id ≡ above → (d : Option Driver) → driver_of t.units unit ≡ d → IsTableReached (submitted_so t r above d).1 → one_move (submitted_so t r above d).0 ≡ Ok moves → AllByRecursion (GoesToLiving (submitted_so t r above d).1) moves
+    by : (above : Bool) → is_above t.requests id ≡ above → (d : Option Driver) → driver_of t.units unit ≡ d → IsTableReached (submitted_so t r above d).1 →
+        one_move (submitted_so t r above d).0 ≡ Ok moves → AllByRecursion (GoesToLiving (submitted_so t r above d).1) moves
     by false a d found after e = cc
     by true a None found after e = cc
-    by true a (Some d) found after e = let this : move_of t r d ∷ [] ≡ moves = cc in subst (AllByRecursion (GoesToLiving (does (with_request t r) (move_of t r d ∷ [])))) this (one d a found after (endpoint_now t.states d.label) refl d.class, tt)
+    by true a (Some d) found after e = let this : move_of t r d ∷ [] ≡ moves = cc in
+        subst (AllByRecursion (GoesToLiving (does (with_request t r) (move_of t r d ∷ [])))) this (one d a found after (endpoint_now t.states d.label) refl d.class, tt)
 goes_so t (Reply endpoint id) moves h after e = by (is_requested (pending t) id) (is_same_state (last_sent t.sends id) (Some endpoint)) e
   where
     by : (there same : Bool) → one_move (replied_so t id there same).0 ≡ Ok moves → AllByRecursion (GoesToLiving (replied_so t id there same).1) moves

@@ -1,4 +1,4 @@
--- Lists that a loop goes through, and look-ups in longer ones.
+-- Lists that a loop walks, and look-ups in longer lists.
 use Rattle.std.proofs.Common.{◌≡◌, ◌≢◌, ℕ, ◌+◌, Bool, true, false, cond, List, [], ◌∷◌, ◌++◌, length, drop, take, map, Option, Some, None, zero, suc, refl, sym, ap, ◌∙◌, subst, arith}
 use Rattle.std.specs.List.{slice_get, filter_map, cons_option, find, retain_mut, last_or}
 use Rattle.std.specs.List.Retain.{RetainsInTurn}
@@ -6,7 +6,7 @@ use Rattle.std.specs.Map.{lookup}
 use Rattle.std.specs.Option.{option_to_list}
 use Rattle.indexmap.specs.IndexMap.{set_value_at}
 
--- what stands at an index is the first of what is left there
+-- the element at an index is the first of the rest from there
 pub drop_at_get : {X : Type 0} (xs : List X) (i : ℕ) (x : X) → slice_get xs i ≡ Some x → drop i xs ≡ x ∷ drop (i + 1) xs
 drop_at_get [] i x e = cc
 drop_at_get (y ∷ ys) zero x e = let h : y ≡ x = cc in ap (λ z. z ∷ ys) h
@@ -14,7 +14,7 @@ drop_at_get (y ∷ ys) (suc i) x e =
     let n : suc i + 1 ≡ suc (i + 1) = omega arith in
     drop_at_get ys i x e ∙ ap (λ (l : List _). x ∷ l) (sym (ap (λ (k : ℕ). drop k (y ∷ ys)) n))
 
--- the first i are changed
+-- the list with its first i elements changed
 abbrev pub half : {X : Type 0} → (X → X) → ℕ → List X → List X
 half f zero xs = xs
 half f (suc i) [] = []
@@ -48,7 +48,7 @@ length-half f zero xs = refl
 length-half f (suc i) [] = refl
 length-half f (suc i) (x ∷ xs) = ap suc (length-half f i xs)
 
--- one more of the list is gone through
+-- one more element of the list is walked
 pub filter_map_more : {X Y : Type 0} (h : X → Option Y) (xs : List X) (i : ℕ) (x : X) → slice_get xs i ≡ Some x → filter_map h (take (i + 1) xs) ≡ filter_map h (take i xs) ++ option_to_list (h x)
 filter_map_more h [] i x e = cc
 filter_map_more h (y ∷ ys) zero x e = let k : y ≡ x = cc in ap (λ z. filter_map h (z ∷ [])) k ∙ one h x
@@ -63,14 +63,14 @@ filter_map_more h (y ∷ ys) (suc i) x e =
     onto None ys zs = refl
     onto (Some y) ys zs = refl
 
--- what a search finds at an index, and what it leaves to those behind
+-- a search that finds the element at an index returns it; otherwise it searches the rest
 pub find_here : {X : Type 0} (p : X → Bool) (xs : List X) (i : ℕ) (x : X) → slice_get xs i ≡ Some x → find p (drop i xs) ≡ find p xs → p x ≡ true → find p xs ≡ Some x
 find_here {X} p xs i x e h t = sym h ∙ (ap (find p) (drop_at_get xs i x e) ∙ ap (λ (b : Bool). cond b (Some x) (find p (drop (i + 1) xs))) t)
 
 pub find_next : {X : Type 0} (p : X → Bool) (xs : List X) (i : ℕ) (x : X) → slice_get xs i ≡ Some x → find p (drop i xs) ≡ find p xs → p x ≡ false → find p (drop (i + 1) xs) ≡ find p xs
 find_next {X} p xs i x e h t = sym (ap (find p) (drop_at_get xs i x e) ∙ ap (λ (b : Bool). cond b (Some x) (find p (drop (i + 1) xs))) t) ∙ h
 
--- what calls keep and change, where each does as a test and a function say and leaves the closure as it was
+-- the result of `retain_mut` with a closure that follows `test` and `change` and is itself unchanged
 pub retained : {X F : Type 0} (R : F → X → Bool → F → X → Type 0) (test : X → Bool) (change : X → X) (f : F) →
     ((x : X) (b : Bool) (g : F) (y : X) → R f x b g y → (b ≡ test x) × (g ≡ f) × (y ≡ change x)) →
     (xs ys : List X) → RetainsInTurn R f xs ys → ys ≡ retain_mut test change xs
@@ -85,7 +85,7 @@ pub last_or-append : {X : Type 0} (o : Option X) (xs ys : List X) → last_or o 
 last_or-append o [] ys = refl
 last_or-append o (x ∷ xs) ys = last_or-append (Some x) xs ys
 
--- what a look-up found stays found in a longer list, and what it didn't is looked for in what was added
+-- a look-up that found something finds the same in a longer list; otherwise it searches what was added
 pub lookup_kept : {K X : Type 0} (test : K → Bool) (xs ys : List (K × X)) (x : X) → lookup test xs ≡ Some x → lookup test (xs ++ ys) ≡ Some x
 lookup_kept test [] ys x e = cc
 lookup_kept {K} {X} test (p ∷ xs) ys x e = by (test p.0) e (lookup_kept test xs ys x)
@@ -102,7 +102,7 @@ lookup_added {K} {X} test (p ∷ xs) ys e = by (test p.0) e (lookup_added test x
     by true e rest = cc
     by false e rest = rest e
 
--- what one item gives is in the list of what all give
+-- the value of one element is in the list of all values
 pub filter_map_some : {X Y : Type 0} (h : X → Option Y) (xs : List X) (i : ℕ) (x : X) → slice_get xs i ≡ Some x → h x ≢ None → filter_map h xs ≢ []
 filter_map_some h [] i x e some = cc
 filter_map_some h (y ∷ ys) zero x e some = let k : y ≡ x = cc in by (h y) (filter_map h ys) (λ n. some (sym (ap h k) ∙ n))

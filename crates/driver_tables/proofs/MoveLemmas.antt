@@ -1,4 +1,4 @@
--- What moves leave for each id.
+-- The sends and answers that moves leave for each id.
 use Rattle.std.proofs.Common.{◌≡◌, ℕ, ◌==◌, Bool, true, false, cond, List, [], ◌∷◌, ◌++◌, filter, Option, Some, None, refl, sym, ap, ◌∙◌, append-nil}
 use Rattle.std.specs.List.{filter_map, flat_map, cons_option, AllByRecursion, IsDistinct}
 use Rattle.std.proofs.lemmas.List.Elements.{filter_map-append}
@@ -15,7 +15,7 @@ values-append id xs ys = filter_map-append (value_for id) xs ys
 
 -- ---- one move, or none
 
--- what it leaves
+-- its answers
 abbrev pub answered : Option Move → List (ℕ × Ending)
 answered None = []
 answered (Some m) = answered_by m
@@ -24,7 +24,7 @@ abbrev pub sent : Option Move → List (ℕ × EndpointRecord)
 sent None = []
 sent (Some m) = sends_of m
 
--- the same, without the id
+-- its answers, without the id
 abbrev pub endings : Option Move → List Ending
 endings (Some (Answer id ending)) = ending ∷ []
 endings _ = []
@@ -33,13 +33,13 @@ abbrev pub targets : Option Move → List EndpointRecord
 targets (Some (Send id e)) = e ∷ []
 targets _ = []
 
--- it is of this id
+-- whether it is of this id
 abbrev pub IsOf : Option Move → ℕ → Type 0
 IsOf (Some (Send i e)) id = i ≡ id
 IsOf (Some (Answer i ending)) id = i ≡ id
 IsOf _ id = Unit {0}
 
--- what a list of moves leaves for an id, where each is of some id: one list for answers, one for sends
+-- the values that a list of moves leaves for an id, each move being of some id: one list for answers, one for sends
 pub record IsLeft {X : Type 0} (all : Option Move → List (ℕ × X)) (values : Option Move → List X) : Type 0 where
   pub own : (m : Option Move) (id : ℕ) → IsOf m id → values_of id (all m) ≡ values m
   pub other : (m : Option Move) (id k : ℕ) → IsOf m id → id == k ≡ false → values_of k (all m) ≡ []
@@ -86,7 +86,7 @@ sends_left = record { own = own; other = other }
 
 -- ---- a move for each request that passes a test
 
--- what they leave
+-- the values that these moves leave
 abbrev pub parts : {X : Type 0} → (Option Move → List (ℕ × X)) → (Request → Option Move) → (Request → Bool) → List Request → List (ℕ × X)
 parts all ask test [] = []
 parts all ask test (r ∷ requests) = cond (test r) (all (ask r)) [] ++ parts all ask test requests
@@ -106,7 +106,7 @@ parts_are {X} by all none some ask test (r ∷ requests) = at (test r) (parts_ar
     at true rest = one (ask r) rest
 
 module _ {X : Type 0} (all : Option Move → List (ℕ × X)) (values : Option Move → List X) (left : IsLeft all values) (ask : Request → Option Move) (own : (r : Request) → IsOf (ask r) r.id) (test : Request → Bool) where
-  -- what is left of one request
+  -- the values that one request's move leaves
   abbrev pub part : Request → List (ℕ × X)
   part r = cond (test r) (all (ask r)) []
 
@@ -141,7 +141,7 @@ module _ {X : Type 0} (all : Option Move → List (ℕ × X)) (values : Option M
   turned r [] d = tt
   turned r (s ∷ requests) d = (equal_turned s.id r.id ∙ d.0, turned r requests d.1)
 
-  -- each request is left its own, where no two have one id
+  -- each request gets its own values, if no two have the same id
   pub each_left : (requests : List Request) → IsDistinct (λ (r s : Request). r.id == s.id) requests → AllByRecursion (λ (r : Request). values_of r.id (parts all ask test requests) ≡ value r) requests
   unfolding IsDistinct
   each_left [] h = tt

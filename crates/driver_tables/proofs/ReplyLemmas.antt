@@ -1,4 +1,4 @@
--- What a reply leaves.
+-- A reply leaves a table that stands.
 use Rattle.std.proofs.Common.{◌≡◌, ℕ, ◌==◌, ◌||◌, Bool, true, false, not, cond, List, [], ◌∷◌, ◌++◌, filter, Option, Some, None, Result, Ok, Err, refl, sym, ap, ◌∙◌, append-nil, inr}
 use Rattle.std.specs.Option.{option_map}
 use Rattle.std.specs.List.{retain_mut, find, AllByRecursion}
@@ -23,11 +23,11 @@ use Rattle.driver_tables.proofs.MoveLemmas.{values-append, endings, targets, ans
 use Rattle.driver_tables.proofs.RequestLemmas.{Follows, pending_after, served_after}
 use Rattle.driver_tables.proofs.StandsLemmas.{sent_kept}
 
--- ---- the answer
 abbrev judged : DriverTable → ℕ → Bool → Bool → Result Move TableFault × DriverTable
 judged t id there same = cond there (cond same (Ok (Answer id Done), finishes t id) (Err OldEndpoint, t)) (Err NotPending, t)
 
-pub reply_missing : (v : TableRecord) (t : DriverTable) (endpoint : EndpointRecord) (id : ℕ) → TableStands v t → option_map (λ (p : Pending). p.sent) (find (λ (p : Pending). p.id == id) v.pending) ≡ None → replying t endpoint id ≡ (Err NotPending, t)
+pub reply_missing : (v : TableRecord) (t : DriverTable) (endpoint : EndpointRecord) (id : ℕ) → TableStands v t →
+    option_map (λ (p : Pending). p.sent) (find (λ (p : Pending). p.id == id) v.pending) ≡ None → replying t endpoint id ≡ (Err NotPending, t)
 reply_missing v t endpoint id s e = by (is_requested (pending t) id) (sym (sent_kept v t id s) ∙ e)
   where
     by : (b : Bool) → cond b (Some (last_sent t.sends id)) None ≡ None → judged t id b (is_same_state (last_sent t.sends id) (Some endpoint)) ≡ (Err NotPending, t)
@@ -42,14 +42,15 @@ reply_there v t id sent s e = by (is_requested (pending t) id) (sym (sent_kept v
     by true h = let k : last_sent t.sends id ≡ sent = cc in (refl, k)
     by false h = cc
 
-pub reply_judged : (v : TableRecord) (t : DriverTable) (endpoint : EndpointRecord) (id : ℕ) (sent : Option EndpointRecord) (same : Bool) → TableStands v t → option_map (λ (p : Pending). p.sent) (find (λ (p : Pending). p.id == id) v.pending) ≡ Some sent →
+pub reply_judged : (v : TableRecord) (t : DriverTable) (endpoint : EndpointRecord) (id : ℕ) (sent : Option EndpointRecord) (same : Bool) → TableStands v t →
+    option_map (λ (p : Pending). p.sent) (find (λ (p : Pending). p.id == id) v.pending) ≡ Some sent →
     is_same_state sent (Some endpoint) ≡ same → replying t endpoint id ≡ judged t id true same
 reply_judged v t endpoint id sent same s e h =
     let k = reply_there v t id sent s e in
     ap (λ (b : Bool). judged t id b (is_same_state (last_sent t.sends id) (Some endpoint))) k.0 ∙ (ap (λ (x : Option EndpointRecord). judged t id true (is_same_state x (Some endpoint))) k.1 ∙ ap (judged t id true) h)
 
--- ---- what it leaves
--- the request that is pending has no answer
+-- ---- the table afterwards
+-- the pending request has no answer
 pub open_id : (answers : List (ℕ × Ending)) (requests : List Request) (id : ℕ) → is_requested (filter (is_pending answers) requests) id ≡ true → is_empty (values_of id answers) ≡ true
 open_id answers [] id e = cc
 open_id answers (r ∷ requests) id e = by (is_pending answers r) refl (r.id == id) refl e (open_id answers requests id)
@@ -60,12 +61,13 @@ open_id answers (r ∷ requests) id e = by (is_pending answers r) refl (r.id == 
     by true p true q e rest = ap (λ (n : ℕ). is_empty (values_of n answers)) (sym (equal_number r.id id q)) ∙ p
     by true p false q e rest = rest (sym (ap (λ (b : Bool). b || is_requested (filter (is_pending answers) requests) id) q) ∙ e)
 
--- and is among those that were accepted
+-- and is among the accepted ones
 pub asked_all : (test : Request → Bool) (requests : List Request) (id : ℕ) → is_requested (filter test requests) id ≡ true → is_requested requests id ≡ true
 asked_all test [] id e = cc
 asked_all test (r ∷ requests) id e = by (test r) (r.id == id) refl e (asked_all test requests id)
   where
-    by : (b c : Bool) → r.id == id ≡ c → is_requested (cond b (r ∷ filter test requests) (filter test requests)) id ≡ true → (is_requested (filter test requests) id ≡ true → is_requested requests id ≡ true) → r.id == id || is_requested requests id ≡ true
+    by : (b c : Bool) → r.id == id ≡ c → is_requested (cond b (r ∷ filter test requests) (filter test requests)) id ≡ true →
+        (is_requested (filter test requests) id ≡ true → is_requested requests id ≡ true) → r.id == id || is_requested requests id ≡ true
     by b true q e rest = ap (λ (c : Bool). c || is_requested requests id) q
     by true false q e rest = ap (λ (c : Bool). c || is_requested requests id) q ∙ rest (sym (ap (λ (b : Bool). b || is_requested (filter test requests) id) q) ∙ e)
     by false false q e rest = ap (λ (c : Bool). c || is_requested requests id) q ∙ rest e
@@ -104,8 +106,11 @@ all_follow t id (r ∷ requests) o = (done_follows t id r o, all_follow t id req
 
 served_still : (t : DriverTable) (id : ℕ) (requests : List Request) → is_empty (values_of id t.answers) ≡ true → AllByRecursion (IsRequestServed t) requests → AllByRecursion (IsRequestServed (finishes t id)) requests
 served_still t id [] o h = tt
-served_still t id (r ∷ requests) o h =
-    (served_after t (finishes t id) ((id, Done) ∷ []) [] r (ending_for id r.id) (done_follows t id r o) h.0 refl refl h.0.found (λ p. fits (r.id == id) h.0.driver.class) (λ p e now silent. inr (no_target (r.id == id), now)), served_still t id requests o h.1)
+served_still t id (r ∷ requests) o h = (
+  served_after t (finishes t id) ((id, Done) ∷ []) [] r (ending_for id r.id) (done_follows t id r o) h.0 refl refl h.0.found (λ p. fits (r.id == id) h.0.driver.class)
+      (λ p e now silent. inr (no_target (r.id == id), now)),
+  served_still t id requests o h.1,
+)
   where
     no_target : (c : Bool) → targets (cond c (Some (Answer id Done)) None) ≡ []
     no_target true = refl
@@ -146,7 +151,9 @@ retained_others id (p ∷ l) = by (p.id == id) (retained_others id l)
     rest : List Pending
     rest = retain_mut (λ p. stays_pending (ending_for id p.id)) (λ p. kept_after (ending_for id p.id) p) l
 
-    by : (c : Bool) → filter (λ (p : Pending). not (p.id == id)) l ≡ rest → cond (not c) (p ∷ filter (λ (p : Pending). not (p.id == id)) l) (filter (λ (p : Pending). not (p.id == id)) l) ≡ cond (stays_pending (cond c (Some (Answer id Done)) None)) (kept_after (cond c (Some (Answer id Done)) None) p ∷ rest) rest
+    by : (c : Bool) → filter (λ (p : Pending). not (p.id == id)) l ≡ rest →
+        cond (not c) (p ∷ filter (λ (p : Pending). not (p.id == id)) l) (filter (λ (p : Pending). not (p.id == id)) l) ≡ cond (stays_pending (cond c (Some (Answer id Done)) None))
+        (kept_after (cond c (Some (Answer id Done)) None) p ∷ rest) rest
     by true e = e
     by false e = ap (λ (l : List Pending). p ∷ l) e
 

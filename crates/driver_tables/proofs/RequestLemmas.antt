@@ -1,4 +1,4 @@
--- What becomes of each request, where a call leaves it what a move of its own says.
+-- The state of each request, if a call leaves it what its own move says.
 use Rattle.std.proofs.Common.{◌≡◌, ℕ, Bool, true, false, cond, List, [], ◌∷◌, ◌++◌, map, filter, Option, Some, None, refl, sym, ap, ◌∙◌, subst, append-nil, ◌⊎◌, inl, inr}
 use Rattle.std.specs.List.{retain_mut, last_or, AllByRecursion}
 use Rattle.ds_names.specs.Endpoint.{EndpointRecord}
@@ -16,14 +16,14 @@ use Rattle.driver_tables.specs.Requests.{stays_pending, kept_after}
 use Rattle.driver_tables.proofs.ListLemmas.{last_or-append}
 use Rattle.driver_tables.proofs.MoveLemmas.{values-append, endings, targets}
 
--- what is added to the answers and sends of a table is for a pending request what the move says, and for another one nothing
+-- the added answers and sends are those of the move for a pending request, and none for another one
 pub record Follows (t : DriverTable) (answers : List (ℕ × Ending)) (sends : List (ℕ × EndpointRecord)) (r : Request) (m : Option Move) : Type 0 where
   pub answered : values_of r.id answers ≡ cond (is_pending t.answers r) (endings m) []
   pub sent : values_of r.id sends ≡ cond (is_pending t.answers r) (targets m) []
 
 -- ---- the list of pending requests
 
--- where the request was sent, as its move leaves it
+-- the endpoint that a request was last sent to, after its move
 sent_after : (old : List EndpointRecord) (r : Request) (m : Option Move) → stays_pending m ≡ true →
     record { id = r.id; unit = r.unit; sent = last_or None (old ++ targets m) } ≡ kept_after m (record { id = r.id; unit = r.unit; sent = last_or None old })
 sent_after old r None h = ap (λ (l : List EndpointRecord). record { id = r.id; unit = r.unit; sent = last_or None l }) (append-nil old)
@@ -32,7 +32,7 @@ sent_after old r (Some (Send i e)) h = ap (λ (o : Option EndpointRecord). recor
 sent_after old r (Some (Answer i f)) h = cc
 sent_after old r (Some (Held i)) h = ap (λ (l : List EndpointRecord). record { id = r.id; unit = r.unit; sent = last_or None l }) (append-nil old)
 
--- a pending request stays so unless its move answers it
+-- a request stays pending unless its move answers it
 pending_still : (m : Option Move) → is_empty (endings m) ≡ stays_pending m
 pending_still None = refl
 pending_still (Some (Start u e)) = refl
@@ -40,7 +40,7 @@ pending_still (Some (Send i e)) = refl
 pending_still (Some (Answer i f)) = refl
 pending_still (Some (Held i)) = refl
 
--- the pending requests afterwards are those before, each kept as its move says
+-- the pending requests afterwards are those before, each after its move
 pub pending_after : (t : DriverTable) (answers : List (ℕ × Ending)) (sends : List (ℕ × EndpointRecord)) (ask : Pending → Option Move) (requests : List Request) →
     AllByRecursion (λ (r : Request). Follows t answers sends r (ask (pending_of t.sends r))) requests →
     retain_mut (λ p. stays_pending (ask p)) (λ p. kept_after (ask p) p) (map (pending_of t.sends) (filter (is_pending t.answers) requests)) ≡ map (pending_of (t.sends ++ sends)) (filter (is_pending (t.answers ++ answers)) requests)
@@ -77,7 +77,9 @@ pending_after t answers sends ask (r ∷ requests) h = by (is_pending t.answers 
     more_old (x ∷ l) new e = refl
 
     by : (b : Bool) → is_pending t.answers r ≡ b → values_of r.id answers ≡ cond b (endings m) [] → values_of r.id sends ≡ cond b (targets m) [] → kept ≡ is →
-        retain_mut (λ p. stays_pending (ask p)) (λ p. kept_after (ask p) p) (map (pending_of t.sends) (cond b (r ∷ filter (is_pending t.answers) requests) (filter (is_pending t.answers) requests))) ≡ map (pending_of (t.sends ++ sends)) (cond (is_pending (t.answers ++ answers) r) (r ∷ filter (is_pending (t.answers ++ answers)) requests) (filter (is_pending (t.answers ++ answers)) requests))
+        retain_mut (λ p. stays_pending (ask p)) (λ p. kept_after (ask p) p)
+        (map (pending_of t.sends) (cond b (r ∷ filter (is_pending t.answers) requests) (filter (is_pending t.answers) requests))) ≡ map (pending_of (t.sends ++ sends))
+        (cond (is_pending (t.answers ++ answers) r) (r ∷ filter (is_pending (t.answers ++ answers)) requests) (filter (is_pending (t.answers ++ answers)) requests))
     by false e a s rest =
         rest ∙ sym (ap (λ (b : Bool). map (pending_of (t.sends ++ sends)) (cond b (r ∷ filter (is_pending (t.answers ++ answers)) requests) (filter (is_pending (t.answers ++ answers)) requests)))
         (ap is_empty (values-append r.id t.answers answers) ∙ more_old old (values_of r.id answers) e))
@@ -89,7 +91,8 @@ pending_after t answers sends ask (r ∷ requests) h = by (is_pending t.answers 
         lists : last_sent (t.sends ++ sends) r.id ≡ last_or None (values_of r.id t.sends ++ targets m)
         lists = ap (last_or None) (values-append r.id t.sends sends ∙ ap (λ (l : List EndpointRecord). values_of r.id t.sends ++ l) s)
 
-        at : (b : Bool) → stays_pending m ≡ b → cond (stays_pending m) (kept_after m p ∷ kept) kept ≡ map (pending_of (t.sends ++ sends)) (cond (is_pending (t.answers ++ answers) r) (r ∷ filter (is_pending (t.answers ++ answers)) requests) (filter (is_pending (t.answers ++ answers)) requests))
+        at : (b : Bool) → stays_pending m ≡ b → cond (stays_pending m) (kept_after m p ∷ kept) kept ≡ map (pending_of (t.sends ++ sends))
+            (cond (is_pending (t.answers ++ answers) r) (r ∷ filter (is_pending (t.answers ++ answers)) requests) (filter (is_pending (t.answers ++ answers)) requests))
         at true k =
             let new : kept_after m p ≡ pending_of (t.sends ++ sends) r = sym (sent_after (values_of r.id t.sends) r m k) ∙ ap (λ (o : Option EndpointRecord). record { id = r.id; unit = r.unit; sent = o }) (sym lists) in
             ap (λ (b : Bool). cond b (kept_after m p ∷ kept) kept) k ∙ (ap (λ (x : Pending). x ∷ kept) new ∙ (ap (λ (l : List Pending). pending_of (t.sends ++ sends) r ∷ l) rest
@@ -98,9 +101,9 @@ pending_after t answers sends ask (r ∷ requests) h = by (is_pending t.answers 
             ap (λ (b : Bool). cond b (kept_after m p ∷ kept) kept) k ∙ (rest
             ∙ sym (ap (λ (b : Bool). map (pending_of (t.sends ++ sends)) (cond b (r ∷ filter (is_pending (t.answers ++ answers)) requests) (filter (is_pending (t.answers ++ answers)) requests))) (now ∙ k)))
 
--- ---- each request is served still
+-- ---- each request is still served
 
--- its move sends it to the endpoint that there is afterwards, unless it answers it or nothing changed
+-- the move sends the request to the endpoint afterwards, unless it answers it or nothing changed
 abbrev pub Reaches : Option EndpointRecord → Option EndpointRecord → Option Move → Type 0
 Reaches before after m = (e : EndpointRecord) → after ≡ Some e → endings m ≡ [] → (targets m ≡ e ∷ []) ⊎ ((targets m ≡ []) × (before ≡ Some e))
 

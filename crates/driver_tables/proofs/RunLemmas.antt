@@ -1,4 +1,4 @@
--- Runs of a table keep what holds of every table that began empty.
+-- Runs keep the invariant of tables that began empty.
 use Rattle.std.proofs.Common.{◌≡◌, ℕ, Bool, true, false, not, cond, List, [], ◌∷◌, ◌++◌, Option, Some, None, is_some, Result, Ok, Err, refl, sym, ap, ◌∙◌, subst, append-nil, append_assoc}
 use Rattle.std.specs.List.{flat_map, cons_option}
 use Rattle.std.specs.Option.{option_to_list}
@@ -44,7 +44,7 @@ replied_so t id there same = cond there (cond same (Ok (Answer id Done), finishe
 
 -- ---- what a step leaves
 
--- what isn't refused is the table's own outcome
+-- an accepted call has the table's own outcome
 pub accepted : (t u : DriverTable) (call : Call) (moves : List Move) → TableStep t call (Ok moves) u → ((table_outcome t call).0 ≡ Ok moves) × (u ≡ (table_outcome t call).1)
 accepted t u call moves s = (sym s.answer_is, s.after)
 
@@ -89,7 +89,7 @@ reached_run t u (entry ∷ entries) run h = reached_run run.0 u entries run.2 (r
 pub reached : (t : DriverTable) (entries : List Entry) → TableRun empty_table entries t → IsTableReached t
 reached t entries run = reached_run empty_table t entries run (stands_opening [] [] refl refl).reached
 
--- ---- the lists are what was answered
+-- ---- the lists follow from the calls and their answers
 pub record Tells (t u : DriverTable) (moves : List Move) (r : Option Request) : Type 0 where
   pub requests : u.requests ≡ t.requests ++ option_to_list r
   pub sends : u.sends ≡ t.sends ++ flat_map sends_of moves
@@ -104,7 +104,8 @@ tells_outcome t (Assign unit driver) moves e = by (is_some (driver_of t.units un
   where
     by : (b : Bool) → no_moves (assigned_so t unit driver b).0 ≡ Ok moves → Tells t (assigned_so t unit driver b).1 moves None
     by true e = cc
-    by false e = let none : [] ≡ moves = cc in subst (λ (l : List Move). Tells t (assigns t unit driver) l None) none (record { requests = sym (append-nil t.requests); sends = sym (append-nil t.sends); answers = sym (append-nil t.answers) })
+    by false e = let none : [] ≡ moves = cc in subst (λ (l : List Move). Tells t (assigns t unit driver) l None) none
+        (record { requests = sym (append-nil t.requests); sends = sym (append-nil t.sends); answers = sym (append-nil t.answers) })
 tells_outcome t (Changed label state) moves e = by (has_label t.units label) (is_old (newest t.states label) (endpoint_now t.states label) state) (is_same_state (endpoint_now t.states label) state) e
   where
     by : (has old same : Bool) → (changed_so t label state has old same).0 ≡ Ok moves → Tells t (changed_so t label state has old same).1 moves None
@@ -148,9 +149,15 @@ tells_run t u (entry ∷ entries) run =
     let first = tells_step t mid entry.call entry.answer run.1 in
     let rest = tells_run mid u entries run.2 in
     let moves = moves_in entry.answer in (
-      rest.0 ∙ (ap (λ (l : List Request). l ++ requests_in entries) first.requests ∙ (append_assoc t.requests (option_to_list (request_in entry.call entry.answer)) (requests_in entries) ∙ ap (λ (l : List Request). t.requests ++ l) (one_more (request_in entry.call entry.answer) (requests_in entries)))),
-      rest.1 ∙ (ap (λ (l : List (ℕ × EndpointRecord)). l ++ flat_map sends_of (all_moves_in entries)) first.sends ∙ (append_assoc t.sends (flat_map sends_of moves) (flat_map sends_of (all_moves_in entries)) ∙ ap (λ (l : List (ℕ × EndpointRecord)). t.sends ++ l) (sym (flat_map-append sends_of moves (all_moves_in entries))))),
-      rest.2 ∙ (ap (λ (l : List (ℕ × Ending)). l ++ flat_map answered_by (all_moves_in entries)) first.answers ∙ (append_assoc t.answers (flat_map answered_by moves) (flat_map answered_by (all_moves_in entries)) ∙ ap (λ (l : List (ℕ × Ending)). t.answers ++ l) (sym (flat_map-append answered_by moves (all_moves_in entries))))),
+      rest.0 ∙ (ap (λ (l : List Request). l ++ requests_in entries) first.requests ∙
+          (append_assoc t.requests (option_to_list (request_in entry.call entry.answer)) (requests_in entries) ∙
+          ap (λ (l : List Request). t.requests ++ l) (one_more (request_in entry.call entry.answer) (requests_in entries)))),
+      rest.1 ∙ (ap (λ (l : List (ℕ × EndpointRecord)). l ++ flat_map sends_of (all_moves_in entries)) first.sends ∙
+          (append_assoc t.sends (flat_map sends_of moves) (flat_map sends_of (all_moves_in entries)) ∙
+          ap (λ (l : List (ℕ × EndpointRecord)). t.sends ++ l) (sym (flat_map-append sends_of moves (all_moves_in entries))))),
+      rest.2 ∙ (ap (λ (l : List (ℕ × Ending)). l ++ flat_map answered_by (all_moves_in entries)) first.answers ∙
+          (append_assoc t.answers (flat_map answered_by moves) (flat_map answered_by (all_moves_in entries)) ∙
+          ap (λ (l : List (ℕ × Ending)). t.answers ++ l) (sym (flat_map-append answered_by moves (all_moves_in entries))))),
     )
   where
     one_more : (o : Option Request) (l : List Request) → option_to_list o ++ l ≡ cons_option o l

@@ -1,4 +1,4 @@
--- What a table's value tells of the table that it stands for.
+-- What a table's value says of the table that it stands for.
 use Rattle.std.proofs.Common.{◌≡◌, ℕ, ◌==◌, ◌||◌, Bool, true, false, cond, List, [], ◌∷◌, map, Option, Some, None, is_some, refl, sym, ap, ◌∙◌}
 use Rattle.std.specs.Option.{option_map}
 use Rattle.std.specs.List.{find, IsDistinct}
@@ -15,7 +15,7 @@ use Rattle.driver_tables.proofs.TestLemmas.{equal_number}
 use Rattle.driver_tables.proofs.UnitLemmas.{device_is, first_tells, first_is}
 use Rattle.ds_names.proofs.Tests.{none_from}
 
--- what is known of a label
+-- the state of a label
 pub told : (v : TableRecord) (t : DriverTable) (label : List ℕ) → TableStands v t → status_of (find (is_of_label label) v.devices) ≡ (endpoint_now t.states label, newest t.states label)
 told v t label s = ap (λ (l : List (ℕ × Device)). status_of (find (is_of_label label) l)) s.devices ∙ by (has_label t.units label) refl
   where
@@ -29,7 +29,7 @@ told v t label s = ap (λ (l : List (ℕ × Device)). status_of (find (is_of_lab
 pub labelled : (v : TableRecord) (t : DriverTable) (label : List ℕ) → TableStands v t → is_some (find (is_of_label label) v.devices) ≡ has_label t.units label
 labelled v t label s = ap (λ (l : List (ℕ × Device)). is_some (find (is_of_label label) l)) s.devices ∙ first_is t.states t.units label
 
--- the first device of a label, where there is one
+-- the first device of a label, if there is one
 pub first_device : (v : TableRecord) (t : DriverTable) (label : List ℕ) (d : Device) → TableStands v t → option_map (λ (u : ℕ × Device). u.1) (find (is_of_label label) v.devices) ≡ Some d →
     (has_label t.units label ≡ true) × (d.endpoint ≡ endpoint_now t.states label) × (d.newest ≡ newest t.states label)
 first_device v t label d s e = by (find (is_of_label label) v.devices) e (labelled v t label s) (told v t label s)
@@ -48,7 +48,6 @@ no_device v t label s e = sym (labelled v t label s) ∙ by (find (is_of_label l
     by None e = refl
     by (Some u) e = cc
 
--- the driver of a unit
 pub driver_kept : (v : TableRecord) (t : DriverTable) (unit : ℕ) → TableStands v t → lookup (λ u. unit == u) v.devices ≡ option_map (device_of t.states) (driver_of t.units unit)
 driver_kept v t unit s = ap (λ (l : List (ℕ × Device)). lookup (λ u. unit == u) l) s.devices ∙ device_is t.states t.units unit
 
@@ -59,7 +58,7 @@ present v t unit s = ap is_some (driver_kept v t unit s) ∙ mapped (driver_of t
     mapped None = refl
     mapped (Some d) = refl
 
--- where a pending request was last sent to
+-- the endpoint that a pending request was last sent to
 sent_among : (sends : List (ℕ × EndpointRecord)) (id : ℕ) (requests : List Request) →
     option_map (λ (p : Pending). p.sent) (find (λ (p : Pending). p.id == id) (map (pending_of sends) requests)) ≡ cond (is_requested requests id) (Some (last_sent sends id)) None
 sent_among sends id [] = refl
@@ -73,7 +72,7 @@ sent_among sends id (r ∷ requests) = by (r.id == id) refl (sent_among sends id
 pub sent_kept : (v : TableRecord) (t : DriverTable) (id : ℕ) → TableStands v t → option_map (λ (p : Pending). p.sent) (find (λ (p : Pending). p.id == id) v.pending) ≡ cond (is_requested (pending t) id) (Some (last_sent t.sends id)) None
 sent_kept v t id s = ap (λ (l : List Pending). option_map (λ (p : Pending). p.sent) (find (λ (p : Pending). p.id == id) l)) s.pending ∙ sent_among t.sends id (pending t)
 
--- a table of no units
+-- a table without units
 pub stands_opening : (devices : List (ℕ × Device)) (waiting : List Pending) → devices ≡ [] → waiting ≡ [] → TableStands (record { devices = devices; pending = waiting; last = None }) empty_table
 unfolding IsDistinct
 stands_opening devices waiting d w = record {

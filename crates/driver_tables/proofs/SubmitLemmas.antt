@@ -1,4 +1,4 @@
--- What a submitted request leaves.
+-- A submitted request leaves a table that stands.
 use Rattle.std.proofs.Common.{◌≡◌, ℕ, ◌==◌, nat_lt, ◌||◌, ◌&&◌, Bool, true, false, not, cond, List, [], ◌∷◌, ◌++◌, map, filter, Option, Some, None, Result, Ok, Err, refl, sym, ap, ◌∙◌, subst, append-nil, inr}
 use Rattle.std.specs.Option.{option_map}
 use Rattle.std.specs.List.{retain_mut, last_or, AllByRecursion, IsDistinct}
@@ -50,7 +50,7 @@ submit_nowhere v t id unit s e n = above v t id unit s e ∙ by (driver_of t.uni
 abbrev pub taken : DriverTable → Request → Move → DriverTable
 taken t r m = does (with_request t r) (m ∷ [])
 
--- the unit's driver, where the device was found
+-- the unit's driver, if the device was found
 pub driver_there : (v : TableRecord) (t : DriverTable) (unit : ℕ) (d : Device) → TableStands v t → lookup (λ u. unit == u) v.devices ≡ Some d → (o : Driver) × (driver_of t.units unit ≡ Some o) × (device_of t.states o ≡ d)
 driver_there v t unit d s n = by (driver_of t.units unit) refl (sym (driver_kept v t unit s) ∙ n)
   where
@@ -93,7 +93,8 @@ last_above requests new k e = list_all-append (λ (r : Request). nat_lt r.id k) 
     by true h = ap (λ (x : Bool). x && true) (above_on requests new.id k e h)
     by false h = none (is_above requests k)
 
-distinct_on : (requests : List Request) (new : Request) → AllByRecursion (λ (r : Request). r.id == new.id ≡ false) requests → IsDistinct (λ (r s : Request). r.id == s.id) requests → IsDistinct (λ (r s : Request). r.id == s.id) (requests ++ new ∷ [])
+distinct_on : (requests : List Request) (new : Request) → AllByRecursion (λ (r : Request). r.id == new.id ≡ false) requests →
+    IsDistinct (λ (r s : Request). r.id == s.id) requests → IsDistinct (λ (r s : Request). r.id == s.id) (requests ++ new ∷ [])
 unfolding IsDistinct
 distinct_on [] new o h = (tt, tt)
 distinct_on (r ∷ requests) new o h = (one_more requests h.0, distinct_on requests new o.1 h.1)
@@ -103,7 +104,7 @@ distinct_on (r ∷ requests) new o h = (one_more requests h.0, distinct_on reque
     one_more (s ∷ l) d = (d.0, one_more l d.1)
 
 -- ---- the requests before
--- the move of a new request says nothing of an id before
+-- the move of a new request changes nothing for earlier ids
 submitted_of : (class : Class) (id : ℕ) (e : Option EndpointRecord) → IsOf (Some (submitted class id e)) id
 submitted_of class id (Some e) = refl
 submitted_of Block id None = tt
@@ -136,7 +137,9 @@ retained_all : (l : List Pending) → retain_mut (λ p. true) (λ p. p) l ≡ l
 retained_all [] = refl
 retained_all (p ∷ l) = ap (λ (l : List Pending). p ∷ l) (retained_all l)
 
-served_before : (t : DriverTable) (new : Request) (m : Move) (requests : List Request) → AllByRecursion (λ (r : Request). Follows t (answered_by m ++ []) (sends_of m ++ []) r None) requests → AllByRecursion (IsRequestServed t) requests → AllByRecursion (IsRequestServed (taken t new m)) requests
+served_before : (t : DriverTable) (new : Request) (m : Move) (requests : List Request) →
+    AllByRecursion (λ (r : Request). Follows t (answered_by m ++ []) (sends_of m ++ []) r None) requests → AllByRecursion (IsRequestServed t) requests →
+    AllByRecursion (IsRequestServed (taken t new m)) requests
 served_before t new m [] f h = tt
 served_before t new m (r ∷ requests) f h =
     (served_after t (taken t new m) (answered_by m ++ []) (sends_of m ++ []) r None f.0 h.0 refl refl h.0.found (λ o. tt) (λ o e now silent. inr (refl, now)), served_before t new m requests f.1 h.1)
@@ -152,11 +155,12 @@ new_sends t id m own none = values-append id t.sends (sends_of m ++ []) ∙ (ap 
 abbrev shown : Request → Move → Option EndpointRecord → List Pending
 shown new m o = cond (not (is_ending m)) (record { id = new.id; unit = new.unit; sent = o } ∷ []) []
 
--- it is pending unless it was answered
+-- it is pending unless its move answers it
 new_pending : (class : Class) (e : Option EndpointRecord) (new : Request) (answers : List (ℕ × Ending)) (sends : List (ℕ × EndpointRecord)) →
     values_of new.id answers ≡ endings (Some (submitted class new.id e)) → values_of new.id sends ≡ targets (Some (submitted class new.id e)) →
     map (pending_of sends) (cond (is_pending answers new) (new ∷ []) []) ≡ cond (not (is_ending (submitted class new.id e))) (record { id = new.id; unit = new.unit; sent = e } ∷ []) []
-new_pending class e new answers sends a s = ap (λ (l : List Ending). map (pending_of sends) (cond (is_empty l) (new ∷ []) [])) a ∙ (by class e ∙ ap (λ (o : Option EndpointRecord). shown new (submitted class new.id e) o) (ap (last_or None) s ∙ target class e))
+new_pending class e new answers sends a s = ap (λ (l : List Ending). map (pending_of sends) (cond (is_empty l) (new ∷ []) [])) a ∙
+    (by class e ∙ ap (λ (o : Option EndpointRecord). shown new (submitted class new.id e) o) (ap (last_or None) s ∙ target class e))
   where
     by : (class : Class) (e : Option EndpointRecord) → map (pending_of sends) (cond (is_empty (endings (Some (submitted class new.id e)))) (new ∷ []) []) ≡ shown new (submitted class new.id e) (last_sent sends new.id)
     by class (Some e) = refl
@@ -196,7 +200,7 @@ new_served t new d found a s = record {
     fits Character None = tt
     fits Network None = tt
 
--- ---- all together
+-- ---- together
 all_and_one : (P : Request → Type 0) (l : List Request) (r : Request) → AllByRecursion P l → P r → AllByRecursion P (l ++ r ∷ [])
 all_and_one P [] r h p = (p, tt)
 all_and_one P (x ∷ l) r h p = (h.0, all_and_one P l r h.1 p)
@@ -277,7 +281,7 @@ stands_taken v t new d left s above_last found e = record {
     both : map (pending_of sends) (filter (is_pending answers) (t.requests ++ new ∷ [])) ≡ map (pending_of sends) (filter (is_pending answers) t.requests) ++ map (pending_of sends) (filter (is_pending answers) (new ∷ []))
     both = ap (map (pending_of sends)) (filter-append (is_pending answers) t.requests (new ∷ [])) ∙ map-append (pending_of sends) (filter (is_pending answers) t.requests) (filter (is_pending answers) (new ∷ []))
 
--- the same, for the device that was found
+-- as above, for the device that was found
 pub stands_submitted : (v : TableRecord) (t : DriverTable) (id unit : ℕ) (d : Device) (left : List Pending) → TableStands v t → is_above_last v.last id ≡ true → lookup (λ u. unit == u) v.devices ≡ Some d →
     left ≡ v.pending ++ cond (not (is_ending (submitted d.class id d.endpoint))) (record { id = id; unit = unit; sent = d.endpoint } ∷ []) [] →
     TableStands (record { devices = v.devices; pending = left; last = Some id }) (submitting t id unit).1

@@ -1,4 +1,4 @@
--- What private functions read and change of the devices.
+-- The devices, as private functions read and change them.
 use Rattle.std.specs.Prelude.{if◌then◌else◌, ℕ, Bool, List, Option, Some, None}
 use Rattle.ds_names.specs.Endpoint.{EndpointRecord}
 use Rattle.driver_tables.specs.declared.moves.Move.{Move}
@@ -7,11 +7,10 @@ use Rattle.driver_tables.specs.Label.{newer}
 use Rattle.driver_tables.specs.Changed.{network_start}
 use Rattle.ds_names.specs.Name.{is_same_name}
 
--- the unit is the label's
 abbrev pub is_of_label : List ℕ → ℕ × Device → Bool
 is_of_label label u = is_same_name label u.1.label
 
--- what a unit tells of its label: the endpoint now and the greatest generation
+-- The label's endpoint now and its greatest generation, as a unit has them.
 abbrev pub status_of : Option (ℕ × Device) → Option EndpointRecord × Option ℕ
 status_of None = (None, None)
 status_of (Some u) = (u.1.endpoint, u.1.newest)
@@ -19,7 +18,7 @@ status_of (Some u) = (u.1.endpoint, u.1.newest)
 abbrev pub device_with : Option EndpointRecord → Device → Device
 device_with state d = record { class = d.class; label = d.label; endpoint = state; newest = newer d.newest state }
 
--- the unit after a new state of the label
+-- The unit after a new state of the label.
 abbrev pub noted : List ℕ → Option EndpointRecord → ℕ × Device → ℕ × Device
 noted label state u = (u.0, if is_same_name label u.1.label then device_with state u.1 else u.1)
 

@@ -1,4 +1,4 @@
--- What moves leave in the lists of sends and answers.
+-- The sends and answers of moves.
 use Rattle.std.specs.Prelude.{ℕ, List, [], ◌∷◌, ◌++◌}
 use Rattle.std.specs.List.{flat_map}
 use Rattle.ds_names.specs.Endpoint.{EndpointRecord}
@@ -15,6 +15,6 @@ abbrev pub answered_by : Move → List (ℕ × Ending)
 answered_by (Answer id ending) = (id, ending) ∷ []
 answered_by _ = []
 
--- the table after the moves
+-- The table after the moves.
 abbrev pub does : DriverTable → List Move → DriverTable
 does t moves = record t { sends = t.sends ++ flat_map sends_of moves; answers = t.answers ++ flat_map answered_by moves }

@@ -6,19 +6,18 @@ use Rattle.driver_tables.specs.declared.device.Class.{Class}
 use Rattle.driver_tables.specs.declared.device.Class.TheVariants.{Network}
 use Rattle.ds_names.specs.Name.{is_same_name}
 
--- what a driver drives, and the label under which RS starts it
+-- The class of a driver, and the label under which RS starts it.
 pub record Driver : Type 0 where
   pub class : Class
   pub label : List ℕ
 
--- the driver of a port
+-- The driver of a port.
 abbrev pub net_driver : List ℕ → Driver
 net_driver label = record { class = Network; label = label }
 
--- the driver of a unit, if the unit is assigned
+-- The driver of a unit, if the unit is assigned.
 abbrev pub driver_of : List (ℕ × Driver) → ℕ → Option Driver
 driver_of units unit = lookup (λ u. unit == u) units
 
--- some unit's driver has the label
 abbrev pub has_label : List (ℕ × Driver) → List ℕ → Bool
 has_label units label = list_any (λ (u : ℕ × Driver). is_same_name label u.1.label) units

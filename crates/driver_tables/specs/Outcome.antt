@@ -1,4 +1,4 @@
--- What a call does, said of each table that the value stands for.
+-- What a call does, for each table that the value stands for.
 use Rattle.std.specs.Prelude.{Result, OnOk}
 use Rattle.driver_tables.specs.declared.fault.TableFault.{TableFault}
 use Rattle.driver_tables.specs.DriverTable.{DriverTable}
@@ -6,10 +6,10 @@ use Rattle.driver_tables.specs.Answer.{IsAnswer}
 use Rattle.driver_tables.specs.Stands.{TableRecord, TableStands}
 
 module _ {A : Type 0} (v : TableRecord) (outcome : DriverTable → Result A TableFault × DriverTable) (answer : Result A TableFault) where
-  -- the answer is the outcome's
+  -- The answer is the outcome's, or NoRoom.
   abbrev pub AnswersAs : Type 0
   AnswersAs = (t : DriverTable) → TableStands v t → IsAnswer (outcome t).0 answer
 
-  -- what isn't refused leaves a value that stands for the outcome's table
+  -- A call that isn't refused leaves a value that stands for the outcome's table.
   abbrev pub LeavesAs : TableRecord → Type 0
   LeavesAs w = (t : DriverTable) → TableStands v t → OnOk answer (TableStands w (outcome t).1)

@@ -1,4 +1,4 @@
--- Where a call may answer that memory is wanting: where it isn't refused for another cause, and takes memory.
+-- Where a call may answer NoRoom: where no other cause refuses it and it takes memory.
 use Rattle.std.specs.Prelude.{◌≡◌, ◌≢◌, ℕ, false, List, [], Option, Result, Ok, Err}
 use Rattle.ds_names.specs.Endpoint.{EndpointRecord}
 use Rattle.driver_tables.specs.declared.moves.Move.{Move}
@@ -9,25 +9,25 @@ use Rattle.driver_tables.specs.Changed.{changing}
 use Rattle.driver_tables.specs.Submit.{submitting}
 use Rattle.driver_tables.specs.Requests.{is_ending}
 
--- the answer has moves
+-- Whether the answer has moves.
 abbrev pub HasMoves : Result (List Move) TableFault → Type 0
 HasMoves (Ok moves) = moves ≢ []
 HasMoves (Err fault) = ⊥
 
--- the answer leaves its request pending
+-- Whether the answer leaves its request pending.
 abbrev pub LeavesPending : Result Move TableFault → Type 0
 LeavesPending (Ok step) = is_ending step ≡ false
 LeavesPending (Err fault) = ⊥
 
--- a new state takes memory for its moves
+-- A new state takes memory for its moves.
 abbrev pub StateTakesMemory : DriverTable → List ℕ → Option EndpointRecord → Type 0
 StateTakesMemory t label state = HasMoves (changing t label state).0
 
--- a request takes memory while it is pending, and none where it is answered at once
+-- A request takes memory while it is pending, and none if it is answered at once.
 abbrev pub RequestTakesMemory : DriverTable → ℕ → ℕ → Type 0
 RequestTakesMemory t id unit = LeavesPending (submitting t id unit).0
 
--- want of memory is told only where the fact holds
+-- The answer is NoRoom only if `takes` holds.
 abbrev pub LacksOnlyWhere : {A : Type 0} → Type 0 → Result A TableFault → Type 0
 LacksOnlyWhere takes (Err NoRoom) = takes
 LacksOnlyWhere takes answer = Unit {0}

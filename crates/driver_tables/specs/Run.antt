@@ -1,4 +1,4 @@
--- Calls of a driver table, one after the other.
+-- Runs of calls on a driver table.
 use Rattle.std.specs.Prelude.{◌≡◌, ℕ, List, [], ◌∷◌, Option, Some, None, Result, Ok, Err, OnOk, OnErr}
 use Rattle.std.specs.List.{flat_map, filter_map}
 use Rattle.ds_names.specs.Endpoint.{EndpointRecord}
@@ -19,7 +19,7 @@ pub data Call : Type 0 where
   Submit : (id unit : ℕ) → Call
   Reply : (endpoint : EndpointRecord) → (id : ℕ) → Call
 
--- the answer of a call that has no moves, and of one that has a single one, as a list of moves
+-- A call's answer as a list of moves, for calls with no move and with one.
 abbrev pub no_moves : Result (Unit {0}) TableFault → Result (List Move) TableFault
 no_moves (Ok done) = Ok []
 no_moves (Err fault) = Err fault
@@ -28,39 +28,38 @@ abbrev pub one_move : Result Move TableFault → Result (List Move) TableFault
 one_move (Ok m) = Ok (m ∷ [])
 one_move (Err fault) = Err fault
 
--- what a call is answered, and the table after it
+-- The answer to a call, and the table after it.
 abbrev pub table_outcome : DriverTable → Call → Result (List Move) TableFault × DriverTable
 table_outcome t (Assign unit driver) = (no_moves (assigning t unit driver).0, (assigning t unit driver).1)
 table_outcome t (Changed label state) = changing t label state
 table_outcome t (Submit id unit) = (one_move (submitting t id unit).0, (submitting t id unit).1)
 table_outcome t (Reply endpoint id) = (one_move (replying t endpoint id).0, (replying t endpoint id).1)
 
--- the call was answered so: what isn't refused leaves the table's outcome, what is refused leaves the table as it was
+-- A step: an accepted call leaves the outcome's table, a refused one leaves the table unchanged.
 pub record TableStep (t : DriverTable) (call : Call) (answer : Result (List Move) TableFault) (u : DriverTable) : Type 0 where
   pub answer_is : IsAnswer (table_outcome t call).0 answer
   pub after : OnOk answer (u ≡ (table_outcome t call).1)
   pub unchanged : OnErr answer (u ≡ t)
 
--- a call with its answer
 pub record Entry : Type 0 where
   pub call : Call
   pub answer : Result (List Move) TableFault
 
--- the calls were answered so, one after the other
+-- A path of such steps, one for each entry.
 abbrev pub TableRun : DriverTable → List Entry → DriverTable → Type 0
 TableRun = Path (λ t entry u. TableStep t entry.call entry.answer u)
 
--- ---- what was answered
+-- ---- the calls' answers
 
 abbrev pub moves_in : Result (List Move) TableFault → List Move
 moves_in (Ok moves) = moves
 moves_in (Err fault) = []
 
--- all moves of a run, in order
+-- All moves of a run, in order.
 abbrev pub all_moves_in : List Entry → List Move
 all_moves_in entries = flat_map (λ (e : Entry). moves_in e.answer) entries
 
--- the request of a submit that isn't refused
+-- The request of an accepted submit.
 abbrev pub request_in : Call → Result (List Move) TableFault → Option Request
 request_in (Submit id unit) (Ok moves) = Some (record { id = id; unit = unit })
 request_in _ _ = None

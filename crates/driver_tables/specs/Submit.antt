@@ -1,4 +1,4 @@
--- A request is submitted.
+-- The submission of a request.
 use Rattle.std.specs.Prelude.{if◌then◌else◌, ℕ, [], ◌∷◌, ◌++◌, Option, Some, None, Result, Ok, Err}
 use Rattle.ds_names.specs.Endpoint.{EndpointRecord}
 use Rattle.driver_tables.specs.declared.moves.Ending.TheVariants.{Fault}
@@ -13,13 +13,14 @@ use Rattle.driver_tables.specs.Label.{endpoint_now}
 use Rattle.driver_tables.specs.DriverTable.{DriverTable, Request, is_above}
 use Rattle.driver_tables.specs.Doing.{does}
 
--- a request is sent where there is an endpoint; else it is held for a block driver, and fails for another one
+-- The move of a request: it is sent if there is an endpoint; otherwise a block driver's is held and another driver's
+-- fails.
 abbrev pub submitted : Class → ℕ → Option EndpointRecord → Move
 submitted class id (Some e) = Send id e
 submitted Block id None = Held id
 submitted _ id None = Answer id Fault
 
--- the move of a request to a driver
+-- The move of a request to a driver.
 abbrev pub move_of : DriverTable → Request → Driver → Move
 move_of t r d = submitted d.class r.id (endpoint_now t.states d.label)
 
@@ -30,6 +31,7 @@ abbrev pub submitting_to : DriverTable → Request → Option Driver → Result 
 submitting_to t r None = (Err NoDevice, t)
 submitting_to t r (Some d) = (Ok (move_of t r d), does (with_request t r) (move_of t r d ∷ []))
 
--- what a request is answered, and the table after it
+-- The answer to a request, and the table after it.
 abbrev pub submitting : DriverTable → ℕ → ℕ → Result Move TableFault × DriverTable
-submitting t id unit = if is_above t.requests id then submitting_to t (record { id = id; unit = unit }) (driver_of t.units unit) else (Err TwoIds, t)
+submitting t id unit =
+    if is_above t.requests id then submitting_to t (record { id = id; unit = unit }) (driver_of t.units unit) else (Err TwoIds, t)

@@ -1,4 +1,4 @@
--- How a table's fields are seen.
+-- The model of a table's fields.
 use Rattle.driver_tables.specs.Stands.{TableRecord}
 use Rattle.driver_tables.specs.declared.table.Table.TheInside.{Inside}
 

@@ -1,4 +1,4 @@
-//! The units with their drivers, in order of assignment.
+//! Units with their drivers, in order of assignment.
 
 ghost use Rattle.std.specs.Prelude.{◌≡◌, ◌≢◌, ◌==◌, ◌++◌, ◌<◌, [], Some, length, map, slice_get, OnOk, OnErr};
 ghost use Rattle.std.specs.List.{find, filter_map};
@@ -11,7 +11,7 @@ use crate::state::newer;
 use ds_names::{Endpoint, Generation, Name, NoRoom};
 use indexmap::IndexMap;
 
-/// What a driver drives.
+/// The kind of unit that a driver drives.
 #[derive(Clone, Copy, Debug, PartialEq, Eq)]
 pub enum Class {
     /// A major device whose requests can be sent again.
@@ -22,25 +22,23 @@ pub enum Class {
     Network,
 }
 
-/// A unit's driver, and what is known of its label.
+/// A unit's driver and the state of the driver's label.
 #[derive(Clone, Copy, Debug)]
 pub struct Device {
     pub class: Class,
     pub label: Name,
-    /// The driver's endpoint now, if there is one.
+    /// The driver's endpoint now; `None` if there is no driver.
     pub endpoint: Option<Endpoint>,
-    /// The greatest generation that the label had.
+    /// The greatest generation that the label ever had.
     pub newest: Option<Generation>,
 }
 
-// The device of a unit.
 pub(crate) fn device_at(devices: &IndexMap<u8, Device>, unit: u8) -> Option<Device>
     ensures { result ≡ lookup (λ u. unit == u) devices.now.entries }
 {
     devices.get(&unit).copied()
 }
 
-// The unit at an index, with its device.
 fn unit_at(devices: &IndexMap<u8, Device>, i: usize) -> (u8, Device)
     requires { i < length devices.now.entries }
     ensures { slice_get devices.now.entries i ≡ Some result }
@@ -51,7 +49,7 @@ fn unit_at(devices: &IndexMap<u8, Device>, i: usize) -> (u8, Device)
     (*unit, *device)
 }
 
-// The first device of the label.
+// Returns the first device of the label.
 pub(crate) fn first_of(devices: &IndexMap<u8, Device>, label: &Name) -> Option<Device>
     ensures { result ≡ option_map (λ u. u.1) (find (is_of_label label.now) devices.now.entries) }
 {
@@ -64,7 +62,7 @@ pub(crate) fn first_of(devices: &IndexMap<u8, Device>, label: &Name) -> Option<D
     None
 }
 
-// The endpoint of the label now, and the greatest generation that it had.
+// Returns the label's endpoint now, and the greatest generation that it ever had.
 pub(crate) fn status(
     devices: &IndexMap<u8, Device>,
     label: &Name,
@@ -77,7 +75,7 @@ pub(crate) fn status(
     }
 }
 
-// Notes a new state at each device of the label.
+// Writes a new state to every device of the label.
 pub(crate) fn note(devices: &mut IndexMap<u8, Device>, label: &Name, state: &Option<Endpoint>)
     ensures { devices.new.entries ≡ map (noted label.now state.now) devices.old.entries }
 {
@@ -100,7 +98,7 @@ fn with_state(device: &Device, state: &Option<Endpoint>) -> Device
     }
 }
 
-// Adds the starts of the label's ports.
+// Appends the starts of the label's ports.
 pub(crate) fn add_starts(
     moves: &mut Moves,
     devices: &IndexMap<u8, Device>,
@@ -117,7 +115,7 @@ pub(crate) fn add_starts(
     Ok(())
 }
 
-// A port of the label starts where there is an endpoint.
+// Returns the start of a unit: only a port of the label starts, and only at an endpoint.
 fn started_at(unit: u8, device: &Device, label: &Name, state: &Option<Endpoint>) -> Option<Move>
     ensures { result ≡ start_move label.now state.now (unit, device.now) }
 {

@@ -1,16 +1,16 @@
-//! Why a table refuses.
+//! Why a table refuses a call.
 
 use ds_names::NoRoom;
 use std::alloc::AllocFailed;
 use thiserror::Error;
 
-/// Why a call was refused, in the order in which the causes are judged. It changed nothing.
+/// The causes of a refusal, in the order in which they are judged. A refused call changes nothing.
 #[derive(Clone, Copy, Debug, PartialEq, Eq, Error)]
 pub enum TableFault {
     /// The unit has a driver already.
     #[error("the unit is assigned")]
     Assigned,
-    /// The id isn't above every id that was accepted before.
+    /// The id isn't above every accepted id.
     #[error("the id isn't above those before")]
     TwoIds,
     /// No unit of this number is assigned.
@@ -19,10 +19,10 @@ pub enum TableFault {
     /// No request of this id is pending.
     #[error("no such request is pending")]
     NotPending,
-    /// The endpoint is older than one that the label had, or the request wasn't last sent to it.
+    /// The label had a newer endpoint, or the request was last sent to another endpoint.
     #[error("an old endpoint")]
     OldEndpoint,
-    /// Memory is wanting.
+    /// Out of memory.
     #[error("out of memory")]
     NoRoom,
 }

@@ -21,19 +21,19 @@ use ds_names::{Endpoint, Generation, Name};
 use std::alloc::Global;
 use std::marker::Model;
 
-/// The class of a major device: block special or character special, as MINIX 3 has them.
+/// The class of a major device, as in MINIX 3: block special or character special.
 #[derive(Clone, Copy, Debug, PartialEq, Eq)]
 pub enum FileClass {
-    /// Its requests are reads and writes of blocks, which may be sent again.
+    /// Requests are reads and writes of blocks, and may be sent again.
     Block,
-    /// A terminal, a printer: what was written to a dead driver may have been printed, so nothing is sent again.
+    /// Nothing is sent again: what a terminal or printer got may already be printed.
     Character,
 }
 
-/// The driver of each major device of a file server, and the requests that have no answer yet.
+/// The driver of each major device of a file server, and the unanswered requests.
 ///
-/// MINIX 3's file server has a table of its drivers by major device number, `dmap`. A request to a block driver
-/// outlives the driver: it is sent again to the next one. A request to a character driver ends with it.
+/// This is `dmap` of MINIX 3's file server, indexed by major device number. A request to a block driver outlives the
+/// driver and is sent again to its successor. A request to a character driver ends with it.
 #[derive(Drop)]
 pub struct FileTable {
     table: Table,
@@ -48,7 +48,7 @@ impl Model for FileTable {
 }
 
 impl FileTable {
-    /// A table of no units. It takes no memory.
+    /// Returns a table without units. It takes no memory.
     pub fn new(alloc: Global) -> FileTable
         ensures { TableStands result empty_table }
     {
@@ -57,9 +57,7 @@ impl FileTable {
         }
     }
 
-    /// Adds a major device at the end. Assigned where there is one of this number.
-    ///
-    /// Where its label has other devices, the new one has their endpoint now.
+    /// Appends a major device, with the endpoint that its label has now. Refuses a number that is in use as Assigned.
     pub fn assign(&mut self, major: u8, class: FileClass, label: &Name) -> Result<(), TableFault>
         ensures answer { AnswersAs self.old (λ t. assigning t major (file_driver class label.now)) result }
         ensures after { LeavesAs self.old (λ t. assigning t major (file_driver class label.now)) result self.new }
@@ -72,13 +70,13 @@ impl FileTable {
         self.table.assign(major, class, label)
     }
 
-    /// Takes the state of a label: the endpoint of its driver now, or that there is none. What follows from it
-    /// are the moves: pending requests to block devices are sent to the new endpoint, and wait where there is
-    /// none; those to character devices are answered Fault. They come in order of submission.
+    /// Records a label's new state: its driver's endpoint now, or `None` if it has no driver. Returns the moves that
+    /// follow, in order of submission: a pending request to a block device is sent to the new endpoint, or waits if
+    /// there is none; one to a character device is answered Fault.
     ///
-    /// A label without a device has no moves, nor has a state that the label has already. OldEndpoint where
-    /// the generation is below the greatest that the label had, or is that one and the endpoint isn't the one now.
-    /// NoRoom comes last, and only where there are moves.
+    /// There are no moves for a label without a device, nor for the state that the label has already. Refuses
+    /// OldEndpoint if the generation is below the label's greatest, or is the greatest and the endpoint isn't the one
+    /// now. NoRoom comes last, and only if there are moves.
     pub fn changed(&mut self, label: &Name, state: Option<Endpoint>) -> Result<Moves, TableFault>
         ensures answer { AnswersAs self.old (λ t. changing t label.now state) result }
         ensures room { (t : DriverTable) → TableStands self.old t → LacksOnlyWhere (StateTakesMemory t label.now state) result }
@@ -88,17 +86,19 @@ impl FileTable {
         self.table.changed(label, &state)
     }
 
-    /// The greatest generation that a label had, if it has a device and ever had an endpoint. It takes no memory.
+    /// Returns the greatest generation that a label ever had; `None` if it has no device or never had an endpoint. It
+    /// takes no memory.
     pub fn newest(&self, label: &Name) -> Option<Generation>
         ensures { (t : DriverTable) → TableStands self.now t → result ≡ newest t.states label.now }
     {
         self.table.newest(label)
     }
 
-    /// Takes a request to a major device, by an id that is above all before it. With a driver it is sent; else
-    /// it is held for a block device, and answered Fault for a character device, which uses its id.
+    /// Accepts a request to a major device. It is sent if there is a driver. Otherwise a block device's request is
+    /// held, and a character device's is answered Fault, which uses its id.
     ///
-    /// TwoIds, then NoDevice, which uses no id. NoRoom comes last, and only for a request that is sent or held.
+    /// Refusals in order: TwoIds unless the id is above all accepted ones; NoDevice, which uses no id; NoRoom, only for
+    /// a request that is sent or held.
     pub fn submit(&mut self, id: u64, major: u8) -> Result<Move, TableFault>
         ensures answer { AnswersAs self.old (λ t. submitting t id major) result }
         ensures room { (t : DriverTable) → TableStands self.old t → LacksOnlyWhere (RequestTakesMemory t id major) result }
@@ -108,9 +108,9 @@ impl FileTable {
         self.table.submit(id, major)
     }
 
-    /// Takes a driver's reply to a request, which is answered Done. It takes no memory.
+    /// Accepts a driver's reply to a request, and returns the move that answers it Done. It takes no memory.
     ///
-    /// NotPending, then OldEndpoint where the request wasn't last sent to this endpoint.
+    /// Refuses NotPending, then OldEndpoint if the request was last sent to another endpoint.
     pub fn reply(&mut self, endpoint: Endpoint, id: u64) -> Result<Move, TableFault>
         ensures answer { (t : DriverTable) → TableStands self.old t → result ≡ (replying t endpoint id).0 }
         ensures after { LeavesAs self.old (λ t. replying t endpoint id) result self.new }

@@ -1,9 +1,9 @@
 //! What file and network servers know of their drivers, and what they do with requests when a driver is restarted.
 //!
-//! A file server finds the driver of a major device in a table, and a network server that of a port (Tanenbaum and
-//! Woodhull, third edition). When RS has restarted a driver, its server reintegrates it: a file server sends pending
-//! requests to a block driver again, a network server starts its port anew, and the fault of a character driver goes
-//! to the application (Herder and others, DSN 2007).
+//! A file server finds the driver of a major device in a table, a network server that of a port (Tanenbaum and
+//! Woodhull, third edition). When RS has restarted a driver, its server reintegrates it: a file server sends a block
+//! driver's pending requests again, a network server restarts its port, and the application learns of a character
+//! driver's fault (Herder and others, DSN 2007).
 #![tactic(auto)]
 
 mod device;

@@ -1,4 +1,4 @@
-//! What a server does, move by move.
+//! The moves of a server.
 
 ghost use Rattle.std.specs.Prelude.{◌≡◌, ◌≢◌, ◌++◌, ◌∷◌, [], List, length, slice_get, OnOk, IfErr, OnErr, IfOk};
 ghost use Rattle.std.specs.Option.{option_copied, option_to_list};
@@ -12,24 +12,24 @@ use std::marker::Model;
 pub enum Ending {
     /// Its driver replied.
     Done,
-    /// Its driver is gone, and nobody can say how far it came; the application is told.
+    /// Its driver is gone, and nobody knows how far it got; the application gets an error.
     Fault,
 }
 
-/// One thing that a server does.
+/// One action of a server.
 #[derive(Clone, Copy, Debug, PartialEq, Eq)]
 pub enum Move {
-    /// Starts a port anew, at the endpoint of its new driver.
+    /// Restarts a port, at the endpoint of its new driver.
     Start { unit: u8, endpoint: Endpoint },
     /// Sends a request to a driver.
     Send { id: u64, endpoint: Endpoint },
     /// Answers a request, which ends it.
     Answer { id: u64, ending: Ending },
-    /// Holds a request until its block driver is there.
+    /// Holds a request until its block driver is back.
     Held { id: u64 },
 }
 
-/// Moves in their order.
+/// A list of moves.
 #[derive(Debug, Drop)]
 pub struct Moves {
     moves: Vec<Move>,
@@ -45,7 +45,7 @@ impl Model for Moves {
 }
 
 impl Moves {
-    /// No moves. It takes no memory.
+    /// Returns an empty list. It takes no memory.
     pub(crate) fn new(alloc: Global) -> Moves
         ensures { result ≡ [] }
     {
@@ -54,7 +54,7 @@ impl Moves {
         }
     }
 
-    /// Adds a move at the end. Where there is no room, the error gives it back.
+    /// Appends a move. If memory runs out, the error hands the move back.
     pub fn push(&mut self, step: Move) -> Result<(), AllocFailed<Move>>
         ensures added { OnOk result (self.new ≡ self.old ++ step ∷ []) }
         ensures unchanged { OnErr result (self.new ≡ self.old) }
@@ -63,21 +63,21 @@ impl Moves {
         self.moves.push(step)
     }
 
-    /// How many moves they are.
+    /// Returns the number of moves.
     pub fn len(&self) -> usize
         ensures { result ≡ length self.now }
     {
         self.moves.len()
     }
 
-    /// The move at an index from 0; `None` behind the last.
+    /// Returns the move at an index from 0; `None` past the end.
     pub fn get(&self, index: usize) -> Option<&Move>
         ensures { option_copied result ≡ slice_get self.now index }
     {
         self.moves.get(index)
     }
 
-    /// The same moves in the same order. The copy of none takes no memory.
+    /// Returns a copy. A copy of no moves takes no memory.
     pub fn copy(&self, alloc: Global) -> Result<Moves, NoRoom>
         ensures same { IfOk result (λ moves. moves ≡ self.now) }
         ensures room { OnErr result (self.now ≢ []) }
@@ -87,7 +87,7 @@ impl Moves {
         Ok(Moves { moves })
     }
 
-    // Adds the move, if there is one.
+    // Appends the move, if there is one.
     pub(crate) fn add(&mut self, step: Option<Move>) -> Result<(), NoRoom>
         ensures added { OnOk result (self.new ≡ self.old ++ option_to_list step) }
         ensures room { OnErr result (step ≢ None) }

@@ -21,10 +21,10 @@ use ds_names::{Endpoint, Generation, Name};
 use std::alloc::Global;
 use std::marker::Model;
 
-/// The driver of each port of a network server, and the requests that have no answer yet.
+/// The driver of each port of a network server, and the unanswered requests.
 ///
-/// MINIX 3's network server reintegrates a restarted driver: it starts its ports anew. What was pending is
-/// answered Fault, since the layers above send lost packets again.
+/// MINIX 3's network server reintegrates a restarted driver by restarting its ports. Pending requests are answered
+/// Fault, since the layers above send lost packets again.
 #[derive(Drop)]
 pub struct NetTable {
     table: Table,
@@ -39,7 +39,7 @@ impl Model for NetTable {
 }
 
 impl NetTable {
-    /// A table of no units. It takes no memory.
+    /// Returns a table without units. It takes no memory.
     pub fn new(alloc: Global) -> NetTable
         ensures { TableStands result empty_table }
     {
@@ -48,9 +48,7 @@ impl NetTable {
         }
     }
 
-    /// Adds a port at the end. Assigned where there is one of this number.
-    ///
-    /// Where its label has other ports, the new one has their endpoint now.
+    /// Appends a port, with the endpoint that its label has now. Refuses a number that is in use as Assigned.
     pub fn assign(&mut self, port: u8, label: &Name) -> Result<(), TableFault>
         ensures answer { AnswersAs self.old (λ t. assigning t port (net_driver label.now)) result }
         ensures after { LeavesAs self.old (λ t. assigning t port (net_driver label.now)) result self.new }
@@ -59,13 +57,13 @@ impl NetTable {
         self.table.assign(port, Class::Network, label)
     }
 
-    /// Takes the state of a label: the endpoint of its driver now, or that there is none. What follows from it
-    /// are the moves: each port of the label starts at a new endpoint, in order of assignment; then the pending
-    /// requests of the label are answered Fault, in order of submission.
+    /// Records a label's new state: its driver's endpoint now, or `None` if it has no driver. Returns the moves that
+    /// follow: each port of the label starts at a new endpoint, in order of assignment; then the label's pending
+    /// requests are answered Fault, in order of submission.
     ///
-    /// A label without a port has no moves, nor has a state that the label has already. OldEndpoint where the
-    /// generation is below the greatest that the label had, or is that one and the endpoint isn't the one now.
-    /// NoRoom comes last, and only where there are moves.
+    /// There are no moves for a label without a port, nor for the state that the label has already. Refuses OldEndpoint
+    /// if the generation is below the label's greatest, or is the greatest and the endpoint isn't the one now. NoRoom
+    /// comes last, and only if there are moves.
     pub fn changed(&mut self, label: &Name, state: Option<Endpoint>) -> Result<Moves, TableFault>
         ensures answer { AnswersAs self.old (λ t. changing t label.now state) result }
         ensures room { (t : DriverTable) → TableStands self.old t → LacksOnlyWhere (StateTakesMemory t label.now state) result }
@@ -75,17 +73,18 @@ impl NetTable {
         self.table.changed(label, &state)
     }
 
-    /// The greatest generation that a label had, if it has a port and ever had an endpoint. It takes no memory.
+    /// Returns the greatest generation that a label ever had; `None` if it has no port or never had an endpoint. It
+    /// takes no memory.
     pub fn newest(&self, label: &Name) -> Option<Generation>
         ensures { (t : DriverTable) → TableStands self.now t → result ≡ newest t.states label.now }
     {
         self.table.newest(label)
     }
 
-    /// Takes a request to a port, by an id that is above all before it. With a driver it is sent, else it is
-    /// answered Fault, which uses its id.
+    /// Accepts a request to a port. It is sent if there is a driver, and otherwise answered Fault, which uses its id.
     ///
-    /// TwoIds, then NoDevice, which uses no id. NoRoom comes last, and only for a request that is sent.
+    /// Refusals in order: TwoIds unless the id is above all accepted ones; NoDevice, which uses no id; NoRoom, only for
+    /// a request that is sent.
     pub fn submit(&mut self, id: u64, port: u8) -> Result<Move, TableFault>
         ensures answer { AnswersAs self.old (λ t. submitting t id port) result }
         ensures room { (t : DriverTable) → TableStands self.old t → LacksOnlyWhere (RequestTakesMemory t id port) result }
@@ -95,9 +94,9 @@ impl NetTable {
         self.table.submit(id, port)
     }
 
-    /// Takes a driver's reply to a request, which is answered Done. It takes no memory.
+    /// Accepts a driver's reply to a request, and returns the move that answers it Done. It takes no memory.
     ///
-    /// NotPending, then OldEndpoint where the request wasn't last sent to this endpoint.
+    /// Refuses NotPending, then OldEndpoint if the request was last sent to another endpoint.
     pub fn reply(&mut self, endpoint: Endpoint, id: u64) -> Result<Move, TableFault>
         ensures answer { (t : DriverTable) → TableStands self.old t → result ≡ (replying t endpoint id).0 }
         ensures after { LeavesAs self.old (λ t. replying t endpoint id) result self.new }

@@ -12,7 +12,7 @@ use crate::moves::{Ending, Move, Moves};
 use ds_names::{Endpoint, Name, NoRoom};
 use indexmap::IndexMap;
 
-/// A request without an answer, and where it was last sent to.
+/// An unanswered request, and where it was last sent.
 #[derive(Clone, Copy, Debug)]
 pub struct Pending {
     pub id: u64,
@@ -20,7 +20,7 @@ pub struct Pending {
     pub sent: Option<Endpoint>,
 }
 
-// What becomes of a new request: it is sent, a block driver's is held where there is none, another one fails.
+// Returns the move of a new request: it is sent; without a driver, a block device's is held and others fail.
 pub(crate) fn submitted(class: Class, id: u64, now: &Option<Endpoint>) -> Move
     ensures { result ≡ submitted class id now.now }
 {
@@ -39,7 +39,6 @@ pub(crate) fn submitted(class: Class, id: u64, now: &Option<Endpoint>) -> Move
     }
 }
 
-// Whether a move ends its request.
 pub(crate) fn is_ending(step: &Move) -> bool
     ensures { result ≡ is_ending step.now }
 {
@@ -49,7 +48,7 @@ pub(crate) fn is_ending(step: &Move) -> bool
     }
 }
 
-// Where a pending request was last sent to; `None` where no such request is pending.
+// Returns where a pending request was last sent; `None` if no such request is pending.
 pub(crate) fn sent_of(pending: &Vec<Pending>, id: u64) -> Option<Option<Endpoint>>
     ensures { result ≡ option_map (λ (p : Pending). p.sent) (find (λ (p : Pending). p.id == id) pending.now.items) }
 {
@@ -61,7 +60,7 @@ pub(crate) fn sent_of(pending: &Vec<Pending>, id: u64) -> Option<Option<Endpoint
     None
 }
 
-// Takes a request out, which was answered.
+// Removes an answered request.
 pub(crate) fn end(pending: &mut Vec<Pending>, id: u64)
     ensures { pending.new.items ≡ filter (λ (p : Pending). not (p.id == id)) pending.old.items }
 {
@@ -72,7 +71,7 @@ pub(crate) fn end(pending: &mut Vec<Pending>, id: u64)
     );
 }
 
-// Adds what a new state of the label makes of each pending request.
+// Appends the moves of the pending requests under a new state of the label.
 pub(crate) fn add_settled(
     moves: &mut Moves,
     devices: &IndexMap<u8, Device>,
@@ -89,7 +88,7 @@ pub(crate) fn add_settled(
     Ok(())
 }
 
-// Keeps the pending requests as those moves leave them. It takes no memory.
+// Updates the pending requests by the moves of `add_settled`. It takes no memory.
 pub(crate) fn settle(
     pending: &mut Vec<Pending>,
     devices: &IndexMap<u8, Device>,
@@ -106,7 +105,7 @@ pub(crate) fn settle(
     );
 }
 
-// Keeps a pending request as its move leaves it. False where it ended.
+// Updates a pending request by its move. Returns false if the request ended.
 fn keep(p: &mut Pending, step: Option<Move>) -> bool
     ensures stays { result ≡ stays_pending step }
     ensures kept { p.new ≡ kept_after step p.old }
@@ -120,7 +119,7 @@ fn keep(p: &mut Pending, step: Option<Move>) -> bool
     !is_ending(&step)
 }
 
-// What a new state of the label makes of a pending request.
+// Returns the move of a pending request under a new state of the label.
 fn settled(
     devices: &IndexMap<u8, Device>,
     label: &Name,
@@ -150,7 +149,7 @@ fn settled_by(label: &Name, state: &Option<Endpoint>, p: &Pending, device: &Devi
     }
 }
 
-// A block driver's request is sent to the new endpoint, and stays where there is none.
+// Returns a Send of a block driver's request to the new endpoint; `None`, so that it waits, if there is none.
 fn sent_again(id: u64, state: &Option<Endpoint>) -> Option<Move>
     ensures { result ≡ sent_again id state.now }
 {

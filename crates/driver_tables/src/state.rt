@@ -1,11 +1,10 @@
-//! The state of a label: the endpoint of its driver now, if there is one.
+//! The state of a label: its driver's endpoint now, if it has a driver.
 
 ghost use Rattle.std.specs.Prelude.{◌≡◌};
 ghost use Rattle.driver_tables.specs.Label.{newer, is_same_state, is_old};
 
 use ds_names::{Endpoint, Generation};
 
-// Whether two states are one.
 pub(crate) fn is_same_state(one: &Option<Endpoint>, other: &Option<Endpoint>) -> bool
     ensures { result ≡ is_same_state one.now other.now }
 {
@@ -16,8 +15,7 @@ pub(crate) fn is_same_state(one: &Option<Endpoint>, other: &Option<Endpoint>) ->
     }
 }
 
-// Whether a state is older than one that the label had: of a lower generation than the newest, or of the same
-// one and not the state now.
+// Returns whether a state is old: its generation is below the newest, or is the newest and the state isn't the one now.
 pub(crate) fn is_old(
     newest: Option<Generation>,
     now: &Option<Endpoint>,
@@ -36,7 +34,7 @@ pub(crate) fn is_old(
     generation < newest.number() || (generation == newest.number() && !same)
 }
 
-// The greater of a generation and that of a state.
+// Returns the greater of a generation and a state's generation.
 pub(crate) fn newer(newest: Option<Generation>, state: &Option<Endpoint>) -> Option<Generation>
     ensures { result ≡ newer newest state.now }
 {

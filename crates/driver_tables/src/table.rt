@@ -1,4 +1,4 @@
-//! What the tables of both servers are made of.
+//! The table that both servers' tables wrap.
 
 ghost use Rattle.std.specs.Prelude.{◌≡◌, ◌≢◌, [], length, slice_get, IfOk, OnErr};
 ghost use Rattle.std.specs.Option.{option_map};
@@ -23,7 +23,7 @@ use indexmap::IndexMap;
 use std::alloc::Global;
 use std::marker::Model;
 
-/// Units with their drivers, and the requests that have no answer yet.
+/// Units with their drivers, and the unanswered requests.
 #[derive(Drop)]
 pub struct Table {
     alloc: Global,
@@ -168,7 +168,7 @@ impl Table {
     }
 }
 
-// The moves that follow from a new state of the label.
+// Returns the moves that follow from a new state of the label.
 fn moves_of(
     alloc: Global,
     devices: &IndexMap<u8, Device>,
@@ -185,7 +185,7 @@ fn moves_of(
     Ok(moves)
 }
 
-// Whether an id is above the last one that was accepted.
+// Returns whether an id is above the last accepted one.
 fn is_above(last: Option<u64>, id: u64) -> bool
     ensures { result ≡ is_above_last last id }
 {

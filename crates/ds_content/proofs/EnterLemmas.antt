@@ -44,7 +44,8 @@ few_places v s n stands e =
     let same : v.limits.subs ≡ s.limits.subs = ap (λ (l : LimitsRecord). l.subs) stands.limits in
     omega (arith, few, same, e)
 
-module _ (old new : MarkedHolding Masks) (before after : Kept) (stamp : ℕ) (ws : List (Option Watching)) (i : Item) (owed : List Bool) (top : IsTop (held_items new.held) (held_items old.held ++ i ∷ [])) (bounds : new.held.limits ≡ old.held.limits)
+module _ (old new : MarkedHolding Masks) (before after : Kept) (stamp : ℕ) (ws : List (Option Watching)) (i : Item) (owed : List Bool)
+    (top : IsTop (held_items new.held) (held_items old.held ++ i ∷ [])) (bounds : new.held.limits ≡ old.held.limits)
     (here : masks_at new i ≡ Some (fresh owed)) (kept : (Contains (held_items old.held) i → ⊥) → (y : Item) → Contains (held_items new.held) y → Contains (held_items old.held) y → masks_at new y ≡ masks_at old y)
     (owes : owed ≡ padded (map (watches_item i) ws)) (pushed : (f : Feed) → Keeps before f → Keeps after (feeds.accepts f i)) (enters : (s : State) → ContentStands (value_of old before stamp ws) s → Enters s i) where
   gone : (s : State) → ContentStands (value_of old before stamp ws) s → Contains (held_items old.held) i → ⊥
@@ -63,7 +64,7 @@ module _ (old new : MarkedHolding Masks) (before after : Kept) (stamp : ℕ) (ws
   pub places_then : length ws ≡ old.held.limits.subs → length ws ≡ new.held.limits.subs
   places_then places = places ∙ ap (λ (l : LimitsRecord). l.subs) (sym bounds)
 
--- ---- to whom it is owed, by what is kept of the subscriptions, and by what is seen of them
+-- ---- the subscriptions that are owed it, by what is kept of them, and by what is seen of them
 module _ (h : MarkedHolding Masks) (journal : Kept) (stamp : ℕ) (ws : List (Option Watching)) (v : ContentRecord) (is : value_of h journal stamp ws ≡ v) where
   pub key_view : (key : Key) → padded (map (keys.watches key) ws) ≡ padded (owed_for key v.subscriptions)
   key_view key = ap padded (sym (key_shown key (held_items h.held) (unseen_at h) 0 ws)) ∙ ap (λ (x : ContentRecord). padded (owed_for key x.subscriptions)) is

@@ -47,7 +47,7 @@ module _ {X : Type 0} where
       let rest = filter_same f g hs (λ c h. e c (Contains-tail x hs c h)) in
       ap (λ b. cond b (x ∷ filter f hs) (filter f hs)) (e x (Contains-head x hs)) ∙ ap (λ (l : List X). cond (g x) (x ∷ l) l) rest
 
-  -- ---- what stands at an index
+  -- ---- the element at an index
   pub at_index : (P : X → Type 0) (hs : List X) (k : ℕ) (c : X) → AllByRecursion P hs → slice_get hs k ≡ Some c → P c
   at_index P [] k c a e = absurd (cc)
   at_index P (h ∷ hs) zero c a e = subst P (same_Some h c e) a.0
@@ -84,7 +84,7 @@ module _ {X : Type 0} where
   past_end (x ∷ hs) zero e = absurd (cc)
   past_end (x ∷ hs) (suc n) e = let rest = past_end hs n e in omega (arith, rest)
 
-  -- ---- the first so many that pass
+  -- ---- the first ones that pass
   pub few_taken : (m : ℕ) (xs : List X) → length xs ≤ m → take m xs ≡ xs
   few_taken zero [] l = refl
   few_taken zero (x ∷ xs) l = absurd (omega arith)
@@ -144,7 +144,7 @@ cleared [] (suc k) = refl
 cleared (f ∷ fs) zero = refl
 cleared (f ∷ fs) (suc k) = cleared fs k
 
--- ---- items in order stand at one index each
+-- ---- items in order are at one index each
 not_less : (x : Item) → item_cmp x x ≡ Less → ⊥
 not_less x e = let no : Less ≡ Equal = sym e ∙ tied_itself items_total x in absurd (cc)
 

@@ -107,7 +107,8 @@ pub generation_of : (owner : List ℕ) (o : Option ℕ) → o ≡ option_map (λ
 generation_of owner None = refl
 generation_of owner (Some g) = refl
 
-floor_there : (h : Holding) (owner : List ℕ) (place : Result ℕ ℕ) → IsFloorPlace (held_floors h) owner place → (i : ℕ) → place ≡ Ok i → (o : Option Floor) → o ≡ slice_get (held_floors h) i → option_map (λ (f : Floor). f.generation) o ≡ floor_for h owner
+floor_there : (h : Holding) (owner : List ℕ) (place : Result ℕ ℕ) → IsFloorPlace (held_floors h) owner place → (i : ℕ) → place ≡ Ok i → (o : Option Floor) →
+    o ≡ slice_get (held_floors h) i → option_map (λ (f : Floor). f.generation) o ≡ floor_for h owner
 floor_there h owner place p i q None e =
     let here : IsFloorPlace (held_floors h) owner (Ok i) = subst (IsFloorPlace (held_floors h) owner) q p in
     let past = past_end (held_floors h) i (sym e) in
@@ -127,7 +128,7 @@ no_generation_at h sound owner place p i q =
     ap (option_map (λ (f : Floor). f.generation))
     (sym (floor_at-is h sound owner ∙ ap (option_map (floor_of owner)) (floor_missing h owner i (subst (IsFloorPlace (held_floors h) owner) q p))))
 
--- ---- what nothing stands against is to be taken
+-- ---- what no cause applies to is taken
 change_by : (o : Option ChangeRecord) (count most : ℕ) (c : ChangeRecord) → HasRoom o count most c → AnswersFor o false count most c (Ok Taken)
 change_by None count most c room = room
 change_by (Some h) count most c room = inr room

@@ -1,4 +1,4 @@
--- What stands beside the item at an index, and whether it is under a query.
+-- The masks of the item at an index, and whether the item is under a query.
 use Rattle.std.proofs.Common.{◌≡◌, ℕ, map, inl, inr, length-append, ◌+◌, ◌<◌, ◌≤◌, Bool, true, false, List, [], ◌∷◌, zero, suc, length, get_or, Option, Some, None, is_some, refl, ap, sym, ◌∙◌, subst, arith, Contains}
 use Rattle.std.specs.Prelude.{slice_get}
 use Rattle.std.specs.Option.{option_map, option_map_or}
@@ -26,7 +26,7 @@ pub none_mapped : {X Y : Type 0} (f : X → Y) (o : Option X) → option_map f o
 none_mapped f None e = refl
 none_mapped f (Some x) e = absurd (cc)
 
--- where no element stands at an index, no mark does
+-- without an element at an index, there is no mark
 pub none_beside : {X M : Type 0} (xs : List X) (ms : List M) (index : ℕ) → length ms ≡ length xs → slice_get xs index ≡ None → slice_get ms index ≡ None
 none_beside xs [] index e none = refl
 none_beside [] (m ∷ ms) index e none = absurd (omega (arith, e))
@@ -69,7 +69,8 @@ floor_under h index q low =
     let r = floor_there h index low in
     sym (ap (option_map (passes (is_under q))) (floor_item_at h index low ∙ ap (option_map (λ f. Floored f)) r.1))
 
-pub change_under : (h : Holding) (index j : ℕ) (q : Query) (o : Option ChangeRecord) → index ≡ floor_count h + j → o ≡ slice_get (held_changes h) j → option_map (λ (c : ChangeRecord). is_under q c.key) o ≡ option_map (passes (is_under q)) (slice_get (held_items h) index)
+pub change_under : (h : Holding) (index j : ℕ) (q : Query) (o : Option ChangeRecord) → index ≡ floor_count h + j → o ≡ slice_get (held_changes h) j →
+    option_map (λ (c : ChangeRecord). is_under q c.key) o ≡ option_map (passes (is_under q)) (slice_get (held_items h) index)
 change_under h index j q None e is = sym (ap (option_map (passes (is_under q))) (change_item_at h index j e ∙ ap (option_map (λ c. Changed c)) (sym is)))
 change_under h index j q (Some c) e is = sym (ap (option_map (passes (is_under q))) (change_item_at h index j e ∙ ap (option_map (λ c. Changed c)) (sym is)))
 
@@ -97,7 +98,7 @@ has_masks h marked sound (Changed c) k = marked.keys c.key ∙ ap is_some (is_he
 has_masks h marked sound (Floored f) k = marked.owners f.owner ∙ ap is_some (is_held h.held sound (Floored f) k)
 
 module _ (h : MarkedHolding Masks) (marked : HasMarks h) (sound : IsSound h.held) (index : ℕ) where
-  -- where there are none, no item stands
+  -- without masks, there is no item
   pub no_masks : ((i : Item) → slice_get (held_items h.held) index ≡ Some i → None ≡ masks_at h i) → slice_get (held_items h.held) index ≡ None
   no_masks here = by_found (slice_get (held_items h.held) index) refl
     where

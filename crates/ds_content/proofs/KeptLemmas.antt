@@ -57,7 +57,8 @@ module _ (old new : MarkedHolding Masks) (i : Item) (owed : List Bool) (top : Is
     }
 
 -- ---- a change
-module _ (old new : MarkedHolding Masks) (c : ChangeRecord) (owed : List Bool) (sound : IsSound new.held) (held : new.held ≡ after_merge old.held c (Ok Taken)) (marks : new.marks ≡ insert old.marks c.key (fresh owed)) (floors : new.floor_marks ≡ old.floor_marks) where
+module _ (old new : MarkedHolding Masks) (c : ChangeRecord) (owed : List Bool) (sound : IsSound new.held) (held : new.held ≡ after_merge old.held c (Ok Taken))
+    (marks : new.marks ≡ insert old.marks c.key (fresh owed)) (floors : new.floor_marks ≡ old.floor_marks) where
   at_key : (key : Key) (b : Bool) → eq_by_cmp key_cmp key c.key ≡ b → mark_for new key ≡ cond b (Some (fresh owed)) (mark_for old key)
   at_key key b e =
       ap (λ (m : FinMap key_cmp Masks). get m key) marks ∙ get-insert keys_total old.marks c.key (fresh owed) key ∙ ap (λ t. cond t (Some (fresh owed)) (get old.marks key)) e
@@ -79,7 +80,8 @@ module _ (old new : MarkedHolding Masks) (c : ChangeRecord) (owed : List Bool) (
       by_test false e = at_key d.key false e
 
 -- ---- a floor
-module _ (old new : MarkedHolding Masks) (f : Floor) (owed : List Bool) (sound : IsSound new.held) (held : new.held ≡ after_raise old.held f (Ok Taken)) (marks : new.marks ≡ at_kept_keys f old.held.changes old.marks) (floors : new.floor_marks ≡ insert old.floor_marks f.owner (fresh owed)) where
+module _ (old new : MarkedHolding Masks) (f : Floor) (owed : List Bool) (sound : IsSound new.held) (held : new.held ≡ after_raise old.held f (Ok Taken))
+    (marks : new.marks ≡ at_kept_keys f old.held.changes old.marks) (floors : new.floor_marks ≡ insert old.floor_marks f.owner (fresh owed)) where
   at_owner : (owner : List ℕ) (b : Bool) → eq_by_cmp name_cmp owner f.owner ≡ b → floor_mark_for new owner ≡ cond b (Some (fresh owed)) (floor_mark_for old owner)
   at_owner owner b e =
       ap (λ (m : FinMap name_cmp Masks). get m owner) floors ∙ get-insert nat_list_cmp_total old.floor_marks f.owner (fresh owed) owner ∙ ap (λ t. cond t (Some (fresh owed)) (get old.floor_marks owner)) e

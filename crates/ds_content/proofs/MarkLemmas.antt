@@ -45,9 +45,10 @@ module _ (s : State) (i : Item) (r : IsReached s) (news : IsNews s.feed.accepted
   unseen_now : (q : Query) (shown : List Item) → IsPartOf shown s.feed.accepted → is_unseen q shown i ≡ passes (is_under q) i
   unseen_now q shown part = ap (λ b. passes (is_under q) i && not b) (unshown s.feed.accepted shown i news part) ∙ and_true (passes (is_under q) i)
 
-  -- the flags of what was held are as they were
+  -- the flags of what was held are unchanged
   module _ (u v : Item → List Bool) (others : (x : Item) → Contains new x → Contains (held s) x → v x ≡ u x) where
-    module _ (place : ℕ) (sub : Subscription) (w : Watching) (here : get_or (v i) place false ≡ passes (is_under w.query) i) (part : IsPartOf sub.shown s.feed.accepted) (same : followed_by (held s) u place w ≡ followed_of (held s) sub) where
+    module _ (place : ℕ) (sub : Subscription) (w : Watching) (here : get_or (v i) place false ≡ passes (is_under w.query) i) (part : IsPartOf sub.shown s.feed.accepted)
+        (same : followed_by (held s) u place w ≡ followed_of (held s) sub) where
       query : w.query ≡ sub.query
       query = ap (λ (f : Followed). f.query) same
 
@@ -87,7 +88,8 @@ module _ (s : State) (i : Item) (r : IsReached s) (news : IsNews s.feed.accepted
     follow ws here e = all_follow 0 ws s.subscriptions (λ k. ap (λ n. get_or (v i) n false) (none_more k) ∙ here k) e (λ k seer f. (r.served k seer f).shown)
 
 -- ---- the state with the item
-pub stands_more : (x : ContentRecord) (s : State) (i : Item) (new : List Item) (journal : Kept) (limits : LimitsRecord) (u v : Item → List Bool) (ws : List (Option Watching)) → ContentStands x s → x.subscriptions ≡ followed_from x.held u 0 ws
+pub stands_more : (x : ContentRecord) (s : State) (i : Item) (new : List Item) (journal : Kept) (limits : LimitsRecord) (u v : Item → List Bool) (ws : List (Option Watching)) →
+    ContentStands x s → x.subscriptions ≡ followed_from x.held u 0 ws
     → ((k : ℕ) → get_or (v i) k false ≡ watches_item i (get_or ws k None)) → ((y : Item) → Contains new y → Contains x.held y → v y ≡ u y)
     → IsNews s.feed.accepted i → IsWithin (takes_effect s (i ∷ [])) → IsTop new (x.held ++ i ∷ []) → Keeps journal (feeds.accepts s.feed i) → limits ≡ x.limits
     → ContentStands (record { held = new; journal = journal; limits = limits; stamp = x.stamp; subscriptions = followed_from new v 0 ws }) (takes_effect s (i ∷ []))

@@ -21,7 +21,7 @@ use Rattle.ds_content.proofs.FlagLemmas.{below_or_not, below_or_at}
 use Rattle.ds_content.proofs.HoldingLemmas.{count_floors, items_floored, floor_item_at, change_item_at}
 use Rattle.ds_content.proofs.IndexLemmas.{flag_is}
 
--- a list of so many has an element at each index below
+-- a list of n elements has one at each index below n
 there_below : {X : Type 0} (xs : List X) (k n : ℕ) → length xs ≡ n → k < n → (x : X) × (slice_get xs k ≡ Some x)
 there_below xs k n e l = elim (slice_get_cases xs k).1 [
   | inl w ↦ (w.0, w.2)
@@ -110,7 +110,15 @@ module _ (h : MarkedHolding Masks) (sub : ℕ) where
             let first = next.there.0 in
             let place : floor_count h.held + n ≡ at = omega (arith, is, few) in
             record {
-              there = (omega (arith, first, begins, is, few), (Changed r.0, ap (slice_get (held_items h.held)) (sym place) ∙ here, sym b.says ∙ ap (says_unseen sub) (same_Some b.masks next.there.1.0 (sym b.here ∙ next.there.1.1)) ∙ next.there.1.2));
+              there = (
+                omega (arith, first, begins, is, few),
+                (
+                  Changed r.0,
+                  ap (slice_get (held_items h.held)) (sym place) ∙ here,
+                  sym b.says ∙
+                      ap (says_unseen sub) (same_Some b.masks next.there.1.0 (sym b.here ∙ next.there.1.1)) ∙ next.there.1.2,
+                ),
+              );
               none_before = λ k i e l below. passed_by (Some n) next k i e l (λ j above. omega (arith, above, below, place));
             }
 

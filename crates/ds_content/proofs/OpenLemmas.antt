@@ -1,4 +1,4 @@
--- What a content stands for where it begins, and small facts of what it gives.
+-- What a content stands for at its opening, and small facts about what it returns.
 use Rattle.std.proofs.Common.{◌≡◌, ℕ, zero, suc, ◌≤◌, Bool, List, [], ◌∷◌, ◌++◌, map, length, replicate, Option, Some, None, Result, Ok, Err, IfOk, refl, ap, ap₂, sym, ◌∙◌, subst, arith, Contains}
 use Rattle.std.proofs.lemmas.List.{length-replicate}
 use Rattle.std.specs.FinMap.{entries, len, len-entries, len-empty}
@@ -47,7 +47,7 @@ none_from : (hs gs : List Item) (u : Item → List Bool) (place n : ℕ) → fol
 none_from hs gs u place zero = refl
 none_from hs gs u place (suc n) = ap (λ fs. None ∷ fs) (none_from hs gs u (suc place) n)
 
--- ---- where nothing is held and no subscription is made
+-- ---- nothing is held, and there is no subscription
 module _ (h : MarkedHolding Masks) (ws : List (Option Watching)) (limits : LimitsRecord) (nothing : h ≡ nothing_marked limits) (none : ws ≡ replicate limits.subs None) where
   nothing_here : held_items h.held ≡ []
   nothing_here = ap (λ (x : MarkedHolding Masks). held_items x.held) nothing ∙ nothing_is_held limits

@@ -38,7 +38,7 @@ split (suc i) (d ∷ cs) c e =
       more.1 ∙ ap (λ (l : List ChangeRecord). c ∷ l) (ap (λ m. drop m (d ∷ cs)) (sym next)),
     )
 
--- where no more may be given, none is
+-- if no more fit, none is added
 none_given : (b : Bool) (left : ℕ) (c : ChangeRecord) → None ≡ more_after b left → given_change b left c ≡ []
 none_given false left c m = absurd (cc)
 none_given true left c m = by_left (left == 0) m
@@ -65,7 +65,7 @@ module _ (keep : Key → Bool) (cs : List ChangeRecord) (max : ℕ) (start : Lis
         )
 
     module _ (c : ChangeRecord) (found : slice_get cs seen ≡ Some c) where
-      -- the change is under the scope, and no more may be given
+      -- the change is under the scope, and no more fit
       pub paged_full : (b : Bool) → keep c.key ≡ b → None ≡ more_after b left → (items ≡ start ++ map change_item (take max (admitted keep cs))) × (nat_le (length (admitted keep cs)) max ≡ false)
       paged_full false e m = absurd (cc)
       paged_full true e m = by_left (left == 0) refl m
@@ -90,7 +90,7 @@ module _ (keep : Key → Bool) (cs : List ChangeRecord) (max : ℕ) (start : Lis
       pub paged_stops : (b : Bool) → keep c.key ≡ b → None ≡ more_after b left → (added : List Item) → added ≡ items ++ map change_item (given_change b left c) → added ≡ start ++ map change_item (take max (admitted keep cs))
       paged_stops b e m added is = is ∙ ap (λ l. items ++ map change_item l) (none_given b left c m) ∙ append-nil items ∙ (paged_full b e m).0
 
-      -- it is passed, or given
+      -- it is passed over, or added
       next_is : (b : Bool) → keep c.key ≡ b → admitted keep (take (seen + 1) cs) ≡ done ++ cond b (c ∷ []) []
       next_is b e = ap (admitted keep) (split seen cs c found).0 ∙ filter-append (λ (x : ChangeRecord). keep x.key) (take seen cs) (c ∷ []) ∙ ap (λ x. done ++ cond x (c ∷ []) []) e
 
@@ -111,7 +111,8 @@ module _ (keep : Key → Bool) (cs : List ChangeRecord) (max : ℕ) (start : Lis
               let next : admitted keep (take (seen + 1) cs) ≡ done ++ c ∷ [] = next_is true e in
               let longer = length-append done (c ∷ []) in
               record {
-                items_are = is ∙ ap (λ l. l ++ Changed c ∷ []) p.items_are ∙ append_assoc start (map change_item done) (Changed c ∷ []) ∙ ap (λ l. start ++ l) (sym (map-append change_item done (c ∷ []))) ∙ ap (λ l. start ++ map change_item l) (sym next);
+                items_are = is ∙ ap (λ l. l ++ Changed c ∷ []) p.items_are ∙ append_assoc start (map change_item done) (Changed c ∷ []) ∙
+                    ap (λ l. start ++ l) (sym (map-append change_item done (c ∷ []))) ∙ ap (λ l. start ++ map change_item l) (sym next);
                 count = omega (arith, same, some, longer, p.count, ap (λ (l : List ChangeRecord). length l) next);
               }
 
@@ -127,7 +128,8 @@ module _ (keep : Key → Bool) where
   changes_to_come after (c ∷ cs) = by_test (changes_to_come after cs) (keep c.key) (is_behind_key after (Changed c)) (comes_after after c) refl refl (behind_is after c)
     where
       by_test : still_to_come (passes keep) after (map change_item cs) ≡ map change_item (to_come keep after cs) → (k b d : Bool) → keep c.key ≡ k → is_behind_key after (Changed c) ≡ b → b ≡ d
-          → filter (is_behind_key after) (cond k (Changed c ∷ filter (passes keep) (map change_item cs)) (filter (passes keep) (map change_item cs))) ≡ map change_item (filter (λ (x : ChangeRecord). keep x.key) (cond d (c ∷ filter (comes_after after) cs) (filter (comes_after after) cs)))
+          → filter (is_behind_key after) (cond k (Changed c ∷ filter (passes keep) (map change_item cs)) (filter (passes keep) (map change_item cs))) ≡ map change_item
+          (filter (λ (x : ChangeRecord). keep x.key) (cond d (c ∷ filter (comes_after after) cs) (filter (comes_after after) cs)))
       by_test rest k true false e f g = absurd (cc)
       by_test rest k false true e f g = absurd (cc)
       by_test rest true true true e f g = rw (e, f) (ap (λ l. Changed c ∷ l) rest)
@@ -167,7 +169,8 @@ module _ (keep : Key → Bool) where
   page_same : {xs ys : List Item} {a b : Bool} (cursor : Cursor) → xs ≡ ys → a ≡ b → let one : Page = record { items = xs; last = a; cursor = cursor } in one ≡ record { items = ys; last = b; cursor = cursor }
   page_same cursor e f = λ i. record { items = e i; last = f i; cursor = cursor }
 
-  pub page_is : (h : Holding) (after : Option Key) (max : ℕ) (cursor : Cursor) (items : List Item) (last : Bool) → items ≡ cond (is_none after) (map floored (held_floors h)) [] ++ map change_item (take max (to_come keep after (held_changes h)))
+  pub page_is : (h : Holding) (after : Option Key) (max : ℕ) (cursor : Cursor) (items : List Item) (last : Bool) →
+      items ≡ cond (is_none after) (map floored (held_floors h)) [] ++ map change_item (take max (to_come keep after (held_changes h)))
       → last ≡ nat_le (length (to_come keep after (held_changes h))) max → let one : Page = record { items = items; last = last; cursor = cursor } in one ≡ page_of (passes keep) after max (held_items h) cursor
   page_is h after max cursor items last is end =
       let fs = held_floors h in

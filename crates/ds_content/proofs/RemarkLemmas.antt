@@ -107,7 +107,8 @@ module _ (old new : MarkedHolding Masks) (sound : IsSound old.held) (index : ℕ
       others = λ i k e n. change_others (slice_get (held_changes old.held) j) refl i k e n;
     }
 
-pub set_is_remarked : (old new : MarkedHolding Masks) (index : ℕ) (f : Masks → Masks) (m : Masks) → ((i : Item) → slice_get (held_items old.held) index ≡ Some i → Some m ≡ masks_at old i) → IsSet old new index (f m) → IsRemarked old new index f
+pub set_is_remarked : (old new : MarkedHolding Masks) (index : ℕ) (f : Masks → Masks) (m : Masks) →
+    ((i : Item) → slice_get (held_items old.held) index ≡ Some i → Some m ≡ masks_at old i) → IsSet old new index (f m) → IsRemarked old new index f
 set_is_remarked old new index f m here is = record {
   held = is.held;
   here = λ i e. is.here i e ∙ ap (option_map f) (here i e);
@@ -169,7 +170,7 @@ made_others : (sub k : ℕ) (u i : Bool) (o : Option Masks) → (k ≡ sub → �
 made_others sub k u i None n = refl
 made_others sub k u i (Some m) n = get_or-set_other m.unseen sub k (u && i) false n
 
--- another stamp leaves the items that are asked for
+-- another stamp leaves the items under the query
 same_watches : (i : Item) (ws : List (Option Watching)) (sub : ℕ) (w : Watching) (stamp : ℕ) → get_or ws sub None ≡ Some w → map (watches_item i) (set ws sub (Some (watching w.query stamp))) ≡ map (watches_item i) ws
 same_watches i [] zero w stamp e = refl
 same_watches i [] (suc sub) w stamp e = refl

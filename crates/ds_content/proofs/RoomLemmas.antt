@@ -32,7 +32,7 @@ pub floor_standing_at : (v : ContentRecord) (s : State) (f : Floor) → ContentS
 floor_standing_at v s f stands =
     λ i. record { held = floor_at (stands.held i) f.owner; count = length (floors_in (stands.held i)); position = stands.journal.position i }
 
--- ---- what nothing stands against
+-- ---- what no cause applies to
 pub record Enters (s : State) (i : Item) : Type 0 where
   pub news : IsNews s.feed.accepted i
   pub within : IsWithin (takes_effect s (i ∷ []))

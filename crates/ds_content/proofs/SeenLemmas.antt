@@ -111,7 +111,7 @@ module _ (hs set_of : List Item) (top : IsTop hs set_of) (u : Item → List Bool
             let shown_it = list_any-from_Contains (λ (j : Item). covers j x) items x among (covers-refl x) in
             ap (λ b. is_unseen sub.query sub.shown x && not b) shown_it ∙ and_false (is_unseen sub.query sub.shown x)
 
-    -- and none of the items covers what comes later
+    -- and none of the items covers a later one
     shown_rest : (k : ℕ) (x : Item) → slice_get hs k ≡ Some x → n ≤ k → list_any (λ j. covers j x) items ≡ false
     shown_rest k x at l = by_test (list_any (λ j. covers j x) items) refl
       where

@@ -85,7 +85,8 @@ module _ (h : MarkedHolding Masks) (ws : List (Option Watching)) (sub : ℕ) whe
       by_place (Some w) q = (w, q)
 
   -- what the flags that are seen say is what the masks say
-  pub unseen_items : (w : Watching) → get_or ws sub None ≡ Some w → (journal : Kept) (stamp : ℕ) (items : List Item) (passed : ℕ) → AreUnseen (value_of h journal stamp ws) sub items passed → items ≡ filter (is_to_show h sub) (take passed (held_items h.held))
+  pub unseen_items : (w : Watching) → get_or ws sub None ≡ Some w → (journal : Kept) (stamp : ℕ) (items : List Item) (passed : ℕ) →
+      AreUnseen (value_of h journal stamp ws) sub items passed → items ≡ filter (is_to_show h sub) (take passed (held_items h.held))
   unseen_items w e journal stamp items passed are =
       are (followed_by (held_items h.held) (unseen_at h) sub w) (shown_place ∙ ap (option_map (followed_by (held_items h.held) (unseen_at h) sub)) e)
       ∙ flagged_are (is_to_show h sub) passed (held_items h.held)
@@ -96,7 +97,8 @@ module _ (h : MarkedHolding Masks) (ws : List (Option Watching)) (sub : ℕ) whe
       by_place : (o : Option Watching) → get_or ws sub None ≡ o → items ≡ flagged f.unseen (take passed (held_items h.held))
       by_place None q = absurd (let no : None ≡ Some f = sym (shown_place ∙ ap (option_map (followed_by (held_items h.held) (unseen_at h) sub)) q) ∙ e in cc)
       by_place (Some w) q =
-          let same : followed_by (held_items h.held) (unseen_at h) sub w ≡ f = same_Some (followed_by (held_items h.held) (unseen_at h) sub w) f (sym (shown_place ∙ ap (option_map (followed_by (held_items h.held) (unseen_at h) sub)) q) ∙ e) in
+          let same : followed_by (held_items h.held) (unseen_at h) sub w ≡ f = same_Some (followed_by (held_items h.held) (unseen_at h) sub w) f
+          (sym (shown_place ∙ ap (option_map (followed_by (held_items h.held) (unseen_at h) sub)) q) ∙ e) in
           is ∙ sym (flagged_are (is_to_show h sub) passed (held_items h.held)) ∙ ap (λ (x : Followed). flagged x.unseen (take passed (held_items h.held))) same
 
   -- ---- what the masks say is what the state says
@@ -131,14 +133,22 @@ module _ (old new : MarkedHolding Masks) (journal : Kept) (stamp : ℕ) (ws : Li
   seat = omega (arith, within, places)
 
   moved : (s : State) (t : State) (w : Watching) → new.held ≡ old.held
-      → ContentStands (record { held = held_items old.held; journal = journal; limits = old.held.limits; stamp = stamp + 1; subscriptions = followed_from (held_items old.held) (unseen_at new) 0 (set ws sub (Some w)) }) t → ContentStands (value_of new journal (stamp + 1) (set ws sub (Some w))) t
+      → ContentStands (record {
+        held = held_items old.held;
+        journal = journal;
+        limits = old.held.limits;
+        stamp = stamp + 1;
+        subscriptions = followed_from (held_items old.held)
+            (unseen_at new) 0 (set ws sub (Some w));
+      }) t → ContentStands (value_of new journal (stamp + 1) (set ws sub (Some w))) t
   moved s t w e stood =
       subst (λ (h : Holding). ContentStands (record { held = held_items h; journal = journal; limits = h.limits; stamp = stamp + 1; subscriptions = followed_from (held_items h) (unseen_at new) 0 (set ws sub (Some w)) }) t) (sym e) stood
 
   -- made anew
   module _ (q : Query) (initial : Bool) (flags : List Bool) (is : flags ≡ map (passes (is_under q)) (held_items old.held)) (place : sub < 128)
       (all : AreRemarked old new (length flags) (λ k. made_at sub (get_or flags k false) initial)) (are : AreMarked old ws) where
-    pub made_stands : (s : State) → ContentStands (value_of old journal stamp ws) s → ContentStands (value_of new journal (stamp + 1) (set ws sub (Some (watching q (stamp + 1))))) (subscribes s sub q (shown_at_first (held_items old.held) initial))
+    pub made_stands : (s : State) → ContentStands (value_of old journal stamp ws) s →
+        ContentStands (value_of new journal (stamp + 1) (set ws sub (Some (watching q (stamp + 1))))) (subscribes s sub q (shown_at_first (held_items old.held) initial))
     made_stands s stands =
         moved s (subscribes s sub q (shown_at_first (held_items old.held) initial)) (watching q (stamp + 1)) all.held
         (stands_subscribed (value_of old journal stamp ws) s sub q (shown_at_first (held_items old.held) initial) (unseen_at old) (unseen_at new) ws (watching q (stamp + 1)) stands refl
@@ -148,13 +158,15 @@ module _ (old new : MarkedHolding Masks) (journal : Kept) (stamp : ℕ) (ws : Li
 
   -- shown something
   module _ (sound : IsSound old.held) (passed : ℕ) (all : AreRemarked old new passed (λ k. shown_to sub)) where
-    pub shown_stands : (s : State) (seer : Subscription) (w : Watching) (items : List Item) → ContentStands (value_of old journal stamp ws) s → subscription_at s sub ≡ Some seer → get_or ws sub None ≡ Some w → items ≡ filter (is_to_show old sub) (take passed (held_items old.held))
+    pub shown_stands : (s : State) (seer : Subscription) (w : Watching) (items : List Item) → ContentStands (value_of old journal stamp ws) s → subscription_at s sub ≡ Some seer →
+        get_or ws sub None ≡ Some w → items ≡ filter (is_to_show old sub) (take passed (held_items old.held))
         → ContentStands (value_of new journal (stamp + 1) (set ws sub (Some (watching w.query (stamp + 1))))) (subscribes s sub seer.query (seer.shown ++ items))
     shown_stands s seer w items stands here at is =
         let t = twin (value_of old journal stamp ws) s sub (unseen_at old) ws w stands refl at in
         let one : t.seer ≡ seer = same_Some t.seer seer (sym t.here ∙ here) in
         let same = t.same ∙ ap (followed_of (held_items old.held)) one in
-        let part : IsPartOf items (held_items old.held) = λ i h. Contains-from_take passed (held_items old.held) i (Contains-from_filter (is_to_show old sub) (take passed (held_items old.held)) i (subst (λ (l : List Item). Contains l i) is h)).0 in
+        let part : IsPartOf items (held_items old.held) = λ i h. Contains-from_take passed (held_items old.held) i
+        (Contains-from_filter (is_to_show old sub) (take passed (held_items old.held)) i (subst (λ (l : List Item). Contains l i) is h)).0 in
         moved s (subscribes s sub seer.query (seer.shown ++ items)) (watching w.query (stamp + 1)) all.held
         (stands_subscribed (value_of old journal stamp ws) s sub seer.query (seer.shown ++ items) (unseen_at old) (unseen_at new) ws (watching w.query (stamp + 1)) stands refl
         (check_others old new passed sub all)
@@ -163,7 +175,8 @@ module _ (old new : MarkedHolding Masks) (journal : Kept) (stamp : ℕ) (ws : Li
         (shown_part (value_of old journal stamp ws) s sub seer items stands here part) seat room)
 
 -- ---- a place that is below the limit
-pub seat_here : (h : MarkedHolding Masks) (journal : Kept) (stamp : ℕ) (ws : List (Option Watching)) (v : ContentRecord) → value_of h journal stamp ws ≡ v → (s : State) → ContentStands (value_of h journal stamp ws) s → length ws ≡ h.held.limits.subs → (sub : ℕ) → sub < v.limits.subs → (sub < length ws) × (sub < 128)
+pub seat_here : (h : MarkedHolding Masks) (journal : Kept) (stamp : ℕ) (ws : List (Option Watching)) (v : ContentRecord) → value_of h journal stamp ws ≡ v → (s : State) →
+    ContentStands (value_of h journal stamp ws) s → length ws ≡ h.held.limits.subs → (sub : ℕ) → sub < v.limits.subs → (sub < length ws) × (sub < 128)
 seat_here h journal stamp ws v is s stands places sub below =
     let same : h.held.limits.subs ≡ v.limits.subs = ap (λ (x : ContentRecord). x.limits.subs) is in
     let few = few_places (value_of h journal stamp ws) s (length ws) stands places in
@@ -175,12 +188,14 @@ any_flags f [] = refl
 any_flags f (x ∷ hs) = ap (λ b. f x || b) (any_flags f hs)
 
 -- a place that has a subscription
-pub few_seats : (h : MarkedHolding Masks) (journal : Kept) (stamp : ℕ) (ws : List (Option Watching)) (s : State) → ContentStands (value_of h journal stamp ws) s → length ws ≡ h.held.limits.subs → (sub : ℕ) (w : Watching) → get_or ws sub None ≡ Some w → sub < 128
+pub few_seats : (h : MarkedHolding Masks) (journal : Kept) (stamp : ℕ) (ws : List (Option Watching)) (s : State) → ContentStands (value_of h journal stamp ws) s →
+    length ws ≡ h.held.limits.subs → (sub : ℕ) (w : Watching) → get_or ws sub None ≡ Some w → sub < 128
 few_seats h journal stamp ws s stands places sub w at =
     let few = few_places (value_of h journal stamp ws) s (length ws) stands places in
     let within = within_places ws sub w at in
     omega (arith, few, within)
 
 -- the state has a subscription where the content has one
-pub twin_of : (h : MarkedHolding Masks) (ws : List (Option Watching)) (sub : ℕ) (journal : Kept) (stamp : ℕ) (s : State) → ContentStands (value_of h journal stamp ws) s → (w : Watching) → get_or ws sub None ≡ Some w → (seer : Subscription) × (subscription_at s sub ≡ Some seer)
+pub twin_of : (h : MarkedHolding Masks) (ws : List (Option Watching)) (sub : ℕ) (journal : Kept) (stamp : ℕ) (s : State) → ContentStands (value_of h journal stamp ws) s →
+    (w : Watching) → get_or ws sub None ≡ Some w → (seer : Subscription) × (subscription_at s sub ≡ Some seer)
 twin_of h ws sub journal stamp s stands w at = let t = twin (value_of h journal stamp ws) s sub (unseen_at h) ws w stands refl at in (t.seer, t.here)

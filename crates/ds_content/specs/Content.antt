@@ -11,7 +11,7 @@ pub record ContentRecord : Type 0 where
   -- the last items that took effect, and the position
   pub journal : Kept
   pub limits : LimitsRecord
-  -- the last stamp that was given
+  -- the last stamp taken
   pub stamp : ℕ
-  -- for each place the subscription, with one flag for each held item in order: whether it is still to be shown
+  -- for each place its subscription, with a flag for each held item in order: whether it is still to be shown
   pub subscriptions : List (Option Followed)

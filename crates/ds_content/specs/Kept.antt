@@ -1,4 +1,4 @@
--- How a content's fields are seen as its value.
+-- How a content's fields make its value.
 use Rattle.std.specs.Prelude.{◌≡◌, List, Bool, [], Option, length, map, Contains}
 use Rattle.std.specs.Option.{option_map_or}
 use Rattle.ds_entry.specs.declared.item.Item.{Item}
@@ -14,16 +14,16 @@ use Rattle.ds_content.specs.Followed.{watches_item, followed_from}
 use Rattle.ds_content.specs.Stands.{ContentStands}
 use Rattle.ds_content.specs.declared.content.Content.TheInside.{Inside}
 
--- the masks beside an item
+-- The masks of an item.
 abbrev pub masks_at : MarkedHolding Masks → Item → Option Masks
 masks_at h (Changed c) = mark_for h c.key
 masks_at h (Floored f) = floor_mark_for h f.owner
 
--- the flags of those under whose query the held item is
+-- The flags of the subscriptions whose query the held item is under.
 abbrev pub under_at : MarkedHolding Masks → Item → List Bool
 under_at h i = option_map_or (λ (m : Masks). m.under) (masks_at h i) []
 
--- the flags of those that the held item is still to be shown to
+-- The flags of the subscriptions that the held item is still to be shown to.
 abbrev pub unseen_at : MarkedHolding Masks → Item → List Bool
 unseen_at h i = option_map_or (λ (m : Masks). m.unseen) (masks_at h i) []
 
@@ -36,12 +36,13 @@ content_of s = record {
   subscriptions = followed_from (held_items s.held.held) (unseen_at s.held) 0 s.subscriptions;
 }
 
--- beside each held item stand the flags of those under whose query it is, and the flags of those that it is to be shown to
+-- Each held item has the flags of the subscriptions whose query it is under, and 128 flags of those that it is to be
+-- shown to.
 pub record AreMarked (h : MarkedHolding Masks) (ws : List (Option Watching)) : Type 0 where
   pub under : (i : Item) → Contains (held_items h.held) i → under_at h i ≡ padded (map (watches_item i) ws)
   pub long : (i : Item) → Contains (held_items h.held) i → length (unseen_at h i) ≡ 128
 
--- each subscription has its place, by which what is held is marked, and the content stands for some state
+-- Each subscription has its place, held items are marked by these places, and the content stands for some state.
 pub record IsContentSound (s : Inside) : Type 0 where
   pub places : length s.subscriptions ≡ s.held.held.limits.subs
   pub marked : AreMarked s.held s.subscriptions

@@ -1,4 +1,4 @@
--- What pages give of what is held.
+-- What a page has of what is held.
 use Rattle.std.specs.Prelude.{◌≡◌, ℕ, ◌+◌, ◌-◌, ◌==◌, Bool, not, ◌&&◌, cond, List, [], ◌∷◌, ◌++◌, map, filter, take, length, Option, Some, None}
 use Rattle.ds_names.specs.declared.key.Key.{Key}
 use Rattle.ds_entry.specs.Change.{ChangeRecord}
@@ -6,27 +6,27 @@ use Rattle.ds_entry.specs.declared.item.Item.{Item}
 use Rattle.ds_held.specs.Held.{change_item}
 use Rattle.ds_join.specs.Reading.{comes_after}
 
--- the changes that are under the scope
+-- The changes under the scope.
 abbrev pub admitted : (Key → Bool) → List ChangeRecord → List ChangeRecord
 admitted keep changes = filter (λ (c : ChangeRecord). keep c.key) changes
 
--- those of them that stand behind the key
+-- Those of them after the key.
 abbrev pub to_come : (Key → Bool) → Option Key → List ChangeRecord → List ChangeRecord
 to_come keep after changes = admitted keep (filter (comes_after after) changes)
 
--- how many more may be given after one more, which is given where it is under the scope; none may where it is and no more may
+-- How many more changes fit after one more, which takes room if it is under the scope; `None` if it doesn't fit.
 abbrev pub more_after : Bool → ℕ → Option ℕ
 more_after keep left = cond keep (cond (left == 0) None (Some (left - 1))) (Some left)
 
--- the change, where it is given
+-- The change, if it is under the scope and fits.
 abbrev pub given_change : Bool → ℕ → ChangeRecord → List ChangeRecord
 given_change keep left c = cond (keep && not (left == 0)) (c ∷ []) []
 
--- the same as items
+-- As `given_change`, for items.
 abbrev pub given_items : Bool → ℕ → ChangeRecord → List Item
 given_items keep left c = map change_item (given_change keep left c)
 
--- of so many changes those under the scope were added to the items
+-- Of the first `seen` changes, those under the scope were appended to the items, which leaves room for `left` of `max`.
 pub record ChangesArePaged (keep : Key → Bool) (changes : List ChangeRecord) (seen max left : ℕ) (start items : List Item) : Type 0 where
   pub items_are : items ≡ start ++ map change_item (admitted keep (take seen changes))
   pub count : length (admitted keep (take seen changes)) + left ≡ max

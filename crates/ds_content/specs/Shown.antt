@@ -1,4 +1,4 @@
--- What is to be shown to a subscription first.
+-- What to show to a subscription first.
 use Rattle.std.specs.Prelude.{◌≡◌, ℕ, ◌<◌, ◌≤◌, ◌⊎◌, Bool, true, false, List, [], ◌∷◌, ◌++◌, length, take, filter, slice_get, slice_index_or, Option, Some, None, IfSome}
 use Rattle.ds_entry.specs.declared.item.Item.{Item}
 use Rattle.ds_held.specs.Held.{Holding, held_items}
@@ -8,40 +8,42 @@ use Rattle.ds_watch.specs.declared.masks.Masks.{Masks}
 use Rattle.ds_content.specs.Content.{ContentRecord}
 use Rattle.ds_content.specs.Kept.{unseen_at}
 
--- the items whose flag is set
+-- The items whose flag is set.
 abbrev pub flagged : List Bool → List Item → List Item
 flagged [] items = []
 flagged (flag ∷ flags) [] = []
 flagged (true ∷ flags) (i ∷ items) = i ∷ flagged flags items
 flagged (false ∷ flags) (i ∷ items) = flagged flags items
 
--- of the first `passed` held items these are still to be shown to the subscription at the place
+-- The items are those of the first `passed` held ones that are still to be shown to the subscription.
 abbrev pub AreUnseen : ContentRecord → ℕ → List Item → ℕ → Type 0
-AreUnseen content sub items passed = (f : Followed) → slice_index_or content.subscriptions sub None ≡ Some f → items ≡ flagged f.unseen (take passed content.held)
+AreUnseen content sub items passed =
+    (f : Followed) → slice_index_or content.subscriptions sub None ≡ Some f → items ≡ flagged f.unseen (take passed content.held)
 
--- the first element from the index on that passes the test is the one at the index that is found; where none is found, none passes
+-- The index found is that of the first element at or after `from` that passes the test. If there is none, no such
+-- element passes.
 pub record IsNext {X : Type 0} (test : X → Bool) (xs : List X) (from : ℕ) (found : Option ℕ) : Type 0 where
   pub there : IfSome found (λ n. (from ≤ n) × ((x : X) × (slice_get xs n ≡ Some x) × (test x ≡ true)))
   pub none_before : (k : ℕ) (x : X) → slice_get xs k ≡ Some x → from ≤ k → IfSome found (λ n. k < n) → test x ≡ false
 
--- the held item at the index, where there is one, was added where it passes the test
+-- The held item at the index, if there is one, was appended if it passes the test.
 abbrev pub IsItemAdded : Holding → ℕ → (Item → Bool) → List Item → List Item → Type 0
 IsItemAdded held index test old new = (i : Item) → slice_get (held_items held) index ≡ Some i → new ≡ old ++ filter test (i ∷ [])
 
--- the masks say that their item is still to be shown to the subscription at the place
+-- Whether the masks say that their item is still to be shown to the subscription.
 abbrev pub says_unseen : ℕ → Masks → Bool
 says_unseen sub m = slice_index_or m.unseen sub false
 
--- the item is still to be shown to the subscription at the place
+-- Whether the item is still to be shown to the subscription.
 abbrev pub is_to_show : MarkedHolding Masks → ℕ → Item → Bool
 is_to_show h sub i = slice_index_or (unseen_at h i) sub false
 
--- of the first `passed` items these are still to be shown to the subscription: `max` of them, or all
+-- The items are those of the first `passed` ones that are still to be shown to the subscription: `max` of them, or all.
 pub record AreFirst (h : MarkedHolding Masks) (sub max : ℕ) (items : List Item) (passed : ℕ) : Type 0 where
   pub shown : items ≡ filter (is_to_show h sub) (take passed (held_items h.held))
   pub few : length items ≤ max
   pub enough : (length items ≡ max) ⊎ (length (held_items h.held) ≤ passed)
 
--- the held item at the index is one that is still to be shown to it
+-- The held item at the index is still to be shown to the subscription.
 abbrev pub IsToShowAt : MarkedHolding Masks → ℕ → ℕ → Type 0
 IsToShowAt h sub index = (i : Item) × (slice_get (held_items h.held) index ≡ Some i) × (is_to_show h sub i ≡ true)

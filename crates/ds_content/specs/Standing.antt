@@ -1,4 +1,4 @@
--- What is there before a change and before a floor, read off a store's content.
+-- What a change and a floor meet, read from a store's content.
 use Rattle.std.specs.Prelude.{Bool, length}
 use Rattle.ds_names.specs.declared.key.Key.{Key}
 use Rattle.ds_entry.specs.Change.{ChangeRecord}
@@ -8,7 +8,7 @@ use Rattle.ds_machine.specs.Parts.{changes_in, floors_in, held_at, floor_at}
 use Rattle.ds_machine.specs.Standing.{Standing, FloorStanding}
 use Rattle.ds_content.specs.Content.{ContentRecord}
 
--- what is there before a change of the key, which a floor makes void or doesn't
+-- What a change of the key meets, given whether a floor makes it void.
 abbrev pub standing_with : ContentRecord → Key → Bool → Standing
 standing_with content key void = record {
   held = held_at content.held key;
@@ -18,10 +18,14 @@ standing_with content key void = record {
   position = content.journal.position;
 }
 
--- what is there before a change
+-- What a change meets.
 abbrev pub standing_in : ContentRecord → ChangeRecord → Standing
 standing_in content c = standing_with content c.key (is_void content.held c)
 
--- what is there before a floor
+-- What a floor meets.
 abbrev pub floor_standing_in : ContentRecord → Floor → FloorStanding
-floor_standing_in content f = record { held = floor_at content.held f.owner; count = length (floors_in content.held); position = content.journal.position }
+floor_standing_in content f = record {
+  held = floor_at content.held f.owner;
+  count = length (floors_in content.held);
+  position = content.journal.position;
+}

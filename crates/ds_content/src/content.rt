@@ -36,10 +36,10 @@ mod subscribing;
 
 pub use showing::Shown;
 
-/// All that a store keeps: what it holds, the journal of what took effect, and its subscriptions.
+/// Everything that a store keeps: what it holds, the journal, and its subscriptions.
 ///
-/// It stands for a state of the store's machine, which keeps every item that took effect. Its calls don't judge: they ask
-/// that nothing stands against what they do.
+/// It stands for a state of the store's machine, which keeps every item that took effect. Its calls don't judge: their
+/// preconditions say that no cause applies.
 #[derive(Drop)]
 pub struct Content {
     alloc: Global,
@@ -61,8 +61,9 @@ impl Model for Content {
 }
 
 impl Content {
-    /// The content of a store of this incarnation that holds nothing yet, and whose first item will have the position
-    /// `first`. BadRing unless the ring is 1 to 4096, then BadFirst above 2^62, and NoRoom last, for the ring.
+    /// Returns the content of a store that was just opened: it holds nothing, and its first item gets position `first`.
+    /// Refuses as BadRing unless the ring is 1 to 4096, then as BadFirst above 2^62, and last as NoRoom if the ring
+    /// can't be allocated.
     pub fn open(
         alloc: Global,
         incarnation: u64,
@@ -85,8 +86,8 @@ impl Content {
         })
     }
 
-    /// Begins again as another incarnation, with nothing held, no subscriptions, and the first position, the ring and the
-    /// limits that it had. It takes no memory.
+    /// Restarts as another incarnation: holds nothing, has no subscriptions, and keeps its first position, ring and
+    /// limits. Takes no memory.
     pub fn restart(&mut self, incarnation: u64)
         ensures { (s : State) → ContentStands self.old s → ContentStands self.new (opening incarnation s.feed.first s.feed.ring s.limits) }
     {
@@ -98,7 +99,7 @@ impl Content {
         self.subscriptions = Subscriptions::new(limits.subs() as usize);
     }
 
-    /// What it holds.
+    /// Returns what is held.
     pub fn held(&self) -> &Held
         ensures items { held_items result.now ≡ self.now.held }
         ensures limits { result.now.limits ≡ self.now.limits }
@@ -108,7 +109,7 @@ impl Content {
         self.held.held()
     }
 
-    /// The change that is held for a key.
+    /// Returns the change held for a key.
     pub fn get(&self, key: &Key) -> Option<&Change>
         ensures value { option_copied result ≡ held_at self.now.held key.now }
         ensures change { IfSome (option_copied result) IsChange }
@@ -116,15 +117,15 @@ impl Content {
         self.held.held().get(key)
     }
 
-    /// Where the change of a key stands, by an index from 0 in the order of the keys, or else where it would. It is found by
-    /// one search, and the functions that take a place need no other.
+    /// Returns the index of a key's change in key order, or the index that it would get. Calls that take a place don't
+    /// search again.
     pub fn place(&self, key: &Key) -> Result<usize, usize>
         ensures { IsPlace (changes_in self.now.held) key.now result }
     {
         self.held.held().place(key)
     }
 
-    /// The change that is held for the key whose place this is.
+    /// Returns the change held for the key with this place.
     pub fn get_at(&self, place: Result<usize, usize>) -> Option<&Change>
         ensures value { (key : Key) → IsPlace (changes_in self.now.held) key place → option_copied result ≡ held_at self.now.held key }
         ensures change { IfSome (option_copied result) IsChange }
@@ -135,14 +136,14 @@ impl Content {
         }
     }
 
-    /// Whether a held floor makes the change void.
+    /// Returns whether a held floor makes the change void.
     pub fn is_void(&self, change: &Change) -> bool
         ensures { result ≡ is_void self.now.held change.now }
     {
         self.held.held().is_void(change)
     }
 
-    /// How many keys are held, those of tombstones too.
+    /// Returns how many keys are held, tombstones included.
     pub fn count(&self) -> usize
         ensures count { result ≡ length (changes_in self.now.held) }
         ensures few { result ≤ self.now.limits.keys }
@@ -150,7 +151,7 @@ impl Content {
         self.held.held().len()
     }
 
-    /// How many owners have floors, at most 64.
+    /// Returns how many owners have floors, at most 64.
     pub fn floor_count(&self) -> usize
         ensures count { result ≡ length (floors_in self.now.held) }
         ensures few { result ≤ 64 }
@@ -158,15 +159,15 @@ impl Content {
         self.held.held().floor_count()
     }
 
-    /// Where the floor of an owner stands, by an index from 0 in the order of the owners' names, or else where it would. It is found
-    /// by one search, and the functions that take a floor's place need no other.
+    /// Returns the index of an owner's floor in name order, or the index that it would get. Calls that take a floor's
+    /// place don't search again.
     pub fn floor_place(&self, owner: &Name) -> Result<usize, usize>
         ensures { IsFloorPlace (floors_in self.now.held) owner.now result }
     {
         self.held.held().floor_place(owner)
     }
 
-    /// The generation of the floor of the owner whose place this is.
+    /// Returns the generation of the floor of the owner with this place.
     pub fn floor_at(&self, place: Result<usize, usize>) -> Option<Generation>
         ensures { (owner : List ℕ) → IsFloorPlace (floors_in self.now.held) owner place
             → result ≡ option_map (λ (f : Floor). f.generation) (floor_at self.now.held owner) }
@@ -179,21 +180,21 @@ impl Content {
         Some(floor.generation)
     }
 
-    /// The generation of an owner's floor.
+    /// Returns the generation of an owner's floor.
     pub fn floor(&self, owner: &Name) -> Option<Generation>
         ensures { result ≡ option_map (λ (f : Floor). f.generation) (floor_at self.now.held owner.now) }
     {
         self.held.held().floor(owner)
     }
 
-    /// Its limits.
+    /// Returns the store's limits.
     pub fn limits(&self) -> Limits
         ensures { result ≡ self.now.limits }
     {
         self.held.held().limits()
     }
 
-    /// The cursor behind all that took effect.
+    /// Returns the cursor after everything that took effect.
     pub fn cursor(&self) -> Cursor
         ensures value { result ≡ cursor_of self.now.journal }
         ensures limit { result.position ≤ last_place }
@@ -202,7 +203,7 @@ impl Content {
         self.journal.cursor()
     }
 
-    /// The last stamp that was given.
+    /// Returns the last stamp taken.
     pub fn stamp(&self) -> u64
         ensures value { result ≡ self.now.stamp }
         ensures limit { result ≤ last_place }
@@ -210,7 +211,7 @@ impl Content {
         self.stamp
     }
 
-    /// The stamp of the last Subscribe or Check of the subscription with this number. `None` where none is made.
+    /// Returns the stamp of a subscription's last Subscribe or Check, or `None` if there is no such subscription.
     pub fn stamp_of(&self, sub: u32) -> Option<u64>
         ensures { result ≡ option_map (λ (f : Followed). f.stamp) (slice_index_or self.now.subscriptions sub None) }
     {

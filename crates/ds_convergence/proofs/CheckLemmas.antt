@@ -23,7 +23,7 @@ use Rattle.ds_entry.specs.Under.{under}
 
 -- ---- what is new
 
--- the lists before and behind an element
+-- The lists before and after an element.
 split_by : (xs : List Item) (x : Item) → Contains xs x → (front : List Item) × (back : List Item) × (xs ≡ front ++ x ∷ back)
 split_by [] x h = absurd (Contains-nil x h)
 split_by (y ∷ ys) x h = at (Contains-cons y ys x h) (split_by ys x)
@@ -37,7 +37,8 @@ same_rest [] ys zs e = e
 same_rest (x ∷ xs) ys zs e = same_rest xs ys zs (let t : xs ++ ys ≡ xs ++ zs = cc in t)
 
 -- what an earlier item covers took effect as early
-early_too : (early b f : Feed) (since : List Item) (i j : Item) → f.accepted ≡ early.accepted ++ since → AreNew early.accepted since → IsFront early b → IsFront b f → Contains f.accepted i → Contains b.accepted j → covers j i ≡ true → Contains b.accepted i
+early_too : (early b f : Feed) (since : List Item) (i j : Item) → f.accepted ≡ early.accepted ++ since → AreNew early.accepted since → IsFront early b → IsFront b f →
+    Contains f.accepted i → Contains b.accepted j → covers j i ≡ true → Contains b.accepted i
 early_too early b f since i j all new later front h k e = at (Contains-append_cases b.accepted front.grown.0 i (subst (λ (l : List Item). Contains l i) front.grown.1 h))
   where
     both : since ≡ later.grown.0 ++ front.grown.0
@@ -56,7 +57,7 @@ early_too early b f since i j all new later front h k e = at (Contains-append_ca
         let t : true ≡ false = sym e ∙ new (later.grown.0 ++ s.0) s.1 i j place before in
         absurd (cc)
 
--- of two lists put together, one of which ends with one more, an element's place is the last or before it
+-- In two joined lists, one of which ends with one more, an element's index is the last one or before it.
 last_or_before : (xs front back : List Item) (x i : Item) → xs ++ x ∷ [] ≡ front ++ i ∷ back → ((i ≡ x) × (front ≡ xs)) ⊎ ((rest : List Item) × (xs ≡ front ++ i ∷ rest))
 last_or_before [] [] back x i e = let h : x ≡ i = cc in inl (sym h, refl)
 last_or_before [] (y ∷ []) back x i e = cc
@@ -96,7 +97,7 @@ one_by_one_is_new = record { none = none_is_new; one_more = new_after; one_befor
 
 -- ---- checks
 
--- what a check gives was held
+-- What a check returns was held.
 given_held : (early f : Feed) (query : Key → Bool) (shown : List Item) (t : CheckTurn) → IsCheckTurn early f query shown t → IsPartOf t.items t.held
 given_held early f query shown t s i h =
     let k = Contains-from_take t.max (unseen_by query shown t.held) i (subst (λ (l : List Item). Contains l i) s.given h) in
@@ -110,7 +111,7 @@ all_given xs ys max e l = e ∙ take_all max ys (few max ys (subst (λ (zs : Lis
     few (suc n) [] l = omega arith
     few (suc n) (z ∷ zs) l = let k = few n zs (omega arith) in omega arith
 
--- a check that gave fewer than it was asked for stands for all that is under the query, but what a shown item covers
+-- A check that returned fewer than it was asked for stands for everything under the query that no shown item covers.
 last_stands : (early f : Feed) (query : Key → Bool) (shown : List Item) (t : CheckTurn) → IsCheckTurn early f query shown t → length t.items < t.max → (i : Item) → Contains t.feed.accepted i → passes query i ≡ true →
     Contains (stood_for (given t.known t.items)) i ⊎ ((e : Item) × Contains shown e × (covers e i ≡ true))
 last_stands early f query shown t s l i h q = let d = s.top.greatest i h in by_test d.0 d.1 d.2 (list_any (λ j. covers j d.0) shown) refl
@@ -124,9 +125,10 @@ last_stands early f query shown t s l i h q = let d = s.top.greatest i h in by_t
         let here : Contains t.items d = subst (λ (xs : List Item). Contains xs d) (sym (all_given t.items (unseen_by query shown t.held) t.max s.given l)) there in
         inl (given_stands t.known t.items i d here (s.knows i h) c)
 
--- checks up to such a one do so together
+-- Checks up to such a one do so together.
 module _ (early f : Feed) (since : List Item) (all : f.accepted ≡ early.accepted ++ since) (new : AreNew early.accepted since) (query : Key → Bool) where
-  checks_stand : (shown : List Item) (turns : List CheckTurn) (last : CheckTurn) → AreChecks early f query shown (turns ++ last ∷ []) → length last.items < last.max → (i : Item) → Contains f.accepted i → Contains last.feed.accepted i → passes query i ≡ true →
+  checks_stand : (shown : List Item) (turns : List CheckTurn) (last : CheckTurn) → AreChecks early f query shown (turns ++ last ∷ []) → length last.items < last.max → (i : Item) →
+      Contains f.accepted i → Contains last.feed.accepted i → passes query i ≡ true →
       Contains (stood_for (check_items (turns ++ last ∷ []))) i ⊎ ((e : Item) × Contains shown e × (covers e i ≡ true))
   checks_stand shown [] last s l i a h q = elim (last_stands early f query shown last s.0 l i h q) [ inl k ↦ inl (stood_left (given last.known last.items) [] i k) | inr k ↦ inr k ]
   checks_stand shown (t ∷ ts) last s l i a h q = at (checks_stand (shown ++ t.items) ts last s.1 l i a h q)
@@ -138,7 +140,8 @@ module _ (early f : Feed) (since : List Item) (all : f.accepted ≡ early.accept
           let knew : Contains t.known i = s.0.knows i (early_too early t.feed f since i e all new s.0.later s.0.front a accepted c) in
           inl (stood_left (given t.known t.items) (check_items (ts ++ last ∷ [])) i (given_stands t.known t.items i e k knew c))
 
-      at : Contains (stood_for (check_items (ts ++ last ∷ []))) i ⊎ ((e : Item) × Contains (shown ++ t.items) e × (covers e i ≡ true)) → Contains (stood_for (check_items (t ∷ ts ++ last ∷ []))) i ⊎ ((e : Item) × Contains shown e × (covers e i ≡ true))
+      at : Contains (stood_for (check_items (ts ++ last ∷ []))) i ⊎ ((e : Item) × Contains (shown ++ t.items) e × (covers e i ≡ true)) →
+          Contains (stood_for (check_items (t ∷ ts ++ last ∷ []))) i ⊎ ((e : Item) × Contains shown e × (covers e i ≡ true))
       at (inl k) = inl (stood_right (given t.known t.items) (check_items (ts ++ last ∷ [])) i k)
       at (inr k) = by_check k.0 k.2 (Contains-append_cases shown t.items k.0 k.1)
 
@@ -146,7 +149,7 @@ module _ (early f : Feed) (since : List Item) (all : f.accepted ≡ early.accept
   last_front shown [] last s = s.0.front
   last_front shown (t ∷ ts) last s = last_front (shown ++ t.items) ts last s.1
 
-  -- what is under the query and took effect before the last check, the checks stand for, or a shown item covers it
+  -- The checks stand for what is under the query and took effect before the last check, or a shown item covers it.
   all_stand : (shown : List Item) (turns : List CheckTurn) (last : CheckTurn) → AreChecks early f query shown (turns ++ last ∷ []) → length last.items < last.max → (i : Item) → Contains (under query (before f (position last.feed))) i →
       Contains (stood_for (check_items (turns ++ last ∷ []))) i ⊎ ((e : Item) × Contains shown e × (covers e i ≡ true))
   all_stand shown turns last s l i h =

@@ -1,4 +1,4 @@
--- Whoever follows a store holds what the store holds.
+-- A holder that follows a store holds what the store holds.
 use Rattle.std.proofs.Common.{◌≡◌, ℕ, ◌≤◌, Bool, List, ◌∷◌, ◌++◌, arith}
 use Rattle.ds_names.specs.declared.key.Key.{Key}
 use Rattle.ds_entry.specs.Item.{passes}
@@ -19,7 +19,7 @@ use Rattle.ds_convergence.proofs.HolderLemmas.{holds_the_stores}
 use Rattle.ds_convergence.proofs.PageLemmas.{pages_are_whole, pages_end}
 use Rattle.ds_entry.specs.Under.{under}
 
--- whoever has taken items that are whole up to the store's position or further
+-- A map whose items are whole up to the store's position or further.
 holds : (f : Feed) (query : Key → Bool) (stored held : List Item) (items taken : List Sent) (r : ℕ) → IsTop stored f.accepted → HasTaken query stored held items taken → position f ≤ r → IsWhole f query items r → held ≡ under query stored
 holds f query stored held items taken r s t l w =
     (holds_the_stores f query taken stored held s t.map (earlier_is_whole f query taken (position f) r l (more_is_whole f query items taken r t.all w)) t.nothing_else t.numbers).0

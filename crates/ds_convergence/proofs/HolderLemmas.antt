@@ -1,4 +1,4 @@
--- What holders hold that know the same, or all that a store accepted.
+-- What holders hold that know the same, or everything that a store accepted.
 use Rattle.std.proofs.Common.{◌≡◌, Bool, true, List, [], ◌++◌, filter, sym, ap, ◌∙◌, subst, inl, inr}
 use Rattle.std.specs.List.{Contains}
 use Rattle.std.proofs.lemmas.List.Kept.{IsStrictlySortedBy-filter}
@@ -47,7 +47,7 @@ join_of_holders known other held too joined t u j =
     let turned : IsTop joined (too ++ known) = join_is_commutative known too joined one in
     join_is_commutative other known joined (top_of_top other known too joined u turned)
 
--- what of two lists together is under a query
+-- The part of two joined lists that is under a query.
 under-append : (query : Key → Bool) (xs ys : List Item) (i : Item) → Contains (under query (xs ++ ys)) i → Contains (under query xs ++ under query ys) i
 under-append query xs ys i h =
     let k = Contains-from_under query (xs ++ ys) i h in
@@ -72,14 +72,14 @@ more_is_held known more held too t u part i h = u.greatest i (part i (t.among i 
 
 -- ---- catching up
 
--- whoever knows all that was accepted under a query holds at least what the store holds under it
+-- A holder that knows everything accepted under a query holds at least what the store holds under it.
 at_least : (f : Feed) (query : Key → Bool) (known stored held : List Item) → IsTop stored f.accepted → IsTop held known → IsPartOf (under query f.accepted) known → CoversAll (under query held) (under query stored)
 at_least f query known stored held s t all i h =
     let k = Contains-from_under query stored i h in
     let d = t.greatest i (all i (Contains-under query f.accepted i (s.among i k.0) k.1)) in
     (d.0, Contains-under query held d.0 d.1 (covers-query query d.0 i d.2 k.1), d.2)
 
--- and at most that, if what is known is covered by what the store holds
+-- And at most that, if what is known is covered by what the store holds.
 at_most : (query : Key → Bool) (known stored held : List Item) → IsTop held known → CoversAll stored (under query known) → CoversAll (under query stored) (under query held)
 at_most query known stored held t only i h =
     let k = Contains-from_under query held i h in
@@ -105,7 +105,7 @@ any_holder f query known stored held s t all only n =
 
 -- ---- maps
 
--- a map knows all that is under its query and stood for, so all that was accepted under it
+-- A map knows everything that is under its query and stood for, so everything accepted under it.
 map_knows : (f : Feed) (query : Key → Bool) (items : List Sent) (held : List Item) → MapHolds query items held → IsWhole f query items (position f) → IsPartOf (under query f.accepted) (learnt query items)
 map_knows f query items held m w i h =
     learnt_of query items m.sent i (Contains-from_under query f.accepted i h).1

@@ -27,7 +27,7 @@ use Rattle.ds_convergence.proofs.Samples.{record_of, a1, a1', a2, b1, c1, floor1
 use Rattle.ds_entry.specs.Left.{is_put, value_in}
 use Rattle.ds_entry.specs.declared.body.Body.{Body}
 
--- lists that a test tells apart aren't one
+-- Lists that a test distinguishes aren't equal.
 differ : (test : Item → Bool) (xs ys : List Item) → list_any test xs ≡ true → list_any test ys ≡ false → xs ≡ ys → ⊥
 differ test xs ys e n h = let t : true ≡ false = sym e ∙ (ap (list_any test) h ∙ n) in cc
 
@@ -147,7 +147,13 @@ abbrev check_by : List Item → ℕ → List Item → CheckTurn
 check_by shown max accepted = record { feed = feed_of accepted; known = accepted; held = tops accepted; max = max; items = take max (unseen_by all shown (tops accepted)) }
 
 check_is : (shown accepted more : List Item) (max : ℕ) → IsTop (tops accepted) accepted → IsCheckTurn (feed_of []) (feed_of (accepted ++ more)) all shown (check_by shown max accepted)
-check_is shown accepted more max t = record { later = record { incarnation = refl; first = refl; grown = (accepted, refl) }; front = record { incarnation = refl; first = refl; grown = (more, refl) }; knows = λ i h. h; top = t; given = refl }
+check_is shown accepted more max t = record {
+  later = record { incarnation = refl; first = refl; grown = (accepted, refl) };
+  front = record { incarnation = refl; first = refl; grown = (more, refl) };
+  knows = λ i h. h;
+  top = t;
+  given = refl;
+}
 
 -- the first item of a store is new
 one_is_new : AreNew [] (a1 ∷ [])

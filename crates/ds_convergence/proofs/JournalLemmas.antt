@@ -1,4 +1,4 @@
--- What the journal gives, one reply after the other, is whole.
+-- What the journal returns, reply by reply, is whole.
 use Rattle.std.proofs.Common.{◌≡◌, ℕ, ◌+◌, ◌-◌, ◌≤◌, ◌==◌, min, not, Bool, true, false, cond, List, [], ◌∷◌, ◌++◌, take, drop, length, Some, None, refl, sym, ap, ◌∙◌, subst, inl, inr, ◌⊎◌, append-nil, arith}
 use Rattle.std.specs.Prelude.{nat_lt}
 use Rattle.std.specs.List.{Contains, filter}
@@ -29,11 +29,11 @@ use Rattle.ds_convergence.proofs.WholeLemmas.{before_part, before_later, front_s
 
 -- ---- fronts
 
--- all that took effect did so before the next position
+-- Everything that took effect did so before the next position.
 pub all_before : (f : Feed) → before f (position f) ≡ f.accepted
 all_before f = take_all (position f - f.first) f.accepted (omega arith)
 
--- a feed's earlier time is what took effect before the position that it had
+-- A feed at an earlier time is what took effect before its position then.
 pub front_is : (f late : Feed) → IsFront f late → before late (position f) ≡ f.accepted
 front_is f late g = before_later f late (position f) g (omega arith) ∙ all_before f
 
@@ -45,7 +45,7 @@ front_part f g late a b l i h =
 
 -- ---- one reply
 
--- a cursor that the journal answers stands within what took effect
+-- A cursor that the journal answers is within what took effect.
 record IsReached (f : Feed) (p : ℕ) : Type 0 where
   low : f.first ≤ p
   high : p ≤ position f
@@ -53,7 +53,8 @@ record IsReached (f : Feed) (p : ℕ) : Type 0 where
 reached : (f : Feed) (at : Cursor) → fault_at f at ≡ None → IsReached f at.position
 reached f at e = by_tests (at.incarnation == f.incarnation) (nat_lt (position f) at.position) (nat_lt (at.position + min f.ring (length f.accepted)) (position f)) refl refl e
   where
-    by_tests : (same ahead behind : Bool) → nat_lt (position f) at.position ≡ ahead → nat_lt (at.position + min f.ring (length f.accepted)) (position f) ≡ behind → cond (not same) (Some OldCursor) (cond ahead (Some Ahead) (cond behind (Some Behind) None)) ≡ None → IsReached f at.position
+    by_tests : (same ahead behind : Bool) → nat_lt (position f) at.position ≡ ahead → nat_lt (at.position + min f.ring (length f.accepted)) (position f) ≡ behind →
+        cond (not same) (Some OldCursor) (cond ahead (Some Ahead) (cond behind (Some Behind) None)) ≡ None → IsReached f at.position
     by_tests false ahead behind a b e = cc
     by_tests true true behind a b e = cc
     by_tests true false true a b e = cc
@@ -62,7 +63,7 @@ reached f at e = by_tests (at.incarnation == f.incarnation) (nat_lt (position f)
         let low : position f ≤ at.position + min f.ring (length f.accepted) = ltb-false (at.position + min f.ring (length f.accepted)) (position f) b in
         record { low = omega arith; high = high }
 
--- what took effect before the cursor that is given did so before the one asked from, or is in the piece
+-- What took effect before the returned cursor did so before the requested one, or is in the piece.
 split_at : (n m : ℕ) (xs : List Item) (i : Item) → Contains (take (n + m) xs) i → Contains (take n xs) i ⊎ Contains (take m (drop n xs)) i
 split_at n m xs i h =
     elim (Contains-append_cases (take n (take (n + m) xs)) (drop n (take (n + m) xs)) i (subst (λ (l : List Item). Contains l i) (sym (take-append-drop n (take (n + m) xs))) h)) [
@@ -73,7 +74,7 @@ split_at n m xs i h =
 piece_is : (f : Feed) (test : Item → Bool) (at : Cursor) (max : ℕ) → piece f test at max ≡ take (length (piece f test at max)) (from f at.position)
 piece_is f test at max = (prefix_is_shortest test max (from f at.position)).front
 
--- the cursor that is given isn't behind what took effect, nor before the one asked from
+-- The returned cursor isn't past what took effect, nor before the requested one.
 given_within : (f : Feed) (test : Item → Bool) (at : Cursor) (max : ℕ) (since : Since) → IsGiven f test at max since → (since.cursor.position ≤ position f) × (at.position ≤ since.cursor.position)
 given_within f test at max since g =
     let r = reached f at g.reached in
@@ -85,7 +86,7 @@ given_within f test at max since g =
     let m : length (from f at.position) ≡ length f.accepted - (at.position - f.first) = length-drop (at.position - f.first) f.accepted in
     (omega arith, omega arith)
 
--- a reply of fewer items than were asked for has all that is left
+-- A reply with fewer items than were asked for has everything that is left.
 pub fewer_reach_the_end : FewerReachTheEnd
 fewer_reach_the_end f test at max since g few = by_piece (prefix_is_shortest test max (from f at.position)).full_or_all
   where
@@ -102,7 +103,8 @@ fewer_reach_the_end f test at max since g few = by_piece (prefix_is_shortest tes
         let l : length (piece f test at max) ≡ length f.accepted - (at.position - f.first) = ap (λ (x : List Item). length x) all ∙ rest in
         omega arith
 
-given_splits : (f : Feed) (test : Item → Bool) (at : Cursor) (max : ℕ) (since : Since) → IsGiven f test at max since → (i : Item) → test i ≡ true → Contains (before f since.cursor.position) i → Contains (before f at.position) i ⊎ Contains since.items i
+given_splits : (f : Feed) (test : Item → Bool) (at : Cursor) (max : ℕ) (since : Since) → IsGiven f test at max since → (i : Item) → test i ≡ true →
+    Contains (before f since.cursor.position) i → Contains (before f at.position) i ⊎ Contains since.items i
 given_splits f test at max since g i q h =
     elim (split_at (at.position - f.first) n f.accepted i (subst (λ (k : ℕ). Contains (take k f.accepted) i) place h)) [
       | inl k ↦ inl k
@@ -121,14 +123,14 @@ given_splits f test at max since g i q h =
         let c : since.cursor.position ≡ at.position + length (piece f test at max) = ap (λ (s : Since). s.cursor.position) g.given in
         omega arith
 
--- what is given took effect
+-- What is returned took effect.
 pub given_accepted : (f : Feed) (test : Item → Bool) (at : Cursor) (max : ℕ) (since : Since) → IsGiven f test at max since → IsPartOf since.items f.accepted
 given_accepted f test at max since g i h =
     let k = Contains-from_filter test (piece f test at max) i (subst (λ (l : List Item). Contains l i) (ap (λ (s : Since). s.items) g.given) h) in
     let there : Contains (take (length (piece f test at max)) (from f at.position)) i = subst (λ (l : List Item). Contains l i) (piece_is f test at max) k.0 in
     Contains-from_drop (at.position - f.first) f.accepted i (Contains-from_take (length (piece f test at max)) (from f at.position) i there)
 
--- ---- one reply after the other
+-- ---- reply by reply
 
 -- the item took effect by an earlier time than the cursor's, or is the other one
 abbrev pub IsEarly : Feed → Cursor → Item → Item → Type 0
@@ -138,7 +140,7 @@ module _ (f : Feed) (scope : Key → Bool) where
   turn_ends : (at : Cursor) (t : SinceTurn) → IsSinceTurn f scope at t → (t.since.cursor.position ≤ position t.feed) × (at.position ≤ t.since.cursor.position)
   turn_ends at t s = given_within t.feed (passes scope) at t.max t.since s.given
 
-  -- a store knew, when it gave an item, what is early for it
+  -- A store that returned an item knew what is early for it.
   knew : (at : Cursor) (t : SinceTurn) (d c : Item) → IsSinceTurn f scope at t → IsEarly f at d c → Contains t.since.items d → Contains t.known c
   knew at t d c s (inl e) h =
       let ends = turn_ends at t s in
@@ -152,8 +154,8 @@ module _ (f : Feed) (scope : Key → Bool) where
   still_early at t d c s (inl e) = let on : at.position ≤ t.since.cursor.position = (turn_ends at t s).1 in let low : position e.0 ≤ at.position = e.2 in inl (e.0, e.1, omega arith, e.3)
   still_early at t d c s (inr e) = inr e
 
-  -- what took effect before the last cursor did so before the first one, or the replies stand for it, and for each early item
-  -- that it covers
+  -- An item that took effect before the last cursor did so before the first one, or the replies stand for each early
+  -- item that it covers.
   pub journal_covers : (at : Cursor) (ts : List SinceTurn) (d c : Item) → AreSince f scope at ts → passes scope d ≡ true → covers d c ≡ true → IsEarly f at d c → Contains (before f (cursor_after at ts).position) d →
       Contains (before f at.position) d ⊎ Contains (stood_for (since_items ts)) c
   journal_covers at [] d c s q e early h = inl h
@@ -175,7 +177,8 @@ module _ (f : Feed) (scope : Key → Bool) where
       earlier k =
           by_piece (given_splits t.feed (passes scope) at t.max t.since s.0.given d q (subst (λ (l : List Item). Contains l d) (at_front t.since.cursor.position (turn_ends at t s.0).0) k))
 
-  pub journal_stands : (at : Cursor) (ts : List SinceTurn) (d : Item) → AreSince f scope at ts → passes scope d ≡ true → Contains (before f (cursor_after at ts).position) d → Contains (before f at.position) d ⊎ Contains (stood_for (since_items ts)) d
+  pub journal_stands : (at : Cursor) (ts : List SinceTurn) (d : Item) → AreSince f scope at ts → passes scope d ≡ true → Contains (before f (cursor_after at ts).position) d →
+      Contains (before f at.position) d ⊎ Contains (stood_for (since_items ts)) d
   journal_stands at ts d s q h = journal_covers at ts d d s q (covers-refl d) (inr refl) h
 
 pub sinces_extend : SincesExtend

@@ -1,4 +1,4 @@
--- Labels of what is held name the newest generation that is known.
+-- Labels of what is held have the newest generation that is known.
 use Rattle.std.proofs.Common.{◌≡◌, not, ℕ, ◌<◌, ◌≤◌, Bool, true, false, cond, List, [], ◌∷◌, Option, Some, None, refl, sym, ap, ◌∙◌, subst, inl, inr, ◌⊎◌, arith}
 use Rattle.std.specs.declared.cmp.Ordering.{Ordering}
 use Rattle.std.specs.declared.cmp.Ordering.TheVariants.{Less, Equal, Greater}
@@ -38,7 +38,7 @@ use Rattle.ds_entry.specs.Left.{endpoint_in}
 
 -- ---- nothing older is held
 
--- two held changes of one key are one
+-- Two held changes of one key are equal.
 one_per_key : (known held : List Item) → IsTop held known → (c d : ChangeRecord) → Contains held (Changed c) → Contains held (Changed d) → c.key ≡ d.key → c ≡ d
 one_per_key known held t c d h k e =
     let tied : item_cmp (Changed c) (Changed d) ≡ Equal = subst (λ (l : Key). key_cmp c.key l ≡ Equal) e (tied_itself keys_total c.key) in
@@ -61,7 +61,7 @@ nothing_older known held c t h v =
       each = λ e k q. subst (λ (z : ChangeRecord). is_at_most c.version z.version ≡ true) (one_per_key known held t d.0 e d.1 k (sym (covers-key d.0 c d.2) ∙ sym q)) (covers-version d.0 c d.2);
     }
 
--- no floor makes a label void
+-- No floor voids a label.
 label_stays : (items : List Item) (c : ChangeRecord) → c.key.kind ≡ kinds.Label → is_void items c ≡ false
 label_stays items c e = by_test (is_void items c) refl
   where
@@ -84,14 +84,15 @@ no_older_label known held c t h e = nothing_older known held c t h (label_stays 
 at_most-means : (v w : Version) → is_at_most v w ≡ true → (v.epoch < w.epoch) ⊎ ((v.epoch ≡ w.epoch) × (v.seq ≤ w.seq))
 at_most-means v w h = by_order (nat_cmp v.epoch w.epoch) (nat_cmp v.seq w.seq) (ranked v.epoch w.epoch (nat_cmp v.epoch w.epoch) refl) (ranked v.seq w.seq (nat_cmp v.seq w.seq) refl) h
   where
-    by_order : (o p : Ordering) → MatchOrdering o (v.epoch < w.epoch) (v.epoch ≡ w.epoch) (w.epoch < v.epoch) → MatchOrdering p (v.seq < w.seq) (v.seq ≡ w.seq) (w.seq < v.seq) → is_le (ordering_then o p) ≡ true → (v.epoch < w.epoch) ⊎ ((v.epoch ≡ w.epoch) × (v.seq ≤ w.seq))
+    by_order : (o p : Ordering) → MatchOrdering o (v.epoch < w.epoch) (v.epoch ≡ w.epoch) (w.epoch < v.epoch) → MatchOrdering p (v.seq < w.seq) (v.seq ≡ w.seq) (w.seq < v.seq) →
+        is_le (ordering_then o p) ≡ true → (v.epoch < w.epoch) ⊎ ((v.epoch ≡ w.epoch) × (v.seq ≤ w.seq))
     by_order Less p a b h = inl a
     by_order Equal Less a b h = inr (a, omega arith)
     by_order Equal Equal a b h = inr (a, omega arith)
     by_order Equal Greater a b h = cc
     by_order Greater p a b h = cc
 
--- the held change of the label, or that there is none
+-- The held change of the label, or that there is none.
 data Finds (held : List Item) (name : List ℕ) (o : Option EndpointRecord) : Type 0 where
   found : (c : ChangeRecord) → Contains held (Changed c) → c.key ≡ label_key name → o ≡ endpoint_in c.body → Finds held name o
   missing : ((c : ChangeRecord) → Contains held (Changed c) → c.key ≡ label_key name → ⊥) → o ≡ None → Finds held name o
@@ -128,8 +129,9 @@ module _ (known held : List Item) (name : List ℕ) (t : IsTop held known) (vali
       let rule : IsLabelChange c = subst (λ (k : Key). KeepsRule k.kind c) e change.rule in
       rule.body
 
-  -- a held change of the label isn't older than what is known of it
-  not_older : (c : ChangeRecord) → Contains held (Changed c) → c.key ≡ label_key name → (d : ChangeRecord) → Contains known (Changed d) → d.key ≡ label_key name → (d.version.epoch < c.version.epoch) ⊎ ((d.version.epoch ≡ c.version.epoch) × (d.version.seq ≤ c.version.seq))
+  -- A held change of the label isn't older than what is known.
+  not_older : (c : ChangeRecord) → Contains held (Changed c) → c.key ≡ label_key name → (d : ChangeRecord) → Contains known (Changed d) → d.key ≡ label_key name →
+      (d.version.epoch < c.version.epoch) ⊎ ((d.version.epoch ≡ c.version.epoch) × (d.version.seq ≤ c.version.seq))
   not_older c h e d k q = at_most-means d.version c.version ((no_older_label known held d t k (ap (λ (l : Key). l.kind) q)).each c h (e ∙ sym q))
 
   gone_newest : (c : ChangeRecord) → Contains held (Changed c) → c.key ≡ label_key name → c.body ≡ Gone → IsGone known name
@@ -152,7 +154,8 @@ module _ (known held : List Item) (name : List ℕ) (t : IsTop held known) (vali
       newest d r (inl l) = let g : c.version.epoch ≡ p.generation = r.1 in omega arith
       newest d r (inr l) = let g : c.version.epoch ≡ p.generation = r.1 in omega arith
 
-      not_gone : (d : ChangeRecord) → (c.version.seq ≡ 0) × (c.version.epoch ≡ p.generation) → d.version.seq ≡ 1 → (d.version.epoch < c.version.epoch) ⊎ ((d.version.epoch ≡ c.version.epoch) × (d.version.seq ≤ c.version.seq)) → d.version.epoch < p.generation
+      not_gone : (d : ChangeRecord) → (c.version.seq ≡ 0) × (c.version.epoch ≡ p.generation) → d.version.seq ≡ 1 →
+          (d.version.epoch < c.version.epoch) ⊎ ((d.version.epoch ≡ c.version.epoch) × (d.version.seq ≤ c.version.seq)) → d.version.epoch < p.generation
       not_gone d r u (inl l) = let g : c.version.epoch ≡ p.generation = r.1 in omega arith
       not_gone d r u (inr l) = let s : c.version.seq ≡ 0 = r.0 in absurd (let m : d.version.seq ≤ c.version.seq = l.1 in omega arith)
 
@@ -188,7 +191,7 @@ newest-under query known name (Some s) p h =
       not_gone = λ c k e g. h.not_gone c (Contains-under query known (Changed c) k (ap query e ∙ p)) e g;
     }
 
--- a top of what is known under the query names it
+-- A top of what is known under the query has it.
 pub labels_of_a_top : (query : Key → Bool) (known held : List Item) (name : List ℕ) → ((i : Item) → Contains known i → IsItem i) → IsTop held (under query known) → query (label_key name) ≡ true → IsNewest known name (label_in held name)
 labels_of_a_top query known held name valid t p =
     newest-under query known name (label_in held name) p (label_newest (under query known) held name t (λ i h. valid i (Contains-from_under query known i h).0))

@@ -1,4 +1,4 @@
--- How pages grow, turn by turn, up to the last one.
+-- How pages grow, one by one, up to the last one.
 use Rattle.std.proofs.Common.{◌≡◌, ℕ, ◌≤◌, Bool, true, false, List, [], ◌∷◌, ◌++◌, map, take, Option, Some, None, refl, ap, sym, ◌∙◌, subst, append_assoc, append-nil}
 use Rattle.std.specs.Prelude.{MatchBool}
 use Rattle.std.specs.Option.{unwrap_or}
@@ -69,7 +69,7 @@ last_page f scope after p (u ∷ us) t h k l e = (
       (last_page f scope (last_key after u.page.items) u.page.cursor.position us t h.3 k l e),
 )
 
--- ---- what they gave was accepted
+-- ---- what they returned was accepted
 page_among : (f : Feed) (scope : Key → Bool) (after : Option Key) (t : PageTurn) → IsPageTurn f scope after t → IsPartOf t.page.items f.accepted
 page_among f scope after t h =
     let left = still_to_come (passes scope) after t.held in
@@ -87,12 +87,14 @@ either_way : (b : Bool) (P Q R S : Type 0) → (P → R) → (Q → S) → Match
 either_way true P Q R S f g h = f h
 either_way false P Q R S f g h = g h
 
-pages_knowing : (f : Feed) (scope : Key → Bool) (after : Option Key) (p : ℕ) (known : List Item) (turns : List PageTurn) → IsPartOf f.accepted known → ArePages f scope after p turns → ArePages f scope after p (map (page_knowing known) turns)
+pages_knowing : (f : Feed) (scope : Key → Bool) (after : Option Key) (p : ℕ) (known : List Item) (turns : List PageTurn) → IsPartOf f.accepted known →
+    ArePages f scope after p turns → ArePages f scope after p (map (page_knowing known) turns)
 pages_knowing f scope after p known [] part h = absurd h
 pages_knowing f scope after p known (t ∷ ts) part h = (
   record { front = h.0.front; knows = λ i k. part i (part_of_later t.feed.accepted t.feed f h.0.front (λ j l. l) i k); top = h.0.top; given = h.0.given },
   h.1,
-  either_way t.page.last (ts ≡ []) (ArePages f scope (last_key after t.page.items) t.page.cursor.position ts) (map (page_knowing known) ts ≡ []) (ArePages f scope (last_key after t.page.items) t.page.cursor.position (map (page_knowing known) ts))
+  either_way t.page.last (ts ≡ []) (ArePages f scope (last_key after t.page.items) t.page.cursor.position ts) (map (page_knowing known) ts ≡ [])
+      (ArePages f scope (last_key after t.page.items) t.page.cursor.position (map (page_knowing known) ts))
       (λ e. ap (λ (l : List PageTurn). map (page_knowing known) l) e) (λ k. pages_knowing f scope (last_key after t.page.items) t.page.cursor.position known ts part k) h.2,
 )
 
@@ -125,7 +127,7 @@ last_more : (turns : List PageTurn) (at : Cursor) (t : PageTurn) → last_cursor
 last_more [] at t = refl
 last_more (u ∷ us) at t = last_more us u.page.cursor t
 
--- the first page of all, and those behind it
+-- The first page of all, and those after it.
 record FirstOf (turns : List PageTurn) (t : PageTurn) : Type 0 where
   first : PageTurn
   pages : List PageTurn
@@ -158,7 +160,8 @@ pub paged_is_whole : PagedIsWhole
 paged_is_whole f scope other query pages last turns keep keeps before is l end since to =
     let o = first_of_all pages last in
     let are = last_page f scope None 0 pages last before is l end in
-    let all : paged (pages ++ last ∷ []) ++ journaled turns ≡ paged pages ++ (last.page.items ++ journaled turns) = ap (λ (x : List Item). x ++ journaled turns) (paged_more pages last) ∙ append_assoc (paged pages) last.page.items (journaled turns) in
+    let all : paged (pages ++ last ∷ []) ++ journaled turns ≡ paged pages ++ (last.page.items ++ journaled turns) = ap (λ (x : List Item). x ++ journaled turns)
+    (paged_more pages last) ∙ append_assoc (paged pages) last.page.items (journaled turns) in
     let law =
     by_law f scope other query keep keeps o.first o.pages turns (subst (ArePages f scope None 0) o.all are) (subst (λ (c : Cursor). AreSince f other c turns) o.from_is since)
     (subst (λ (c : Cursor). c.position ≤ (cursor_after o.first.page.cursor turns).position) (sym o.last_is) (subst (λ (c : Cursor). last.page.cursor.position ≤ (cursor_after c turns).position) o.from_is to)) in

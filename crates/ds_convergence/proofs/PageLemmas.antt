@@ -35,10 +35,11 @@ use Rattle.ds_convergence.proofs.SentLemmas.{Contains-from_under, kept, given_st
 use Rattle.ds_convergence.proofs.WholeLemmas.{before_part}
 use Rattle.ds_convergence.proofs.JournalLemmas.{front_is, front_part, journal_covers, journal_stands}
 
--- ---- behind a key
+-- ---- after a key
 
--- what comes behind the first n changes of a list in order comes behind the last key of these
-drop_behind : (after : Option Key) (xs : List Item) (n : ℕ) (d : ChangeRecord) → IsStrictlySortedBy item_cmp xs → ((i : Item) → In i xs → is_behind_key after i ≡ true) → In (Changed d) (drop n xs) → is_behind_key (last_key after (take n xs)) (Changed d) ≡ true
+-- What comes after the first n changes of an ordered list comes after the last key of these.
+drop_behind : (after : Option Key) (xs : List Item) (n : ℕ) (d : ChangeRecord) → IsStrictlySortedBy item_cmp xs → ((i : Item) → In i xs → is_behind_key after i ≡ true) →
+    In (Changed d) (drop n xs) → is_behind_key (last_key after (take n xs)) (Changed d) ≡ true
 unfolding IsStrictlySortedBy
 drop_behind after [] zero d s f h = absurd h
 drop_behind after [] (suc n) d s f h = absurd h
@@ -55,13 +56,13 @@ drop_behind after (Changed x ∷ xs) (suc n) d s f h = drop_behind (Some x.key) 
     below (y ∷ ys) i a (inr k) = below ys i a.1 k
 drop_behind after (Floored x ∷ xs) (suc n) d s f h = drop_behind after xs n d s.1 (λ i k. f i (inr k)) h
 
--- floors give no key
+-- Floors have no key.
 floors_give_none : (after : Option Key) (xs ys : List Item) → last_key after (floors_of xs ++ ys) ≡ last_key after ys
 floors_give_none after [] ys = refl
 floors_give_none after (Changed c ∷ xs) ys = floors_give_none after xs ys
 floors_give_none after (Floored f ∷ xs) ys = floors_give_none after xs ys
 
--- the other change of the key is behind the same keys
+-- The other change of the key is after the same keys.
 same_behind : (after : Option Key) (c d : ChangeRecord) → d.key ≡ c.key → is_behind_key after (Changed c) ≡ true → is_behind_key after (Changed d) ≡ true
 same_behind None c d e h = refl
 same_behind (Some a) c d e h = subst (λ (k : Key). is_lt (key_cmp a k) ≡ true) (sym e) h
@@ -105,8 +106,9 @@ module _ (f : Feed) (scope : Key → Bool) (after : Option Key) (t : PageTurn) (
   taken : (i : Item) → Contains (take t.max changes) i → Contains t.page.items i
   taken i h = subst (λ (l : List Item). Contains l i) (sym items_are) (Contains-append_right (floors_of rest) (take t.max changes) i h)
 
-  -- a held change is on the page, or behind its last key where further pages follow
-  pub on_page : (d : ChangeRecord) → Contains t.held (Changed d) → passes scope (Changed d) ≡ true → is_behind_key after (Changed d) ≡ true → Contains t.page.items (Changed d) ⊎ ((t.page.last ≡ false) × (is_behind_key (last_key after t.page.items) (Changed d) ≡ true))
+  -- A held change is on the page, or after its last key if more pages follow.
+  pub on_page : (d : ChangeRecord) → Contains t.held (Changed d) → passes scope (Changed d) ≡ true → is_behind_key after (Changed d) ≡ true →
+      Contains t.page.items (Changed d) ⊎ ((t.page.last ≡ false) × (is_behind_key (last_key after t.page.items) (Changed d) ≡ true))
   on_page d h p b =
       by_place (Contains-append_cases (take t.max changes) (drop t.max changes) (Changed d)
       (subst (λ (l : List Item). Contains l (Changed d)) (sym (take-append-drop t.max changes)) (Contains-filter (λ (j : Item). not (is_floor j)) rest (Changed d) (to_come (Changed d) h p b) refl)))
@@ -132,7 +134,8 @@ module _ (f : Feed) (scope : Key → Bool) (after : Option Key) (t : PageTurn) (
       (Contains-append_left (floors_of rest) (take t.max changes) (Floored g) (Contains-filter is_floor rest (Floored g) (to_come (Floored g) h refl b) refl))
 
 -- the first page stands for all that a floor of that time covers
-first_page : (f : Feed) (scope : Key → Bool) (t : PageTurn) → IsPageTurn f scope None t → (g : Floor) (i : Item) → Contains t.feed.accepted (Floored g) → Contains t.feed.accepted i → covers (Floored g) i ≡ true → Contains (stood_for (given t.known t.page.items)) i
+first_page : (f : Feed) (scope : Key → Bool) (t : PageTurn) → IsPageTurn f scope None t → (g : Floor) (i : Item) → Contains t.feed.accepted (Floored g) →
+    Contains t.feed.accepted i → covers (Floored g) i ≡ true → Contains (stood_for (given t.known t.page.items)) i
 first_page f scope t s g i h k e = let d = s.top.greatest (Floored g) h in over d.0 d.1 d.2
   where
     over : (d : Item) → Contains t.held d → covers d (Floored g) ≡ true → Contains (stood_for (given t.known t.page.items)) i
@@ -146,23 +149,25 @@ abbrev IsFloored : Feed → ℕ → Item → Type 0
 IsFloored f p i = (g : Floor) × Contains (before f p) (Floored g) × (covers (Floored g) i ≡ true)
 
 module _ (f : Feed) (scope : Key → Bool) where
-  -- what comes behind a page, by its last key, if it isn't the last one
+  -- What comes after a page, by its last key, if it isn't the last one.
   abbrev Follow : PageTurn → Option Key → List PageTurn → Type 0
   Follow t after ts = MatchBool t.page.last (ts ≡ []) (ArePages f scope after t.page.cursor.position ts)
 
-  -- no page's cursor is behind the last one's
+  -- No page's cursor is past the last one's.
   rises : (t : PageTurn) (after : Option Key) (ts : List PageTurn) → Follow t after ts → t.page.cursor.position ≤ (last_cursor t.page.cursor ts).position
   rises t after [] w = omega arith
   rises t after (u ∷ us) w = by_last t.page.last w (rises u (last_key after u.page.items) us)
     where
-      by_last : (b : Bool) → MatchBool b ((u ∷ us) ≡ []) (ArePages f scope after t.page.cursor.position (u ∷ us)) → (Follow u (last_key after u.page.items) us → u.page.cursor.position ≤ (last_cursor u.page.cursor us).position) → t.page.cursor.position ≤ (last_cursor u.page.cursor us).position
+      by_last : (b : Bool) → MatchBool b ((u ∷ us) ≡ []) (ArePages f scope after t.page.cursor.position (u ∷ us)) →
+          (Follow u (last_key after u.page.items) us → u.page.cursor.position ≤ (last_cursor u.page.cursor us).position) →
+          t.page.cursor.position ≤ (last_cursor u.page.cursor us).position
       by_last true e more = cc
       by_last false w more =
           let on : t.page.cursor.position ≤ u.page.cursor.position = w.1 in
           let rest : u.page.cursor.position ≤ (last_cursor u.page.cursor us).position = more w.2 in
           omega arith
 
-  -- the pages behind a key stand for each change behind it that took effect before them, or a floor came that covers it
+  -- The pages after a key stand for each change after it that took effect before them, unless a floor covers it by then.
   pages_stand : (after : Option Key) (p : ℕ) (at : Cursor) (ts : List PageTurn) → ArePages f scope after p ts → (b : Feed) (c : ChangeRecord) → IsFront b f → position b ≤ p → Contains b.accepted (Changed c) →
       passes scope (Changed c) ≡ true → is_behind_key after (Changed c) ≡ true → Contains (stood_for (page_items ts)) (Changed c) ⊎ IsFloored f (last_cursor at ts).position (Changed c)
   pages_stand after p at [] w b c front early h q r = absurd w
@@ -188,7 +193,8 @@ module _ (f : Feed) (scope : Key → Bool) where
 
       on_or_behind : (d : ChangeRecord) → covers (Changed d) (Changed c) ≡ true →
           Contains t.page.items (Changed d) ⊎ ((t.page.last ≡ false) × (is_behind_key (last_key after t.page.items) (Changed d) ≡ true)) →
-          (ArePages f scope (last_key after t.page.items) t.page.cursor.position ts → is_behind_key (last_key after t.page.items) (Changed c) ≡ true → Contains (stood_for (page_items ts)) (Changed c) ⊎ IsFloored f (last_cursor t.page.cursor ts).position (Changed c)) →
+          (ArePages f scope (last_key after t.page.items) t.page.cursor.position ts → is_behind_key (last_key after t.page.items) (Changed c) ≡ true →
+          Contains (stood_for (page_items ts)) (Changed c) ⊎ IsFloored f (last_cursor t.page.cursor ts).position (Changed c)) →
           Contains (stood_for (page_items (t ∷ ts))) (Changed c) ⊎ IsFloored f (last_cursor t.page.cursor ts).position (Changed c)
       on_or_behind d e (inl k) more = inl (here (Changed d) e k)
       on_or_behind d e (inr k) more =
@@ -198,7 +204,8 @@ module _ (f : Feed) (scope : Key → Bool) where
           ]
 
       over : (d : Item) → Contains t.held d → covers d (Changed c) ≡ true →
-          (ArePages f scope (last_key after t.page.items) t.page.cursor.position ts → is_behind_key (last_key after t.page.items) (Changed c) ≡ true → Contains (stood_for (page_items ts)) (Changed c) ⊎ IsFloored f (last_cursor t.page.cursor ts).position (Changed c)) →
+          (ArePages f scope (last_key after t.page.items) t.page.cursor.position ts → is_behind_key (last_key after t.page.items) (Changed c) ≡ true →
+          Contains (stood_for (page_items ts)) (Changed c) ⊎ IsFloored f (last_cursor t.page.cursor ts).position (Changed c)) →
           Contains (stood_for (page_items (t ∷ ts))) (Changed c) ⊎ IsFloored f (last_cursor t.page.cursor ts).position (Changed c)
       over (Floored g) k e more =
           let there : Contains (before f t.page.cursor.position) (Floored g) = subst (λ (l : List Item). Contains l (Floored g)) (sym (page_front f scope after t w.0)) (w.0.top.among (Floored g) k) in
@@ -206,7 +213,7 @@ module _ (f : Feed) (scope : Key → Bool) where
       over (Changed d) k e more =
           on_or_behind d e (on_page f scope after t w.0 d k (covers-query scope (Changed d) (Changed c) e q) (same_behind after c d (sym (covers-key d c e)) r)) more
 
--- no page's cursor is behind the store's position
+-- No page's cursor is past the store's position.
 front_within : (f late : Feed) → IsFront f late → position f ≤ position late
 front_within f late g =
     let e : length late.accepted ≡ length f.accepted + length g.grown.0 = ap length g.grown.1 ∙ length-append f.accepted g.grown.0 in
@@ -226,7 +233,9 @@ pages_end f scope first pages w = at first None 0 pages w
     at t after p [] w = end_at after t w.0
     at t after p (u ∷ us) w = by_last t.page.last w.2 (at u (last_key after t.page.items) t.page.cursor.position us)
       where
-        by_last : (b : Bool) → MatchBool b ((u ∷ us) ≡ []) (ArePages f scope (last_key after t.page.items) t.page.cursor.position (u ∷ us)) → (ArePages f scope (last_key after t.page.items) t.page.cursor.position (u ∷ us) → (last_cursor u.page.cursor us).position ≤ position f) → (last_cursor u.page.cursor us).position ≤ position f
+        by_last : (b : Bool) → MatchBool b ((u ∷ us) ≡ []) (ArePages f scope (last_key after t.page.items) t.page.cursor.position (u ∷ us)) →
+            (ArePages f scope (last_key after t.page.items) t.page.cursor.position (u ∷ us) → (last_cursor u.page.cursor us).position ≤ position f) →
+            (last_cursor u.page.cursor us).position ≤ position f
         by_last true e rest = cc
         by_last false v rest = rest v
 
@@ -247,7 +256,7 @@ pages_are_whole f scope other query first pages turns keep keep_other w s bound 
     first_stands : (j : Item) → Contains (stood_for (given first.known first.page.items)) j → Contains (stood_for (page_items (first ∷ pages) ++ since_items turns)) j
     first_stands j l = stood_left (page_items (first ∷ pages)) (since_items turns) j (stood_left (given first.known first.page.items) (page_items pages) j l)
 
-    -- a floor that came by the last page is on the first page or in the journal
+    -- A floor that took effect by the last page is on the first page or in the journal.
     floored : (c : ChangeRecord) → Contains first.feed.accepted (Changed c) → IsFloored f (last_cursor first.page.cursor pages).position (Changed c) → Contains (stood_for (page_items (first ∷ pages) ++ since_items turns)) (Changed c)
     floored c l g =
         let in_time : Contains (before f to.position) (Floored g.0) = before_part f (last_cursor from pages).position to.position bound (Floored g.0) g.1 in

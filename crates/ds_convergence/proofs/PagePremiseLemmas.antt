@@ -51,7 +51,9 @@ pages_need = record {
       (law (feed_of late) all all all (page_by all None 1 early) (page_by all after 1 late ∷ []) [] (λ key e. e) (λ key e. e)
       (page_is early (floor1 ∷ []) all None 1 (top_by early (refl, (refl, tt))), omega arith, (page_is late [] all after 1 (top_by late (refl, (refl, (tt, tt)))), omega arith, refl)) tt c1
       (Contains-tail l1 (c1 ∷ []) c1 (Contains-head c1 [])));
-  none_before = λ law. let after : Option Key = Some (key_of U32 97) in Contains-nil a1 (law (feed_of (a1 ∷ [])) all all all after (page_by all after 1 (a1 ∷ [])) [] [] (λ key e. e) (λ key e. e) (one_page all after 1, omega arith, refl) tt (omega arith) a1 (Contains-head a1 []));
+  none_before = λ law. let after : Option Key = Some (key_of U32 97) in
+      Contains-nil a1 (law (feed_of (a1 ∷ [])) all all all after (page_by all after 1 (a1 ∷ [])) [] [] (λ key e. e) (λ key e. e) (one_page all after 1, omega arith, refl) tt
+      (omega arith) a1 (Contains-head a1 []));
   until_last = λ law. Contains-nil a1 (law (feed_of (a1 ∷ [])) all all (page_by all None 0 (a1 ∷ [])) (λ key e. e) (one_page all None 0) a1 (Contains-head a1 []));
   in_turn = λ law.
       let whole : List Item = b1 ∷ c1 ∷ [] in

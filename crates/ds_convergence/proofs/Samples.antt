@@ -40,15 +40,15 @@ b1 = change U32 98 1 Gone
 abbrev pub c1 : Item
 c1 = change U32 99 1 Gone
 
--- a label, which no floor makes void
+-- A label, which no floor voids.
 abbrev pub l1 : Item
 l1 = change Label 97 1 Gone
 
--- the floor that makes numbers of `o` in epoch 1 void
+-- The floor that voids numbers of `o` in epoch 1.
 abbrev pub floor1 : Item
 floor1 = Floored (record { owner = 111 ∷ []; generation = 1 })
 
--- a store that accepted just these, from position 0 on
+-- A store that accepted exactly these, from position 0 on.
 abbrev pub feed_of : List Item → Feed
 feed_of accepted = record { accepted = accepted; first = 0; ring = 8; incarnation = 0 }
 
@@ -61,7 +61,7 @@ none key = false
 abbrev pub key_of : Kind → ℕ → Key
 key_of kind name = record { name = name ∷ []; kind = kind }
 
--- an item isn't among those that a test tells from it
+-- An item isn't among those that a test distinguishes from it.
 pub not_among : (test : Item → Bool) (items : List Item) (i : Item) → test i ≡ true → list_any test items ≡ false → Contains items i → ⊥
 not_among test items i e n h = let differ : true ≡ false = sym e ∙ none_pass test items i n h in cc
 
@@ -81,7 +81,9 @@ one_owner : (owner : List ℕ) (items : List Item) → AllByRecursion (IsOf owne
 one_owner owner items a front back (Floored f) e = tt
 one_owner owner items a front back (Changed c) e =
     λ d h v w q.
-    let own : IsOf owner (Changed c) = of_one owner items (Changed c) a (In-from_Contains (Changed c) items (subst (λ (l : List Item). Contains l (Changed c)) (sym e) (Contains-append_right front (Changed c ∷ back) (Changed c) (Contains-head (Changed c) back)))) in
+    let own : IsOf owner (Changed c) = of_one owner items (Changed c) a
+    (In-from_Contains (Changed c) items (subst (λ (l : List Item). Contains l (Changed c)) (sym e)
+    (Contains-append_right front (Changed c ∷ back) (Changed c) (Contains-head (Changed c) back)))) in
     let other : IsOf owner (Changed d) = of_one owner items (Changed d) a (In-from_Contains (Changed d) items (subst (λ (l : List Item). Contains l (Changed d)) (sym e) (Contains-append_left front (Changed c ∷ back) (Changed d) h))) in
     own ∙ sym other
 
@@ -94,7 +96,11 @@ top_by items a = top_of_one (111 ∷ []) items a
 
 -- no item contradicts itself
 pub one_single : (i : Item) → AreSingleNumbered (i ∷ [])
-one_single i = record { one_change = λ c d h k e f. same c d (Contains-single i (Changed c) h) (Contains-single i (Changed d) k); one_owner = λ c d h k e. ap (λ (x : ChangeRecord). x.owner) (same c d (Contains-single i (Changed c) h) (Contains-single i (Changed d) k)) }
+one_single i = record {
+  one_change = λ c d h k e f. same c d (Contains-single i (Changed c) h) (Contains-single i (Changed d) k);
+  one_owner = λ c d h k e. ap
+      (λ (x : ChangeRecord). x.owner) (same c d (Contains-single i (Changed c) h) (Contains-single i (Changed d) k));
+}
   where
     same : (c d : ChangeRecord) → Changed c ≡ i → Changed d ≡ i → c ≡ d
     same c d e f = let g : Changed c ≡ Changed d = e ∙ sym f in cc

@@ -42,7 +42,7 @@ stood items s i h k = Contains-flat_map (λ (t : Sent). t.stands_for) items s i 
 pub from_stood : (items : List Sent) (i : Item) → Contains (stood_for items) i → (s : Sent) × Contains items s × Contains s.stands_for i
 from_stood items i h = Contains-from_flat_map (λ (t : Sent). t.stands_for) items i h
 
--- more items stand for no less
+-- More items stand for no less.
 pub stood_wider : (items more : List Sent) → ((s : Sent) → Contains items s → Contains more s) → IsPartOf (stood_for items) (stood_for more)
 stood_wider items more f i h =
     let s = from_stood items i h in
@@ -54,11 +54,11 @@ stood_left xs ys = stood_wider xs (xs ++ ys) (λ s h. Contains-append_left xs ys
 pub stood_right : (xs ys : List Sent) → IsPartOf (stood_for ys) (stood_for (xs ++ ys))
 stood_right xs ys = stood_wider ys (xs ++ ys) (λ s h. Contains-append_right xs ys s h)
 
--- what is given stands for all that is known and covered by it
+-- What is returned stands for everything that is known and covered by it.
 pub given_stands : (known items : List Item) (i j : Item) → Contains items j → Contains known i → covers j i ≡ true → Contains (stood_for (given known items)) i
 given_stands known items i j h k e = stood (given known items) (sent_by known j) i (Contains-map (sent_by known) items j h) (Contains-filter (covers j) known i k e)
 
--- and for nothing else
+-- And for nothing else.
 pub from_given : (known items : List Item) (i : Item) → Contains (stood_for (given known items)) i → (j : Item) × Contains items j × (covers j i ≡ true)
 from_given known items i h =
     let s = from_stood (given known items) i h in
@@ -73,13 +73,13 @@ given_is_sent known items part s h =
 
 -- ---- what a map learns
 
--- a sent item covers all that it stands for
+-- A sent item covers everything that it stands for.
 pub sent_covers : (s : Sent) → IsSent s → (i : Item) → Contains s.stands_for i → covers s.item i ≡ true
 sent_covers s t i h =
     let d = t.greatest i h in
     subst (λ (z : Item). covers z i ≡ true) (Contains-single s.item d.0 d.1) d.2
 
--- what is stood for and under the query, a map with this query learns
+-- What is stood for and under the query, a map with this query learns.
 pub learnt_of : (query : Key → Bool) (items : List Sent) → ((s : Sent) → Contains items s → IsSent s) → (i : Item) → passes query i ≡ true → Contains (stood_for items) i → Contains (learnt query items) i
 learnt_of query items sent i q h =
     let s = from_stood items i h in

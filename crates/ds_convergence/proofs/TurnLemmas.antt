@@ -1,4 +1,4 @@
--- How checks and replies of the journal grow, turn by turn.
+-- How checks and replies of the journal grow, one by one.
 use Rattle.std.proofs.Common.{◌≡◌, Bool, List, [], ◌∷◌, ◌++◌, map, take, refl, ap, sym, ◌∙◌, subst, append_assoc, append-nil}
 use Rattle.std.specs.List.{Contains}
 use Rattle.std.proofs.lemmas.List.{map-append}
@@ -39,7 +39,8 @@ checks_later early f late query shown [] front h = tt
 checks_later early f late query shown (t ∷ ts) front h =
     (record { later = h.0.later; front = feeds_grow.later t.feed f late h.0.front front; knows = h.0.knows; top = h.0.top; given = h.0.given }, checks_later early f late query (shown ++ t.items) ts front h.1)
 
-one_check_more : (early f : Feed) (query : Key → Bool) (shown : List Item) (turns : List CheckTurn) (t : CheckTurn) → AreChecks early f query shown turns → IsCheckTurn early f query (shown ++ checked turns) t → AreChecks early f query shown (turns ++ t ∷ [])
+one_check_more : (early f : Feed) (query : Key → Bool) (shown : List Item) (turns : List CheckTurn) (t : CheckTurn) → AreChecks early f query shown turns →
+    IsCheckTurn early f query (shown ++ checked turns) t → AreChecks early f query shown (turns ++ t ∷ [])
 one_check_more early f query shown [] t h k = (subst (λ (l : List Item). IsCheckTurn early f query l t) (append-nil shown) k, tt)
 one_check_more early f query shown (u ∷ us) t h k =
     (h.0, one_check_more early f query (shown ++ u.items) us t h.1 (subst (λ (l : List Item). IsCheckTurn early f query l t) (sym (append_assoc shown u.items (checked us))) k))

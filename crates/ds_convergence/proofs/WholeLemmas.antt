@@ -51,7 +51,7 @@ narrower_is_whole f query narrow items r keep w i h =
 
 -- ---- later
 
--- what took effect before a position that was reached took effect before it later too, and nothing else
+-- What took effect before a position that was reached took effect before it later too, and nothing else did.
 pub before_later : (f late : Feed) (r : ℕ) → IsFront f late → r ≤ position f → before late r ≡ before f r
 before_later f late r g l =
     let first : late.first ≡ f.first = g.first in

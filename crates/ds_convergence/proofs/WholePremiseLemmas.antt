@@ -21,7 +21,7 @@ start = record { incarnation = 0; position = 0 }
 one_top : IsTop (a1 ∷ []) (a1 ∷ [])
 one_top = top_by (a1 ∷ []) (refl, tt)
 
--- nothing doesn't stand for the one item that was accepted
+-- Nothing can't stand for the one item that was accepted.
 not_whole : IsWhole store all [] 1 → ⊥
 not_whole w = Contains-nil a1 (w a1 (Contains-head a1 []))
 

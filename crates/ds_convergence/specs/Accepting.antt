@@ -3,12 +3,15 @@ use Rattle.std.specs.Prelude.{◌≡◌, false, List, [], ◌∷◌, ◌++◌, C
 use Rattle.ds_entry.specs.ItemCovers.{covers}
 use Rattle.ds_entry.specs.declared.item.Item.{Item}
 
--- when each of the later items took effect, it was covered by none that had taken effect before it
+-- Whether each of the later items, when it took effect, was covered by none before it.
 abbrev pub AreNew : List Item → List Item → Type 0
-AreNew accepted since = (front back : List Item) (i j : Item) → since ≡ front ++ i ∷ back → Contains (accepted ++ front) j → covers j i ≡ false
+AreNew accepted since =
+    (front back : List Item) (i j : Item) → since ≡ front ++ i ∷ back → Contains (accepted ++ front) j → covers j i ≡ false
 
--- items that take effect one by one, each covered by none before it, are new
+-- A law: items that take effect one by one, each covered by none before it, are new.
 pub record OneByOneIsNew : Type 0 where
   pub none : (accepted : List Item) → AreNew accepted []
-  pub one_more : (accepted since : List Item) (i : Item) → AreNew accepted since → ((j : Item) → Contains (accepted ++ since) j → covers j i ≡ false) → AreNew accepted (since ++ i ∷ [])
-  pub one_before : (accepted since : List Item) (i : Item) → ((j : Item) → Contains accepted j → covers j i ≡ false) → AreNew (accepted ++ i ∷ []) since → AreNew accepted (i ∷ since)
+  pub one_more : (accepted since : List Item) (i : Item) → AreNew accepted since →
+      ((j : Item) → Contains (accepted ++ since) j → covers j i ≡ false) → AreNew accepted (since ++ i ∷ [])
+  pub one_before : (accepted since : List Item) (i : Item) → ((j : Item) → Contains accepted j → covers j i ≡ false) →
+      AreNew (accepted ++ i ∷ []) since → AreNew accepted (i ∷ since)

@@ -10,16 +10,21 @@ use Rattle.ds_convergence.specs.Whole.{IsWhole}
 use Rattle.ds_convergence.specs.Accepting.{AreNew}
 use Rattle.ds_convergence.specs.Checked.{CheckTurn, AreChecks, check_items}
 
--- the items of all checks of a subscription to which nothing counted as shown at first are whole up to the last check, if
--- that one gave fewer than it was asked for, and what the store accepted meanwhile was new
+-- A law: the items of all checks of a subscription, to which nothing counted as shown at first, are whole up to the
+-- last check if that one returned fewer than it was asked for and what the store accepted meanwhile was new.
 abbrev pub ChecksAreWhole : Type 0
 ChecksAreWhole =
-    (early f : Feed) (query : Key → Bool) (since : List Item) (turns : List CheckTurn) (last : CheckTurn) → f.accepted ≡ early.accepted ++ since → AreNew early.accepted since →
-    AreChecks early f query [] (turns ++ last ∷ []) → length last.items < last.max → IsWhole f query (check_items (turns ++ last ∷ [])) (position last.feed)
+    (early f : Feed) (query : Key → Bool) (since : List Item) (turns : List CheckTurn) (last : CheckTurn) →
+    f.accepted ≡ early.accepted ++ since → AreNew early.accepted since →
+    AreChecks early f query [] (turns ++ last ∷ []) → length last.items < last.max →
+    IsWhole f query (check_items (turns ++ last ∷ [])) (position last.feed)
 
--- where what had taken effect by then counted as shown, they are whole together with items that were whole up to then
+-- A law: if what had taken effect by then counted as shown, they are whole together with items that were whole up to
+-- then.
 abbrev pub ChecksGoOn : Type 0
 ChecksGoOn =
-    (early begun f : Feed) (query : Key → Bool) (since shown : List Item) (items : List Sent) (turns : List CheckTurn) (last : CheckTurn) → f.accepted ≡ early.accepted ++ since → AreNew early.accepted since →
+    (early begun f : Feed) (query : Key → Bool) (since shown : List Item) (items : List Sent) (turns : List CheckTurn) (last : CheckTurn) →
+    f.accepted ≡ early.accepted ++ since → AreNew early.accepted since →
     IsFront early begun → IsFront begun f → IsPartOf shown begun.accepted → IsWhole f query items (position begun) →
-    AreChecks early f query shown (turns ++ last ∷ []) → length last.items < last.max → IsWhole f query (items ++ check_items (turns ++ last ∷ [])) (position last.feed)
+    AreChecks early f query shown (turns ++ last ∷ []) → length last.items < last.max →
+    IsWhole f query (items ++ check_items (turns ++ last ∷ [])) (position last.feed)

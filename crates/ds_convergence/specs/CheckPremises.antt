@@ -1,4 +1,4 @@
--- The law of checks is false without one of its premises.
+-- The law of checks is false without any one of its premises.
 use Rattle.std.specs.Prelude.{◌≡◌, ◌<◌, Bool, List, [], ◌∷◌, ◌++◌, length}
 use Rattle.ds_names.specs.declared.key.Key.{Key}
 use Rattle.ds_entry.specs.declared.item.Item.{Item}
@@ -8,12 +8,16 @@ use Rattle.ds_convergence.specs.Accepting.{AreNew}
 use Rattle.ds_convergence.specs.Checked.{CheckTurn, AreChecks, check_items}
 
 pub record ChecksNeed : Type 0 where
-  -- the last check gave fewer than it was asked for
-  pub fewer : ¬ ((early f : Feed) (query : Key → Bool) (since : List Item) (turns : List CheckTurn) (last : CheckTurn) → f.accepted ≡ early.accepted ++ since → AreNew early.accepted since →
+  -- The last check returned fewer items than it was asked for.
+  pub fewer : ¬ ((early f : Feed) (query : Key → Bool) (since : List Item) (turns : List CheckTurn) (last : CheckTurn) →
+      f.accepted ≡ early.accepted ++ since → AreNew early.accepted since →
       AreChecks early f query [] (turns ++ last ∷ []) → IsWhole f query (check_items (turns ++ last ∷ [])) (position last.feed))
-  -- nothing counted as shown at first
-  pub initial : ¬ ((early f : Feed) (query : Key → Bool) (since shown : List Item) (turns : List CheckTurn) (last : CheckTurn) → f.accepted ≡ early.accepted ++ since → AreNew early.accepted since →
-      AreChecks early f query shown (turns ++ last ∷ []) → length last.items < last.max → IsWhole f query (check_items (turns ++ last ∷ [])) (position last.feed))
-  -- and nothing took effect meanwhile that was covered already
+  -- Nothing counted as shown at first.
+  pub initial : ¬ ((early f : Feed) (query : Key → Bool) (since shown : List Item) (turns : List CheckTurn) (last : CheckTurn) →
+      f.accepted ≡ early.accepted ++ since → AreNew early.accepted since →
+      AreChecks early f query shown (turns ++ last ∷ []) → length last.items < last.max →
+      IsWhole f query (check_items (turns ++ last ∷ [])) (position last.feed))
+  -- Nothing took effect meanwhile that was covered already.
   pub new : ¬ ((early f : Feed) (query : Key → Bool) (turns : List CheckTurn) (last : CheckTurn) →
-      AreChecks early f query [] (turns ++ last ∷ []) → length last.items < last.max → IsWhole f query (check_items (turns ++ last ∷ [])) (position last.feed))
+      AreChecks early f query [] (turns ++ last ∷ []) → length last.items < last.max →
+      IsWhole f query (check_items (turns ++ last ∷ [])) (position last.feed))

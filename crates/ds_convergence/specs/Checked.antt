@@ -1,4 +1,4 @@
--- What the checks of a subscription gave.
+-- What the checks of a subscription returned.
 use Rattle.std.specs.Prelude.{◌≡◌, ℕ, Bool, not, ◌&&◌, List, [], ◌∷◌, ◌++◌, take, filter}
 use Rattle.std.specs.List.{list_any}
 use Rattle.ds_names.specs.declared.key.Key.{Key}
@@ -10,11 +10,11 @@ use Rattle.ds_feed.specs.Feed.{Feed}
 use Rattle.ds_convergence.specs.Sent.{Sent, given}
 use Rattle.ds_convergence.specs.Front.{IsFront}
 
--- of what is held, what is under the query and covered by nothing that was shown
+-- The held items that are under the query and covered by nothing that was shown.
 abbrev pub unseen_by : (Key → Bool) → List Item → List Item → List Item
 unseen_by query shown held = filter (λ i. passes query i && not (list_any (λ j. covers j i) shown)) held
 
--- a check: the store at that time, what it knew and held, how many items were asked for, and those that were given
+-- A check: the store at that time, what it knew and held, the most items asked for, and the items returned.
 pub record CheckTurn : Type 0 where
   pub feed : Feed
   pub known : List Item
@@ -22,7 +22,8 @@ pub record CheckTurn : Type 0 where
   pub max : ℕ
   pub items : List Item
 
--- it gave the first unseen items, when these had been shown, of the store that was `early` before and is `f` now
+-- Whether the check returned the first unseen items of the store, which was `early` before and is `f` now, after
+-- `shown` had been shown.
 pub record IsCheckTurn (early f : Feed) (query : Key → Bool) (shown : List Item) (t : CheckTurn) : Type 0 where
   pub later : IsFront early t.feed
   pub front : IsFront t.feed f
@@ -30,12 +31,12 @@ pub record IsCheckTurn (early f : Feed) (query : Key → Bool) (shown : List Ite
   pub top : IsTop t.held t.feed.accepted
   pub given : t.items ≡ take t.max (unseen_by query shown t.held)
 
--- checks one after the other: what each gave is shown from then on
+-- Checks in order: what each returned counts as shown from then on.
 abbrev pub AreChecks : Feed → Feed → (Key → Bool) → List Item → List CheckTurn → Type 0
 AreChecks early f query shown [] = Unit {0}
 AreChecks early f query shown (t ∷ ts) = IsCheckTurn early f query shown t × AreChecks early f query (shown ++ t.items) ts
 
--- the items of all checks
+-- The items of all checks.
 abbrev pub check_items : List CheckTurn → List Sent
 check_items [] = []
 check_items (t ∷ ts) = given t.known t.items ++ check_items ts

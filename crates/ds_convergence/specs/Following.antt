@@ -1,4 +1,4 @@
--- Whoever follows a store from a snapshot, or from pages, holds what the store holds.
+-- A holder that follows a store from a snapshot, or from pages, holds what the store holds.
 use Rattle.std.specs.Prelude.{◌≡◌, ◌≤◌, Bool, List, ◌∷◌, ◌++◌, None, Contains}
 use Rattle.ds_names.specs.declared.key.Key.{Key}
 use Rattle.ds_entry.specs.Item.{passes}
@@ -15,26 +15,32 @@ use Rattle.ds_convergence.specs.Paged.{PageTurn, ArePages, page_items}
 use Rattle.ds_convergence.specs.CatchUp.{MapHolds}
 use Rattle.ds_entry.specs.Under.{under}
 
--- a map that has taken at least these items, in whatever order and however often, and nothing that isn't covered by what
--- the store holds
+-- A map that took at least these items, in any order and with any repeats, and nothing that isn't covered by what the
+-- store holds.
 pub record HasTaken (query : Key → Bool) (stored held : List Item) (items taken : List Sent) : Type 0 where
   pub all : (s : Sent) → Contains items s → Contains taken s
   pub map : MapHolds query taken held
   pub nothing_else : CoversAll stored (under query (learnt query taken))
   pub numbers : AreSingleNumbered (under query (learnt query taken))
 
--- who took a snapshot of an earlier time, and what the journal gave from there up to the store's position, holds just what
--- the store holds under the query
+-- A law: a map that took an earlier snapshot, and what the journal returned from there up to the store's position,
+-- holds exactly what the store holds under the query.
 abbrev pub FollowsFromSnapshot : Type 0
 FollowsFromSnapshot =
-    (f early : Feed) (known top stored held : List Item) (scope other query : Key → Bool) (turns : List SinceTurn) (taken : List Sent) → KeepsQuery scope query → KeepsQuery other query →
-    IsFront early f → IsPartOf early.accepted known → IsTop top early.accepted → AreSince f other (end_of early) turns → position f ≤ (cursor_after (end_of early) turns).position → IsTop stored f.accepted →
-    HasTaken query stored held (given known (snapshot_of (passes scope) top (end_of early)).items ++ since_items turns) taken → held ≡ under query stored
+    (f early : Feed) (known top stored held : List Item) (scope other query : Key → Bool) (turns : List SinceTurn) (taken : List Sent) →
+    KeepsQuery scope query → KeepsQuery other query →
+    IsFront early f → IsPartOf early.accepted known → IsTop top early.accepted → AreSince f other (end_of early) turns →
+    position f ≤ (cursor_after (end_of early) turns).position → IsTop stored f.accepted →
+    HasTaken query stored held (given known (snapshot_of (passes scope) top (end_of early)).items ++ since_items turns) taken →
+    held ≡ under query stored
 
--- and so who took all pages, and what the journal gave from the first page's cursor up to the store's position
+-- A law: so does a map that took all pages, and what the journal returned from the first page's cursor up to the
+-- store's position.
 abbrev pub FollowsFromPages : Type 0
 FollowsFromPages =
-    (f : Feed) (stored held : List Item) (scope other query : Key → Bool) (first : PageTurn) (pages : List PageTurn) (turns : List SinceTurn) (taken : List Sent) → KeepsQuery scope query → KeepsQuery other query →
+    (f : Feed) (stored held : List Item) (scope other query : Key → Bool) (first : PageTurn) (pages : List PageTurn)
+    (turns : List SinceTurn) (taken : List Sent) → KeepsQuery scope query → KeepsQuery other query →
     let from = first.page.cursor in
-    ArePages f scope None 0 (first ∷ pages) → AreSince f other from turns → position f ≤ (cursor_after from turns).position → IsTop stored f.accepted →
+    ArePages f scope None 0 (first ∷ pages) → AreSince f other from turns → position f ≤ (cursor_after from turns).position →
+    IsTop stored f.accepted →
     HasTaken query stored held (page_items (first ∷ pages) ++ since_items turns) taken → held ≡ under query stored

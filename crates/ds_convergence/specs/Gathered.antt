@@ -1,4 +1,4 @@
--- The items of several replies, one behind the other.
+-- The items of several replies, in order.
 use Rattle.std.specs.Prelude.{List, [], ◌∷◌, ◌++◌}
 use Rattle.ds_entry.specs.declared.item.Item.{Item}
 use Rattle.ds_convergence.specs.Checked.{CheckTurn}

@@ -1,4 +1,4 @@
--- The laws of catching up, of agreement and of labels are false without one of their premises.
+-- The laws of catching up, of agreement and of labels are false without any one of their premises.
 use Rattle.std.specs.Prelude.{◌≡◌, ℕ, Bool, true, List, Contains}
 use Rattle.ds_names.specs.declared.key.Key.{Key}
 use Rattle.ds_entry.specs.Change.{ChangeRecord}
@@ -16,31 +16,44 @@ use Rattle.ds_convergence.specs.Labels.{HoldsNoOlder, label_in, IsNewest}
 use Rattle.ds_names.specs.Key.{label_key}
 use Rattle.ds_entry.specs.Under.{under}
 
--- what a map has taken is to be whole, to tell it nothing else, and not to contradict itself; each item of it is to be the
--- top of what it stands for; and what the map holds is to be the top of what it learnt, what the store holds of what it
--- accepted
+-- The premises of catching up. What the map took is whole, teaches it nothing else, and doesn't contradict itself.
+-- Each of its items is the top of what it stands for. The map holds the top of what it learnt, and the store that of
+-- what it accepted.
 pub record CatchUpNeeds : Type 0 where
-  pub whole : ¬ ((f : Feed) (query : Key → Bool) (items : List Sent) (stored held : List Item) → IsTop stored f.accepted → MapHolds query items held →
-      CoversAll stored (under query (learnt query items)) → AreSingleNumbered (under query (learnt query items)) → held ≡ under query stored)
-  pub nothing_else : ¬ ((f : Feed) (query : Key → Bool) (items : List Sent) (stored held : List Item) → IsTop stored f.accepted → MapHolds query items held →
+  pub whole : ¬ ((f : Feed) (query : Key → Bool) (items : List Sent) (stored held : List Item) → IsTop stored f.accepted →
+      MapHolds query items held →
+      CoversAll stored (under query (learnt query items)) → AreSingleNumbered (under query (learnt query items)) →
+      held ≡ under query stored)
+  pub nothing_else : ¬ ((f : Feed) (query : Key → Bool) (items : List Sent) (stored held : List Item) → IsTop stored f.accepted →
+      MapHolds query items held →
       IsWhole f query items (position f) → AreSingleNumbered (under query (learnt query items)) → held ≡ under query stored)
-  pub numbers : ¬ ((f : Feed) (query : Key → Bool) (items : List Sent) (stored held : List Item) → IsTop stored f.accepted → MapHolds query items held →
+  pub numbers : ¬ ((f : Feed) (query : Key → Bool) (items : List Sent) (stored held : List Item) → IsTop stored f.accepted →
+      MapHolds query items held →
       IsWhole f query items (position f) → CoversAll stored (under query (learnt query items)) → held ≡ under query stored)
-  pub sent : ¬ ((f : Feed) (query : Key → Bool) (items : List Sent) (stored held : List Item) → IsTop stored f.accepted → IsTop held (learnt query items) →
-      IsWhole f query items (position f) → CoversAll stored (under query (learnt query items)) → AreSingleNumbered (under query (learnt query items)) → held ≡ under query stored)
-  pub held : ¬ ((f : Feed) (query : Key → Bool) (items : List Sent) (stored held : List Item) → IsTop stored f.accepted → ((s : Sent) → Contains items s → IsSent s) →
-      IsWhole f query items (position f) → CoversAll stored (under query (learnt query items)) → AreSingleNumbered (under query (learnt query items)) → held ≡ under query stored)
+  pub sent : ¬ ((f : Feed) (query : Key → Bool) (items : List Sent) (stored held : List Item) → IsTop stored f.accepted →
+      IsTop held (learnt query items) →
+      IsWhole f query items (position f) → CoversAll stored (under query (learnt query items)) →
+      AreSingleNumbered (under query (learnt query items)) → held ≡ under query stored)
+  pub held : ¬ ((f : Feed) (query : Key → Bool) (items : List Sent) (stored held : List Item) → IsTop stored f.accepted →
+      ((s : Sent) → Contains items s → IsSent s) →
+      IsWhole f query items (position f) → CoversAll stored (under query (learnt query items)) →
+      AreSingleNumbered (under query (learnt query items)) → held ≡ under query stored)
   pub stored : ¬ ((f : Feed) (query : Key → Bool) (items : List Sent) (stored held : List Item) → MapHolds query items held →
-      IsWhole f query items (position f) → CoversAll stored (under query (learnt query items)) → AreSingleNumbered (under query (learnt query items)) → held ≡ under query stored)
+      IsWhole f query items (position f) → CoversAll stored (under query (learnt query items)) →
+      AreSingleNumbered (under query (learnt query items)) → held ≡ under query stored)
 
--- two holders are to know the same, which doesn't contradict itself
+-- The premises of agreement: both holders know the same, and it doesn't contradict itself.
 pub record AgreementNeeds : Type 0 where
-  pub numbers : ¬ ((query : Key → Bool) (known other held too : List Item) → IsTop held known → IsTop too other → KnowSame query known other → under query held ≡ under query too)
-  pub same : ¬ ((query : Key → Bool) (known other held too : List Item) → IsTop held known → IsTop too other → AreSingleNumbered (under query known) → under query held ≡ under query too)
+  pub numbers : ¬ ((query : Key → Bool) (known other held too : List Item) → IsTop held known → IsTop too other →
+      KnowSame query known other → under query held ≡ under query too)
+  pub same : ¬ ((query : Key → Bool) (known other held too : List Item) → IsTop held known → IsTop too other →
+      AreSingleNumbered (under query known) → under query held ≡ under query too)
 
--- of a change that isn't a label's a floor may leave nothing; a label's rule ties its endpoint to its epoch; and who
--- doesn't ask for a label isn't told it
+-- The premises of labels. A floor may leave nothing of a change that isn't a label's. A label's rule ties its
+-- endpoint to its epoch. A query that doesn't include a label returns nothing about it.
 pub record LabelsNeed : Type 0 where
   pub label : ¬ ((known held : List Item) (c : ChangeRecord) → IsTop held known → Contains known (Changed c) → HoldsNoOlder held c)
-  pub items : ¬ ((query : Key → Bool) (known held : List Item) (name : List ℕ) → IsTop held known → query (label_key name) ≡ true → IsNewest known name (label_in (under query held) name))
-  pub query : ¬ ((query : Key → Bool) (known held : List Item) (name : List ℕ) → ((i : Item) → Contains known i → IsItem i) → IsTop held known → IsNewest known name (label_in (under query held) name))
+  pub items : ¬ ((query : Key → Bool) (known held : List Item) (name : List ℕ) → IsTop held known → query (label_key name) ≡ true →
+      IsNewest known name (label_in (under query held) name))
+  pub query : ¬ ((query : Key → Bool) (known held : List Item) (name : List ℕ) → ((i : Item) → Contains known i → IsItem i) →
+      IsTop held known → IsNewest known name (label_in (under query held) name))

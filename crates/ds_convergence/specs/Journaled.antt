@@ -1,4 +1,4 @@
--- What a store's journal gave, reply by reply.
+-- What a store's journal returned, reply by reply.
 use Rattle.std.specs.Prelude.{ℕ, Bool, List, [], ◌∷◌, ◌++◌}
 use Rattle.ds_names.specs.declared.key.Key.{Key}
 use Rattle.ds_entry.specs.Item.{passes}
@@ -11,30 +11,30 @@ use Rattle.ds_feed.specs.Since.{IsGiven}
 use Rattle.ds_convergence.specs.Sent.{Sent, given}
 use Rattle.ds_convergence.specs.Front.{IsFront}
 
--- a question to the journal and its reply: the store at that time, what it knew, how many items were asked for
+-- A request to the journal and its reply: the store at that time, what it knew, and the most items asked for.
 pub record SinceTurn : Type 0 where
   pub feed : Feed
   pub known : List Item
   pub max : ℕ
   pub since : Since
 
--- it was asked from this cursor on, of the store that is `f` now
+-- Whether the request was from this cursor on, to the store that is `f` now.
 pub record IsSinceTurn (f : Feed) (scope : Key → Bool) (at : Cursor) (t : SinceTurn) : Type 0 where
   pub front : IsFront t.feed f
   pub knows : IsPartOf t.feed.accepted t.known
   pub given : IsGiven t.feed (passes scope) at t.max t.since
 
--- each was asked from the cursor that the one before gave
+-- Whether each request was from the cursor that the one before returned.
 abbrev pub AreSince : Feed → (Key → Bool) → Cursor → List SinceTurn → Type 0
 AreSince f scope at [] = Unit {0}
 AreSince f scope at (t ∷ ts) = IsSinceTurn f scope at t × AreSince f scope t.since.cursor ts
 
--- the items of all replies
+-- The items of all replies.
 abbrev pub since_items : List SinceTurn → List Sent
 since_items [] = []
 since_items (t ∷ ts) = given t.known t.since.items ++ since_items ts
 
--- the cursor that the last one gave
+-- The cursor that the last reply returned.
 abbrev pub cursor_after : Cursor → List SinceTurn → Cursor
 cursor_after at [] = at
 cursor_after at (t ∷ ts) = cursor_after t.since.cursor ts

@@ -5,22 +5,25 @@ use Rattle.ds_feed.specs.declared.cursor.Cursor.{Cursor}
 use Rattle.ds_feed.specs.Feed.{Feed}
 use Rattle.ds_convergence.specs.Paged.{PageTurn, IsPageTurn, last_key}
 
--- each was asked for behind the last key that was given, and no earlier than the one before, and none was the last page
+-- Whether each page was requested after the last key returned, no earlier than the one before, and none was the last
+-- page.
 abbrev pub AreOpenPages : Feed → (Key → Bool) → Option Key → ℕ → List PageTurn → Type 0
 AreOpenPages f scope after p [] = Unit {0}
-AreOpenPages f scope after p (t ∷ ts) = IsPageTurn f scope after t × (p ≤ t.page.cursor.position) × (t.page.last ≡ false) × AreOpenPages f scope (last_key after t.page.items) t.page.cursor.position ts
+AreOpenPages f scope after p (t ∷ ts) =
+    IsPageTurn f scope after t × (p ≤ t.page.cursor.position) × (t.page.last ≡ false) ×
+    AreOpenPages f scope (last_key after t.page.items) t.page.cursor.position ts
 
--- the key of the last change that they gave, or the one before them
+-- The key of the last change that the pages returned, or else `after`.
 abbrev pub key_after : Option Key → List PageTurn → Option Key
 key_after after [] = after
 key_after after (t ∷ ts) = key_after (last_key after t.page.items) ts
 
--- the position of the last one, or the one before them
+-- The position of the last page, or else `p`.
 abbrev pub position_after : ℕ → List PageTurn → ℕ
 position_after p [] = p
 position_after p (t ∷ ts) = position_after t.page.cursor.position ts
 
--- the cursor of the first one
+-- The cursor of the first page.
 abbrev pub first_cursor : List PageTurn → Option Cursor
 first_cursor [] = None
 first_cursor (t ∷ ts) = Some t.page.cursor

@@ -1,4 +1,4 @@
--- What a store gave page by page.
+-- What a store returned page by page.
 use Rattle.std.specs.Prelude.{◌≡◌, ℕ, ◌≤◌, Bool, List, [], ◌∷◌, ◌++◌, Option, Some, MatchBool}
 use Rattle.ds_names.specs.declared.key.Key.{Key}
 use Rattle.ds_entry.specs.Item.{passes}
@@ -12,7 +12,7 @@ use Rattle.ds_feed.specs.Page.{page_of}
 use Rattle.ds_convergence.specs.Sent.{Sent, given}
 use Rattle.ds_convergence.specs.Front.{IsFront, end_of}
 
--- a page: the store at that time, what it knew and held, and how many changes were asked for
+-- A page: the store at that time, what it knew and held, and the most changes asked for.
 pub record PageTurn : Type 0 where
   pub feed : Feed
   pub known : List Item
@@ -20,31 +20,32 @@ pub record PageTurn : Type 0 where
   pub max : ℕ
   pub page : Page
 
--- it was asked for behind this key, of the store that is `f` now
+-- Whether the page was requested after this key, of the store that is `f` now.
 pub record IsPageTurn (f : Feed) (scope : Key → Bool) (after : Option Key) (t : PageTurn) : Type 0 where
   pub front : IsFront t.feed f
   pub knows : IsPartOf t.feed.accepted t.known
   pub top : IsTop t.held t.feed.accepted
   pub given : t.page ≡ page_of (passes scope) after t.max t.held (end_of t.feed)
 
--- the key of the last change among the items, or the one before them
+-- The key of the last change among the items, or else `after`.
 abbrev pub last_key : Option Key → List Item → Option Key
 last_key after [] = after
 last_key after (Changed c ∷ items) = last_key (Some c.key) items
 last_key after (Floored f ∷ items) = last_key after items
 
--- each was asked for behind the last key that was given, and no earlier than the one before, up to the last page
+-- Whether each page was requested after the last key returned, no earlier than the one before, up to the last page.
 abbrev pub ArePages : Feed → (Key → Bool) → Option Key → ℕ → List PageTurn → Type 0
 ArePages f scope after p [] = ⊥
 ArePages f scope after p (t ∷ ts) =
-    IsPageTurn f scope after t × (p ≤ t.page.cursor.position) × MatchBool t.page.last (ts ≡ []) (ArePages f scope (last_key after t.page.items) t.page.cursor.position ts)
+    IsPageTurn f scope after t × (p ≤ t.page.cursor.position) ×
+    MatchBool t.page.last (ts ≡ []) (ArePages f scope (last_key after t.page.items) t.page.cursor.position ts)
 
--- the items of all pages
+-- The items of all pages.
 abbrev pub page_items : List PageTurn → List Sent
 page_items [] = []
 page_items (t ∷ ts) = given t.known t.page.items ++ page_items ts
 
--- the cursor of the last page
+-- The cursor of the last page.
 abbrev pub last_cursor : Cursor → List PageTurn → Cursor
 last_cursor at [] = at
 last_cursor at (t ∷ ts) = last_cursor t.page.cursor ts

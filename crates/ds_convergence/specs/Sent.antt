@@ -7,27 +7,27 @@ use Rattle.ds_entry.specs.ItemCovers.{covered_by}
 use Rattle.ds_entry.specs.declared.item.Item.{Item}
 use Rattle.ds_join.specs.ItemTop.{IsTop}
 
--- an item, and all that it stands for
+-- An item, and everything that it stands for.
 pub record Sent : Type 0 where
   pub item : Item
   pub stands_for : List Item
 
--- what it stands for has the item alone as its top
+-- Whether the item alone is the top of what it stands for.
 abbrev pub IsSent : Sent → Type 0
 IsSent s = IsTop (s.item ∷ []) s.stands_for
 
--- as a store sends an item: it stands for all that the store knows by then and the item covers
+-- An item as a store sends it: it stands for everything that the store knows by then and that it covers.
 abbrev pub sent_by : List Item → Item → Sent
 sent_by known i = record { item = i; stands_for = covered_by i known }
 
--- the items that a store which knows all of `known` gives
+-- The items that a store which knows all of `known` returns.
 abbrev pub given : List Item → List Item → List Sent
 given known items = map (sent_by known) items
 
--- all that some item stands for
+-- Everything that one of the items stands for.
 abbrev pub stood_for : List Sent → List Item
 stood_for items = flat_map (λ s. s.stands_for) items
 
--- what a subscriber's map learns of the items that it takes: what those under its query stand for
+-- What a subscriber's map learns from items that it takes: what those under its query stand for.
 abbrev pub learnt : (Key → Bool) → List Sent → List Item
 learnt query items = stood_for (filter (λ s. passes query s.item) items)

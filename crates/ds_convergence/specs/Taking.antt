@@ -1,4 +1,4 @@
--- What a holder knows that takes items in.
+-- What a holder knows after it takes items.
 use Rattle.std.specs.Prelude.{Bool, List, [], ◌++◌, map, filter, Contains}
 use Rattle.ds_names.specs.declared.key.Key.{Key}
 use Rattle.ds_entry.specs.Item.{passes}
@@ -7,25 +7,27 @@ use Rattle.ds_join.specs.ItemTop.{IsTop}
 use Rattle.ds_convergence.specs.Sent.{Sent, IsSent, stood_for}
 use Rattle.ds_convergence.specs.CatchUp.{MapHolds}
 
--- the items alone, without what they stand for
+-- The items alone, without what they stand for.
 abbrev pub items_of : List Sent → List Item
 items_of sent = map (λ s. s.item) sent
 
--- those of them that are under a query
+-- The items that are under a query.
 abbrev pub sent_under : (Key → Bool) → List Sent → List Sent
 sent_under query sent = filter (λ s. passes query s.item) sent
 
--- a holder that merges items into what it holds then holds the top of all that it knew and that they stand for
+-- A law: a holder that merges items then holds the top of everything that it knew and that they stand for.
 abbrev pub HolderTakes : Type 0
 HolderTakes =
-    (known held new : List Item) (more : List Sent) → ((s : Sent) → Contains more s → IsSent s) → IsTop held known → IsTop new (held ++ items_of more) → IsTop new (known ++ stood_for more)
+    (known held new : List Item) (more : List Sent) → ((s : Sent) → Contains more s → IsSent s) → IsTop held known →
+    IsTop new (held ++ items_of more) → IsTop new (known ++ stood_for more)
 
--- a new map has taken nothing
+-- A law: a new map has taken nothing.
 abbrev pub NewMapIsMap : Type 0
 NewMapIsMap = (query : Key → Bool) → MapHolds query [] []
 
--- a map that merges those of some items that are under its query has taken these items, too
+-- A law: a map that merges those of the items that are under its query has taken all of them.
 abbrev pub MapsTake : Type 0
 MapsTake =
-    (query : Key → Bool) (items more : List Sent) (held new : List Item) → ((s : Sent) → Contains more s → IsSent s) → MapHolds query items held →
+    (query : Key → Bool) (items more : List Sent) (held new : List Item) → ((s : Sent) → Contains more s → IsSent s) →
+    MapHolds query items held →
     IsTop new (held ++ items_of (sent_under query more)) → MapHolds query (items ++ more) new

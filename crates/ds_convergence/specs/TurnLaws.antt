@@ -1,5 +1,5 @@
--- How the turns of a reader grow: they stay turns of the store as it is later, and take one more at the end; what they gave was
--- accepted; and who gives it may know more than at that time.
+-- How the calls of a reader grow: they remain valid for the store as it is later, and one more can be added at the
+-- end; what they returned was accepted; and a store that returns it may know more than at that time.
 use Rattle.std.specs.Prelude.{◌≡◌, ℕ, ◌<◌, ◌≤◌, Bool, true, false, List, [], ◌∷◌, ◌++◌, length, map, Option, None, Some}
 use Rattle.std.specs.Option.{unwrap_or}
 use Rattle.ds_names.specs.declared.key.Key.{Key}
@@ -20,7 +20,7 @@ use Rattle.ds_convergence.specs.Paged.{PageTurn, IsPageTurn, last_key, ArePages,
 use Rattle.ds_convergence.specs.OpenPages.{AreOpenPages, key_after, position_after, first_cursor}
 use Rattle.ds_convergence.specs.Gathered.{checked, journaled, paged}
 
--- a turn of a store that knows all of this
+-- The calls of a store that knows all of this.
 abbrev pub check_knowing : List Item → CheckTurn → CheckTurn
 check_knowing known t = record t { known = known }
 
@@ -31,58 +31,83 @@ abbrev pub page_knowing : List Item → PageTurn → PageTurn
 page_knowing known t = record t { known = known }
 
 pub record ChecksGrow : Type 0 where
-  pub later : (early f late : Feed) (query : Key → Bool) (shown : List Item) (turns : List CheckTurn) → IsFront f late → AreChecks early f query shown turns → AreChecks early late query shown turns
-  pub one_more : (early f : Feed) (query : Key → Bool) (shown : List Item) (turns : List CheckTurn) (t : CheckTurn) → AreChecks early f query shown turns → IsCheckTurn early f query (shown ++ checked turns) t →
+  pub later : (early f late : Feed) (query : Key → Bool) (shown : List Item) (turns : List CheckTurn) → IsFront f late →
+      AreChecks early f query shown turns → AreChecks early late query shown turns
+  pub one_more : (early f : Feed) (query : Key → Bool) (shown : List Item) (turns : List CheckTurn) (t : CheckTurn) →
+      AreChecks early f query shown turns → IsCheckTurn early f query (shown ++ checked turns) t →
       AreChecks early f query shown (turns ++ t ∷ [])
   pub items_more : (turns : List CheckTurn) (t : CheckTurn) → checked (turns ++ t ∷ []) ≡ checked turns ++ t.items
-  pub among : (early f : Feed) (query : Key → Bool) (shown : List Item) (turns : List CheckTurn) → AreChecks early f query shown turns → IsPartOf (checked turns) f.accepted
-  pub knowing : (early f : Feed) (query : Key → Bool) (shown known : List Item) (turns : List CheckTurn) → IsPartOf f.accepted known → AreChecks early f query shown turns →
+  pub among : (early f : Feed) (query : Key → Bool) (shown : List Item) (turns : List CheckTurn) → AreChecks early f query shown turns →
+      IsPartOf (checked turns) f.accepted
+  pub knowing : (early f : Feed) (query : Key → Bool) (shown known : List Item) (turns : List CheckTurn) → IsPartOf f.accepted known →
+      AreChecks early f query shown turns →
       AreChecks early f query shown (map (check_knowing known) turns)
-  pub items_known : (known : List Item) (turns : List CheckTurn) → check_items (map (check_knowing known) turns) ≡ given known (checked turns)
+  pub items_known : (known : List Item) (turns : List CheckTurn) →
+      check_items (map (check_knowing known) turns) ≡ given known (checked turns)
 
 pub record SincesGrow : Type 0 where
-  pub later : (f late : Feed) (scope : Key → Bool) (at : Cursor) (turns : List SinceTurn) → IsFront f late → AreSince f scope at turns → AreSince late scope at turns
-  pub one_more : (f : Feed) (scope : Key → Bool) (at : Cursor) (turns : List SinceTurn) (t : SinceTurn) → AreSince f scope at turns → IsSinceTurn f scope (cursor_after at turns) t → AreSince f scope at (turns ++ t ∷ [])
+  pub later : (f late : Feed) (scope : Key → Bool) (at : Cursor) (turns : List SinceTurn) → IsFront f late → AreSince f scope at turns →
+      AreSince late scope at turns
+  pub one_more : (f : Feed) (scope : Key → Bool) (at : Cursor) (turns : List SinceTurn) (t : SinceTurn) → AreSince f scope at turns →
+      IsSinceTurn f scope (cursor_after at turns) t → AreSince f scope at (turns ++ t ∷ [])
   pub items_more : (turns : List SinceTurn) (t : SinceTurn) → journaled (turns ++ t ∷ []) ≡ journaled turns ++ t.since.items
   pub cursor_more : (at : Cursor) (turns : List SinceTurn) (t : SinceTurn) → cursor_after at (turns ++ t ∷ []) ≡ t.since.cursor
-  pub among : (f : Feed) (scope : Key → Bool) (at : Cursor) (turns : List SinceTurn) → AreSince f scope at turns → IsPartOf (journaled turns) f.accepted
-  pub knowing : (f : Feed) (scope : Key → Bool) (at : Cursor) (known : List Item) (turns : List SinceTurn) → IsPartOf f.accepted known → AreSince f scope at turns → AreSince f scope at (map (since_knowing known) turns)
-  pub items_known : (known : List Item) (turns : List SinceTurn) → since_items (map (since_knowing known) turns) ≡ given known (journaled turns)
-  pub cursor_known : (at : Cursor) (known : List Item) (turns : List SinceTurn) → cursor_after at (map (since_knowing known) turns) ≡ cursor_after at turns
+  pub among : (f : Feed) (scope : Key → Bool) (at : Cursor) (turns : List SinceTurn) → AreSince f scope at turns →
+      IsPartOf (journaled turns) f.accepted
+  pub knowing : (f : Feed) (scope : Key → Bool) (at : Cursor) (known : List Item) (turns : List SinceTurn) → IsPartOf f.accepted known →
+      AreSince f scope at turns → AreSince f scope at (map (since_knowing known) turns)
+  pub items_known : (known : List Item) (turns : List SinceTurn) →
+      since_items (map (since_knowing known) turns) ≡ given known (journaled turns)
+  pub cursor_known : (at : Cursor) (known : List Item) (turns : List SinceTurn) →
+      cursor_after at (map (since_knowing known) turns) ≡ cursor_after at turns
 
 pub record PagesGrow : Type 0 where
-  pub later : (f late : Feed) (scope : Key → Bool) (after : Option Key) (p : ℕ) (turns : List PageTurn) → IsFront f late → AreOpenPages f scope after p turns → AreOpenPages late scope after p turns
-  pub one_more : (f : Feed) (scope : Key → Bool) (after : Option Key) (p : ℕ) (turns : List PageTurn) (t : PageTurn) → AreOpenPages f scope after p turns → IsPageTurn f scope (key_after after turns) t →
+  pub later : (f late : Feed) (scope : Key → Bool) (after : Option Key) (p : ℕ) (turns : List PageTurn) → IsFront f late →
+      AreOpenPages f scope after p turns → AreOpenPages late scope after p turns
+  pub one_more : (f : Feed) (scope : Key → Bool) (after : Option Key) (p : ℕ) (turns : List PageTurn) (t : PageTurn) →
+      AreOpenPages f scope after p turns → IsPageTurn f scope (key_after after turns) t →
       position_after p turns ≤ t.page.cursor.position → t.page.last ≡ false → AreOpenPages f scope after p (turns ++ t ∷ [])
-  pub last : (f : Feed) (scope : Key → Bool) (after : Option Key) (p : ℕ) (turns : List PageTurn) (t : PageTurn) → AreOpenPages f scope after p turns → IsPageTurn f scope (key_after after turns) t →
+  pub last : (f : Feed) (scope : Key → Bool) (after : Option Key) (p : ℕ) (turns : List PageTurn) (t : PageTurn) →
+      AreOpenPages f scope after p turns → IsPageTurn f scope (key_after after turns) t →
       position_after p turns ≤ t.page.cursor.position → t.page.last ≡ true → ArePages f scope after p (turns ++ t ∷ [])
   pub items_more : (turns : List PageTurn) (t : PageTurn) → paged (turns ++ t ∷ []) ≡ paged turns ++ t.page.items
-  pub key_more : (after : Option Key) (turns : List PageTurn) (t : PageTurn) → key_after after (turns ++ t ∷ []) ≡ last_key (key_after after turns) t.page.items
+  pub key_more : (after : Option Key) (turns : List PageTurn) (t : PageTurn) →
+      key_after after (turns ++ t ∷ []) ≡ last_key (key_after after turns) t.page.items
   pub position_more : (p : ℕ) (turns : List PageTurn) (t : PageTurn) → position_after p (turns ++ t ∷ []) ≡ t.page.cursor.position
-  pub first_more : (turns : List PageTurn) (t : PageTurn) → first_cursor (turns ++ t ∷ []) ≡ Some (unwrap_or (first_cursor turns) t.page.cursor)
-  pub among : (f : Feed) (scope : Key → Bool) (after : Option Key) (p : ℕ) (turns : List PageTurn) → AreOpenPages f scope after p turns → IsPartOf (paged turns) f.accepted
-  pub turn_among : (f : Feed) (scope : Key → Bool) (after : Option Key) (t : PageTurn) → IsPageTurn f scope after t → IsPartOf t.page.items f.accepted
-  pub knowing : (f : Feed) (scope : Key → Bool) (after : Option Key) (p : ℕ) (known : List Item) (turns : List PageTurn) → IsPartOf f.accepted known → ArePages f scope after p turns →
+  pub first_more : (turns : List PageTurn) (t : PageTurn) →
+      first_cursor (turns ++ t ∷ []) ≡ Some (unwrap_or (first_cursor turns) t.page.cursor)
+  pub among : (f : Feed) (scope : Key → Bool) (after : Option Key) (p : ℕ) (turns : List PageTurn) → AreOpenPages f scope after p turns →
+      IsPartOf (paged turns) f.accepted
+  pub turn_among : (f : Feed) (scope : Key → Bool) (after : Option Key) (t : PageTurn) → IsPageTurn f scope after t →
+      IsPartOf t.page.items f.accepted
+  pub knowing : (f : Feed) (scope : Key → Bool) (after : Option Key) (p : ℕ) (known : List Item) (turns : List PageTurn) →
+      IsPartOf f.accepted known → ArePages f scope after p turns →
       ArePages f scope after p (map (page_knowing known) turns)
   pub items_known : (known : List Item) (turns : List PageTurn) → page_items (map (page_knowing known) turns) ≡ given known (paged turns)
 
--- a reply of the journal that gives fewer items than it was asked for comes up to the store's position
+-- A law: a reply of the journal with fewer items than were asked for reaches the store's position.
 abbrev pub FewerReachTheEnd : Type 0
 FewerReachTheEnd =
-    (f : Feed) (test : Item → Bool) (at : Cursor) (max : ℕ) (since : Since) → IsGiven f test at max since → length since.items < max → since.cursor.position ≡ position f
+    (f : Feed) (test : Item → Bool) (at : Cursor) (max : ℕ) (since : Since) → IsGiven f test at max since → length since.items < max →
+    since.cursor.position ≡ position f
 
--- so the items of all checks, given by a store that knows what it accepted since then, too, are whole up to the last check, if
--- that one gave fewer than it was asked for
+-- A law: the items of all checks, returned by a store that knows what it accepted since, are whole up to the last
+-- check if that one returned fewer than it was asked for.
 abbrev pub CheckedIsWhole : Type 0
 CheckedIsWhole =
-    (early f : Feed) (query : Key → Bool) (since : List Item) (turns : List CheckTurn) (last : CheckTurn) → f.accepted ≡ early.accepted ++ since → AreNew early.accepted since →
-    AreChecks early f query [] turns → IsCheckTurn early f query (checked turns) last → length last.items < last.max → IsWhole f query (given f.accepted (checked turns ++ last.items)) (position last.feed)
+    (early f : Feed) (query : Key → Bool) (since : List Item) (turns : List CheckTurn) (last : CheckTurn) →
+    f.accepted ≡ early.accepted ++ since → AreNew early.accepted since →
+    AreChecks early f query [] turns → IsCheckTurn early f query (checked turns) last → length last.items < last.max →
+    IsWhole f query (given f.accepted (checked turns ++ last.items)) (position last.feed)
 
--- and so are the items of the pages so far, of the last page, and of the journal from the first page's cursor on
+-- A law: so are the items of the pages so far, of the last page, and of the journal from the first page's cursor on.
 abbrev pub PagedIsWhole : Type 0
 PagedIsWhole =
-    (f : Feed) (scope other query : Key → Bool) (pages : List PageTurn) (last : PageTurn) (turns : List SinceTurn) → KeepsQuery scope query → KeepsQuery other query →
-    AreOpenPages f scope None 0 pages → IsPageTurn f scope (key_after None pages) last → position_after 0 pages ≤ last.page.cursor.position → last.page.last ≡ true →
+    (f : Feed) (scope other query : Key → Bool) (pages : List PageTurn) (last : PageTurn) (turns : List SinceTurn) →
+    KeepsQuery scope query → KeepsQuery other query →
+    AreOpenPages f scope None 0 pages → IsPageTurn f scope (key_after None pages) last →
+    position_after 0 pages ≤ last.page.cursor.position → last.page.last ≡ true →
     let from = unwrap_or (first_cursor pages) last.page.cursor in
     let to = cursor_after from turns in
-    AreSince f other from turns → last.page.cursor.position ≤ to.position → IsWhole f query (given f.accepted (paged pages ++ (last.page.items ++ journaled turns))) to.position
+    AreSince f other from turns → last.page.cursor.position ≤ to.position →
+    IsWhole f query (given f.accepted (paged pages ++ (last.page.items ++ journaled turns))) to.position

@@ -1,7 +1,7 @@
--- What of items is under a query, and when a scope keeps all of it.
+-- The items under a query, and when a scope keeps all of it.
 use Rattle.std.specs.Prelude.{◌≡◌, Bool, true}
 use Rattle.ds_names.specs.declared.key.Key.{Key}
 
--- each key of the query is under the scope
+-- Whether each key of the query is under the scope.
 abbrev pub KeepsQuery : (Key → Bool) → (Key → Bool) → Type 0
 KeepsQuery scope query = (key : Key) → query key ≡ true → scope key ≡ true

@@ -7,10 +7,11 @@ use Rattle.ds_feed.specs.Feed.{Feed}
 use Rattle.ds_convergence.specs.Sent.{Sent, stood_for}
 use Rattle.ds_entry.specs.Under.{under}
 
--- what took effect at the positions below this one
+-- The items that took effect below this position.
 abbrev pub before : Feed → ℕ → List Item
 before f r = take (r - f.first) f.accepted
 
--- the items are whole up to the position: all that is under the query and took effect below it is stood for
+-- Whether the items are whole up to the position: they stand for everything under the query that took effect below
+-- it.
 abbrev pub IsWhole : Feed → (Key → Bool) → List Sent → ℕ → Type 0
 IsWhole f query items r = IsPartOf (under query (before f r)) (stood_for items)

@@ -1,4 +1,4 @@
--- The laws of wholeness hold by no less than they ask for: each of them is false without one of its premises.
+-- The laws of wholeness need all of their premises: without any one of them, a law is false.
 use Rattle.std.specs.Prelude.{ℕ, ◌≤◌, Bool, List, ◌++◌}
 use Rattle.ds_names.specs.declared.key.Key.{Key}
 use Rattle.ds_entry.specs.Item.{passes}
@@ -14,27 +14,36 @@ use Rattle.ds_convergence.specs.Sent.{Sent, given}
 use Rattle.ds_convergence.specs.Front.{IsFront, end_of}
 use Rattle.ds_convergence.specs.Whole.{IsWhole}
 
--- a snapshot is to be one of the top of what was accepted, of a store that knows it, under a scope that keeps the query
+-- The premises of a snapshot: it is of the top of what was accepted, of a store that knows all of that, under a scope
+-- that keeps the query.
 pub record SnapshotNeeds : Type 0 where
-  pub top : ¬ ((f : Feed) (known held : List Item) (scope query : Key → Bool) → IsPartOf f.accepted known → KeepsQuery scope query → IsWhole f query (given known (snapshot_of (passes scope) held (end_of f)).items) (position f))
-  pub knows : ¬ ((f : Feed) (known held : List Item) (scope query : Key → Bool) → IsTop held f.accepted → KeepsQuery scope query → IsWhole f query (given known (snapshot_of (passes scope) held (end_of f)).items) (position f))
-  pub scope : ¬ ((f : Feed) (known held : List Item) (scope query : Key → Bool) → IsTop held f.accepted → IsPartOf f.accepted known → IsWhole f query (given known (snapshot_of (passes scope) held (end_of f)).items) (position f))
+  pub top : ¬ ((f : Feed) (known held : List Item) (scope query : Key → Bool) → IsPartOf f.accepted known → KeepsQuery scope query →
+      IsWhole f query (given known (snapshot_of (passes scope) held (end_of f)).items) (position f))
+  pub knows : ¬ ((f : Feed) (known held : List Item) (scope query : Key → Bool) → IsTop held f.accepted → KeepsQuery scope query →
+      IsWhole f query (given known (snapshot_of (passes scope) held (end_of f)).items) (position f))
+  pub scope : ¬ ((f : Feed) (known held : List Item) (scope query : Key → Bool) → IsTop held f.accepted → IsPartOf f.accepted known →
+      IsWhole f query (given known (snapshot_of (passes scope) held (end_of f)).items) (position f))
 
--- what the journal gives is to come from a store that knows it, under such a scope, from a cursor up to which the items
--- before it are whole, and no later one
+-- The premises of a reply of the journal: it is of a store that knows what it accepted, under such a scope, from a
+-- cursor up to which the items before are whole, and no later one.
 pub record SinceNeeds : Type 0 where
-  pub knows : ¬ ((f : Feed) (known : List Item) (scope query : Key → Bool) (items : List Sent) (at : Cursor) (max : ℕ) (since : Since) → KeepsQuery scope query → IsGiven f (passes scope) at max since →
+  pub knows : ¬ ((f : Feed) (known : List Item) (scope query : Key → Bool) (items : List Sent) (at : Cursor) (max : ℕ) (since : Since) →
+      KeepsQuery scope query → IsGiven f (passes scope) at max since →
       IsWhole f query items at.position → IsWhole f query (items ++ given known since.items) since.cursor.position)
-  pub scope : ¬ ((f : Feed) (known : List Item) (scope query : Key → Bool) (items : List Sent) (at : Cursor) (max : ℕ) (since : Since) → IsPartOf f.accepted known → IsGiven f (passes scope) at max since →
+  pub scope : ¬ ((f : Feed) (known : List Item) (scope query : Key → Bool) (items : List Sent) (at : Cursor) (max : ℕ) (since : Since) →
+      IsPartOf f.accepted known → IsGiven f (passes scope) at max since →
       IsWhole f query items at.position → IsWhole f query (items ++ given known since.items) since.cursor.position)
-  pub whole : ¬ ((f : Feed) (known : List Item) (scope query : Key → Bool) (items : List Sent) (at : Cursor) (max : ℕ) (since : Since) → IsPartOf f.accepted known → KeepsQuery scope query → IsGiven f (passes scope) at max since →
+  pub whole : ¬ ((f : Feed) (known : List Item) (scope query : Key → Bool) (items : List Sent) (at : Cursor) (max : ℕ) (since : Since) →
+      IsPartOf f.accepted known → KeepsQuery scope query → IsGiven f (passes scope) at max since →
       IsWhole f query (items ++ given known since.items) since.cursor.position)
 
--- what is whole is whole of this incarnation, up to this position and no further one, and for no wider query
+-- The limits of wholeness: it is of this incarnation, up to this position and no further, and for no wider query.
 pub record WholeNeeds : Type 0 where
   pub first : ¬ ((f : Feed) (query : Key → Bool) (items : List Sent) (r : ℕ) → IsWhole f query items r)
   pub more : ¬ ((f : Feed) (query : Key → Bool) (items more : List Sent) (r : ℕ) → IsWhole f query items r → IsWhole f query more r)
   pub earlier : ¬ ((f : Feed) (query : Key → Bool) (items : List Sent) (p r : ℕ) → IsWhole f query items r → IsWhole f query items p)
   pub narrower : ¬ ((f : Feed) (query narrow : Key → Bool) (items : List Sent) (r : ℕ) → IsWhole f query items r → IsWhole f narrow items r)
-  pub front : ¬ ((f late : Feed) (query : Key → Bool) (items : List Sent) (r : ℕ) → r ≤ position f → IsWhole f query items r → IsWhole late query items r)
-  pub reached : ¬ ((f late : Feed) (query : Key → Bool) (items : List Sent) (r : ℕ) → IsFront f late → IsWhole f query items r → IsWhole late query items r)
+  pub front : ¬ ((f late : Feed) (query : Key → Bool) (items : List Sent) (r : ℕ) → r ≤ position f → IsWhole f query items r →
+      IsWhole late query items r)
+  pub reached : ¬ ((f late : Feed) (query : Key → Bool) (items : List Sent) (r : ℕ) → IsFront f late → IsWhole f query items r →
+      IsWhole late query items r)

@@ -1,7 +1,7 @@
-//! What items leave out nothing of what a store accepted, and what follows for whoever holds their top: the laws of
-//! wholeness, of pages, of catching up and of agreement, over lists of items alone. `ds_replica` cites them.
+//! Items that leave out nothing that a store accepted, and what follows for the holders of their tops: the laws of
+//! wholeness, of pages, of catching up and of agreement, over lists of items alone. `ds_replica` uses them.
 //!
-//! In MINIX 3 a subscriber that missed something asks again; snapshots, pages, a journal and the promise that they
+//! In MINIX 3 a subscriber that missed something asks again. Snapshots, pages, a journal and the promise that they
 //! leave out nothing are of this project.
 #![tactic(auto)]
 

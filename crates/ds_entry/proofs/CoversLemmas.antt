@@ -1,4 +1,4 @@
--- The five facts of `covers` that all proofs above use, and how it is made.
+-- The five facts about `covers` that all proofs above use, and how they are shown.
 use Rattle.std.proofs.Common.{◌≡◌, ℕ, Bool, true, false, ◌&&◌, List, refl, sym, ap, ◌∙◌, subst}
 use Rattle.std.specs.declared.cmp.Ordering.{Ordering}
 use Rattle.std.specs.declared.cmp.Ordering.TheVariants.{Less, Equal, Greater}
@@ -84,7 +84,7 @@ covers-make d c k o v =
     and_from (eq_by_cmp key_cmp c.key d.key) (eq_by_cmp name_cmp c.owner d.owner && is_at_most c.version d.version) (same_key-refl c.key d.key k)
     (and_from (eq_by_cmp name_cmp c.owner d.owner) (is_at_most c.version d.version) (same_name-refl c.owner d.owner o) v)
 
--- of two changes of one key and one owner, one covers the other
+-- Of two changes of one key and one owner, one covers the other.
 pub covers-total : (c d : ChangeRecord) → c.key ≡ d.key → c.owner ≡ d.owner → covers d c ≡ false → covers c d ≡ true
 covers-total c d k o e = by_version (is_at_most c.version d.version) refl
   where
@@ -101,11 +101,11 @@ pub covers-trans : (e d c : ChangeRecord) → covers e d ≡ true → covers d c
 covers-trans e d c h k =
     covers-make e c (covers-key d c k ∙ covers-key e d h) (covers-owner d c k ∙ covers-owner e d h) (is_at_most-trans c.version d.version e.version (covers-version d c k) (covers-version e d h))
 
--- what covers a change under a query of keys is under it too
+-- What covers a change under a query of keys is under it too.
 pub covers-query : (query : Key → Bool) (d c : ChangeRecord) → covers d c ≡ true → query c.key ≡ true → query d.key ≡ true
 covers-query query d c h p = ap query (sym (covers-key d c h)) ∙ p
 
--- single-numbered changes that cover each other are one
+-- Single-numbered changes that cover each other are equal.
 pub covers-same : (changes : List ChangeRecord) → IsSingleNumbered changes → (c d : ChangeRecord) → Contains changes c → Contains changes d → covers d c ≡ true → covers c d ≡ true → c ≡ d
 covers-same changes n c d h k e f =
     n.one_change c d h k (covers-key d c e) (is_at_most-antisym c.version d.version (covers-version d c e) (covers-version c d f))
@@ -120,6 +120,6 @@ single_part part whole sub n =
 pub changes_total : IsTotalOrder change_cmp
 changes_total = on_total (λ (c : ChangeRecord). c.key) keys_total
 
--- what covers a change stands at its place in the order
+-- What covers a change compares equal to it.
 pub covers-tied : (d c : ChangeRecord) → covers d c ≡ true → change_cmp c d ≡ Equal
 covers-tied d c h = equal_is (change_cmp c d) (and_parts (eq_by_cmp key_cmp c.key d.key) (eq_by_cmp name_cmp c.owner d.owner && is_at_most c.version d.version) h).0

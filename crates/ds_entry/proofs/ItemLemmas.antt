@@ -1,4 +1,4 @@
--- The facts of `covers` on items, and of their order, over those on changes.
+-- The facts about `covers` on items, and about their order, from those on changes.
 use Rattle.std.proofs.Common.{◌≡◌, ◌<◌, ◌≤◌, not, ℕ, Bool, true, false, ◌&&◌, List, refl, sym, ap, ◌∙◌, subst, arith}
 use Rattle.std.specs.declared.cmp.Ordering.{Ordering}
 use Rattle.std.specs.declared.cmp.Ordering.TheVariants.{Less, Equal, Greater}
@@ -147,7 +147,7 @@ items_total = record { antisymm = item-antisymm; trans = item-trans; congr = ite
 name_tied : (m n : List ℕ) → m ≡ n → name_cmp m n ≡ Equal
 name_tied m n e = subst (λ (k : List ℕ). name_cmp m k ≡ Equal) e (tied_itself nat_list_cmp_total m)
 
--- what covers an item stands at its place, or is a floor over a change
+-- What covers an item compares equal to it, or is a floor over a change.
 pub covers-tied : (j i : Item) → ((f : Floor) (c : ChangeRecord) → j ≡ Floored f → i ≡ Changed c → voids f c ≡ false) → covers j i ≡ true → item_cmp i j ≡ Equal
 covers-tied (Changed d) (Changed c) n h = changes.covers-tied d c h
 covers-tied (Changed d) (Floored c) n h = cc

@@ -4,7 +4,7 @@ use Rattle.std.specs.List.{Contains, filter, flat_map, list_any}
 use Rattle.std.proofs.lemmas.List.{take-append-drop}
 use Rattle.std.proofs.lemmas.List.Elements.{Contains-append_left, Contains-append_right, Contains-append_cases}
 
--- membership by recursion, over which inductions go
+-- Membership by recursion, for inductions.
 abbrev pub In : {X : Type 0} → X → List X → Type 0
 In x [] = ⊥
 In x (y ∷ ys) = (x ≡ y) ⊎ In x ys
@@ -126,7 +126,7 @@ Contains-from_list_any {X} p (y ∷ ys) h = by_test (p y) refl h (Contains-from_
     by_test true e h rest = (y, Contains-head y ys, e)
     by_test false e h rest = let r = rest h in (r.0, Contains-tail y ys r.0 r.1, r.2)
 
--- what no element passes
+-- What no element passes.
 pub none_pass : {X : Type 0} (p : X → Bool) (xs : List X) (x : X) → list_any p xs ≡ false → Contains xs x → p x ≡ false
 none_pass p xs x e h = by_test (p x) refl
   where

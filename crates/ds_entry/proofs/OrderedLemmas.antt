@@ -1,4 +1,4 @@
--- Lists that stand in a strict order: what ties is one, and two with the same members are the same.
+-- Strictly ordered lists: elements that compare equal are equal, and two such lists with the same members are equal.
 use Rattle.std.proofs.Common.{◌≡◌, List, [], ◌∷◌, refl, sym, ◌∙◌, subst, inl, inr, ◌⊎◌}
 use Rattle.std.specs.declared.cmp.Ordering.{Ordering}
 use Rattle.std.specs.declared.cmp.Ordering.TheVariants.{Less, Equal}
@@ -8,7 +8,7 @@ use Rattle.std.specs.List.Sorted.{IsStrictlySortedBy}
 use Rattle.std.proofs.lemmas.Cmp.{tied_itself, tied_back}
 use Rattle.ds_entry.proofs.Members.{In, In-from_Contains, Contains-from_In}
 
--- what holds of each element holds all along the list
+-- What holds of each element holds along the list.
 pub along : {X : Type 0} (P : X → Type 0) (xs : List X) → ((x : X) → In x xs → P x) → AllByRecursion P xs
 along P [] f = tt
 along P (x ∷ xs) f = (f x (inl refl), along P xs (λ y h. f y (inr h)))
@@ -33,11 +33,11 @@ module _ {X : Type 0} (cmp : X → X → Ordering) (total : IsTotalOrder cmp) wh
   In-once (x ∷ xs) c d s (inr h) (inl k) e = absurd (not_less x c (tied_back total c x (subst (λ (z : X). cmp c z ≡ Equal) k e)) (below x xs c s.0 h))
   In-once (x ∷ xs) c d s (inr h) (inr k) e = In-once xs c d s.1 h k e
 
-  -- two members that tie are one
+  -- Two members that compare equal are equal.
   pub tied_once : (xs : List X) (c d : X) → IsStrictlySortedBy cmp xs → Contains xs c → Contains xs d → cmp c d ≡ Equal → c ≡ d
   tied_once xs c d s h k e = In-once xs c d s (In-from_Contains c xs h) (In-from_Contains d xs k) e
 
-  -- two such lists with the same members are the same
+  -- Two such lists with the same members are equal.
   same_list : (xs ys : List X) → IsStrictlySortedBy cmp xs → IsStrictlySortedBy cmp ys → ((x : X) → In x xs → In x ys) → ((x : X) → In x ys → In x xs) → xs ≡ ys
   unfolding IsStrictlySortedBy
   same_list [] [] s t f g = refl

@@ -1,4 +1,4 @@
--- What a change is.
+-- Changes, and when four parts are one.
 use Rattle.std.specs.Prelude.{◌≡◌, ◌≢◌, ℕ, ◌<◌, ◌≤◌, ◌^◌, ◌==◌, Bool, true, false, ◌&&◌, List}
 use Rattle.ds_names.specs.Name.{IsName, rs_name}
 use Rattle.ds_names.specs.Endpoint.{IsEndpoint}
@@ -13,59 +13,59 @@ use Rattle.ds_entry.specs.declared.body.Body.{Body}
 use Rattle.ds_entry.specs.declared.body.Body.TheVariants.{Put, Gone}
 use Rattle.ds_names.specs.Kind.{kind_place}
 
--- the four parts of a change
+-- The four parts of a change.
 pub record ChangeRecord : Type 0 where
   pub key : Key
   pub owner : List ℕ
   pub version : Version
   pub body : Body
 
--- the record of these parts
+-- The record of these parts.
 abbrev pub change_of : Key → List ℕ → Version → Body → ChangeRecord
 change_of key owner version body = record { key = key; owner = owner; version = version; body = body }
 
--- the kind of key that a value stands under
+-- The kind of the keys that a value may be under.
 abbrev pub kind_of : Value → Kind
 kind_of (values.Label e) = Label
 kind_of (values.U32 n) = U32
 kind_of (values.Str t) = Str
 kind_of (values.Mem b) = Mem
 
--- a put has a value of the key's kind
+-- Whether the value of a put is of the key's kind.
 abbrev pub IsOfKind : Kind → Body → Type 0
 IsOfKind kind (Put value) = kind_of value ≡ kind
 IsOfKind kind Gone = Unit {0}
 
--- whether it has
+-- Like `IsOfKind`, as a test.
 abbrev pub is_of_kind : Kind → Body → Bool
 is_of_kind kind (Put value) = kind_place (kind_of value) == kind_place kind
 is_of_kind kind Gone = true
 
--- the value is one that its reader accepts
+-- Whether the value is one that its reader accepts.
 abbrev pub IsValue : Value → Type 0
 IsValue (values.Label e) = IsEndpoint e
 IsValue (values.U32 n) = n < 2 ^ 32
 IsValue (values.Str t) = IsText t
 IsValue (values.Mem b) = IsBlob b
 
--- a put has such a value
+-- Whether the value of a put is one that its reader accepts.
 abbrev pub IsBody : Body → Type 0
 IsBody (Put value) = IsValue value
 IsBody Gone = Unit {0}
 
--- the value is held in place, so that a copy of it takes no memory
+-- Whether the value is kept in place, so that a copy allocates nothing.
 abbrev pub IsInPlace : Value → Type 0
 IsInPlace (values.Label e) = Unit {0}
 IsInPlace (values.U32 n) = Unit {0}
 IsInPlace (values.Str t) = ⊥
 IsInPlace (values.Mem b) = ⊥
 
--- a put has such a value
+-- Whether the value of a put, if any, is kept in place.
 abbrev pub IsBodyInPlace : Body → Type 0
 IsBodyInPlace (Put value) = IsInPlace value
 IsBodyInPlace Gone = Unit {0}
 
--- a label is put with number 0, under its endpoint's generation, and is gone with number 1
+-- The rule of a label's body: a put has number 0 and its endpoint's generation, a tombstone has number 1.
 abbrev pub IsLabelBody : Version → Body → Type 0
 IsLabelBody version (Put (values.Label e)) = (version.seq ≡ 0) × (version.epoch ≡ e.generation)
 IsLabelBody version (Put (values.U32 n)) = ⊥
@@ -73,32 +73,32 @@ IsLabelBody version (Put (values.Str t)) = ⊥
 IsLabelBody version (Put (values.Mem b)) = ⊥
 IsLabelBody version Gone = version.seq ≡ 1
 
--- whether it is
+-- Like `IsLabelBody`, as a test.
 abbrev pub is_label_body : Version → Body → Bool
 is_label_body version (Put (values.Label e)) = version.seq == 0 && version.epoch == e.generation
 is_label_body version (Put _) = false
 is_label_body version Gone = version.seq == 1
 
--- RS alone publishes labels, never its own, and each from generation 1 on
+-- The rule of labels: only RS publishes them, never its own, and from generation 1 on.
 pub record IsLabelChange (c : ChangeRecord) : Type 0 where
   pub owner : c.owner ≡ rs_name
   pub name : c.key.name ≢ rs_name
   pub epoch : 0 < c.version.epoch
   pub body : IsLabelBody c.version c.body
 
--- a put leaves the last sequence number to the tombstones of sweeps
+-- The rule of other kinds: a put leaves the last sequence number to the tombstones of sweeps.
 abbrev pub IsBelowSweeps : Version → Body → Type 0
 IsBelowSweeps version (Put value) = version.seq < 4294967295
 IsBelowSweeps version Gone = Unit {0}
 
--- the change keeps the rule of its key's kind
+-- The rule of the key's kind.
 abbrev pub KeepsRule : Kind → ChangeRecord → Type 0
 KeepsRule Label c = IsLabelChange c
 KeepsRule U32 c = IsBelowSweeps c.version c.body
 KeepsRule Str c = IsBelowSweeps c.version c.body
 KeepsRule Mem c = IsBelowSweeps c.version c.body
 
--- each part is in its range, and they fit together
+-- Whether each part is in its range and the parts fit together.
 pub record IsChange (c : ChangeRecord) : Type 0 where
   pub name : IsName c.key.name
   pub owner : IsName c.owner

@@ -1,4 +1,4 @@
--- The laws of covering, on which all that is said of what replicas hold stands.
+-- The laws of covering, on which all statements about what replicas hold rest.
 use Rattle.std.specs.Prelude.{◌≡◌, Bool, true, List, Contains}
 use Rattle.std.specs.List.Sorted.{IsStrictlySortedBy}
 use Rattle.ds_names.specs.declared.key.Key.{Key}
@@ -7,21 +7,25 @@ use Rattle.ds_entry.specs.ItemCovers.{covers, AreSingleNumbered}
 use Rattle.ds_entry.specs.Void.{NoneVoid}
 use Rattle.ds_entry.specs.declared.item.Item.{Item}
 
--- an item covers itself
+-- A law: an item covers itself.
 abbrev pub CoversIsReflexive : Type 0
 CoversIsReflexive = (i : Item) → covers i i ≡ true
 
 abbrev pub CoversIsTransitive : Type 0
 CoversIsTransitive = (k j i : Item) → covers k j ≡ true → covers j i ≡ true → covers k i ≡ true
 
--- what covers an item under a query is under it too
+-- A law: what covers an item under a query is under it too.
 abbrev pub CoversKeepsQueries : Type 0
 CoversKeepsQueries = (query : Key → Bool) (j i : Item) → covers j i ≡ true → passes query i ≡ true → passes query j ≡ true
 
--- single-numbered items that cover each other are one
+-- A law: single-numbered items that cover each other are equal.
 abbrev pub CoversIsExact : Type 0
-CoversIsExact = (items : List Item) → AreSingleNumbered items → (i j : Item) → Contains items i → Contains items j → covers j i ≡ true → covers i j ≡ true → i ≡ j
+CoversIsExact =
+    (items : List Item) → AreSingleNumbered items → (i j : Item) → Contains items i → Contains items j → covers j i ≡ true →
+    covers i j ≡ true → i ≡ j
 
--- of items in order, none of them void, none covers another
+-- A law: of items in order, none of them void, none covers another.
 abbrev pub CoversNoneHeld : Type 0
-CoversNoneHeld = (held : List Item) → IsStrictlySortedBy item_cmp held → NoneVoid held → (i j : Item) → Contains held i → Contains held j → covers j i ≡ true → i ≡ j
+CoversNoneHeld =
+    (held : List Item) → IsStrictlySortedBy item_cmp held → NoneVoid held → (i j : Item) → Contains held i → Contains held j →
+    covers j i ≡ true → i ≡ j

@@ -7,18 +7,18 @@ use Rattle.ds_names.specs.Key.{name_cmp, key_cmp}
 use Rattle.ds_names.specs.Version.{version_cmp}
 use Rattle.ds_entry.specs.Change.{ChangeRecord}
 
--- the version is not above the other
+-- Whether the version isn't above the other.
 abbrev pub is_at_most : Version → Version → Bool
 is_at_most v w = is_le (version_cmp v w)
 
--- `d` is a change of the key and the owner of `c`, in at least its version
+-- Whether `d` has the key and the owner of `c`, and at least its version.
 abbrev pub covers : ChangeRecord → ChangeRecord → Bool
 covers d c = eq_by_cmp key_cmp c.key d.key && (eq_by_cmp name_cmp c.owner d.owner && is_at_most c.version d.version)
 
--- those of the changes that `c` covers
+-- The changes that `c` covers.
 abbrev pub covered_by : ChangeRecord → List ChangeRecord → List ChangeRecord
 covered_by c changes = filter (covers c) changes
 
--- changes are ordered by their keys
+-- The order of changes: that of their keys.
 abbrev pub change_cmp : ChangeRecord → ChangeRecord → Ordering
 change_cmp c d = key_cmp c.key d.key

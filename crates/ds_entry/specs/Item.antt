@@ -1,4 +1,4 @@
--- What an item is, a change or a floor, and the order of items.
+-- Items, which are changes and floors, and their order.
 use Rattle.std.specs.Prelude.{Bool, true}
 use Rattle.std.specs.declared.cmp.Ordering.{Ordering}
 use Rattle.std.specs.declared.cmp.Ordering.TheVariants.{Less, Greater}
@@ -10,22 +10,22 @@ use Rattle.ds_entry.specs.Floor.{IsFloor}
 use Rattle.ds_entry.specs.declared.item.Item.{Item}
 use Rattle.ds_entry.specs.declared.item.Item.TheVariants.{Change as Changed, Floor as Floored}
 
--- the change, or the floor, is one
+-- Whether the parts of the change, or of the floor, are in their ranges and fit together.
 abbrev pub IsItem : Item → Type 0
 IsItem (Changed c) = IsChange c
 IsItem (Floored f) = IsFloor f
 
--- the item is held in place, so that a copy of it takes no memory
+-- Whether the item is kept in place, so that a copy allocates nothing.
 abbrev pub IsItemInPlace : Item → Type 0
 IsItemInPlace (Changed c) = IsBodyInPlace c.body
 IsItemInPlace (Floored f) = Unit {0}
 
--- the item is under a query of keys: a change by its key, a floor under every query
+-- Whether the item is under a query of keys: a change by its key; a floor always.
 abbrev pub passes : (Key → Bool) → Item → Bool
 passes query (Changed c) = query c.key
 passes query (Floored f) = true
 
--- floors stand before all changes, by their owners' names; changes by their keys
+-- The order of items: floors before all changes, by their owners' names; changes by their keys.
 abbrev pub item_cmp : Item → Item → Ordering
 item_cmp (Changed c) (Changed d) = change_cmp c d
 item_cmp (Changed c) (Floored g) = Greater

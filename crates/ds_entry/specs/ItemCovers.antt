@@ -8,19 +8,21 @@ use Rattle.ds_entry.specs.Void.{voids}
 use Rattle.ds_entry.specs.declared.item.Item.{Item}
 use Rattle.ds_entry.specs.declared.item.Item.TheVariants.{Change as Changed, Floor as Floored}
 
--- a floor covers the changes that it makes void, and the floors of its owner that aren't above it; a change covers no
--- floor
+-- Whether the first item covers the second. A floor covers the changes that it voids, and its owner's floors up to
+-- its generation; a change covers no floor.
 abbrev pub covers : Item → Item → Bool
 covers (Changed d) (Changed c) = change_covers d c
 covers (Changed d) (Floored g) = false
 covers (Floored f) (Changed c) = voids f c
 covers (Floored f) (Floored g) = eq_by_cmp name_cmp g.owner f.owner && nat_le g.generation f.generation
 
--- those of the items that `i` covers
+-- The items that `i` covers.
 abbrev pub covered_by : Item → List Item → List Item
 covered_by i items = filter (covers i) items
 
--- of the changes among the items: equal key and version mean equal change, and equal key means equal owner
+-- Whether the changes among the items don't contradict each other: equal key and version mean equal change, and equal
+-- key means equal owner.
 pub record AreSingleNumbered (items : List Item) : Type 0 where
-  pub one_change : (c d : ChangeRecord) → Contains items (Changed c) → Contains items (Changed d) → c.key ≡ d.key → c.version ≡ d.version → c ≡ d
+  pub one_change : (c d : ChangeRecord) → Contains items (Changed c) → Contains items (Changed d) → c.key ≡ d.key → c.version ≡ d.version →
+      c ≡ d
   pub one_owner : (c d : ChangeRecord) → Contains items (Changed c) → Contains items (Changed d) → c.key ≡ d.key → c.owner ≡ d.owner

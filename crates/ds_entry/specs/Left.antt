@@ -9,29 +9,29 @@ use Rattle.ds_entry.specs.declared.body.Body.TheVariants.{Put, Gone}
 use Rattle.ds_entry.specs.declared.item.Item.{Item}
 use Rattle.ds_entry.specs.declared.item.Item.TheVariants.{Change as Changed, Floor as Floored}
 
--- the value that a put leaves; a tombstone leaves none
+-- The value that a put leaves; a tombstone leaves none.
 abbrev pub value_in : Body → Option Value
 value_in (Put value) = Some value
 value_in Gone = None
 
--- the value that the change leaves under its key
+-- The value that the change leaves under its key.
 abbrev pub value_of : ChangeRecord → Option Value
 value_of c = value_in c.body
 
--- the change leaves a value, and no tombstone
+-- Whether the change leaves a value, and isn't a tombstone.
 abbrev pub leaves_value : ChangeRecord → Bool
 leaves_value c = is_some (value_of c)
 
--- the item is a put
+-- Whether the item is a put.
 abbrev pub is_put : Item → Bool
 is_put (Changed c) = leaves_value c
 is_put (Floored f) = false
 
--- the endpoint that the value names: that of a label
+-- The endpoint of a label's value.
 abbrev pub endpoint_of_value : Value → Option EndpointRecord
 endpoint_of_value (values.Label e) = Some e
 endpoint_of_value _ = None
 
--- the endpoint that a put of a label leaves
+-- The endpoint that a put of a label leaves.
 abbrev pub endpoint_in : Body → Option EndpointRecord
 endpoint_in b = option_and_then endpoint_of_value (value_in b)

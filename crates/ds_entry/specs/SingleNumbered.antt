@@ -2,7 +2,7 @@
 use Rattle.std.specs.Prelude.{◌≡◌, List, Contains}
 use Rattle.ds_entry.specs.Change.{ChangeRecord}
 
--- equal key and version mean equal change, and equal key means equal owner
+-- Whether equal key and version mean equal change, and equal key means equal owner.
 pub record IsSingleNumbered (changes : List ChangeRecord) : Type 0 where
   pub one_change : (c d : ChangeRecord) → Contains changes c → Contains changes d → c.key ≡ d.key → c.version ≡ d.version → c ≡ d
   pub one_owner : (c d : ChangeRecord) → Contains changes c → Contains changes d → c.key ≡ d.key → c.owner ≡ d.owner

@@ -1,4 +1,4 @@
--- Why bytes make no text or blob: the first cause that holds. Want of memory has no cause in the bytes.
+-- Why bytes aren't a text or a blob: the first cause that applies. Out of memory has no cause in the bytes.
 use Rattle.std.specs.Prelude.{ℕ, ◌<◌, ◌≤◌, IsTrue, List, length}
 use Rattle.std.specs.List.{list_all}
 use Rattle.ds_entry.specs.Value.{is_text_byte, IsText, IsBlob}
@@ -7,13 +7,13 @@ use Rattle.ds_entry.specs.declared.text.TextFault.TheVariants as text
 use Rattle.ds_entry.specs.declared.blob.BlobFault.{BlobFault}
 use Rattle.ds_entry.specs.declared.blob.BlobFault.TheVariants as blob
 
--- the fault is the first that the bytes have as a text; they are one where memory is wanting
+-- Whether the fault is the first that applies to the bytes as a text; out of memory applies only to a text.
 abbrev pub IsTextFault : TextFault → List ℕ → Type 0
 IsTextFault text.TooLong bytes = 256 < length bytes
 IsTextFault text.BadText bytes = (length bytes ≤ 256) × (¬ IsTrue (list_all is_text_byte bytes))
 IsTextFault text.NoRoom bytes = IsText bytes
 
--- and so as a blob
+-- Whether the fault is the first that applies to the bytes as a blob; out of memory applies only to a blob.
 abbrev pub IsBlobFault : BlobFault → List ℕ → Type 0
 IsBlobFault blob.TooLong bytes = 1024 < length bytes
 IsBlobFault blob.NoRoom bytes = IsBlob bytes

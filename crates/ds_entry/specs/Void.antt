@@ -1,4 +1,4 @@
--- When a floor makes a change void.
+-- When a floor voids a change.
 use Rattle.std.specs.Prelude.{◌≡◌, Bool, false, not, ◌&&◌, nat_le, List, Contains}
 use Rattle.std.specs.List.{list_any}
 use Rattle.std.specs.Ordering.{eq_by_cmp}
@@ -9,19 +9,20 @@ use Rattle.ds_entry.specs.declared.item.Item.{Item}
 use Rattle.ds_entry.specs.declared.item.Item.TheVariants.{Change as Changed, Floor as Floored}
 use Rattle.ds_names.specs.Kind.{is_label}
 
--- the change is none of a label, is of the floor's owner, and its epoch isn't above the floor's generation
+-- Whether the floor voids the change: it isn't a label, is of the floor's owner, and has an epoch up to the floor's
+-- generation.
 abbrev pub voids : Floor → ChangeRecord → Bool
 voids f c = not (is_label c.key.kind) && (eq_by_cmp name_cmp c.owner f.owner && nat_le c.version.epoch f.generation)
 
--- the item is a floor that makes the change void
+-- Whether the item is a floor that voids the change.
 abbrev pub voids_it : ChangeRecord → Item → Bool
 voids_it c (Changed d) = false
 voids_it c (Floored f) = voids f c
 
--- a floor among the items makes the change void
+-- Whether a floor among the items voids the change.
 abbrev pub is_void : List Item → ChangeRecord → Bool
 is_void items c = list_any (voids_it c) items
 
--- no floor among the items makes a change among them void
+-- Whether no floor among the items voids a change among them.
 abbrev pub NoneVoid : List Item → Type 0
 NoneVoid items = (f : Floor) (c : ChangeRecord) → Contains items (Floored f) → Contains items (Changed c) → voids f c ≡ false

@@ -13,18 +13,18 @@ use std::alloc::Global;
 use std::marker::Model;
 use thiserror::Error;
 
-/// Why bytes make no blob, in the order in which the causes are judged.
+/// Why bytes aren't a blob. Causes are judged in this order.
 #[derive(Clone, Copy, Debug, PartialEq, Eq, Error)]
 pub enum BlobFault {
     /// There are more than 1024 bytes.
     #[error("a blob has at most 1024 bytes")]
     TooLong,
-    /// Memory is wanting.
+    /// Out of memory.
     #[error("out of memory")]
     NoRoom,
 }
 
-/// Memory of MINIX 3's data store: 0 to 1024 bytes of any value (the limit is of this project).
+/// Memory of MINIX 3's data store: 0 to 1024 bytes of any value (the limit is this project's).
 #[derive(Debug, Drop)]
 pub struct Blob {
     bytes: Vec<u8>,
@@ -42,7 +42,7 @@ impl Model for Blob {
 }
 
 impl Blob {
-    /// Keeps a copy of the bytes.
+    /// Copies the bytes into a blob.
     pub fn read(alloc: Global, bytes: &[u8]) -> Result<Blob, BlobFault>
         ensures found { IfOk result (λ blob. blob ≡ bytes.now) }
         ensures valid { IfOk result IsBlob }
@@ -57,7 +57,7 @@ impl Blob {
         }
     }
 
-    /// Its bytes, 0 to 1024 of them.
+    /// Returns its bytes, 0 to 1024 of them.
     pub fn bytes(&self) -> &[u8]
         ensures value { result.now ≡ self.now }
         ensures valid { IsBlob self.now }
@@ -65,7 +65,7 @@ impl Blob {
         &self.bytes
     }
 
-    /// The same blob again.
+    /// Copies the blob.
     pub fn copy(&self, alloc: Global) -> Result<Blob, NoRoom>
         ensures { IfOk result (λ blob. blob ≡ self.now) }
     {

@@ -1,4 +1,4 @@
-//! What a change says of its key.
+//! What a change leaves under its key.
 
 ghost use Rattle.std.specs.Prelude.{◌≡◌, ◌<◌, ◌^◌, ◌↔◌, IsTrue, IfOk, IsOk};
 ghost use Rattle.ds_entry.specs.Change.{kind_of, is_of_kind, is_label_body, IsOfKind, IsLabelBody};
@@ -11,8 +11,8 @@ use crate::text::Text;
 use ds_names::{Endpoint, Kind, NoRoom, Version};
 use std::alloc::Global;
 
-/// The value of an entry: of a label the endpoint of its service, or a 32-bit unsigned number, a string, or
-/// memory, as in MINIX 3's data store.
+/// The value of an entry, as in MINIX 3's data store: a label's endpoint, an unsigned 32-bit number, a string, or
+/// memory.
 #[derive(Debug, PartialEq, Eq, Drop)]
 pub enum Value {
     Label(Endpoint),
@@ -29,7 +29,7 @@ pub enum Body {
 }
 
 impl Value {
-    /// The kind of the keys that it may stand under.
+    /// Returns the kind of the keys that the value may be under.
     pub fn kind(&self) -> Kind
         ensures kind { result ≡ kind_of self.now }
         ensures valid { IsValue self.now }
@@ -54,7 +54,7 @@ impl Value {
         }
     }
 
-    /// The same value again. The copy of a label or a number takes no memory.
+    /// Copies the value. The copy of a label or a number allocates nothing.
     #[inline(always)]
     pub fn copy(&self, alloc: Global) -> Result<Value, NoRoom>
         ensures same { IfOk result (λ value. value ≡ self.now) }
@@ -70,7 +70,7 @@ impl Value {
 }
 
 impl Body {
-    /// The value that a put leaves; a tombstone leaves none.
+    /// Returns the value of a put; a tombstone has none.
     pub fn value(&self) -> Option<&Value>
         ensures { option_copied result ≡ value_in self.now }
     {
@@ -80,7 +80,7 @@ impl Body {
         }
     }
 
-    /// Whether it may stand under a key of the kind: a put has a value of it.
+    /// Whether a key of the kind may have it: a put's value must be of that kind.
     pub fn is_of_kind(&self, kind: Kind) -> bool
         ensures value { result ≡ is_of_kind kind self.now }
         ensures kind { IsTrue result ↔ IsOfKind kind self.now }
@@ -92,8 +92,8 @@ impl Body {
         }
     }
 
-    /// Whether a label may have it at the version: it is put with number 0, under its endpoint's generation, and is gone with
-    /// number 1.
+    /// Whether a label may have it at the version. A label is put with number 0, in its endpoint's generation, and
+    /// ends with number 1.
     pub fn fits_label(&self, version: &Version) -> bool
         ensures value { result ≡ is_label_body version.now self.now }
         ensures rule { IsTrue result ↔ IsLabelBody version.now self.now }
@@ -109,8 +109,7 @@ impl Body {
         }
     }
 
-    /// The same body again. The copy of a tombstone, or of a put of a label or a number, takes no
-    /// memory.
+    /// Copies the body. The copy of a tombstone, or of a put of a label or a number, allocates nothing.
     #[inline(always)]
     pub fn copy(&self, alloc: Global) -> Result<Body, NoRoom>
         ensures same { IfOk result (λ body. body ≡ self.now) }

@@ -15,14 +15,15 @@ use std::alloc::Global;
 use std::marker::Model;
 use thiserror::Error;
 
-/// Why four parts make no change, in the order in which the causes are judged.
+/// Why four parts aren't a change. Causes are judged in this order.
 #[derive(Clone, Copy, Debug, PartialEq, Eq, Error)]
 pub enum EntryFault {
     /// The value is of another kind than the key.
     #[error("the value is of another kind than the key")]
     BadKind,
-    /// A label change with an owner other than `rs`, the name `rs`, epoch 0, a put whose sequence number
-    /// isn't 0 or whose epoch isn't its endpoint's generation, or a tombstone whose number isn't 1.
+    /// The key's kind is label, and the owner isn't `rs`, or the name is `rs`, or the epoch is 0; or it is a put
+    /// whose sequence number isn't 0 or whose epoch isn't its endpoint's generation; or a tombstone whose number
+    /// isn't 1.
     #[error("no change of a label")]
     BadLabel,
     /// A put of another kind with the sequence number 4294967295, which only tombstones of sweeps have.
@@ -30,7 +31,7 @@ pub enum EntryFault {
     BadVersion,
 }
 
-/// One change of the entry under a key: who owns it, which version it is, and what it leaves there.
+/// One change of the entry under a key: its owner, its version, and what it leaves there.
 #[derive(Debug, PartialEq, Eq, Drop)]
 pub struct Change {
     key: Key,
@@ -52,7 +53,7 @@ impl Model for Change {
 }
 
 impl Change {
-    /// The change of four parts that fit together. It judges nothing, and takes no memory.
+    /// Builds the change of four parts that fit together. It checks nothing and allocates nothing.
     pub fn from_parts(key: Key, owner: Name, version: Version, body: Body) -> Change
         requires parts { IsChange (change_of key owner version body) }
         ensures made { result ≡ change_of key owner version body }
@@ -66,8 +67,10 @@ impl Change {
         }
     }
 
-    /// Puts the change of four parts that fit together into a place, as an item. The key and the owner are lent, and each name is
-    /// copied once, to where it is to stand: a key that is copied as a whole goes there together with the owner by way of a third place.
+    /// Stores the change of four parts that fit together in `slot`, as an item.
+    ///
+    /// The key and the owner are lent, so each name is copied once, to where it is kept. A key that is copied whole
+    /// would go through a third place, together with the owner.
     #[inline(always)]
     pub fn put_into(slot: &mut Option<Item>, key: &Key, owner: &Name, version: Version, body: Body)
         requires parts { IsChange (change_of key.now owner.now version body) }
@@ -84,7 +87,7 @@ impl Change {
         }));
     }
 
-    /// Makes the change of four parts, or gives the first fault that they have. It takes no memory.
+    /// Builds the change of four parts, or returns their first fault. It allocates nothing.
     #[inline(always)]
     pub fn make(key: Key, owner: Name, version: Version, body: Body) -> Result<Change, EntryFault>
         ensures made { IfOk result (λ change. change ≡ change_of key owner version body) }
@@ -97,7 +100,7 @@ impl Change {
         }
     }
 
-    /// The same change again. The copy takes memory only for the value of a put.
+    /// Copies the change. The copy allocates only for the value of a put.
     #[inline(always)]
     pub fn copy(&self, alloc: Global) -> Result<Change, NoRoom>
         ensures same { IfOk result (λ change. change ≡ self.now) }
@@ -113,7 +116,7 @@ impl Change {
         })
     }
 
-    /// The key whose entry it changes.
+    /// Returns the key whose entry it changes.
     pub fn key(&self) -> &Key
         ensures value { result.now ≡ self.now.key }
         ensures change { IsChange self.now }
@@ -121,7 +124,7 @@ impl Change {
         &self.key
     }
 
-    /// The label of the process that published it.
+    /// Returns the label of the process that published it.
     pub fn owner(&self) -> &Name
         ensures value { result.now ≡ self.now.owner }
         ensures change { IsChange self.now }
@@ -129,7 +132,7 @@ impl Change {
         &self.owner
     }
 
-    /// Its version. Of two changes of one key the one with the greater version stands.
+    /// Returns its version. Of two changes of one key, the greater version wins.
     pub fn version(&self) -> Version
         ensures value { result ≡ self.now.version }
         ensures change { IsChange self.now }
@@ -137,7 +140,7 @@ impl Change {
         self.version
     }
 
-    /// What it leaves under its key.
+    /// Returns what it leaves under its key.
     pub fn body(&self) -> &Body
         ensures value { result.now ≡ self.now.body }
         ensures change { IsChange self.now }
@@ -146,7 +149,7 @@ impl Change {
     }
 }
 
-// The first cause for which the parts make no change.
+// Returns the first cause for which the parts aren't a change.
 fn fault_of(key: &Key, owner: &Name, version: &Version, body: &Body) -> Option<EntryFault>
     ensures none { IfNone result (IsChange (change_of key.now owner.now version.now body.now)) }
     ensures fault { IfSome result (λ fault. IsEntryFault fault (change_of key.now owner.now version.now body.now)) }
@@ -179,7 +182,7 @@ fn is_label_change(key: &Key, owner: &Name, version: &Version, body: &Body) -> b
     is_owned && !is_rs && epoch != 0 && fits
 }
 
-// Whether an entry of another kind than label may have the version.
+// Whether an entry that isn't a label may have the version.
 fn is_below_sweeps(version: &Version, body: &Body) -> bool
     ensures { IsTrue result ↔ IsBelowSweeps version.now body.now }
 {

@@ -10,21 +10,20 @@ use crate::change::Change;
 use ds_names::{Generation, Name};
 use std::cmp::Ordering;
 
-/// A floor under an owner's entries (of this project): those of the owner's generations up to this one are void,
-/// labels aside.
+/// A floor under an owner's entries (of this project): it voids what the owner published in generations up to this
+/// one, labels aside.
 ///
-/// A dead driver of MINIX 3 leaves entries behind it in the data store; a floor ends them, also those that come late.
+/// In MINIX 3 the entries of a dead driver stay in the data store. A floor ends them, even those that arrive late.
 #[derive(Clone, Copy, Debug, PartialEq, Eq)]
 pub struct Floor {
-    /// Whose entries.
+    /// The owner of the entries.
     pub owner: Name,
     /// The greatest generation that is void.
     pub generation: Generation,
 }
 
 impl Floor {
-    /// Whether it makes a change void: one of its owner, of a kind other than label, with an epoch that isn't above its
-    /// generation.
+    /// Whether it voids a change: one of its owner, not a label, with an epoch up to its generation.
     pub fn voids(&self, change: &Change) -> bool
         ensures { result ≡ voids self.now change.now }
     {
@@ -35,7 +34,7 @@ impl Floor {
             && epoch <= generation
     }
 
-    // The same floor, whose parts are in their ranges.
+    // Copies the floor, and states that its parts are in range.
     pub(crate) fn in_range(&self) -> Floor
         ensures same { result ≡ self.now }
         ensures floor { IsFloor self.now }
@@ -46,7 +45,7 @@ impl Floor {
     }
 }
 
-// Whether two names are one.
+// Whether two names are equal.
 pub(crate) fn is_same_name(name: &Name, other: &Name) -> bool
     ensures { result ≡ eq_by_cmp name_cmp name.now other.now }
 {

@@ -15,14 +15,14 @@ use ds_names::{Key, NoRoom};
 use std::alloc::Global;
 use std::cmp::Ordering;
 
-/// What replicas give one another (of this project): a change of one entry, or a floor under all entries of an owner.
+/// What replicas send each other (of this project): a change of one entry, or a floor under all entries of an owner.
 #[derive(Debug, PartialEq, Eq, Drop)]
 pub enum Item {
     Change(Change),
     Floor(Floor),
 }
 
-/// An item that is lent.
+/// A borrowed item.
 #[derive(Clone, Copy)]
 pub enum ItemRef<'a> {
     Change(&'a Change),
@@ -30,7 +30,7 @@ pub enum ItemRef<'a> {
 }
 
 impl ItemRef<'_> {
-    /// The item itself. The copy takes memory only for the value of a put, and only for a text or a blob.
+    /// Copies the item. The copy allocates only for a put of a text or a blob.
     pub fn copy(self, alloc: Global) -> Result<Item, NoRoom>
         ensures same { IfOk result (λ item. item ≡ item_lent self.entry) }
         ensures in_place { IsItemInPlace (item_lent self.entry) → IsOk result }
@@ -43,8 +43,10 @@ impl ItemRef<'_> {
 }
 
 impl Item {
-    /// Whether it makes the other needless: a change of the same key and owner, of at most its version; what a floor
-    /// makes void; a floor of the same owner that isn't above it. A change covers no floor.
+    /// Whether it makes the other item needless.
+    ///
+    /// A change covers the changes of its key and owner up to its version. A floor covers the changes that it voids,
+    /// and its owner's floors up to its generation. A change covers no floor.
     pub fn covers(&self, other: &Item) -> bool
         ensures { result ≡ covers self.now other.now }
     {
@@ -69,7 +71,8 @@ impl Item {
         }
     }
 
-    /// Where it stands to another: floors before all changes, by the names of their owners, and changes by their keys.
+    /// Compares two items: floors come before all changes, in the order of their owners' names; changes are in the
+    /// order of their keys.
     pub fn compare(&self, other: &Item) -> Ordering
         ensures { result ≡ item_cmp self.now other.now }
     {
@@ -81,7 +84,7 @@ impl Item {
         }
     }
 
-    /// The same item again. The copy takes memory only for the value of a put, and only for a text or a blob.
+    /// Copies the item. The copy allocates only for a put of a text or a blob.
     #[inline(always)]
     pub fn copy(&self, alloc: Global) -> Result<Item, NoRoom>
         ensures same { IfOk result (λ item. item ≡ self.now) }
@@ -95,14 +98,14 @@ impl Item {
     }
 }
 
-// Whether two keys are one.
+// Whether two keys are equal.
 fn is_same_key(key: &Key, other: &Key) -> bool
     ensures { result ≡ eq_by_cmp key_cmp key.now other.now }
 {
     matches!(key.compare(other), Ordering::Equal)
 }
 
-// Whether the change is of the key and the owner of the other, in at least its version.
+// Whether the change has the other's key and owner, and at least its version.
 fn is_newer(change: &Change, other: &Change) -> bool
     ensures { result ≡ change_covers change.now other.now }
 {

@@ -9,8 +9,7 @@ use ds_names::NoRoom;
 use std::alloc::{AllocFailed, Global};
 use std::marker::Model;
 
-/// Items in order, as readers of a holder or a store are given them, and as messages carry them. How it keeps them is its own
-/// affair.
+/// A list of items in order: what holders and stores return, and what messages carry. Its representation is private.
 #[derive(Debug, Drop)]
 pub struct Items {
     items: Vec<Item>,
@@ -26,7 +25,7 @@ impl Model for Items {
 }
 
 impl Items {
-    /// A list of no items. It takes no memory.
+    /// Returns an empty list. It allocates nothing.
     pub fn new(alloc: Global) -> Items
         ensures { result ≡ [] }
     {
@@ -35,7 +34,7 @@ impl Items {
         }
     }
 
-    /// Copies of the items, in their order.
+    /// Copies the items, in order.
     pub fn copies(alloc: Global, items: &[Item]) -> Result<Items, NoRoom>
         ensures { IfOk result (λ copies. copies ≡ items.now) }
     {
@@ -44,7 +43,7 @@ impl Items {
         Ok(Items { items: copies })
     }
 
-    /// Adds an item at the end. Where there is no room, the list is unchanged and the error gives the item back.
+    /// Appends an item. If memory runs out, the list is unchanged and the error returns the item.
     pub fn push(&mut self, item: Item) -> Result<(), AllocFailed<Item>>
         ensures ok { OnOk result (self.new ≡ self.old ++ item ∷ []) }
         ensures err { OnErr result (self.new ≡ self.old) }
@@ -53,7 +52,7 @@ impl Items {
         self.items.push(item)
     }
 
-    /// Cuts it in two: it keeps the items before the index, and gives those from there on. Where there is no room, it is
+    /// Splits the list: it keeps the items before the index, and returns the rest. If memory runs out, it is
     /// unchanged.
     pub fn split_off(&mut self, at: usize) -> Result<Items, NoRoom>
         requires { at ≤ length self.old }
@@ -65,29 +64,28 @@ impl Items {
         Ok(Items { items })
     }
 
-    /// How many items it has.
+    /// Returns how many items it has.
     pub fn len(&self) -> usize
         ensures { result ≡ length self.now }
     {
         self.items.len()
     }
 
-    /// The item at an index from 0, `None` behind the last one.
+    /// Returns the item at an index from 0; `None` past the end.
     pub fn get(&self, index: usize) -> Option<&Item>
         ensures { option_copied result ≡ slice_get self.now index }
     {
         self.items.get(index)
     }
 
-    /// All of them, as a slice, of which parts can be lent.
+    /// Returns all items as a slice.
     pub fn as_slice(&self) -> &[Item]
         ensures { result.now ≡ self.now }
     {
         self.items.as_slice()
     }
 
-    /// Adds copies of other items at the end, in their order. For no items it takes no memory. Where there is no room for all
-    /// of them, the list is unchanged.
+    /// Appends copies of other items, in order. If memory runs out, the list is unchanged. No items need no memory.
     pub fn append_copies(&mut self, alloc: Global, more: &Items) -> Result<(), NoRoom>
         ensures added { OnOk result (self.new ≡ self.old ++ more.now) }
         ensures unchanged { OnErr result (self.new ≡ self.old) }
@@ -101,14 +99,14 @@ impl Items {
         copied
     }
 
-    /// Keeps the puts alone, in their order.
+    /// Removes all items but the puts.
     pub fn retain_puts(&mut self)
         ensures { self.new ≡ entries_of self.old }
     {
         self.items.retain(|item| item.is_put());
     }
 
-    /// The same items again, in the same order.
+    /// Copies the list.
     pub fn copy(&self, alloc: Global) -> Result<Items, NoRoom>
         ensures { IfOk result (λ copy. copy ≡ self.now) }
     {
@@ -116,7 +114,7 @@ impl Items {
     }
 }
 
-// Adds copies of the items at the end. Where there is no room for all of them, the first ones may be there.
+// Appends copies of the items. If memory runs out, a part of them may have been added.
 fn push_copies(alloc: Global, items: &mut Vec<Item>, more: &[Item]) -> Result<(), NoRoom>
     ensures added { OnOk result (items.new.items ≡ items.old.items ++ more.now) }
     ensures kept { OnErr result (take (length items.old.items) items.new.items ≡ items.old.items) }

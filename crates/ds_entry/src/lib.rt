@@ -1,8 +1,8 @@
-//! Changes, floors and lists of them: what replicas of the data store give one another.
+//! Changes, floors and lists of them: what replicas of the data store send each other.
 //!
-//! An entry of MINIX 3's data store has an owner, the label of the process that published it, and only the
-//! reincarnation server (RS) publishes labels (Herder and others, DSN 2007). That each change has a version,
-//! and that a delete leaves a tombstone, is of this project.
+//! In MINIX 3's data store an entry has an owner, the label of the process that published it. Only the reincarnation
+//! server (RS) publishes labels (Herder and others, DSN 2007). Versions of changes and the tombstones of deletes are
+//! of this project.
 #![tactic(auto)]
 
 mod blob;

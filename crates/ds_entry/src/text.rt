@@ -14,7 +14,7 @@ use std::alloc::Global;
 use std::marker::Model;
 use thiserror::Error;
 
-/// Why bytes make no text, in the order in which the causes are judged.
+/// Why bytes aren't a text. Causes are judged in this order.
 #[derive(Clone, Copy, Debug, PartialEq, Eq, Error)]
 pub enum TextFault {
     /// There are more than 256 bytes.
@@ -23,7 +23,7 @@ pub enum TextFault {
     /// A byte isn't printable ASCII, 0x20 to 0x7E.
     #[error("a text has printable ASCII alone")]
     BadText,
-    /// Memory is wanting.
+    /// Out of memory.
     #[error("out of memory")]
     NoRoom,
 }
@@ -35,14 +35,14 @@ fn is_text_byte(b: u8) -> bool
     0x20 <= b && b <= 0x7e
 }
 
-// Whether all bytes are.
+// Whether all bytes are printable ASCII.
 fn is_printable(bytes: &[u8]) -> bool
     ensures { result ≡ list_all is_text_byte bytes.now }
 {
     bytes.iter().all(|b| is_text_byte(*b))
 }
 
-/// A string of MINIX 3's data store: 0 to 256 bytes of printable ASCII (the limits are of this project).
+/// A string of MINIX 3's data store: 0 to 256 bytes of printable ASCII (the limits are this project's).
 #[derive(Debug, Drop)]
 pub struct Text {
     bytes: Vec<u8>,
@@ -60,7 +60,7 @@ impl Model for Text {
 }
 
 impl Text {
-    /// Reads the text that the bytes are, and keeps a copy of them.
+    /// Checks the bytes, and copies them into a text.
     pub fn read(alloc: Global, bytes: &[u8]) -> Result<Text, TextFault>
         ensures found { IfOk result (λ text. text ≡ bytes.now) }
         ensures valid { IfOk result IsText }
@@ -78,7 +78,7 @@ impl Text {
         }
     }
 
-    /// Its bytes, 0 to 256 of printable ASCII.
+    /// Returns its bytes, 0 to 256 of printable ASCII.
     pub fn bytes(&self) -> &[u8]
         ensures value { result.now ≡ self.now }
         ensures valid { IsText self.now }
@@ -86,7 +86,7 @@ impl Text {
         &self.bytes
     }
 
-    /// The same text again.
+    /// Copies the text.
     pub fn copy(&self, alloc: Global) -> Result<Text, NoRoom>
         ensures { IfOk result (λ text. text ≡ self.now) }
     {

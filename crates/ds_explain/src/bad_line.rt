@@ -1,4 +1,4 @@
-//! What is said of a line that can't be read: which part was expected.
+//! Explains a line that can't be read: which part was expected.
 
 use crate::bad_part::BadPart;
 use ds_line::{Expected, word_at};
@@ -44,19 +44,19 @@ const BEFORE: usize = 48;
 
 const FROM: usize = 28;
 
-/// Who reads what is said.
+/// The reader of an explanation.
 #[derive(Clone, Copy, Debug, PartialEq, Eq)]
 pub enum Audience {
     /// A file or a program: one line.
     File,
-    /// Somebody at a terminal, where the line and a caret stand above it.
+    /// A terminal: the line and a caret above the sentence.
     Terminal,
-    /// Somebody at the prompt, who can ask for help there.
+    /// A prompt, where the user can ask for help.
     Prompt,
 }
 
-/// Says on standard error which part was expected where a line can't be read; at a terminal, below the line and a
-/// caret. That standard error takes it isn't asked for.
+/// Writes to standard error which part was expected where a line can't be read; at a terminal, below the line and a
+/// caret. A failed write is ignored.
 pub fn explain(rt: &(impl Runtime + AllocGlobal), audience: Audience, bad: &BadLine<'_>) {
     if audience != Audience::File {
         show_place(rt, bad);
@@ -78,7 +78,7 @@ pub fn explain(rt: &(impl Runtime + AllocGlobal), audience: Audience, bad: &BadL
     }
 }
 
-// The line, as far as a row has room for it, and a caret under the place.
+// Shows the line, as far as it fits, and a caret under the place.
 fn show_place(rt: &impl Runtime, bad: &BadLine<'_>) {
     let place = bad.place.min(bad.text.len());
     let first = place.saturating_sub(BEFORE);
@@ -89,7 +89,7 @@ fn show_place(rt: &impl Runtime, bad: &BadLine<'_>) {
     let _ = eprintln!(rt; "{:>column$}", '^');
 }
 
-// A word that no line begins with.
+// Explains a word that no line begins with.
 fn explain_word(rt: &impl Runtime, audience: Audience, number: u64, text: &[u8]) {
     let help = match audience {
         Audience::Prompt => "help",
@@ -106,14 +106,14 @@ fn explain_word(rt: &impl Runtime, audience: Audience, number: u64, text: &[u8])
     }
 }
 
-// A command that stands on another line than the first.
+// Explains a command that is allowed on the first line only.
 fn explain_first(rt: &impl Runtime, number: u64, command: &str) {
-    let _ = eprintln!(rt; "line {number}, byte 0: `{command}` stands on the first line alone");
+    let _ = eprintln!(rt; "line {number}, byte 0: `{command}` is allowed on the first line only");
 }
 
-// A word that is no command, and the nearest one that is.
+// Explains a word that isn't a command, with the nearest one.
 fn explain_unknown(rt: &impl Runtime, number: u64, word: &[u8], near: Option<&str>, help: &str) {
     let shown = Plain(&word[..word.len().min(FROM)]);
     let near = IfNear(near);
-    let _ = eprintln!(rt; "line {number}, byte 0: `{shown}` is no command{near}: see {help}");
+    let _ = eprintln!(rt; "line {number}, byte 0: `{shown}` isn't a command{near}: see {help}");
 }

@@ -1,4 +1,4 @@
-//! What is said of the part at which a command can't be read, wherever the command stands.
+//! Explains the first bad part of a command, wherever in a line the command begins.
 
 use crate::stray::stray_at;
 use crate::wanted::{part, wanted};
@@ -12,12 +12,12 @@ use std::rt::Runtime;
 /// The most bytes of a name.
 const LONGEST_NAME: usize = 64;
 
-const CARRIAGE_RETURN: &str = "the end of the line was expected, a carriage return stands there";
+const CARRIAGE_RETURN: &str = "the end of the line was expected, a carriage return was found";
 
-/// The part at which the text of a command can't be read.
+/// The first bad part of a command's text.
 #[derive(Clone, Copy)]
 pub(crate) struct BadPart<'a> {
-    /// The number of the line that has the text, from 1.
+    /// The number of the text's line, from 1.
     pub number: u64,
     /// The text as a script has it, without its newline.
     pub text: &'a [u8],
@@ -25,26 +25,26 @@ pub(crate) struct BadPart<'a> {
     pub place: usize,
     /// The part that was expected there.
     pub expected: Expected,
-    /// How many bytes of the line stand before the text.
+    /// How many bytes of the line come before the text.
     pub before: usize,
-    /// How many bytes at the front of the text the line doesn't have.
+    /// How many bytes at the front of the text aren't in the line.
     pub added: usize,
 }
 
 impl<'a> BadPart<'a> {
-    /// Says this of the place.
+    /// Writes this sentence about the place.
     pub(crate) fn say(&self, rt: &impl Runtime, said: &str) {
         say_at(rt, self.number, self.place_in_line(), said);
     }
 
-    /// The byte of the line at which the part begins.
+    /// Returns the byte of the line at which the part begins.
     fn place_in_line(&self) -> usize {
         self.before
             .saturating_add(self.place)
             .saturating_sub(self.added)
     }
 
-    /// What of the text begins at the place.
+    /// Returns the text from the place on.
     pub(crate) fn rest(&self) -> &'a [u8] {
         match self.text.get(self.place..) {
             Some(rest) => rest,
@@ -52,7 +52,7 @@ impl<'a> BadPart<'a> {
         }
     }
 
-    /// What stands at the place, if it has a name that says more than what was expected there.
+    /// Returns a sentence about what is at the place, if that says more than what was expected.
     pub(crate) fn stray(&self) -> Option<&'static str> {
         match self.expected {
             Expected::Limit => None,
@@ -60,7 +60,7 @@ impl<'a> BadPart<'a> {
         }
     }
 
-    /// Says which part was expected.
+    /// Writes which part was expected.
     pub(crate) fn explain(&self, rt: &(impl Runtime + AllocGlobal)) {
         match self.expected {
             Expected::Name | Expected::Owner | Expected::Label => self.explain_name(rt),
@@ -70,7 +70,7 @@ impl<'a> BadPart<'a> {
         }
     }
 
-    // A space that is missing, and the part that belongs after it.
+    // Names the missing space, and the part that comes after it.
     fn explain_space(&self, rt: &(impl Runtime + AllocGlobal)) {
         match self.part_after(rt.alloc()) {
             Some(expected) => {
@@ -85,7 +85,7 @@ impl<'a> BadPart<'a> {
         }
     }
 
-    // The part that belongs after a space that is missing: the one that can't be read where the text ends in that space.
+    // Returns the part that comes after a missing space: the first bad part of the text that ends with that space.
     fn part_after(&self, alloc: Global) -> Option<Expected> {
         let front = self.text.get(..self.place)?;
         let count = front.len();
@@ -99,26 +99,26 @@ impl<'a> BadPart<'a> {
         expected_of(&read_line(alloc, line))
     }
 
-    // A name that is empty or too long, a service's label too, or the owner of a label.
+    // Names a name, owner or label that is empty or too long.
     fn explain_name(&self, rt: &impl Runtime) {
         let wanted = wanted(self.expected);
         let count = name_bytes(self.rest());
         if count == 0 || count > LONGEST_NAME {
             let number = self.number;
             let place = self.place_in_line();
-            let _ = eprintln!(rt; "line {number}, byte {place}: {wanted}; {count} stand there");
+            let _ = eprintln!(rt; "line {number}, byte {place}: {wanted}; {count} were found");
         } else {
             self.say(rt, wanted);
         }
     }
 }
 
-/// Says this of a byte of a line.
+/// Writes this sentence about a byte of a line.
 pub(crate) fn say_at(rt: &impl Runtime, number: u64, place: usize, said: &str) {
     let _ = eprintln!(rt; "line {number}, byte {place}: {said}");
 }
 
-/// What is said where a line has to end and this stands there.
+/// Returns the sentence for a line that continues past its end.
 pub(crate) fn end_wanted(rest: &[u8]) -> &'static str {
     match read_byte(rest, b'\r') {
         Some(_) => CARRIAGE_RETURN,
@@ -133,7 +133,7 @@ fn expected_of(read: &Result<ScriptCommand, CommandFault>) -> Option<Expected> {
     }
 }
 
-// How many bytes of a name a text begins with.
+// Returns how many bytes of a name the text begins with.
 fn name_bytes(text: &[u8]) -> usize {
     text.iter().take_while(|byte| is_name_byte(**byte)).count()
 }

@@ -1,4 +1,4 @@
-//! Which field of settings a fault is about.
+//! Finds the field of settings that a fault is about.
 
 use ds_names::Name;
 use rs_settings::{SettingsCause, SettingsFault};
@@ -10,7 +10,7 @@ const AT_TOP: [&str; 2] = ["slots", "service"];
 /// The fields of a service, in the order in which they are judged.
 const OF_SERVICE: [&str; 6] = ["label", "class", "unit", "period", "limit", "publishes"];
 
-/// The fields that there are: of a service where one is named, else at the top.
+/// Returns the fields that exist: a service's if a service is named, else those at the top.
 pub(crate) fn fields_known(service: Option<usize>) -> &'static [&'static str] {
     match service {
         Some(_) => &OF_SERVICE,
@@ -18,7 +18,7 @@ pub(crate) fn fields_known(service: Option<usize>) -> &'static [&'static str] {
     }
 }
 
-/// The field that a fault is about, among these.
+/// Returns the field that a fault is about, among these.
 pub(crate) fn field_of<'a>(fields: &'a Table, fault: SettingsFault) -> &'a str {
     match fault.cause {
         SettingsCause::UnknownField => unknown(fields, fields_known(fault.index)),
@@ -34,7 +34,7 @@ pub(crate) fn field_of<'a>(fields: &'a Table, fault: SettingsFault) -> &'a str {
     }
 }
 
-// The first field that isn't known.
+// Returns the first unknown field.
 fn unknown<'a>(fields: &'a Table, known: &[&'static str]) -> &'a str {
     for key in fields.keys() {
         let key = key.as_str();
@@ -45,7 +45,7 @@ fn unknown<'a>(fields: &'a Table, known: &[&'static str]) -> &'a str {
     ""
 }
 
-// The first of the fields that a service has to have which isn't there.
+// Returns the first missing field of those that a service must have.
 fn missing(fields: &Table) -> &'static str {
     if fields.get("label").is_none() {
         "label"
@@ -56,7 +56,7 @@ fn missing(fields: &Table) -> &'static str {
     }
 }
 
-// The first field of a service whose value isn't in its range.
+// Returns the first field of a service whose value is out of range.
 fn out_of_range(fields: &Table) -> &'static str {
     if !has_label(fields) {
         "label"
@@ -75,7 +75,7 @@ fn out_of_range(fields: &Table) -> &'static str {
     }
 }
 
-// The text in a field.
+// Returns the text in a field.
 fn text_in<'a>(fields: &'a Table, field: &str) -> Option<&'a str> {
     match fields.get(field) {
         Some(value) => value.as_str(),
@@ -83,7 +83,7 @@ fn text_in<'a>(fields: &'a Table, field: &str) -> Option<&'a str> {
     }
 }
 
-// Whether the label is a service's.
+// Whether the label is valid for a service.
 fn has_label(fields: &Table) -> bool {
     match text_in(fields, "label") {
         Some(label) => label != "rs" && Name::read(label.as_bytes()).is_ok(),
@@ -99,7 +99,7 @@ fn has_class(fields: &Table) -> bool {
     )
 }
 
-// Whether a field is a number from `low` to `high`, or isn't there.
+// Whether a field is a number from `low` to `high`, or is missing.
 fn has_number(fields: &Table, field: &str, low: i64, high: i64) -> bool {
     match fields.get(field) {
         Some(value) => match value.as_integer() {

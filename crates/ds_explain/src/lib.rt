@@ -1,10 +1,10 @@
-//! What is said of a script's line that can't be read, of settings with a fault, and of a trace that isn't legal, in words, on
-//! standard error; and what settings without one say, for standard output.
+//! Sentences on standard error about a script's bad line, about settings with a fault, and about a trace that isn't
+//! legal; and, for standard output, the text of valid settings.
 //!
-//! The reader of scripts tells where a line can't be read and which part was expected there. Here that becomes a sentence, with the
-//! nearest command for a word that is none; at a terminal it stands below the line and a caret. The reader of settings tells a cause
-//! and a service; here the text is searched for the field and its line. The checker of traces tells what had to stand in a line, and
-//! what stands there. Of this project.
+//! The reader of scripts reports where a line is bad and which part was expected; here that becomes a sentence, with
+//! the nearest command for an unknown word, and at a terminal the line with a caret. The reader of settings reports a
+//! cause and a service; here the text is searched for the field and its line. The checker of traces reports which line
+//! was expected, and which was found. This project's.
 #![tactic(auto)]
 
 mod bad_line;

@@ -1,8 +1,8 @@
-//! Where in a settings text something stands.
+//! Finds places in a settings text.
 
 use ds_names::is_name_byte;
 
-/// The line that has the byte at a place, from 1.
+/// Returns the line, from 1, of the byte at a place.
 pub(crate) fn line_at(text: &[u8], place: usize) -> usize {
     let before = text.get(..place).unwrap_or(text);
     before
@@ -12,7 +12,7 @@ pub(crate) fn line_at(text: &[u8], place: usize) -> usize {
         .saturating_add(1)
 }
 
-/// The line, from 1, that gives a field its value first, behind the header of the service, if it has one.
+/// Returns the line, from 1, that first assigns a field; for a service's field, after the header of the service.
 pub(crate) fn field_line(text: &[u8], service: Option<usize>, field: &[u8]) -> Option<usize> {
     let begin = match service {
         Some(index) => service_place(text, index).unwrap_or(0),
@@ -27,13 +27,13 @@ pub(crate) fn field_line(text: &[u8], service: Option<usize>, field: &[u8]) -> O
     None
 }
 
-/// The line, from 1, of the header of a service, if it has one.
+/// Returns the line, from 1, of a service's header, if it has one.
 pub(crate) fn service_line(text: &[u8], service: Option<usize>) -> Option<usize> {
     let place = service_place(text, service?)?;
     Some(line_at(text, place))
 }
 
-// Where the header of a service stands, as `[[service]]`.
+// Returns the place of a service's header, `[[service]]`.
 fn service_place(text: &[u8], index: usize) -> Option<usize> {
     let mut seen = 0usize;
     for place in 0..text.len() {
@@ -47,7 +47,7 @@ fn service_place(text: &[u8], index: usize) -> Option<usize> {
     None
 }
 
-// Whether a field begins where this stands behind that, and behind it an equals sign, or the end of a header.
+// Whether the field begins `rest`, right after `before`, and an equals sign or the end of a header follows it.
 fn gives(before: &[u8], rest: &[u8], field: &[u8]) -> bool {
     if before.last().is_some_and(|byte| is_name_byte(*byte)) {
         return false;

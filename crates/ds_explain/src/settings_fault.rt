@@ -1,4 +1,4 @@
-//! What is said of a settings text that has a fault: which field, of which service, in which line.
+//! Explains a fault of a settings text: the field, its service, and its line.
 
 use crate::field::{field_of, fields_known};
 use crate::place::{field_line, line_at, service_line};
@@ -9,17 +9,17 @@ use std::rt::Runtime;
 use toml::Table;
 use typed_words::{IfNear, Plain, nearest};
 
-/// Says on standard error which field the first fault of a settings text is about, in one line: of the service with its number, from
-/// 0, and in which line of the text, from 1, where it is found there. That standard error takes it isn't asked for.
+/// Writes to standard error, in one line, which field the first fault of a settings text is about, of which service
+/// (counted from 0), and in which line (from 1), where it is found there. A failed write is ignored.
 ///
-/// `Err` says that there was no memory to read the text again.
+/// NoRoom: out of memory to parse the text again.
 pub fn explain_settings(
     rt: &(impl Runtime + AllocGlobal),
     text: &[u8],
     fault: SettingsFault,
 ) -> Result<(), NoRoom> {
     let Ok(document) = std::str::from_utf8(text) else {
-        let _ = eprintln!(rt; "the text is no UTF-8");
+        let _ = eprintln!(rt; "the text isn't UTF-8");
         return Ok(());
     };
     match toml::table_from_str(rt.alloc(), document) {
@@ -31,7 +31,7 @@ pub fn explain_settings(
     }
 }
 
-// Says what is wrong with a text that is no document. Of a want of memory no place is told.
+// Explains a text that isn't TOML. Without a span, memory ran out.
 fn explain_text(rt: &impl Runtime, text: &[u8], error: &toml::de::Error) -> Result<(), NoRoom> {
     let Some(span) = error.span() else {
         return Err(NoRoom);
@@ -42,7 +42,7 @@ fn explain_text(rt: &impl Runtime, text: &[u8], error: &toml::de::Error) -> Resu
     Ok(())
 }
 
-// Says what is wrong with a field of a document.
+// Explains a fault of a field.
 fn explain_field(rt: &impl Runtime, text: &[u8], table: &Table, fault: SettingsFault) {
     let field = field_meant(table, fault);
     let place = Place {
@@ -56,7 +56,7 @@ fn explain_field(rt: &impl Runtime, text: &[u8], table: &Table, fault: SettingsF
     say(rt, place, field, wrong(fault.cause), near);
 }
 
-// The field that a fault is about.
+// Returns the field that a fault is about.
 fn field_meant(table: &Table, fault: SettingsFault) -> &str {
     let fields = match fault.index {
         Some(index) => service_at(table, index),
@@ -68,7 +68,7 @@ fn field_meant(table: &Table, fault: SettingsFault) -> &str {
     }
 }
 
-// The line in which the field stands, or its service, if the field is missing.
+// Returns the line of the field, or of its service if the field is missing.
 fn line_of(text: &[u8], field: &str, fault: SettingsFault) -> Option<usize> {
     match fault.cause {
         SettingsCause::Missing => service_line(text, fault.index),
@@ -76,14 +76,14 @@ fn line_of(text: &[u8], field: &str, fault: SettingsFault) -> Option<usize> {
     }
 }
 
-// Says what is wrong with a field, and which one is the nearest that there is.
+// Writes what is wrong with a field, and the nearest field that exists.
 fn say(rt: &impl Runtime, place: Place, field: &str, wrong: &str, near: Option<&str>) {
     let shown = Plain(field.as_bytes());
     let near = IfNear(near);
     let _ = eprintln!(rt; "{place}: `{shown}` {wrong}{near}");
 }
 
-// The fields of a service of a document.
+// Returns the fields of a service.
 fn service_at(table: &Table, index: usize) -> Option<&Table> {
     let services = match table.get("service") {
         Some(value) => value.as_array()?,
@@ -95,18 +95,18 @@ fn service_at(table: &Table, index: usize) -> Option<&Table> {
     }
 }
 
-// What a cause says of a field.
+// Returns what is wrong with a field, by the cause.
 fn wrong(cause: SettingsCause) -> &'static str {
     match cause {
-        SettingsCause::UnknownField => "is no field",
+        SettingsCause::UnknownField => "isn't a field",
         SettingsCause::Missing => "is missing",
-        SettingsCause::TwoLabels | SettingsCause::TwoUnits => "is another service's too",
+        SettingsCause::TwoLabels | SettingsCause::TwoUnits => "is another service's, too",
         SettingsCause::SharedName => "has a name that is published twice",
-        _ => "is of another type, or out of its range",
+        _ => "has the wrong type, or is out of range",
     }
 }
 
-// Where a fault is: of which service, and in which line.
+// The service and the line of a fault.
 #[derive(Clone, Copy)]
 struct Place {
     service: Option<usize>,

@@ -1,9 +1,9 @@
-//! What settings tell RS, a line a service.
+//! The text of valid settings, one line a service.
 
 use rs_settings::{Class, Service, Settings};
 use std::io::{self, Write};
 
-/// Writes a line for each service, and one for all, and flushes the writer.
+/// Writes a line for each service and one for all of them, and flushes the writer.
 pub fn write_settings<W: Write>(writer: &mut W, settings: &Settings) -> io::Result<()> {
     let services = settings.services();
     for index in 0..services.len() {

@@ -1,11 +1,11 @@
-//! What stands in a line that is no part of one: spaces too many, comments, keys of a terminal.
+//! Names what is often found in a line by mistake: two spaces, comments, keys of a terminal.
 
 use ds_names::read_byte;
 
 /// The three bytes that some editors put before a text in UTF-8.
 pub(crate) const BYTE_ORDER_MARK: &[u8] = b"\xef\xbb\xbf";
 
-/// What stands at the place where a line can't be read, if it has a name that says more than what was expected there.
+/// Returns a sentence about what is at the place, if that says more than what was expected there.
 pub(crate) fn stray_at(text: &[u8], place: usize, rest: &[u8]) -> Option<&'static str> {
     if let Some(behind) = read_byte(rest, 0x1b) {
         return Some(key(behind));
@@ -15,31 +15,31 @@ pub(crate) fn stray_at(text: &[u8], place: usize, rest: &[u8]) -> Option<&'stati
     }
     let before = text.get(place - 1).copied();
     if before == Some(b' ') && rest.first().copied() == Some(b' ') {
-        return Some("one space stands between parts, here are two");
+        return Some("one space was expected between parts, two were found");
     }
     None
 }
 
-// What stands in the place of a command.
+// Returns a sentence about what is there instead of a command.
 fn stray_first(rest: &[u8]) -> Option<&'static str> {
     if rest.starts_with(BYTE_ORDER_MARK) {
-        return Some("a command was expected, a byte order mark stands there");
+        return Some("a command was expected, a byte order mark was found");
     }
     match rest.first().copied() {
         None => Some("a command was expected, the line is empty: a script has no blank lines"),
-        Some(b'#') => Some("a command was expected, a comment stands there: a script has none"),
-        Some(b' ') => Some("a command was expected, a space stands there"),
+        Some(b'#') => Some("a command was expected, a comment was found: a script has none"),
+        Some(b' ') => Some("a command was expected, a space was found"),
         _ => None,
     }
 }
 
-// The key of a terminal whose bytes stand behind an escape.
+// Returns a sentence about a terminal's key, by the bytes after the escape.
 fn key(behind: &[u8]) -> &'static str {
     match behind.get(1).copied() {
-        Some(b'A') => "the key Up stands there: `rlwrap dsctl` adds history and editing",
-        Some(b'B') => "the key Down stands there: `rlwrap dsctl` adds history and editing",
-        Some(b'C') => "the key Right stands there: `rlwrap dsctl` adds history and editing",
-        Some(b'D') => "the key Left stands there: `rlwrap dsctl` adds history and editing",
-        _ => "a key of the terminal stands there: `rlwrap dsctl` adds history and editing",
+        Some(b'A') => "the Up key was found: `rlwrap dsctl` adds history and editing",
+        Some(b'B') => "the Down key was found: `rlwrap dsctl` adds history and editing",
+        Some(b'C') => "the Right key was found: `rlwrap dsctl` adds history and editing",
+        Some(b'D') => "the Left key was found: `rlwrap dsctl` adds history and editing",
+        _ => "a key of the terminal was found: `rlwrap dsctl` adds history and editing",
     }
 }

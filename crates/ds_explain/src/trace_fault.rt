@@ -1,4 +1,4 @@
-//! What is said of the line of a trace that no legal trace has in its place.
+//! Explains a trace that isn't legal, by its first wrong line.
 
 use crate::stray::BYTE_ORDER_MARK;
 use crate::trace_line::{explain_marked, without_newline};
@@ -7,8 +7,8 @@ use std::rt::Runtime;
 use trace_check::{Stands, Wanted, WrongLine};
 use typed_words::Plain;
 
-/// Says on standard error what had to stand in the line of a trace that is told, and what stands there; of a line that has the mark of
-/// an entry or of an item, which part of it can't be read. That standard error takes it isn't asked for.
+/// Writes to standard error which line a trace was expected to have, and which it has; of a line with the mark of an
+/// entry or of an item, which part is bad. A failed write is ignored.
 pub fn explain_trace(rt: &(impl Runtime + AllocGlobal), wrong: &WrongLine<'_>) {
     if explain_marked(rt, wrong) {
         return;
@@ -19,7 +19,7 @@ pub fn explain_trace(rt: &(impl Runtime + AllocGlobal), wrong: &WrongLine<'_>) {
     let _ = eprintln!(rt; "line {number}: {wanted}{stood}");
 }
 
-// What had to stand there.
+// What was expected.
 #[derive(Clone, Copy)]
 struct WantedThere<'a>(WrongLine<'a>);
 
@@ -35,23 +35,23 @@ impl fmt::Display for WantedThere<'_> {
             ),
             (Wanted::Reply, Some(reply)) => {
                 let reply = Plain(without_newline(reply));
-                write!(f, "the reply of {asked} is \"{reply}\"")
+                write!(f, "the reply to {asked} is \"{reply}\"")
             }
-            (Wanted::Reply, None) => write!(f, "the reply of {asked} was expected"),
+            (Wanted::Reply, None) => write!(f, "the reply to {asked} was expected"),
         }
     }
 }
 
 const HEADER: &str = "a header was expected, `trace 2 INCARNATION FIRST RING SUBS KEYS`";
 
-const HEADER_MARKED: &str = "a header was expected, a byte order mark stands there";
+const HEADER_MARKED: &str = "a header was expected, a byte order mark was found";
 
 const HEADER_RETURNED: &str =
-    "a header was expected, a carriage return stands at the end of the line";
+    "a header was expected, a carriage return was found at the end of the line";
 
 const ENTRY: &str = "an entry was expected, `> PASS COMMAND`";
 
-// What is said of the header's place, where this stands.
+// Returns the sentence about a missing header.
 fn header_wanted(stands: Stands<'_>) -> &'static str {
     let Stands::Line(line) = stands else {
         return HEADER;
@@ -65,7 +65,7 @@ fn header_wanted(stands: Stands<'_>) -> &'static str {
     }
 }
 
-// What stands there.
+// What was found.
 #[derive(Clone, Copy)]
 struct StoodThere<'a>(WrongLine<'a>);
 
@@ -84,7 +84,7 @@ impl fmt::Display for StoodThere<'_> {
     }
 }
 
-// A line without the carriage return at its end, and what is said of that.
+// Splits a carriage return off a line, and returns the words for it.
 fn without_return(line: &[u8]) -> (&[u8], &'static str) {
     match line.strip_suffix(b"\r") {
         Some(front) => (front, " and a carriage return"),
@@ -92,7 +92,7 @@ fn without_return(line: &[u8]) -> (&[u8], &'static str) {
     }
 }
 
-// What is told of a line: where a reply is wanted, what stands behind its mark, if it has one.
+// Returns what is quoted of a line: of a reply, what comes after its mark.
 fn told_of(wanted: Wanted, line: &[u8]) -> &[u8] {
     match (wanted, line.strip_prefix(b"< ")) {
         (Wanted::Reply, Some(reply)) => reply,
@@ -100,7 +100,7 @@ fn told_of(wanted: Wanted, line: &[u8]) -> &[u8] {
     }
 }
 
-// What the first line of an entry asks: what stands behind the mark and the pass.
+// Returns the command of an entry's first line: what comes after the mark and the pass.
 fn command_of(line: &[u8]) -> &[u8] {
     let line = without_newline(line);
     let mut rest = line;

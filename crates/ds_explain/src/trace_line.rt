@@ -1,4 +1,4 @@
-//! What is said of a line of a trace that has the mark of an entry or of an item, and can't be read.
+//! Explains a trace's line that has the mark of an entry or of an item, but is bad.
 
 use crate::bad_line::COMMANDS;
 use crate::bad_part::{BadPart, end_wanted, say_at};
@@ -11,7 +11,7 @@ use std::rt::Runtime;
 use trace_check::{Stands, Wanted, WrongLine};
 use typed_words::{IfNear, Plain, nearest};
 
-/// The words of what a store is asked.
+/// The commands of a store.
 const ASKED: [&str; 12] = [
     "publish",
     "delete",
@@ -29,28 +29,28 @@ const ASKED: [&str; 12] = [
 
 const MERGE: &str = "merge";
 
-/// The last pass.
+/// The greatest pass.
 const LAST_PASS: u64 = 63;
 
-/// What a script has before an item.
+/// The word before an item in a script.
 const OFFER: &[u8] = b"offer ";
 
 /// How many bytes of a word are shown.
 const SHOWN: usize = 28;
 
-const PASS_WANTED: &str = "PASS was expected, 0 to 63 with no zero before it";
+const PASS_WANTED: &str = "PASS was expected, 0 to 63 with no leading zero";
 
 const COMMAND_WANTED: &str = "a space was expected, and then a command";
 
-const COUNT_WANTED: &str = "N was expected, 0 to 256 with no zero before it";
+const COUNT_WANTED: &str = "N was expected, 0 to 256 with no leading zero";
 
 const SPACE_WANTED: &str = "a space was expected, and then N";
 
-const SPACE_TOO_MANY: &str = "a command was expected, a space stands there";
+const SPACE_TOO_MANY: &str = "a command was expected, a space was found";
 
-const FLOOR: &str = "a floor stands there, and a trace of format 1 has none";
+const FLOOR: &str = "a floor was found, and a trace of format 1 has none";
 
-/// Says which part of a line can't be read, if the line has the mark of what had to stand there. Returns whether anything was said.
+/// Writes which part of a line is bad, if the line has the expected mark. Returns whether it did.
 pub(crate) fn explain_marked(rt: &(impl Runtime + AllocGlobal), wrong: &WrongLine<'_>) -> bool {
     match (wrong.wanted, wrong.stands) {
         (Wanted::Entry, Stands::Line(line)) => explain_entry(rt, wrong.number, line),
@@ -59,7 +59,7 @@ pub(crate) fn explain_marked(rt: &(impl Runtime + AllocGlobal), wrong: &WrongLin
     }
 }
 
-// An entry's first line: its mark, its pass, and what is asked.
+// Explains an entry's first line: its mark, its pass and its command.
 fn explain_entry(rt: &(impl Runtime + AllocGlobal), number: u64, line: &[u8]) -> bool {
     let Some(marked) = line.strip_prefix(b"> ") else {
         return false;
@@ -78,7 +78,7 @@ fn explain_entry(rt: &(impl Runtime + AllocGlobal), number: u64, line: &[u8]) ->
     }
 }
 
-// What an entry asks, before which so many bytes of the line stand.
+// Explains an entry's command, after `before` bytes of the line.
 fn explain_asked(
     rt: &(impl Runtime + AllocGlobal),
     number: u64,
@@ -101,7 +101,7 @@ fn explain_asked(
     true
 }
 
-// What stands after the word `merge`.
+// Explains what comes after the word `merge`.
 fn explain_merge(rt: &impl Runtime, number: u64, rest: &[u8], before: usize) {
     let Some(count) = read_byte(rest, b' ') else {
         return say_at(rt, number, before, SPACE_WANTED);
@@ -116,16 +116,16 @@ fn explain_merge(rt: &impl Runtime, number: u64, rest: &[u8], before: usize) {
     }
 }
 
-// A word that asks nothing of a store, at a byte of the line.
+// Explains a word that isn't a command of a store, at a byte of the line.
 fn explain_word(rt: &impl Runtime, number: u64, word: &[u8], place: usize) {
     let shown = Plain(&word[..word.len().min(SHOWN)]);
     if word.is_empty() {
         say_at(rt, number, place, "a command was expected");
     } else if is_among(word, &COMMANDS) {
-        let _ = eprintln!(rt; "line {number}, byte {place}: `{shown}` isn't asked of a store");
+        let _ = eprintln!(rt; "line {number}, byte {place}: `{shown}` isn't a store's command");
     } else {
         let near = IfNear(nearest(word, &ASKED));
-        let _ = eprintln!(rt; "line {number}, byte {place}: `{shown}` is no command{near}");
+        let _ = eprintln!(rt; "line {number}, byte {place}: `{shown}` isn't a command{near}");
     }
 }
 
@@ -133,7 +133,7 @@ fn is_among(word: &[u8], words: &[&str]) -> bool {
     words.iter().any(|it| it.as_bytes() == word)
 }
 
-// An item's line: its mark, and the item, which a script offers.
+// Explains an item's line: the item, read as a script's offer.
 fn explain_item(rt: &(impl Runtime + AllocGlobal), number: u64, line: &[u8]) -> bool {
     let Some(item) = line.strip_prefix(b"+ ") else {
         return false;
@@ -148,8 +148,8 @@ fn explain_item(rt: &(impl Runtime + AllocGlobal), number: u64, line: &[u8]) -> 
     explain_command(rt, number, &block, 2, OFFER.len())
 }
 
-// A command with its newline, before which so many bytes of the line stand, and at whose front so many are added. One that can be read
-// has an item that the trace's format doesn't have.
+// Explains a command with its newline, after `before` bytes of the line, where `added` bytes at its front aren't in the
+// line. If it can be read, its item is one that the trace's format doesn't have.
 fn explain_command(
     rt: &(impl Runtime + AllocGlobal),
     number: u64,
@@ -184,7 +184,7 @@ fn explain_command(
     true
 }
 
-/// A line without its newline.
+/// Returns a line without its newline.
 pub(crate) fn without_newline(line: &[u8]) -> &[u8] {
     match line.strip_suffix(b"\n") {
         Some(front) => front,

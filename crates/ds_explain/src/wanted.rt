@@ -3,7 +3,7 @@
 use ds_line::Expected;
 use ds_names::Kind;
 
-/// The part that was expected, in as few words as there are.
+/// Returns the expected part in as few words as possible.
 pub(crate) fn part(expected: Expected) -> &'static str {
     let wanted = wanted(expected);
     match wanted.split_once(" was expected") {
@@ -15,24 +15,24 @@ pub(crate) fn part(expected: Expected) -> &'static str {
     }
 }
 
-/// What was expected, by the part that begins there.
+/// Returns the sentence about the expected part.
 pub(crate) fn wanted(expected: Expected) -> &'static str {
     match expected {
         Expected::Space => "a space was expected before the next part",
         Expected::Name => "NAME was expected, 1 to 64 letters, digits, `.`, `_` and `-`",
         Expected::Kind => "KIND was expected: label, u32, str or mem (no label is named rs)",
         Expected::Owner => {
-            "OWNER was expected, 1 to 64 letters, digits, `.`, `_` and `-` (of an offered label rs)"
+            "OWNER was expected, 1 to 64 letters, digits, `.`, `_` and `-` (rs, for an offered label)"
         }
         Expected::Epoch => {
-            "EPOCH was expected, 0 to 2097151 with no zero before it (of an offered label from 1)"
+            "EPOCH was expected, 0 to 2097151 with no leading zero (from 1, for an offered label)"
         }
         Expected::Dot => "a dot was expected between EPOCH and SEQ",
         Expected::Seq => {
-            "SEQ was expected, 0 to 4294967295 with no zero before it (of an offered label 0 or 1)"
+            "SEQ was expected, 0 to 4294967295 with no leading zero (0 or 1, for an offered label)"
         }
         Expected::Mark => {
-            "`=` and a value or `-` for a tombstone was expected (of a label `=` at SEQ 0, `-` at 1)"
+            "`=` and a value or `-` for a tombstone was expected (for a label, `=` at SEQ 0 and `-` at 1)"
         }
         Expected::Value(kind) => wanted_value(kind),
         Expected::End => "the end of the line was expected",
@@ -43,7 +43,7 @@ pub(crate) fn wanted(expected: Expected) -> &'static str {
         Expected::Endpoint => "ENDPOINT was expected, GENERATION/SLOT up to 2097151/1023",
         Expected::Mode => "`new` or `over` was expected",
         Expected::Equals => "`=` and a value were expected",
-        Expected::Generation => "GENERATION was expected, 0 to 2097151 with no zero before it",
+        Expected::Generation => "GENERATION was expected, 0 to 2097151 with no leading zero",
         Expected::Sub => "SUB was expected, 0 to 127 (eight for each of 16 servers)",
         Expected::Max => "MAX was expected, 1 to 256",
         Expected::Pattern => {
@@ -57,7 +57,7 @@ pub(crate) fn wanted(expected: Expected) -> &'static str {
     }
 }
 
-// What was expected, by a part of the lines of a world alone.
+// Likewise for parts that only lines about a world have.
 fn wanted_of_a_world(expected: Expected) -> &'static str {
     match expected {
         Expected::Ring => "N was expected, 1 to 4096",
@@ -73,7 +73,7 @@ fn wanted_of_a_world(expected: Expected) -> &'static str {
     }
 }
 
-// What was expected, by a part of the lines to services and driver tables alone.
+// Likewise for parts that only lines about services and driver tables have.
 fn wanted_of_services(expected: Expected) -> &'static str {
     match expected {
         Expected::Request => "`up`, `down`, `refresh` or `restart` was expected",
@@ -89,13 +89,13 @@ fn wanted_of_services(expected: Expected) -> &'static str {
     }
 }
 
-// What was expected for a value of a kind.
+// Likewise for a value of a kind.
 fn wanted_value(kind: Kind) -> &'static str {
     match kind {
         Kind::Label => {
-            "VALUE was expected, GENERATION/SLOT up to 2097151/1023 (of an offered label of its EPOCH)"
+            "VALUE was expected, GENERATION/SLOT up to 2097151/1023 (an offered label has its EPOCH as GENERATION)"
         }
-        Kind::U32 => "VALUE was expected, 0 to 4294967295 with no zero before it",
+        Kind::U32 => "VALUE was expected, 0 to 4294967295 with no leading zero",
         Kind::Str => {
             "VALUE was expected, up to 256 printable characters in quotes, with \\\" and \\\\ for a quote and a backslash"
         }

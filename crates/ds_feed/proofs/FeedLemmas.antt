@@ -1,4 +1,4 @@
--- What a journal keeps of a feed, and what is given of it.
+-- What a journal keeps of a feed, and what is read of it.
 use Rattle.std.proofs.Common.{◌≡◌, ℕ, zero, suc, ◌<◌, ◌≤◌, ◌+◌, ◌-◌, min, Bool, true, false, cond, List, [], ◌∷◌, ◌++◌, length, drop, take, filter, Some, None, refl, sym, ap, ◌∙◌, arith, append_assoc, append-nil, length-append, length-drop}
 use Rattle.std.specs.List.{slice_get}
 use Rattle.std.proofs.lemmas.List.{drop-append-le, drop-drop}
@@ -22,7 +22,8 @@ last_pushed n items i =
     ap (drop (length (last_items n items ++ i ∷ []) - n)) (sym (drop-append-le k items (i ∷ []) within)) ∙ (drop-drop (length (last_items n items ++ i ∷ []) - n) k (items ++ i ∷ []) ∙ ap (λ (m : ℕ). drop m (items ++ i ∷ [])) same)
 
 -- a journal with one more item keeps the feed with one more
-pub keeps_pushed : (old new : Kept) (f : Feed) (i : Item) → Keeps old f → new.items ≡ last_items old.ring (old.items ++ i ∷ []) → new.first ≡ old.first → new.position ≡ old.position + 1 → new.ring ≡ old.ring → new.incarnation ≡ old.incarnation →
+pub keeps_pushed : (old new : Kept) (f : Feed) (i : Item) → Keeps old f → new.items ≡ last_items old.ring (old.items ++ i ∷ []) → new.first ≡ old.first →
+    new.position ≡ old.position + 1 → new.ring ≡ old.ring → new.incarnation ≡ old.incarnation →
     Keeps new (accepts f i)
 keeps_pushed old new f i k items first next ring incarnation = record {
   items = items ∙ (ap (λ (n : ℕ). last_items n (old.items ++ i ∷ [])) k.ring ∙ (ap (λ (l : List Item). last_items f.ring (l ++ i ∷ [])) k.items ∙ last_pushed f.ring f.accepted i));
@@ -35,7 +36,7 @@ keeps_pushed old new f i k items first next ring incarnation = record {
   incarnation = incarnation ∙ k.incarnation;
 }
 
--- the first position isn't behind the next one
+-- The first position isn't past the next one.
 pub first_is_first : (j : Kept) (f : Feed) → Keeps j f → j.first ≤ j.position
 first_is_first j f k =
     let a = k.first in
@@ -46,25 +47,25 @@ first_is_first j f k =
 pub kept_count : (j : Kept) (f : Feed) → Keeps j f → length j.items ≡ min f.ring (length f.accepted)
 kept_count j f k = ap length k.items ∙ (length-drop (length f.accepted - f.ring) f.accepted ∙ omega arith)
 
--- the journal judges a cursor as its feed does
+-- The journal judges a cursor as its feed does.
 pub judges : (j : Kept) (f : Feed) (at : Cursor) → Keeps j f → place_fault j.incarnation j.position (length j.items) at ≡ fault_at f at
 judges j f at k = cc (kept_count j f k, k.position, k.incarnation)
 
--- and has what the feed has from there on
+-- And has what the feed has from there on.
 pub has_rest : (j : Kept) (f : Feed) (at i : ℕ) → Keeps j f → i ≤ length j.items → at + length j.items ≡ j.position + i → drop i j.items ≡ from f at
 has_rest j f at i k l e =
     let n = kept_count j f k in
     let p = k.position in
     ap (drop i) k.items ∙ (drop-drop i (length f.accepted - f.ring) f.accepted ∙ ap (λ (m : ℕ). drop m f.accepted) (omega arith))
 
--- ---- what is given
+-- ---- what is read
 
--- nothing is given where no more is wanted
+-- Nothing is returned if no more is wanted.
 pub nothing_wanted : (test : Item → Bool) (max : ℕ) (items : List Item) → max ≤ 0 → prefix test max items ≡ []
 nothing_wanted test zero items l = refl
 nothing_wanted test (suc max) items l = absurd (omega arith)
 
--- nor where nothing is left
+-- Nor if nothing is left.
 pub nothing_left : (test : Item → Bool) (max : ℕ) (items : List Item) (next : ℕ) → slice_get items next ≡ None → prefix test max (drop next items) ≡ []
 nothing_left test max items next e = ap (prefix test max) (past items next e) ∙ of_none max
   where
@@ -78,7 +79,7 @@ nothing_left test max items next e = ap (prefix test max) (past items next e) �
     of_none zero = refl
     of_none (suc n) = refl
 
--- the walk has come to its end: all is given, and the cursor stands behind it
+-- The walk is at its end: everything is returned, and the cursor is past it.
 pub all_given : (f : Feed) (test : Item → Bool) (at : Cursor) (max : ℕ) (given : List Item) (cursor : Cursor) (start next : ℕ) (kept rest : List Item) → fault_at f at ≡ None → drop start kept ≡ from f at.position → rest ≡ [] →
     given ++ filter test rest ≡ filter test (prefix test max (drop start kept)) → next + length rest ≡ start + length (prefix test max (drop start kept)) → cursor ≡ beyond at (next - start) →
     IsGiven f test at max (record { items = given; cursor = cursor })
@@ -95,13 +96,13 @@ all_given f test at max given cursor start next kept rest reached there none ite
     since_with : List Item → Cursor → Since
     since_with items cursor = record { items = items; cursor = cursor }
 
--- where everything passes, the first ones are given
+-- If everything passes, the first items are returned.
 pub prefix_of_all : (test : Item → Bool) → ((i : Item) → test i ≡ true) → (max : ℕ) (items : List Item) → filter test (prefix test max items) ≡ take max items
 prefix_of_all test all zero items = refl
 prefix_of_all test all (suc max) [] = refl
 prefix_of_all test all (suc max) (i ∷ items) = rw (all i) (ap (λ (l : List Item). i ∷ l) (prefix_of_all test all max items))
 
--- one more item is given
+-- One more item is returned.
 pub prefix_next : (test : Item → Bool) (left : ℕ) (items : List Item) (next : ℕ) (i : Item) (after : ℕ) → 0 < left → slice_get items next ≡ Some i → after ≡ cond (test i) (left - 1) left →
     prefix test left (drop next items) ≡ i ∷ prefix test after (drop (next + 1) items)
 prefix_next test zero items next i after l e h = absurd (omega arith)
@@ -118,7 +119,7 @@ prefix_next test (suc left) items next i after l e h =
         let h : drop (suc n + 1) (x ∷ xs) ≡ drop (n + 1) xs = ap (λ (m : ℕ). drop m (x ∷ xs)) k in
         at xs n e ∙ ap (λ (l : List Item). i ∷ prefix test (cond (test i) left (suc left)) l) (sym h)
 
--- what was given, then one more item if it passes, and then what is still to come
+-- What was returned, then one more item if it passes, and then what is to come.
 pub given_more : (test : Item → Bool) (given new : List Item) (i : Item) (rest all : List Item) → given ++ filter test (i ∷ rest) ≡ all → new ≡ given ++ filter test (i ∷ []) → new ++ filter test rest ≡ all
 given_more test given new i rest all e h =
     ap (λ l. l ++ filter test rest) h ∙ (append_assoc given (filter test (i ∷ [])) (filter test rest) ∙ (ap (λ l. given ++ l) (one (test i)) ∙ e))

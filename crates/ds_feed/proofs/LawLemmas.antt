@@ -1,4 +1,4 @@
--- A prefix is the shortest front, and prefixes join.
+-- A prefix is the shortest one, and prefixes join.
 use Rattle.std.proofs.Common.{◌≡◌, ℕ, zero, suc, ◌<◌, ◌+◌, Bool, true, false, cond, List, [], ◌∷◌, ◌++◌, length, take, drop, filter, refl, sym, ap, ◌∙◌, arith, inl, inr, ◌⊎◌}
 use Rattle.ds_entry.specs.declared.item.Item.{Item}
 use Rattle.ds_feed.specs.Since.{prefix}
@@ -46,7 +46,7 @@ shortest test (suc max) (x ∷ xs) (suc n) l = at (test x) refl (shortest test (
 pub prefix_is_shortest : PrefixIsShortest
 prefix_is_shortest test max xs = record { front = prefix_front test max xs; full_or_all = full_or_all test max xs; shortest = shortest test max xs }
 
--- ---- one prefix behind another
+-- ---- one prefix after another
 none_left : (test : Item → Bool) (n : ℕ) → prefix test n [] ≡ []
 none_left test zero = refl
 none_left test (suc n) = refl

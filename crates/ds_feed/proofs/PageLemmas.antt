@@ -21,7 +21,7 @@ use Rattle.ds_feed.specs.Laws.{PagesGoOn}
 
 -- ---- lists
 
--- what passes the narrower test is found among what passes the wider one
+-- What passes the narrower test is among what passes the wider one.
 narrowed : (narrow wide : Item → Bool) → ((i : Item) → narrow i ≡ true → wide i ≡ true) → (xs : List Item) → filter narrow (filter wide xs) ≡ filter narrow xs
 narrowed narrow wide h [] = refl
 narrowed narrow wide h (x ∷ xs) = at (narrow x) (wide x) refl refl (narrowed narrow wide h xs)
@@ -46,7 +46,7 @@ at_place P [] n x a e = cc
 at_place P (y ∷ ys) zero x a e = let h : y ≡ x = cc in subst P h a.0
 at_place P (y ∷ ys) (suc n) x a e = at_place P ys n x a.1 e
 
--- the last item of two lists is the last of the second one, or the second one has none
+-- The last item of two joined lists is the last of the second one, or the second one is empty.
 last_of_both : (xs ys front : List Item) (x : Item) → xs ++ ys ≡ front ++ x ∷ [] → Contains xs x ⊎ ((n : ℕ) × (length ys ≡ suc n) × (slice_get ys n ≡ Some x))
 last_of_both [] ys front x e = inr (length front, ap length e ∙ counted front, ap (λ (l : List Item). slice_get l (length front)) e ∙ there front)
   where
@@ -76,24 +76,24 @@ contains_at [] n x e = cc
 contains_at (y ∷ ys) zero x e = let h : y ≡ x = cc in subst (λ (z : Item). Contains (y ∷ ys) z) h (Contains-head y ys)
 contains_at (y ∷ ys) (suc n) x e = Contains-tail y ys x (contains_at ys n x e)
 
--- ---- what is behind a key
+-- ---- what is after a key
 
 not_behind_itself : (k : Key) → is_lt (key_cmp k k) ≡ false
 not_behind_itself k = rw (tied_itself keys_total k) refl
 
--- an item before a change isn't behind its key
+-- An item before a change isn't after its key.
 before : (x : Item) (c : ChangeRecord) → item_cmp x (Changed c) ≡ Less → is_behind_key (Some c.key) x ≡ false
 before (Changed d) c e =
     let h : key_cmp c.key d.key ≡ Greater = keys_total.antisymm c.key d.key ∙ ap ordering_reverse e in
     rw h refl
 before (Floored f) c e = refl
 
--- an item after a change is behind its key
+-- An item after a change is after its key.
 after_it : (c : ChangeRecord) (x : Item) → item_cmp (Changed c) x ≡ Less → is_behind_key (Some c.key) x ≡ true
 after_it c (Changed d) e = ap is_lt e
 after_it c (Floored f) e = cc
 
--- what is behind the key of one change of a list in order is what follows it
+-- The items after the key of a change in an ordered list are those that follow it.
 follows : (xs : List Item) (n : ℕ) (c : ChangeRecord) → IsStrictlySortedBy item_cmp xs → slice_get xs n ≡ Some (Changed c) → filter (is_behind_key (Some c.key)) xs ≡ drop (suc n) xs
 unfolding IsStrictlySortedBy
 follows [] n c s e = cc
@@ -106,7 +106,7 @@ follows (x ∷ xs) (suc n) c s e =
     let here : is_behind_key (Some c.key) x ≡ false = before x c (at_place (λ y. item_cmp x y ≡ Less) xs n (Changed c) s.0 e) in
     rw here (follows xs n c s.1 e)
 
--- what is behind a key that is behind another one is behind that one too
+-- What is after a key that is after another one is after that one too.
 further : (after : Option Key) (c : ChangeRecord) → is_behind_key after (Changed c) ≡ true → (i : Item) → is_behind_key (Some c.key) i ≡ true → is_behind_key after i ≡ true
 further None c h i k = refl
 further (Some a) c h (Floored f) k = cc

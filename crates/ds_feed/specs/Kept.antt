@@ -8,21 +8,21 @@ use Rattle.ds_feed.specs.Feed.{Feed, position, from}
 use Rattle.ds_feed.specs.Since.{fault_at}
 use Rattle.ds_names.specs.Limits.{last_place}
 
--- what contracts see of a journal
+-- A journal, as contracts see it.
 pub record Kept : Type 0 where
-  -- the last items that took effect, the oldest first
+  -- The last items that took effect, oldest first.
   pub items : List Item
   pub first : ℕ
-  -- the position of the next item
+  -- The position of the next item.
   pub position : ℕ
   pub ring : ℕ
   pub incarnation : ℕ
 
--- the last `n` of the items, or all
+-- The last `n` of the items, or all.
 abbrev pub last_items : ℕ → List Item → List Item
 last_items n items = drop (length items - n) items
 
--- the journal is one of this feed
+-- Whether the journal is that of this feed.
 pub record Keeps (j : Kept) (f : Feed) : Type 0 where
   pub items : j.items ≡ last_items f.ring f.accepted
   pub first : j.first ≡ f.first
@@ -30,27 +30,28 @@ pub record Keeps (j : Kept) (f : Feed) : Type 0 where
   pub ring : j.ring ≡ f.ring
   pub incarnation : j.incarnation ≡ f.incarnation
 
--- a ring keeps 1 to 4096 items
+-- Whether a ring is allowed: it keeps 1 to 4096 items.
 pub record IsRing (ring : ℕ) : Type 0 where
   pub some : 0 < ring
   pub limit : ring ≤ 4096
 
--- what every journal has: a feed whose last items it keeps, within the limits
+-- The invariant of every journal: it keeps the last items of some feed, within the limits.
 pub record IsJournal (j : Kept) : Type 0 where
   pub feed : (f : Feed) × Keeps j f
   pub ring : IsRing j.ring
   pub limit : j.position ≤ last_place
 
--- the cursor behind all items
+-- The cursor past all items.
 abbrev pub cursor_of : Kept → Cursor
 cursor_of j = record { incarnation = j.incarnation; position = j.position }
 
--- why no journal is made: first for the ring, then for the first position; memory is wanting only where neither stands
+-- Why no journal is opened: the ring is judged first, then the first position; memory can run out only if both are
+-- right.
 abbrev pub IsJournalFault : OpenFault → ℕ → ℕ → Type 0
 IsJournalFault BadRing first ring = ¬ IsRing ring
 IsJournalFault BadFirst first ring = IsRing ring × (last_place < first)
 IsJournalFault NoRoom first ring = IsRing ring × (first ≤ last_place)
 
--- nothing stands against the cursor, and what took effect from it on are the items that are kept from this index on
+-- Whether the cursor has no fault, and the items from it on are those kept from this index on.
 abbrev pub IsStart : Kept → Feed → Cursor → ℕ → Type 0
 IsStart j f at i = (fault_at f at ≡ None) × (drop i j.items ≡ from f at.position)

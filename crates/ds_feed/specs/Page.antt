@@ -1,4 +1,4 @@
--- What is given of what is held: whole, and in pages.
+-- What is returned of what is held: everything, or a page.
 use Rattle.std.specs.Prelude.{ℕ, Bool, true, false, not, nat_le, List, ◌++◌, length, take, filter, Option, Some, None}
 use Rattle.std.specs.Ordering.{is_lt}
 use Rattle.ds_names.specs.declared.key.Key.{Key}
@@ -13,18 +13,18 @@ abbrev pub is_floor : Item → Bool
 is_floor (Changed c) = false
 is_floor (Floored f) = true
 
--- the item is for a page behind this key, or for the first page where there is none: a change whose key is greater;
--- floors stand before all keys, so they are for the first page alone
+-- Whether the item belongs on a page after this key: a change with a greater key. Floors come before all keys, so
+-- they belong only on the first page, which is after no key.
 abbrev pub is_behind_key : Option Key → Item → Bool
 is_behind_key None i = true
 is_behind_key (Some after) (Changed c) = is_lt (key_cmp after c.key)
 is_behind_key (Some after) (Floored f) = false
 
--- a snapshot: all that is held and passes the test, and the cursor at that time
+-- A snapshot: everything held that passes the test, and the cursor at that time.
 abbrev pub snapshot_of : (Item → Bool) → List Item → Cursor → Snapshot
 snapshot_of test held cursor = record { items = filter test held; cursor = cursor }
 
--- what a page behind the key and all further ones have to give
+-- The items that a page after the key and all further ones are to return.
 abbrev pub still_to_come : (Item → Bool) → Option Key → List Item → List Item
 still_to_come test after held = filter (is_behind_key after) (filter test held)
 
@@ -34,8 +34,7 @@ floors_of items = filter is_floor items
 abbrev pub changes_of : List Item → List Item
 changes_of items = filter (λ i. not (is_floor i)) items
 
--- a page: the floors that are to come, and then the first `max` changes; it is the last one where no more changes were
--- to come than these
+-- A page: the floors to come, then the first `max` changes. It is the last one if no more changes are to come.
 abbrev pub page_of : (Item → Bool) → Option Key → ℕ → List Item → Cursor → Page
 page_of test after max held cursor = record {
   items = floors_of (still_to_come test after held) ++ take max (changes_of (still_to_come test after held));

@@ -1,4 +1,4 @@
--- What is given of a feed from a cursor on.
+-- What is read of a feed from a cursor on.
 use Rattle.std.specs.Prelude.{◌≡◌, ℕ, zero, suc, ◌+◌, ◌==◌, min, nat_lt, Bool, not, cond, List, [], ◌∷◌, length, filter, Option, Some, None}
 use Rattle.ds_entry.specs.declared.item.Item.{Item}
 use Rattle.ds_feed.specs.declared.cursor.Cursor.{Cursor}
@@ -7,41 +7,41 @@ use Rattle.ds_feed.specs.declared.journal.SinceFault.TheVariants.{OldCursor, Ahe
 use Rattle.ds_feed.specs.declared.reading.Since.{Since}
 use Rattle.ds_feed.specs.Feed.{Feed, position, from}
 
--- the shortest prefix that has `max` items which pass the test, or all
+-- The shortest prefix with `max` items that pass the test, or all items.
 abbrev pub prefix : (Item → Bool) → ℕ → List Item → List Item
 prefix test zero items = []
 prefix test (suc max) [] = []
 prefix test (suc max) (i ∷ items) = i ∷ prefix test (cond (test i) max (suc max)) items
 
--- why nothing is given from the cursor, where the last `kept` items before the position can be read
+-- The fault of a cursor, if any, where the last `kept` items before the position can be read.
 abbrev pub place_fault : ℕ → ℕ → ℕ → Cursor → Option SinceFault
 place_fault incarnation position kept at =
     cond (not (at.incarnation == incarnation)) (Some OldCursor)
     (cond (nat_lt position at.position) (Some Ahead)
     (cond (nat_lt (at.position + kept) position) (Some Behind) None))
 
--- the same for a feed, of which as many items can be read as the ring keeps, or all
+-- The fault of a cursor at a feed, of which the ring's items can be read, or all.
 abbrev pub fault_at : Feed → Cursor → Option SinceFault
 fault_at f at = place_fault f.incarnation (position f) (min f.ring (length f.accepted)) at
 
--- what lies between the cursor and the one that is given with at most `max` items
+-- The items from the cursor up to the returned one, for a request of at most `max` items.
 abbrev pub piece : Feed → (Item → Bool) → Cursor → ℕ → List Item
 piece f test at max = prefix test max (from f at.position)
 
--- the cursor so many items further on
+-- The cursor `n` items further on.
 abbrev pub beyond : Cursor → ℕ → Cursor
 beyond at n = record { incarnation = at.incarnation; position = at.position + n }
 
--- what is given: the items of the piece that pass the test, and the cursor behind the piece
+-- The answer: the items of the piece that pass the test, and the cursor after the piece.
 abbrev pub since_of : Feed → (Item → Bool) → Cursor → ℕ → Since
 since_of f test at max = record { items = filter test (piece f test at max); cursor = beyond at (length (piece f test at max)) }
 
--- no fault stands, and just this is given
+-- Whether the cursor has no fault, and this is the answer.
 pub record IsGiven (f : Feed) (test : Item → Bool) (at : Cursor) (max : ℕ) (since : Since) : Type 0 where
   pub reached : fault_at f at ≡ None
   pub given : since ≡ since_of f test at max
 
--- the fault is the first that stands, or memory was wanting where none does
+-- Whether the fault is the first that applies, or memory ran out and none applies.
 abbrev pub IsSinceRefused : Feed → Cursor → SinceFault → Type 0
 IsSinceRefused f at NoRoom = fault_at f at ≡ None
 IsSinceRefused f at fault = fault_at f at ≡ Some fault

@@ -1,4 +1,4 @@
--- How a journal's fields are seen.
+-- A journal's fields, as contracts see them.
 use Rattle.ds_feed.specs.Kept.{Kept, IsJournal}
 use Rattle.ds_feed.specs.declared.journal.Journal.TheInside.{Inside}
 

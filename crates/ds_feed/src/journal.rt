@@ -18,7 +18,7 @@ use std::alloc::Global;
 use std::marker::Model;
 use thiserror::Error;
 
-/// Why no journal is made, in the order in which the causes are judged.
+/// Why no journal is opened. Causes are judged in this order.
 #[derive(Clone, Copy, Debug, PartialEq, Eq, Error)]
 pub enum OpenFault {
     /// The ring isn't 1 to 4096.
@@ -27,24 +27,24 @@ pub enum OpenFault {
     /// The first position is above 2^62.
     #[error("positions end at 2^62")]
     BadFirst,
-    /// There is no memory for the ring.
+    /// Out of memory for the ring.
     #[error("out of memory")]
     NoRoom,
 }
 
-/// Why nothing is given from a cursor, in the order in which the causes are judged.
+/// Why a cursor isn't answered. Causes are judged in this order.
 #[derive(Clone, Copy, Debug, PartialEq, Eq, Error)]
 pub enum SinceFault {
     /// The cursor is of another incarnation.
     #[error("the cursor is of another incarnation")]
     OldCursor,
-    /// The cursor stands behind the position of the next item.
+    /// The cursor is past the position of the next item.
     #[error("the cursor is ahead")]
     Ahead,
     /// The ring doesn't reach back to the cursor.
     #[error("the journal doesn't reach back to the cursor")]
     Behind,
-    /// There is no memory for the items.
+    /// Out of memory for the items.
     #[error("out of memory")]
     NoRoom,
 }
@@ -62,8 +62,8 @@ impl From<NoRoom> for SinceFault {
 
 /// The last items that took effect in a store, and the position of the next one.
 ///
-/// Positions begin at `first` and rise by one with each item. The ring's room is made once, so that to take in an
-/// item takes no memory.
+/// Positions begin at `first` and rise by one with each item. The ring is allocated once, so adding an item allocates
+/// nothing.
 #[derive(Drop)]
 pub struct Journal {
     incarnation: u64,
@@ -84,8 +84,8 @@ impl Model for Journal {
 }
 
 impl Journal {
-    /// A journal of this incarnation that keeps the last `ring` items, the first of which will have the position
-    /// `first`. BadRing unless the ring is 1 to 4096, then BadFirst above 2^62.
+    /// Opens an empty journal of this incarnation that keeps the last `ring` items; the first item will have position
+    /// `first`. BadRing unless the ring is 1 to 4096, then BadFirst if `first` is above 2^62.
     pub fn new(alloc: Global, incarnation: u64, first: u64, ring: u32) -> Result<Journal, OpenFault>
         ensures opened { IfOk result (λ journal. Keeps journal (opening_feed incarnation first ring)) }
         ensures fits { OnOk result (IsRing ring × (first ≤ last_place)) }
@@ -108,8 +108,7 @@ impl Journal {
         }
     }
 
-    /// Begins again as another incarnation, with no items, the first position and the ring that it had. The ring's
-    /// room is kept, so this takes no memory.
+    /// Empties the journal for another incarnation. It keeps the first position and the ring, and allocates nothing.
     pub fn restart(&mut self, incarnation: u64)
         ensures { (f : Feed) → Keeps self.old f → Keeps self.new (restarted f incarnation) }
     {
@@ -118,7 +117,7 @@ impl Journal {
         self.incarnation = incarnation;
     }
 
-    /// Takes in the next item; a full ring loses its oldest one. It takes no memory.
+    /// Appends the next item; a full ring loses its oldest one. It allocates nothing.
     #[inline(always)]
     pub fn push(&mut self, item: Item)
         requires { self.old.position < last_place }
@@ -128,7 +127,7 @@ impl Journal {
         self.position += 1;
     }
 
-    /// The cursor behind all items.
+    /// Returns the cursor past all items.
     pub fn cursor(&self) -> Cursor
         ensures value { result ≡ cursor_of self.now }
         ensures journal { IsJournal self.now }
@@ -139,15 +138,17 @@ impl Journal {
         }
     }
 
-    /// The position of the first item of an incarnation.
+    /// Returns the position of the first item of an incarnation.
     pub fn first(&self) -> u64
         ensures { result ≡ self.now.first }
     {
         self.first
     }
 
-    /// The first `max` items from the cursor on, or all. OldCursor where the cursor is of another incarnation, Ahead
-    /// where it stands behind the position of the next item, Behind where the ring doesn't reach back to it.
+    /// Returns the first `max` items from the cursor on, or all.
+    ///
+    /// OldCursor if the cursor is of another incarnation. Ahead if it is past the position of the next item. Behind
+    /// if the ring doesn't reach back to it. NoRoom comes last.
     pub fn since(&self, alloc: Global, cursor: Cursor, max: u32) -> Result<Since, SinceFault>
         ensures given { (f : Feed) → Keeps self.now f → IfOk result (IsGiven f (passes all_keys) cursor max) }
         ensures items { (f : Feed) → Keeps self.now f → IfOk result (λ since. since.items ≡ take max (from f cursor.position)) }
@@ -156,10 +157,10 @@ impl Journal {
         self.since_under(alloc, &mut AllKeys, cursor, max)
     }
 
-    /// The same under a scope: the items under it of the shortest piece from the cursor on that has `max` of them, or
-    /// of all that took effect. A floor is under every scope.
+    /// Like `since`, for the items under a scope, with the cursor after the last item looked at. It looks at no more
+    /// items than it takes to find `max` under the scope. A floor is under every scope.
     ///
-    /// It looks at the items of that piece alone, and copies those that it gives.
+    /// It copies only the items that it returns.
     pub fn since_under<S: KeyScope>(
         &self,
         alloc: Global,
@@ -193,7 +194,7 @@ impl Journal {
         })
     }
 
-    // The index in the ring of the item that the cursor stands before.
+    // Returns the index in the ring of the item after the cursor.
     fn start(&self, cursor: Cursor) -> Result<usize, SinceFault>
         ensures found { (f : Feed) → Keeps self.now f → IfOk result (IsStart self.now f cursor) }
         ensures within { IfOk result (λ i. i ≤ length self.now.items) }
@@ -204,8 +205,8 @@ impl Journal {
     }
 }
 
-// Adds the item if it is under the scope, as every floor is, and tells whether it is. A change and a floor are each copied into their own
-// item: of an item that may be either, the copy would be moved on its way.
+// Appends a copy of the item if it is under the scope, as every floor is, and returns whether it is. A change and a
+// floor are copied in separate arms: a copy that may be either would be moved once more.
 fn add<S: KeyScope>(
     alloc: Global,
     scope: &mut S,
@@ -228,7 +229,7 @@ fn add<S: KeyScope>(
     Ok(true)
 }
 
-// The index of the item that the cursor stands before, among the last ones that are kept.
+// Returns the index of the item after the cursor among the last `kept` ones.
 fn place(incarnation: u64, position: u64, kept: usize, cursor: Cursor) -> Result<usize, SinceFault>
     requires { position ≤ last_place }
     ensures found { IfOk result (λ i. (place_fault incarnation position kept cursor ≡ None) × (cursor.position + kept ≡ position + i)) }

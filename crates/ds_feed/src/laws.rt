@@ -2,14 +2,15 @@
 
 ghost use Rattle.ds_feed.specs.Laws.{PrefixIsShortest, PrefixesJoin, PagesGoOn};
 
-/// What a reader is given is the shortest front of what took effect that has as many items as were asked for, or all
-/// of it; and who goes on from the cursor that was given misses nothing and is told nothing twice.
+/// A law: the items looked at from a cursor are the shortest prefix with as many under the scope as were asked for,
+/// or all. A reader that continues from the returned cursor misses nothing and gets nothing twice.
 pub fn prefixes_are_shortest()
     ensures shortest { PrefixIsShortest }
     ensures join { PrefixesJoin }
 {}
 
-/// Who reads on behind the last key of a page gets just what the page left, if what is held stays as it is.
+/// A law: a reader that continues after the last key of a page gets exactly what the page left, if what is held is
+/// unchanged.
 pub fn pages_go_on()
     ensures { PagesGoOn }
 {}

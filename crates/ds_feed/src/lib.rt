@@ -1,7 +1,7 @@
-//! The journal: the last items that took effect in a store, and what is given of them from a cursor on.
+//! The journal: the last items that took effect in a store, which a reader gets from a cursor on.
 //!
-//! That replicas keep a journal, and that a subscriber which was away catches up from a cursor, is of this project;
-//! a subscriber of MINIX 3's data store is told that something changed, and checks.
+//! The journals of replicas, and the cursor from which a subscriber that was away catches up, are of this project. A
+//! subscriber of MINIX 3's data store is notified of a change, and checks.
 #![tactic(auto)]
 
 mod cursor;

@@ -1,16 +1,16 @@
-//! Which keys a reader asks for.
+//! Scopes of keys.
 
 use ds_names::Key;
 
-/// A set of keys, which is asked of each key whether it is one of them. The question can't fail; what answers it may
-/// note something for the next one, so it is lent as `&mut`, but what it keeps stays the same.
+/// A set of keys with a test for membership, which can't fail. A test may update buffers, so it takes `&mut`, but the
+/// set is unchanged.
 pub trait KeyScope {
     ghost use Rattle.std.specs.Prelude.{◌≡◌, Bool};
     ghost use Rattle.ds_names.specs.declared.key.Key.{Key};
 
     ghost keeps: { Self → Key → Bool };
 
-    /// Whether the key is under the scope.
+    /// Whether the key is in the set.
     fn admits(&mut self, key: &Key) -> bool
         ensures answer { result ≡ keeps self.old key.now }
         ensures same { keeps self.new ≡ keeps self.old };

@@ -1,11 +1,11 @@
--- What stands behind a place in a list.
+-- The elements after a place in a list.
 use Rattle.std.proofs.Common.{◌≡◌, ℕ, zero, suc, List, [], ◌∷◌, drop, filter, Bool, true, false, cond, not, Some, refl, sym, ap, ◌∙◌, arith}
 use Rattle.std.specs.List.{find, slice_get}
 use Rattle.std.specs.List.Sorted.{IsPartitionPoint}
 use Rattle.ds_entry.specs.Change.{ChangeRecord}
 use Rattle.std.proofs.lemmas.Bool.{not-false, not-true}
 
--- behind those that fail a test stand all that pass it
+-- After those that fail a test come all that pass it.
 pub all_behind : (p : ChangeRecord → Bool) (xs : List ChangeRecord) (i : ℕ) → IsPartitionPoint (λ y. not (p y) ≡ true) (λ y. not (p y) ≡ false) xs i → drop i xs ≡ filter p xs
 all_behind p [] zero h = refl
 all_behind p [] (suc i) h = refl
@@ -16,7 +16,7 @@ all_behind p (x ∷ xs) (suc i) h =
     all_behind p xs i (λ k d l w. h.0 (suc k) d (omega (arith, l)) (omega (arith, w)), λ k d l w. h.1 (suc k) d (omega (arith, l)) (omega (arith, w)))
     ∙ sym (ap (λ b. cond b (x ∷ filter p xs) (filter p xs)) (not-true (p x) (h.0 0 x (omega arith) (omega arith))))
 
--- the first of those that pass a test
+-- The first of those that pass a test.
 pub first_passes : (p : ChangeRecord → Bool) (xs : List ChangeRecord) → slice_get (filter p xs) 0 ≡ find p xs
 first_passes p [] = refl
 first_passes p (x ∷ xs) = by_test (first_passes p xs) (p x)

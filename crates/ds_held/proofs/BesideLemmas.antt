@@ -1,4 +1,4 @@
--- What is held where a change or a floor comes to the place that was found for it, and was judged to be taken.
+-- The holding after a change or a floor was judged to be taken and put at the place found for it.
 use Rattle.std.proofs.Common.{◌≡◌, ℕ, List, [], ◌∷◌, ◌++◌, length, get_or, Bool, None, Result, Ok, Err, sym, ap, ◌∙◌, subst}
 use Rattle.std.proofs.lemmas.Cmp.{nat_list_cmp_total}
 use Rattle.std.proofs.lemmas.Map.Lookups.{exact_bytes}
@@ -21,7 +21,7 @@ use Rattle.ds_held.proofs.PlaceLemmas.{get_none}
 use Rattle.ds_held.proofs.FloorLemmas.{floors_are}
 use Rattle.ds_held.proofs.KeptLemmas.{changes_are, change_none, held_answer, new_answer, merged_after, merged_kept, raised_after, raised_kept, raised_joins}
 
--- a place that was found is one of the list
+-- A place that was found is one of the list.
 place_within : {K X : Type 0} (R : K → K → Ordering) (key : X → K) (xs : List X) (sought : K) (place : Result ℕ ℕ) → IsPlaceOf R key xs sought place → IsPlaceIn place (length xs)
 place_within R key xs sought (Ok i) p = p.0
 place_within R key xs sought (Err i) p = p.0
@@ -30,7 +30,7 @@ module _ (fs : List Floor) (xs : List ChangeRecord) (lim : LimitsRecord) (kept :
   abbrev held : Holding
   held = holding_of fs xs lim
 
-  -- what a change leaves at its place, or want of memory for it
+  -- What a change leaves at its place, or that memory runs out for it.
   pub record IsPutIn {U E : Type 0} (h : Holding) (c : ChangeRecord) (place : Result ℕ ℕ) (r : Result U E) (ys : List ChangeRecord) : Type 0 where
     pub still : AreKept fs ys lim
     pub after : OnOk r (holding_of fs ys lim ≡ after_merge h c (Ok Taken))
@@ -118,5 +118,6 @@ module _ (fs : List Floor) (xs : List ChangeRecord) (lim : LimitsRecord) (kept :
     pub raised_over : (f : Floor) (place : Result ℕ ℕ) → IsFloorPlace fs f.owner place → RaiseAnswer held f (Ok Taken) → (gs : List Floor) (ys : List ChangeRecord) → gs ≡ put_at fs place f → ys ≡ left_by_floor f xs → IsRaisedIn h f gs ys
     raised_over f place p a gs ys floors changes = subst (λ g. IsRaisedIn g f gs ys) is (raise_facts f place p a gs ys floors changes)
 
-    pub raised_in : (f : Floor) (place : Result ℕ ℕ) → IsFloorPlace (held_floors h) f.owner place → RaiseAnswer h f (Ok Taken) → (gs : List Floor) (ys : List ChangeRecord) → gs ≡ put_at fs place f → ys ≡ left_by_floor f xs → IsRaisedIn h f gs ys
+    pub raised_in : (f : Floor) (place : Result ℕ ℕ) → IsFloorPlace (held_floors h) f.owner place → RaiseAnswer h f (Ok Taken) → (gs : List Floor) (ys : List ChangeRecord) →
+        gs ≡ put_at fs place f → ys ≡ left_by_floor f xs → IsRaisedIn h f gs ys
     raised_in f place p a gs ys floors changes = raised_over f place (floor_place f.owner place p) (subst (λ g. RaiseAnswer g f (Ok Taken)) (sym is) a) gs ys floors changes

@@ -1,4 +1,5 @@
--- Changes, and marks beside them, that are dropped in place: those that stay move to the front, and what is behind them is cut off in the end.
+-- Changes, and marks beside them, dropped in place: those that stay move to the front, and the rest is cut off at the
+-- end.
 use Rattle.std.proofs.Common.{◌≡◌, ℕ, zero, suc, ◌+◌, ◌<◌, ◌≤◌, List, [], ◌∷◌, ◌++◌, length, get_or, set, take, drop, Bool, true, false, not, cond, ◌&&◌, is_some, Some, append_assoc, append-nil, refl, sym, ap, ◌∙◌, subst, arith}
 use Rattle.std.proofs.lemmas.Option.{same_Some}
 use Rattle.std.proofs.lemmas.List.{take_all}
@@ -38,7 +39,7 @@ drop_next i [] x e = absurd (cc)
 drop_next zero (y ∷ ys) x e = ap (λ z. z ∷ ys) (same_Some y x e)
 drop_next (suc i) (y ∷ ys) x e = drop_next i ys x e
 
--- the element behind the front changes places with one further on
+-- The element after the front is swapped with a later one.
 swapped : {X : Type 0} (front js rest : List X) (j m : X) (a b : ℕ) → a ≡ length front → b ≡ length front + suc (length js) → swap (front ++ (j ∷ (js ++ (m ∷ rest)))) a b ≡ front ++ (m ∷ (js ++ (j ∷ rest)))
 swapped {X = X} front js rest j m a b e f =
     ap (λ k. swap all k b) (e ∙ none) ∙ ap (swap all (length front + 0)) f
@@ -76,7 +77,7 @@ swapped {X = X} front js rest j m a b e f =
     third : set (js ++ (m ∷ rest)) (length js) j ≡ js ++ (j ∷ rest)
     third = ap (λ n. set (js ++ (m ∷ rest)) n j) same ∙ set_back js (m ∷ rest) 0 j
 
--- an element that changes places with itself
+-- An element swapped with itself.
 itself : {X : Type 0} (xs rest : List X) (x : X) (a b : ℕ) → a ≡ length xs → b ≡ length xs → swap (xs ++ (x ∷ rest)) a b ≡ xs ++ (x ∷ rest)
 itself xs rest x a b p q =
     ap (λ k. swap (xs ++ (x ∷ rest)) k b) (p ∙ none) ∙ ap (swap (xs ++ (x ∷ rest)) (length xs + 0)) (q ∙ none)
@@ -90,7 +91,7 @@ itself xs rest x a b p q =
     within : length xs + 0 < length (xs ++ (x ∷ rest))
     within = omega (arith, length_both xs (x ∷ rest))
 
--- what stands at an index
+-- The element at an index.
 read_at : {X : Type 0} (xs : List X) (i : ℕ) (x : X) → i < length xs → x ≡ get_or xs i x → slice_get xs i ≡ Some x
 read_at [] i x w e = absurd (omega (arith, w))
 read_at (y ∷ ys) zero x w e = ap (λ z. Some z) (sym e)
@@ -123,13 +124,15 @@ get_drop (suc i) (x ∷ xs) = get_drop i xs
 
 module _ {M : Type 0} (f : Floor) where
   -- what is left of one more
-  left_next : (i : ℕ) (cs : List ChangeRecord) (ms : List M) (c : ChangeRecord) (m : M) → slice_get cs i ≡ Some c → slice_get ms i ≡ Some m → marks_left f (take (suc i) cs) (take (suc i) ms) ≡ marks_left f (take i cs) (take i ms) ++ cond (voids f c) [] (m ∷ [])
+  left_next : (i : ℕ) (cs : List ChangeRecord) (ms : List M) (c : ChangeRecord) (m : M) → slice_get cs i ≡ Some c → slice_get ms i ≡ Some m →
+      marks_left f (take (suc i) cs) (take (suc i) ms) ≡ marks_left f (take i cs) (take i ms) ++ cond (voids f c) [] (m ∷ [])
   left_next i [] ms c m e g = absurd (cc)
   left_next i (x ∷ cs) [] c m e g = absurd (cc)
   left_next zero (x ∷ cs) (n ∷ ms) c m e g =
       ap (λ (z : ChangeRecord). cond (voids f z) [] (n ∷ [])) (same_Some x c e) ∙ ap (λ z. cond (voids f c) [] (z ∷ [])) (same_Some n m g)
   left_next (suc i) (x ∷ cs) (n ∷ ms) c m e g =
-      elim (voids f x) as (λ v. cond v (marks_left f (take (suc i) cs) (take (suc i) ms)) (n ∷ marks_left f (take (suc i) cs) (take (suc i) ms)) ≡ cond v (marks_left f (take i cs) (take i ms)) (n ∷ marks_left f (take i cs) (take i ms)) ++ cond (voids f c) [] (m ∷ [])) [
+      elim (voids f x) as (λ v. cond v (marks_left f (take (suc i) cs) (take (suc i) ms)) (n ∷ marks_left f (take (suc i) cs) (take (suc i) ms)) ≡ cond v
+      (marks_left f (take i cs) (take i ms)) (n ∷ marks_left f (take i cs) (take i ms)) ++ cond (voids f c) [] (m ∷ [])) [
         | true ↦ left_next i cs ms c m e g
         | false ↦ ap (λ l. n ∷ l) (left_next i cs ms c m e g)
       ]
@@ -147,7 +150,7 @@ module _ {M : Type 0} (f : Floor) where
   dropping_starts (c ∷ cs) [] = record { others = []; is = refl; here = refl; gap = refl }
   dropping_starts (c ∷ cs) (m ∷ ms) = record { others = []; is = refl; here = refl; gap = refl }
 
-  -- what wasn't looked at stands where it stood
+  -- What wasn't visited is where it was.
   pub still : (cs : List ChangeRecord) (ms now : List M) (left i : ℕ) → Dropping cs ms now left i → slice_get now i ≡ slice_get ms i
   still cs ms now left i d =
       let front = marks_left f (take i cs) (take i ms) in
@@ -266,7 +269,8 @@ module _ {M : Type 0} (f : Floor) where
     few = omega arith;
   }
 
-  module _ (cs : List ChangeRecord) (ms : List M) (same : length ms ≡ length cs) (kept : List ChangeRecord) (marks : List M) (left i count : ℕ) (d : Dropped cs ms kept marks left i count) (c : ChangeRecord) (within : i < length cs) (at : c ≡ get_or kept i c) where
+  module _ (cs : List ChangeRecord) (ms : List M) (same : length ms ≡ length cs) (kept : List ChangeRecord) (marks : List M) (left i count : ℕ)
+      (d : Dropped cs ms kept marks left i count) (c : ChangeRecord) (within : i < length cs) (at : c ≡ get_or kept i c) where
     here : slice_get cs i ≡ Some c
     here = sym (still f cs cs kept left i d.changes) ∙ read_at kept i c (omega (arith, within, d.long)) at
 

@@ -1,4 +1,4 @@
--- Entries in the order of their keys, and the items made of them.
+-- Entries in the order of their keys, and the items built from them.
 use Rattle.std.proofs.Common.{◌≡◌, List, [], ◌∷◌, ◌++◌, map, true, false, cond, Some, refl, sym, ap, ◌∙◌, subst, inl, inr, ◌⊎◌}
 use Rattle.std.proofs.lemmas.Option.{same_Some}
 use Rattle.std.specs.declared.cmp.Ordering.{Ordering}
@@ -46,7 +46,7 @@ sorted_append cmp (x ∷ xs) ys s t f = (
   sorted_append cmp xs ys s.1 t (λ a b h k. f a b (inr h) k),
 )
 
--- a key that ties with one above another doesn't tie with that other
+-- A key that compares equal to one above another doesn't compare equal to that other.
 pub unlike : {K : Type 0} (R : K → K → Ordering) (total : IsTotalOrder R) (x q y : K) → eq_by_cmp R q y ≡ true → T (is_lt (R x y)) → eq_by_cmp R q x ≡ false
 unlike R total x q y tied less =
     elim (R q x) as (λ r. R q x ≡ r → is_eq r ≡ false) [
@@ -56,7 +56,7 @@ unlike R total x q y tied less =
     ] refl
 
 module _ {K V : Type 0} (R : K → K → Ordering) (total : IsTotalOrder R) (exact : (a b : K) → R a b ≡ Equal → a ≡ b) where
-  -- what is found at a key stands with it in the list
+  -- What is found at a key is with it in the list.
   pub In-from_find : (q : K) (v : V) (es : List (K × V)) → find R q es ≡ Some v → In (q, v) es
   In-from_find q v [] h = absurd (cc)
   In-from_find q v (e ∷ es) h =
@@ -70,7 +70,7 @@ module _ {K V : Type 0} (R : K → K → Ordering) (total : IsTotalOrder R) (exa
   below_is x (d ∷ es) e b (inl q) = subst (λ (z : K × V). T (is_lt (R x z.0))) (sym q) (both _ _ b).0
   below_is x (d ∷ es) e b (inr h) = below_is x es e (both _ _ b).1 h
 
-  -- and what stands in a list in order is found
+  -- And what is in an ordered list is found.
   pub find-from_In : (q : K) (v : V) (es : List (K × V)) → T (is_sorted R es) → In (q, v) es → find R q es ≡ Some v
   find-from_In q v [] s h = absurd h
   find-from_In q v (e ∷ es) s (inl p) =
@@ -81,7 +81,7 @@ module _ {K V : Type 0} (R : K → K → Ordering) (total : IsTotalOrder R) (exa
       ap (λ b. cond b (Some e.1) (find R q es)) (unlike R total e.0 q q (ap is_eq (tied_itself total q)) (below_is e.0 es (q, v) (both _ _ s).0 h))
       ∙ find-from_In q v es (both _ _ s).1 h
 
-  -- items made of entries are in order where they are ordered as the keys are
+  -- Items built from entries are ordered as the keys are.
   pub sorted_items : {X : Type 0} (cmp : X → X → Ordering) (f : K × V → X) (es : List (K × V)) → T (is_sorted R es) → ((a b : K × V) → In a es → In b es → cmp (f a) (f b) ≡ R a.0 b.0) → IsStrictlySortedBy cmp (map f es)
   unfolding IsStrictlySortedBy
   sorted_items cmp f [] s same = tt

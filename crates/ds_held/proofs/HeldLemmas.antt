@@ -22,7 +22,7 @@ use Rattle.ds_held.specs.Held.{Holding, held_items, held_changes, held_for, floo
 use Rattle.ds_held.proofs.EntryLemmas.{In-append, In-left, In-right, In-map, In-from_map, In-from_find, find-from_In, sorted_items, sorted_append, map_twice}
 use Rattle.std.proofs.lemmas.Map.Entries.{length-values_of}
 
--- an item stands where it is looked for
+-- An item is where it is looked for.
 abbrev pub IsHeld : Holding → Item → Type 0
 IsHeld h (Changed c) = held_for h c.key ≡ Some c
 IsHeld h (Floored f) = floor_for h f.owner ≡ Some f.generation
@@ -52,7 +52,7 @@ module _ (h : Holding) where
     own_entry : (e : Key × ChangeRecord) → In e (entries h.changes) → e.1.key ≡ e.0
     own_entry e k = sound.own e.0 e.1 (change_at e k)
 
-    -- what is held stands at its own key
+    -- A held change is at its own key.
     held_at : (c : ChangeRecord) → In c (held_changes h) → held_for h c.key ≡ Some c
     held_at c k =
         let r = In-from_map (λ (e : Key × ChangeRecord). e.1) (entries h.changes) c k in
@@ -79,7 +79,8 @@ module _ (h : Holding) where
     changes_in_order : IsStrictlySortedBy item_cmp (map change_item (held_changes h))
     changes_in_order =
         subst (IsStrictlySortedBy item_cmp) (sym (map_twice change_item (λ (e : Key × ChangeRecord). e.1) (entries h.changes)))
-        (sorted_items key_cmp keys_total exact_keys item_cmp (λ (e : Key × ChangeRecord). Changed e.1) (entries h.changes) (entries_sorted h.changes) (λ a b k m. ap (λ key. key_cmp key b.1.key) (own_entry a k) ∙ ap (key_cmp a.0) (own_entry b m)))
+        (sorted_items key_cmp keys_total exact_keys item_cmp (λ (e : Key × ChangeRecord). Changed e.1) (entries h.changes) (entries_sorted h.changes)
+        (λ a b k m. ap (λ key. key_cmp key b.1.key) (own_entry a k) ∙ ap (key_cmp a.0) (own_entry b m)))
 
     held_in_order : IsStrictlySortedBy item_cmp (held_items h)
     held_in_order =
@@ -102,7 +103,7 @@ module _ (h : Holding) where
             let same : voids (floor_of c.owner f.generation) c ≡ voids f c = ap (λ (n : List ℕ). voids (floor_of n f.generation) c) o in
             sym e ∙ sym same ∙ not_below f.generation at
 
-    -- a set is held where all that is held is of it, and covers it
+    -- What is held is the top of a set if it is part of the set and covers it.
     pub held_is_top : (set : List Item) → IsPartOf (held_items h) set → CoversAll (held_items h) set → IsTop (held_items h) set
     held_is_top set a g = record { in_order = held_in_order; among = a; greatest = g; none_void = held_none_void }
 

@@ -1,4 +1,4 @@
--- Items that come one after the other: what they leave is the join of what was held and of them.
+-- Items that arrive in order: they leave the join of what was held and of them.
 use Rattle.std.proofs.Common.{◌≡◌, ℕ, zero, suc, ◌+◌, ◌<◌, ◌≤◌, List, [], ◌∷◌, ◌++◌, map, length, get_or, take, Some, Result, Ok, Err, append_assoc, refl, sym, ap, ◌∙◌, subst, inl, inr, arith}
 use Rattle.std.proofs.lemmas.Option.{same_Some}
 use Rattle.std.proofs.lemmas.List.{take_all, length-map}
@@ -47,7 +47,7 @@ one_later : (old : Holding) (items : List Item) (m new : Holding) (i : Item) (r 
 one_later old [] m new i r w a e = (r, subst (λ (h : Holding). ItemAnswer h i (Ok r)) w a, e ∙ ap (λ (h : Holding). after_item h i (Ok r)) w)
 one_later old (j ∷ items) m new i r w a e = (w.0, w.1, one_later (after_item old j (Ok w.0)) items m new i r w.2 a e)
 
--- first the ones, and then the others
+-- First these, then the others.
 merged_both : (old : Holding) (xs ys : List Item) (m new : Holding) → AreMerged old xs m → AreMerged m ys new → AreMerged old (xs ++ ys) new
 merged_both old [] ys m new v w = subst (λ (h : Holding). AreMerged h ys new) v w
 merged_both old (x ∷ xs) ys m new v w = (v.0, v.1, merged_both (after_item old x (Ok v.0)) xs ys m new v.2 w)
@@ -60,7 +60,7 @@ one_more (suc n) (y ∷ ys) x e =
     let later = one_more n ys x e in
     (omega (arith, later.0), ap (λ l. y ∷ l) later.1)
 
--- the item at which a walk of a list stands
+-- The item that a walk of a list has reached.
 next_of : {X : Type 0} (f : X → Item) (xs : List X) (i : ℕ) (x : X) → i < length xs → x ≡ get_or xs i x → slice_get (map f xs) i ≡ Some (f x)
 next_of f [] i x w e = absurd (omega (arith, w))
 next_of f (y ∷ ys) zero x w e = ap (λ z. Some (f z)) (sym e)
@@ -118,7 +118,8 @@ stops_first old xs ys new stop s =
       refused = (s.refused.0, get_front stop.done xs ys within ∙ s.refused.1, s.refused.2);
     }
 
-pub stops_later : (old : Holding) (xs ys : List Item) (m new : Holding) (n done : ℕ) (fault : JoinFault) → AreMerged old xs m → n ≡ length xs → IsJoinStopped m ys new (record { done = done; fault = fault }) → IsJoinStopped old (xs ++ ys) new (record { done = n + done; fault = fault })
+pub stops_later : (old : Holding) (xs ys : List Item) (m new : Holding) (n done : ℕ) (fault : JoinFault) → AreMerged old xs m → n ≡ length xs →
+    IsJoinStopped m ys new (record { done = done; fault = fault }) → IsJoinStopped old (xs ++ ys) new (record { done = n + done; fault = fault })
 stops_later old xs ys m new n done fault w e s =
     subst (λ k. IsJoinStopped old (xs ++ ys) new (record { done = k + done; fault = fault })) (sym e) (record {
       merged = subst (λ l. AreMerged old l new) (sym (take_back done xs ys)) (merged_both old xs (take done ys) m new w s.merged);
@@ -133,7 +134,8 @@ pub merged_behind : {A : Type 0} (r : Result A Stop) (old : Holding) (xs ys : Li
 merged_behind (Ok a) old xs ys m new v w = merged_both old xs ys m new v w
 merged_behind (Err stop) old xs ys m new v w = tt
 
-pub stopped_behind : {A : Type 0} (r : Result A Stop) (ys : List Item) (m new : Holding) (n : ℕ) → IfErr r (JoinStopsBehind n m ys new) → (old : Holding) (xs : List Item) → AreMerged old xs m → n ≡ length xs → IfErr r (IsJoinStopped old (xs ++ ys) new)
+pub stopped_behind : {A : Type 0} (r : Result A Stop) (ys : List Item) (m new : Holding) (n : ℕ) → IfErr r (JoinStopsBehind n m ys new) → (old : Holding) (xs : List Item) →
+    AreMerged old xs m → n ≡ length xs → IfErr r (IsJoinStopped old (xs ++ ys) new)
 stopped_behind (Ok a) ys m new n s old xs w e = tt
 stopped_behind (Err stop) ys m new n s old xs w e = s old xs w e
 
@@ -141,7 +143,8 @@ pub join_if_ok : {A : Type 0} (r : Result A Stop) (old : Holding) (items : List 
 join_if_ok (Ok a) old items new sound w = all_join old items new sound w
 join_if_ok (Err stop) old items new sound w = tt
 
-pub join_if_stopped : {A : Type 0} (r : Result A Stop) (old : Holding) (items : List Item) (new : Holding) → IsSound old → IfErr r (IsJoinStopped old items new) → IfErr r (λ (stop : Stop). IsTop (held_items new) (held_items old ++ take stop.done items))
+pub join_if_stopped : {A : Type 0} (r : Result A Stop) (old : Holding) (items : List Item) (new : Holding) → IsSound old → IfErr r (IsJoinStopped old items new) →
+    IfErr r (λ (stop : Stop). IsTop (held_items new) (held_items old ++ take stop.done items))
 join_if_stopped (Ok a) old items new sound w = tt
 join_if_stopped (Err stop) old items new sound w = all_join old (take stop.done items) new sound w.merged
 

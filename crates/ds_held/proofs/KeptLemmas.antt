@@ -1,4 +1,4 @@
--- What lists of floors and changes have as a holding, and what a merge and a raised floor leave of them.
+-- The holding of a holder's lists, and what a merge and a raised floor leave of them.
 use Rattle.std.proofs.Common.{◌≡◌, ℕ, zero, suc, ◌<◌, ◌≤◌, List, [], ◌∷◌, ◌++◌, length, get_or, map, take, drop, Bool, true, false, None, Result, Ok, Err, refl, sym, ap, ◌∙◌, subst, arith, length-set, All}
 use Rattle.std.proofs.lemmas.Option.{slice_get-get_or, none-some}
 use Rattle.std.proofs.lemmas.Cmp.{nat_list_cmp_total}
@@ -31,7 +31,7 @@ use Rattle.ds_held.proofs.LeftLemmas.{changes_are_left, few_left}
 use Rattle.ds_held.proofs.MergeLemmas.{merge_joins}
 use Rattle.ds_held.proofs.RaiseLemmas.{raise_joins}
 
--- what stands at the place of a key is found under it
+-- What is at the place of a key is found under it.
 pub change_there : (xs : List ChangeRecord) (key : Key) (i : ℕ) → AreKeysRising xs → IsPlace xs key (Ok i) → get (changes_map xs) key ≡ slice_get xs i
 change_there [] key i s p = absurd (omega (arith, p.0))
 change_there (x ∷ xs) key i s p = get_there key_cmp keys_total exact_keys keyed (x ∷ xs) key i x s p ∙ sym (slice_get-get_or (x ∷ xs) i x p.0)
@@ -72,7 +72,7 @@ kept_nothing lim = record {
   sound = record { own = λ q d h. absurd (none-some d (sym (get-empty key_cmp q) ∙ h)); none_void = λ q d h. absurd (none-some d (sym (get-empty key_cmp q) ∙ h)) };
 }
 
--- what stands at an index of changes is one
+-- The element at an index of changes is a change.
 pub valid_at : (xs : List ChangeRecord) (i : ℕ) → All IsChange xs → IfSome (slice_get xs i) IsChange
 valid_at [] i valid = tt
 valid_at (x ∷ xs) zero valid = All-head IsChange x xs valid
@@ -101,7 +101,7 @@ none_more : (void : Bool) (n m : ℕ) (c : ChangeRecord) → AnswersFor None voi
 none_more true n m c a = absurd (cc)
 none_more false n m c a = a
 
--- memory may be wanting for a change that is to be taken, and whose key isn't held
+-- Memory may run out for a change that is to be taken and whose key isn't held.
 pub wants_room : (old : Holding) (c : ChangeRecord) → held_for old c.key ≡ None → MergeAnswer old c (Ok Taken) → MergeAnswer old c (Err NoRoom)
 wants_room old c none a =
     subst (λ o. AnswersFor o (is_void_at old c) (held_count old) old.limits.keys c (Err NoRoom)) (sym none)

@@ -1,4 +1,4 @@
--- What comes to a held key or a held owner is never refused for want of room.
+-- A command for a held key or a held owner is never refused as NoRoom.
 use Rattle.std.proofs.Common.{Bool, true, false, Err, sym, ◌∙◌, subst, inl, inr}
 use Rattle.ds_entry.specs.Change.{ChangeRecord}
 use Rattle.ds_join.specs.declared.merge.JoinFault.TheVariants.{NoRoom}

@@ -109,7 +109,11 @@ module _ (old : Holding) (sound : IsSound old) (c : ChangeRecord) where
 
   by_own : (h : ChangeRecord) → held_for old c.key ≡ Some h → h.owner ≡ c.owner → is_void_at old c ≡ false → (r : Result Merge JoinFault) → AnswersOwn h c r → Merged r
   by_own h e o v (Ok Taken) a = record { sound_after = sound_taken v; joined = taken_joins v (λ x at. subst (λ (y : ChangeRecord). covers (Changed c) (Changed y) ≡ true) (same_Some h x (sym e ∙ at)) (newer h (sound.own c.key h e) o a)) }
-  by_own h e o v (Ok Known) a = record { sound_after = sound; joined = covered_joins old sound (Changed c) (Changed h) (change_in old c.key h e) (subst (λ (y : ChangeRecord). covers (Changed h) (Changed y) ≡ true) a (covers-refl (Changed h))) }
+  by_own h e o v (Ok Known) a = record {
+    sound_after = sound;
+    joined = covered_joins old sound (Changed c) (Changed h) (change_in old c.key h e)
+        (subst (λ (y : ChangeRecord). covers (Changed h) (Changed y) ≡ true) a (covers-refl (Changed h)));
+  }
   by_own h e o v (Ok Stale) a = record { sound_after = sound; joined = covered_joins old sound (Changed c) (Changed h) (change_in old c.key h e) (older h (sound.own c.key h e) o a) }
   by_own h e o v (Err fault) a = record { sound_after = sound; joined = tt }
 

@@ -1,4 +1,4 @@
--- The place of a key in a list whose keys rise, and what a write there does to the map that the list is seen as.
+-- The place of a key in a list in key order, and what a write there does to the map that the list stands for.
 use Rattle.std.proofs.Common.{◌≡◌, ℕ, zero, suc, ◌<◌, List, [], ◌∷◌, length, get_or, map, filter, true, false, cond, Bool, ◌&&◌, Some, None, Result, Ok, Err, refl, sym, ap, ◌∙◌, subst, arith}
 use Rattle.std.specs.declared.cmp.Ordering.{Ordering}
 use Rattle.std.specs.declared.cmp.Ordering.TheVariants.{Less, Equal, Greater}
@@ -15,7 +15,7 @@ pair : (a b : Bool) → T a → T b → T (a && b)
 pair true b h k = k
 pair false b h k = absurd h
 
--- each element stands in a row under its key
+-- Each element is in a row under its key.
 module _ {K V X : Type 0} (R : K → K → Ordering) (total : IsTotalOrder R) (exact : (a b : K) → R a b ≡ Equal → a ≡ b) (row : X → K × V) where
   abbrev rows : List X → List (K × V)
   rows xs = map {B = K × V} row xs
@@ -61,7 +61,7 @@ module _ {K V X : Type 0} (R : K → K → Ordering) (total : IsTotalOrder R) (e
   pub rest_gap : (x : X) (xs : List X) (k : K) (i : ℕ) → Place (x ∷ xs) k (Err (suc i)) → Place xs k (Err i)
   rest_gap x xs k i p = (omega (arith, p.0), (λ n d l w. p.1.0 (suc n) d (omega (arith, l)) (omega (arith, w)), λ n d l w. p.1.1 (suc n) d (omega (arith, l)) (omega (arith, w))))
 
-  -- an element in front of a gap, and one behind it
+  -- An element before a gap, and one after it.
   pub before_gap : (x : X) (xs : List X) (k : K) (i : ℕ) → Place (x ∷ xs) k (Err (suc i)) → R k (row x).0 ≡ Greater
   before_gap x xs k i p = turned_greater (row x).0 k (p.1.0 0 x (omega arith) (omega arith))
 
@@ -92,7 +92,7 @@ module _ {K V X : Type 0} (R : K → K → Ordering) (total : IsTotalOrder R) (e
       ap (λ l. row x ∷ l) (put_there xs c (Err i) (both _ _ s).1 (rest_gap x xs (row c).0 i p))
       ∙ sym (ap (λ r. by_order r (row c ∷ row x ∷ rows xs) (((row x).0, (row c).1) ∷ rows xs) (row x ∷ put R (row c).0 (row c).1 (rows xs))) (before_gap x xs (row c).0 i p))
 
-  -- and what is found under a key stands there
+  -- And what is found under a key is there.
   find_there : (xs : List X) (k : K) (i : ℕ) (d : X) → Rising xs → Place xs k (Ok i) → find R k (rows xs) ≡ Some (row (get_or xs i d)).1
   find_there [] k i d s p = absurd (omega (arith, p.0))
   find_there (x ∷ xs) k zero d s p = ap (λ r. cond (is_eq r) (Some (row x).1) (find R k (rows xs))) (tied_place x xs k p)

@@ -1,4 +1,4 @@
--- What a look at an index of a list gives.
+-- Reading an index of a list.
 use Rattle.std.proofs.Common.{◌≡◌, ℕ, ◌-◌, ◌<◌, ◌≤◌, List, ◌++◌, length, get_or, map, Option, Some, None, Bor, refl, sym, ap, ◌∙◌, arith}
 use Rattle.std.proofs.lemmas.Option.{slice_get-get_or, slice_get_past, slice_get_read, slice_get-map}
 use Rattle.std.proofs.lemmas.List.{length-map}
@@ -16,7 +16,7 @@ found_at xs i (Some x) h = ap (λ y. Some y) h.1 ∙ sym (slice_get-get_or xs i 
 found_at xs i None h = sym (slice_get_past xs i h.3)
 
 module _ (fs : List Floor) (cs : List ChangeRecord) where
-  -- what stands at an index of floors and behind them changes, as items
+  -- The element at an index of floors and then changes, as items.
   pub floor_item_at : (i : ℕ) (f : Floor) → i < length fs → f ≡ get_or fs i f → Some (floored f) ≡ slice_get (map floored fs ++ map change_item cs) i
   floor_item_at i f within is =
       sym (get_front i (map floored fs) (map change_item cs) (omega (arith, within, length-map fs floored)) ∙ slice_get-map floored fs i ∙ ap (option_map floored) (slice_get_read fs (length fs) i f refl within is))

@@ -1,4 +1,4 @@
--- The code of what is held, by which a proof tells one holding from another.
+-- The code of what is held, by which a proof distinguishes holdings.
 use Rattle.std.specs.Prelude.{ℕ, refl}
 use Rattle.std.specs.FinMap as map
 use Rattle.std.specs.Coded.{Coded, code_by, coded×}
@@ -12,7 +12,7 @@ use Rattle.ds_held.specs.contracts.limits.Limits.{the_row as limits_row}
 use Rattle.ds_held.specs.Limits.{LimitsRecord}
 use Rattle.ds_held.specs.Held.{Holding}
 
--- a holding is stored as its floors, its changes and its limits
+-- The code of a holding: its floors, its changes and its limits.
 abbrev pub holding_code : Coded Holding
 holding_code =
     code_by (map.FinMap name_cmp ℕ × (map.FinMap key_cmp ChangeRecord × LimitsRecord))

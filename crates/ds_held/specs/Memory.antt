@@ -1,4 +1,4 @@
--- What takes no memory: what comes to a key, or to an owner, for which something is held.
+-- What allocates nothing: a command for a key, or an owner, of which something is held.
 use Rattle.std.specs.Prelude.{◌≡◌, ℕ, Some, Err}
 use Rattle.ds_entry.specs.Change.{ChangeRecord, IsBodyInPlace}
 use Rattle.ds_entry.specs.declared.floor.Floor.{Floor}
@@ -8,14 +8,16 @@ use Rattle.ds_held.specs.Held.{Holding, held_for, floor_for}
 use Rattle.ds_held.specs.Merge.{MergeAnswer, IsMergeRefused}
 use Rattle.ds_held.specs.Raise.{RaiseAnswer}
 
--- the merge of a change to a held key isn't refused for want of room
+-- A law: the merge of a change into a held key is never refused as NoRoom.
 abbrev pub HeldKeyNeedsNoRoom : Type 0
 HeldKeyNeedsNoRoom = (old : Holding) (h c : ChangeRecord) → held_for old c.key ≡ Some h → ¬ MergeAnswer old c (Err NoRoom)
 
--- nor is one that someone else keeps, where its body is held in place
+-- A law: nor is the merge of a borrowed change whose body is kept in place.
 abbrev pub CopyInPlaceNeedsNoRoom : Type 0
-CopyInPlaceNeedsNoRoom = (old : Holding) (h c : ChangeRecord) → held_for old c.key ≡ Some h → IsBodyInPlace c.body → ¬ IsMergeRefused old c NoRoom
+CopyInPlaceNeedsNoRoom =
+    (old : Holding) (h c : ChangeRecord) → held_for old c.key ≡ Some h → IsBodyInPlace c.body → ¬ IsMergeRefused old c NoRoom
 
--- the floor of an owner who has one is refused for nothing, so for no want of room either
+-- A law: the floor of an owner who has one is never refused.
 abbrev pub HeldOwnerIsNotRefused : Type 0
-HeldOwnerIsNotRefused = (old : Holding) (g : ℕ) (f : Floor) (fault : JoinFault) → floor_for old f.owner ≡ Some g → ¬ RaiseAnswer old f (Err fault)
+HeldOwnerIsNotRefused =
+    (old : Holding) (g : ℕ) (f : Floor) (fault : JoinFault) → floor_for old f.owner ≡ Some g → ¬ RaiseAnswer old f (Err fault)

@@ -1,4 +1,4 @@
--- What merging a change answers, and what is held after it.
+-- The answer to a merge, and the holding after it.
 use Rattle.std.specs.Prelude.{◌≡◌, ◌≢◌, ◌⊎◌, ℕ, ◌<◌, Bool, true, false, Option, Some, None, Result, Ok, Err}
 use Rattle.std.specs.declared.cmp.Ordering.TheVariants.{Less, Greater}
 use Rattle.std.specs.FinMap.{insert}
@@ -10,7 +10,7 @@ use Rattle.ds_join.specs.declared.merge.JoinFault.{JoinFault}
 use Rattle.ds_join.specs.declared.merge.JoinFault.TheVariants.{NotOwner, Clash, Full, NoRoom}
 use Rattle.ds_held.specs.Held.{Holding, held_for, held_count, is_void_at}
 
--- the answer to what nothing is held for, where `count` are held, and `most` may be: changes by their keys, floors by owners
+-- The answer where nothing is held for the key or owner, and `count` of at most `most` are held.
 abbrev pub AnswersNew : ℕ → ℕ → Result Merge JoinFault → Type 0
 AnswersNew count most (Ok Taken) = count < most
 AnswersNew count most (Ok Known) = ⊥
@@ -20,7 +20,7 @@ AnswersNew count most (Err (Clash v)) = ⊥
 AnswersNew count most (Err Full) = count ≡ most
 AnswersNew count most (Err NoRoom) = count < most
 
--- the answer to the change `c`, where `h` of its owner is held for its key: never for want of room
+-- The answer to the change `c`, where `h` of the same owner is held for its key: never NoRoom.
 abbrev pub AnswersOwn : ChangeRecord → ChangeRecord → Result Merge JoinFault → Type 0
 AnswersOwn h c (Ok Taken) = version_cmp h.version c.version ≡ Less
 AnswersOwn h c (Ok Known) = h ≡ c
@@ -30,36 +30,38 @@ AnswersOwn h c (Err (Clash v)) = (h.version ≡ c.version) × (h.body ≢ c.body
 AnswersOwn h c (Err Full) = ⊥
 AnswersOwn h c (Err NoRoom) = ⊥
 
--- a void change is stale, and nothing else of it is judged; P says what is answered to any other
+-- The answer to a change that is void or isn't. A void one is Stale, whatever else applies; P describes the answer to
+-- any other.
 abbrev pub UnlessVoid : Bool → Type 0 → Result Merge JoinFault → Type 0
 UnlessVoid true P answer = answer ≡ Ok Stale
 UnlessVoid false P answer = P
 
--- the answer where `h` is held for the key: whether the owner is another one comes first, and then whether `c` is void
+-- The answer where `h` is held for the key. Another owner is judged first, then whether `c` is void.
 abbrev pub AnswersHeld : ChangeRecord → Bool → ChangeRecord → Result Merge JoinFault → Type 0
-AnswersHeld h void c answer = ((h.owner ≢ c.owner) × (answer ≡ Err NotOwner)) ⊎ ((h.owner ≡ c.owner) × UnlessVoid void (AnswersOwn h c answer) answer)
+AnswersHeld h void c answer =
+    ((h.owner ≢ c.owner) × (answer ≡ Err NotOwner)) ⊎ ((h.owner ≡ c.owner) × UnlessVoid void (AnswersOwn h c answer) answer)
 
--- the answer by what is held for the key, whether the change is void, and how many keys are held and may be
+-- The answer by what is held for the key, whether the change is void, and the counts of held and allowed keys.
 abbrev pub AnswersFor : Option ChangeRecord → Bool → ℕ → ℕ → ChangeRecord → Result Merge JoinFault → Type 0
 AnswersFor None void count most c answer = UnlessVoid void (AnswersNew count most answer) answer
 AnswersFor (Some h) void count most c answer = AnswersHeld h void c answer
 
--- the answer to the merge of a change
+-- The answer to the merge of a change.
 abbrev pub MergeAnswer : Holding → ChangeRecord → Result Merge JoinFault → Type 0
 MergeAnswer old c answer = AnswersFor (held_for old c.key) (is_void_at old c) (held_count old) old.limits.keys c answer
 
--- a change that is taken stands at its key; after any other answer nothing has changed
+-- The holding after the answer: a change that is taken is at its key; otherwise nothing changes.
 abbrev pub after_merge : Holding → ChangeRecord → Result Merge JoinFault → Holding
 after_merge old c (Ok Taken) = record { floors = old.floors; changes = insert old.changes c.key c; limits = old.limits }
 after_merge old c (Ok Known) = old
 after_merge old c (Ok Stale) = old
 after_merge old c (Err fault) = old
 
--- to take over a change that someone else keeps takes memory: its key isn't held, or its body isn't held in place
+-- Whether copying the change takes memory: its key isn't held, or its body isn't kept in place.
 abbrev pub ChangeTakesMemory : Holding → ChangeRecord → Type 0
 ChangeTakesMemory held c = (held_for held c.key ≡ None) ⊎ (¬ IsBodyInPlace c.body)
 
--- such a change is refused by this fault: for want of room only where it would be taken, and takes memory
+-- Whether the borrowed change is refused by this fault: NoRoom only if it would be taken and takes memory.
 abbrev pub IsMergeRefused : Holding → ChangeRecord → JoinFault → Type 0
 IsMergeRefused held c NotOwner = MergeAnswer held c (Err NotOwner)
 IsMergeRefused held c (Clash v) = MergeAnswer held c (Err (Clash v))

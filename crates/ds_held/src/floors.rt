@@ -15,7 +15,7 @@ use ds_names::limits::MOST_FLOORS;
 use ds_names::{Generation, Name};
 use std::cmp::Ordering;
 
-// Where the floor of an owner stands, or else where it would.
+// Finds an owner's floor: `Ok` with its index, or `Err` with the index that it would get.
 pub(crate) fn place_of(floors: &[Floor], owner: &Name) -> Result<usize, usize>
     requires { AreOwnersRising floors.now }
     ensures { IsFloorPlace floors.now owner.now result }
@@ -23,14 +23,14 @@ pub(crate) fn place_of(floors: &[Floor], owner: &Name) -> Result<usize, usize>
     floors.binary_search_by(|floor| floor.owner.cmp(owner))
 }
 
-// The floor at an index.
+// Returns the floor at an index.
 pub(crate) fn nth_floor(floors: &[Floor], index: usize) -> Option<Floor>
     ensures { result ≡ slice_get floors.now index }
 {
     floors.get(index).copied()
 }
 
-// The generation of an owner's floor.
+// Returns the generation of an owner's floor.
 pub(crate) fn floor_at(floors: &[Floor], owner: &Name) -> Option<Generation>
     requires { AreOwnersRising floors.now }
     ensures { result ≡ get (floors_map floors.now) owner.now }
@@ -41,7 +41,7 @@ pub(crate) fn floor_at(floors: &[Floor], owner: &Name) -> Option<Generation>
     }
 }
 
-// Whether the floor of its owner makes the change void.
+// Whether the floor of its owner voids the change.
 pub(crate) fn is_void(floors: &[Floor], change: &Change) -> bool
     requires { AreOwnersRising floors.now }
     ensures { result ≡ is_below (get (floors_map floors.now) change.now.owner) change.now }
@@ -53,7 +53,7 @@ pub(crate) fn is_void(floors: &[Floor], change: &Change) -> bool
     }
 }
 
-// Raises the floor at an index. It takes no memory.
+// Raises the floor at an index. It allocates nothing.
 fn replace(floors: &mut Vec<Floor>, i: usize, floor: Floor) -> Merge
     requires { i < vec_len floors.old }
     ensures answer { AnswersHigher (slice_index_or floors.old.items i floor).generation floor.generation (Ok result) }
@@ -69,7 +69,7 @@ fn replace(floors: &mut Vec<Floor>, i: usize, floor: Floor) -> Merge
     }
 }
 
-// Adds the floor of another owner, which belongs at an index.
+// Inserts the floor of an owner without one, at its index.
 fn add(floors: &mut Vec<Floor>, i: usize, floor: Floor) -> Result<Merge, JoinFault>
     requires within { i ≤ vec_len floors.old }
     requires few { vec_len floors.old ≤ 64 }

@@ -1,24 +1,25 @@
-//! Guesses where the changes of keys stand.
+//! Guesses of the places of changes.
 
 use ds_entry::Change;
 use ds_names::{Key, Kind};
 use std::alloc::{AllocError, Global};
 use std::hash::{FoldHasher, Hasher};
 
-// How many places the first table has.
+// The length of the first table.
 const FEWEST: usize = 64;
 
-/// For each key, found by a hash, the place at which its change was last seen, among changes in the order of their keys.
+/// A table from each key's hash to the place where its change was last seen, among changes in the order of their
+/// keys.
 ///
-/// It is a guess: whoever asks for it looks at the change there before it is believed, so that a wrong one costs a search and
-/// nothing else. Two keys may have one hash, and then the guess is that of the one that came last. The table has four places at
-/// least for each key that is held, so that there are few of those, unless there was no room for it.
+/// A place is a guess: the caller checks the change there, so a wrong guess costs a search and nothing else. If two
+/// keys have one hash, the guess is of the one noted last. The table has at least four slots for each held key,
+/// unless memory ran out for it, so that is rare.
 #[derive(Drop)]
 pub(crate) struct Guesses {
     places: Vec<u16>,
 }
 
-// A number that is mostly another one for another key.
+// Hashes a key.
 fn hash_of(key: &Key) -> usize {
     let mut hasher = FoldHasher::default();
     hasher.write(key.name.bytes());
@@ -32,19 +33,19 @@ fn hash_of(key: &Key) -> usize {
 }
 
 impl Guesses {
-    /// None. It takes no memory.
+    /// Returns an empty table. It allocates nothing.
     pub(crate) fn new(alloc: Global) -> Guesses {
         Guesses {
             places: Vec::new(alloc),
         }
     }
 
-    // Where the guess of a key stands, in a table whose length is a power of two.
+    // Returns the slot of a key. The table's length is a power of two.
     fn slot(&self, key: &Key) -> usize {
         hash_of(key) & self.places.len().saturating_sub(1)
     }
 
-    /// Where the change of the key may stand.
+    /// Returns the place where the change of the key may be.
     #[inline(always)]
     pub(crate) fn of(&self, key: &Key) -> usize {
         match self.places.get(self.slot(key)) {
@@ -53,7 +54,7 @@ impl Guesses {
         }
     }
 
-    // The change of the key stands at the place.
+    // Notes the place of a key's change.
     fn note(&mut self, key: &Key, place: u16) {
         let slot = self.slot(key);
         if let Some(guess) = self.places.get_mut(slot) {
@@ -61,7 +62,7 @@ impl Guesses {
         }
     }
 
-    // Looks where all changes stand.
+    // Notes the places of all changes.
     fn look(&mut self, changes: &[Change]) {
         let mut place = 0u16;
         for change in changes {
@@ -70,21 +71,21 @@ impl Guesses {
         }
     }
 
-    // Makes room for as many places again.
+    // Doubles the table.
     #[inline(never)]
     fn grow(&mut self) -> Result<(), AllocError> {
         let count = self.places.len();
         self.places.resize(FEWEST.max(count.saturating_mul(2)), 0)
     }
 
-    // Those at the place and behind it moved along by one. Without a branch, so that a compiler can take several at a time.
+    // Adds 1 to each guess at or after the place. It has no branch, so a compiler can vectorize it.
     fn move_along(&mut self, place: u16) {
         for guess in self.places.iter_mut() {
             *guess = guess.wrapping_add(u16::from(*guess >= place));
         }
     }
 
-    // The change of a key that wasn't held stands at the place.
+    // Notes a new key's change, inserted at the place.
     fn insert(&mut self, changes: &[Change], place: usize) {
         if changes.len() > self.places.len() / 4 && self.grow().is_ok() {
             self.look(changes);
@@ -94,7 +95,7 @@ impl Guesses {
         }
     }
 
-    /// A change was put at the place, or there was no room for it.
+    /// Notes a put at the place, if it succeeded.
     #[inline(always)]
     pub(crate) fn note_put(
         &mut self,
@@ -107,7 +108,7 @@ impl Guesses {
         }
     }
 
-    /// These are left of so many changes.
+    /// Notes that changes were dropped, if there are fewer than `count` now.
     pub(crate) fn note_dropped(&mut self, changes: &[Change], count: usize) {
         if changes.len() != count {
             self.look(changes);

@@ -33,11 +33,11 @@ use std::marker::Model;
 mod beside;
 mod merging;
 
-/// For each owner the greatest floor that came, and for each key the change with the greatest version of those that no
-/// floor makes void, tombstones too; at most 64 floors, and as many keys as its limits say.
+/// What a holder keeps: of each owner the greatest floor, and of each key the change with the greatest version that
+/// isn't void, tombstones included. It has at most 64 floors, and as many keys as its limits allow.
 ///
-/// So where a floor of an owner is held, nothing of the owner's generations up to it is held but labels, and no call brings
-/// any: what a dropped tombstone had deleted doesn't come back.
+/// While a floor of an owner is held, nothing from the owner's generations up to it is held but labels, and no call
+/// brings it back. So what a dropped tombstone had deleted stays deleted.
 #[derive(Drop)]
 pub struct Held {
     floors: Vec<Floor>,
@@ -62,14 +62,14 @@ impl Model for Held {
 }
 
 impl Held {
-    /// A holder of nothing, for up to 4096 keys. It takes no memory.
+    /// Returns an empty holder, for up to 4096 keys. It allocates nothing.
     pub fn new(alloc: Global) -> Held
         ensures { result ≡ nothing_held larger }
     {
         Held::bounded(alloc, Limits::larger())
     }
 
-    /// A holder of nothing, with these limits. It takes no memory.
+    /// Returns an empty holder with these limits. It allocates nothing.
     pub fn bounded(alloc: Global, limits: Limits) -> Held
         ensures { result ≡ nothing_held limits }
     {
@@ -81,7 +81,7 @@ impl Held {
         }
     }
 
-    /// Holds nothing again, neither tombstones nor floors. Its limits stay. It takes no memory.
+    /// Removes everything, tombstones and floors too, and keeps the limits. It allocates nothing.
     pub fn clear(&mut self)
         ensures value { self.new ≡ nothing_held self.old.limits }
         ensures sound { IsSound self.new }
@@ -90,7 +90,7 @@ impl Held {
         self.changes.clear();
     }
 
-    /// How many keys are held, those of tombstones too. Floors aren't counted.
+    /// Returns how many keys are held, those of tombstones included. Floors aren't counted.
     pub fn len(&self) -> usize
         ensures count { result ≡ held_count self.now }
         ensures few { result ≤ self.now.limits.keys }
@@ -100,14 +100,14 @@ impl Held {
         self.changes.len()
     }
 
-    /// Its limits.
+    /// Returns its limits.
     pub fn limits(&self) -> Limits
         ensures { result ≡ self.now.limits }
     {
         self.limits
     }
 
-    /// The generation of an owner's floor.
+    /// Returns the generation of an owner's floor.
     pub fn floor(&self, owner: &Name) -> Option<Generation>
         ensures value { result ≡ floor_for self.now owner.now }
         ensures sound { IsSound self.now }
@@ -115,7 +115,7 @@ impl Held {
         floor_at(&self.floors, owner)
     }
 
-    /// How many owners have floors, at most 64.
+    /// Returns how many owners have floors, at most 64.
     pub fn floor_count(&self) -> usize
         ensures count { result ≡ floor_count self.now }
         ensures few { result ≤ 64 }
@@ -124,21 +124,21 @@ impl Held {
         self.floors.len()
     }
 
-    /// The floor at an index from 0, in the order of the owners' names. `None` behind the last one.
+    /// Returns the floor at an index from 0, in the order of the owners' names; `None` past the end.
     pub fn floor_at(&self, index: usize) -> Option<Floor>
         ensures { result ≡ slice_get (held_floors self.now) index }
     {
         nth_floor(&self.floors, index)
     }
 
-    /// Whether the floor of its owner makes the change void.
+    /// Whether the floor of its owner voids the change.
     pub fn is_void(&self, change: &Change) -> bool
         ensures { result ≡ is_void_at self.now change.now }
     {
         is_void(&self.floors, change)
     }
 
-    /// The change that is held for a key.
+    /// Returns the change that is held for a key.
     pub fn get(&self, key: &Key) -> Option<&Change>
         ensures value { option_copied result ≡ held_for self.now key.now }
         ensures sound { IsSound self.now }
@@ -147,7 +147,7 @@ impl Held {
         change_at(&self.changes, self.guesses.of(key), key)
     }
 
-    /// The value that stands under a key. A tombstone leaves none.
+    /// Returns the value under a key. A tombstone has none.
     pub fn live(&self, key: &Key) -> Option<&Value>
         ensures value { option_copied result ≡ option_and_then value_of (held_for self.now key.now) }
         ensures valid { IfSome (option_copied result) IsValue }
@@ -158,7 +158,7 @@ impl Held {
         }
     }
 
-    /// The change at an index from 0, in the order of the keys. `None` behind the last one.
+    /// Returns the change at an index from 0, in the order of the keys; `None` past the end.
     pub fn at(&self, index: usize) -> Option<&Change>
         ensures value { option_copied result ≡ slice_get (held_changes self.now) index }
         ensures change { IfSome (option_copied result) IsChange }
@@ -166,7 +166,7 @@ impl Held {
         self.changes.get(index)
     }
 
-    /// The change of the least key, of those after another one where one is given.
+    /// Returns the change of the least key, or of the least key after `after`.
     pub fn first_after(&self, after: Option<&Key>) -> Option<&Change>
         ensures value { option_copied result ≡ find (comes_after (option_copied after.entry)) (held_changes self.now) }
         ensures change { IfSome (option_copied result) IsChange }
@@ -174,24 +174,23 @@ impl Held {
         first_of(&self.changes, after)
     }
 
-    /// The changes of the keys after another one, or all of them where there is none, in the order of the keys.
-    ///
-    /// One search finds where they begin.
+    /// Returns the changes in the order of the keys, or those of the keys after `after`. One search finds where they
+    /// begin.
     pub fn changes_after(&self, after: Option<&Key>) -> &[Change]
         ensures { result.now ≡ filter (comes_after (option_copied after.entry)) (held_changes self.now) }
     {
         behind(&self.changes, after)
     }
 
-    /// The item at an index from 0: floors first, in the order of their owners' names, and then changes in the order of the keys.
-    /// `None` behind the last one.
+    /// Returns the item at an index from 0; `None` past the end. Floors come first, in the order of their owners'
+    /// names, then changes in the order of their keys.
     pub fn item_at(&self, index: usize) -> Option<ItemRef<'_>>
         ensures { option_map item_lent result ≡ slice_get (held_items self.now) index }
     {
         item_at(&self.floors, &self.changes, index)
     }
 
-    /// All that is held: the floors by the names of their owners, and then the changes in the order of the keys.
+    /// Returns copies of all items: the floors by their owners' names, then the changes by their keys.
     pub fn all(&self, alloc: Global) -> Result<Items, NoRoom>
         ensures value { IfOk result (λ items. items ≡ held_items self.now) }
         ensures changes { All IsChange (held_changes self.now) }
@@ -199,12 +198,12 @@ impl Held {
         copy_all(alloc, &self.floors, &self.changes)
     }
 
-    /// Takes a change over, unless what is held covers it: a greater version of its key, or a floor. What isn't refused
-    /// leaves the join of what was held and the change.
+    /// Merges a change: it is taken unless a held change or floor covers it. Unless it is refused, what is held
+    /// afterwards is the join of what was held and the change.
     ///
-    /// A change of a held key takes its place and no memory, and a void change takes none. The causes of a refusal are
-    /// judged in the order of [`JoinFault`]'s variants; a void change is stale behind NotOwner and before all others. A
-    /// refusal changes nothing.
+    /// Refuses with the first [`JoinFault`] that applies, in the order of its variants, and then changes nothing. A
+    /// void change is Stale: only NotOwner comes before that. A change of a held key replaces the held one and
+    /// allocates nothing; nor does a void change.
     pub fn merge(&mut self, change: Change) -> Result<Merge, JoinFault>
         ensures answer { MergeAnswer self.old change result }
         ensures after { self.new ≡ after_merge self.old change result }
@@ -219,8 +218,8 @@ impl Held {
         }
     }
 
-    /// Merges a change that someone else keeps, as `merge` does. It is copied only where it will be taken, so that a
-    /// change which is known, stale or refused takes no memory.
+    /// Like `merge`, for a borrowed change. It is copied only to be taken, so a change that is known, stale or
+    /// refused allocates nothing.
     pub fn merge_copy(&mut self, alloc: Global, change: &Change) -> Result<Merge, JoinFault>
         ensures answer { OnOk result (MergeAnswer self.old change.now result) }
         ensures refused { IfErr result (IsMergeRefused self.old change.now) }
@@ -238,11 +237,11 @@ impl Held {
         }
     }
 
-    /// Raises the floor of an owner, and drops what it makes void, tombstones too. What isn't refused leaves the join of
-    /// what was held and the floor.
+    /// Raises the floor of an owner, and drops what the floor voids, tombstones included. Unless it is refused, what
+    /// is held afterwards is the join of what was held and the floor.
     ///
-    /// The same floor again is known, and a lower one is stale. `Full` where 64 others have floors and the owner has none.
-    /// It takes memory only for an owner who has none. A refusal changes nothing.
+    /// The same floor again is Known, a lower one Stale. Full if the owner has no floor and 64 others have one. It
+    /// allocates only for an owner without a floor. A refusal changes nothing.
     pub fn raise(&mut self, floor: Floor) -> Result<Merge, JoinFault>
         ensures answer { RaiseAnswer self.old floor result }
         ensures after { self.new ≡ after_raise self.old floor result }
@@ -260,8 +259,8 @@ impl Held {
         }
     }
 
-    /// Joins with all that another one holds: raises its floors, by the names of their owners, and then merges its changes,
-    /// in the order of the keys, each as `raise` and `merge_copy` do. It stops at the first that is refused.
+    /// Joins with another holder: raises its floors, by their owners' names, then merges its changes, by their keys.
+    /// It stops at the first item that is refused.
     ///
     /// Stale and known items count as done. `Ok` leaves the join of both.
     pub fn join(&mut self, alloc: Global, other: &Held) -> Result<(), Stop>

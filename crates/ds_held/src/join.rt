@@ -10,7 +10,7 @@ use ds_entry::{Change, Floor};
 use ds_join::Stop;
 use std::alloc::Global;
 
-// Raises the floors of another holder, in their order.
+// Raises the floors of another holder, in order.
 fn raise_all(held: &mut Held, other: &[Floor]) -> Result<(), Stop>
     ensures merged { OnOk result (AreMerged held.old (map floored other.now) held.new) }
     ensures stopped { IfErr result (IsJoinStopped held.old (map floored other.now) held.new) }
@@ -25,7 +25,7 @@ fn raise_all(held: &mut Held, other: &[Floor]) -> Result<(), Stop>
     Ok(())
 }
 
-// Merges the changes of another holder, which stand behind so many of its floors, in their order.
+// Merges the changes of another holder, in order, after its `before` floors.
 fn merge_all(alloc: Global, held: &mut Held, before: usize, other: &[Change]) -> Result<(), Stop>
     requires few_before { before ≤ 64 }
     requires few { length other.now ≤ 4096 }

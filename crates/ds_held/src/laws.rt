@@ -2,8 +2,8 @@
 
 ghost use Rattle.ds_held.specs.Memory.{HeldKeyNeedsNoRoom, CopyInPlaceNeedsNoRoom, HeldOwnerIsNotRefused};
 
-/// What comes to a held key, or to an owner who has a floor, is never refused for want of room; a change that someone else
-/// keeps isn't where its body is held in place.
+/// A law: a merge into a held key is never refused as NoRoom, nor is `merge_copy` of a body that is kept in place. A
+/// floor of an owner who has one is never refused.
 pub fn held_places_need_no_room()
     ensures merge { HeldKeyNeedsNoRoom }
     ensures copy { CopyInPlaceNeedsNoRoom }

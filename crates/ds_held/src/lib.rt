@@ -1,9 +1,9 @@
-//! What a replica or a subscriber holds: for each owner its greatest floor, and for each key the change with the greatest
-//! version that no floor makes void.
+//! What a replica or a subscriber holds: of each owner its greatest floor, and of each key the change with the
+//! greatest version that no floor voids.
 //!
-//! Merging a change and raising a floor are joins: what is held is the same, whatever the order and the repeats in which
-//! they come. That floors end what a dead driver left, also what comes late, is of this project; MINIX 3's data store has
-//! neither versions nor floors.
+//! Merging a change and raising a floor are joins: the result doesn't depend on the order in which they arrive, nor
+//! on repeats. Floors end what a dead driver left, even what arrives late. They are of this project; MINIX 3's data
+//! store has neither versions nor floors.
 #![tactic(auto)]
 
 mod floors;

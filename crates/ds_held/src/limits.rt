@@ -1,12 +1,12 @@
-//! How much may be held.
+//! Limits on what may be held.
 
 ghost use Rattle.std.specs.Prelude.{◌≡◌};
 ghost use Rattle.ds_held.specs.Limits.{IsLimits, larger, limits_for, smaller};
 
 use std::marker::Model;
 
-/// How many subscriptions a store may have, and how many keys a holder: 128 and 4096, or, as old traces have it, 64 and
-/// 1024. There are no others.
+/// The most subscriptions of a store and the most keys of a holder: 128 and 4096, or, in old traces, 64 and 1024.
+/// There are no others.
 #[derive(Clone, Copy, Debug, PartialEq, Eq)]
 pub struct Limits {
     subs: u32,
@@ -26,7 +26,7 @@ impl Model for Limits {
 }
 
 impl Limits {
-    /// The limits of these numbers. `None` where there are none.
+    /// Returns the limits with these numbers. `None` if there are no such limits.
     pub fn of(subs: u32, keys: u32) -> Option<Limits>
         ensures { result ≡ limits_for subs keys }
     {
@@ -37,7 +37,7 @@ impl Limits {
         }
     }
 
-    /// 64 subscriptions and 1024 keys.
+    /// Returns 64 subscriptions and 1024 keys.
     pub fn smaller() -> Limits
         ensures { result ≡ smaller }
     {
@@ -47,7 +47,7 @@ impl Limits {
         }
     }
 
-    /// 128 subscriptions and 4096 keys.
+    /// Returns 128 subscriptions and 4096 keys.
     pub fn larger() -> Limits
         ensures { result ≡ larger }
     {
@@ -57,7 +57,7 @@ impl Limits {
         }
     }
 
-    /// The most subscriptions.
+    /// Returns the most subscriptions.
     pub fn subs(self) -> u32
         ensures count { result ≡ self.subs }
         ensures limits { IsLimits self }
@@ -65,7 +65,7 @@ impl Limits {
         self.subs
     }
 
-    /// The most keys.
+    /// Returns the most keys.
     pub fn keys(self) -> usize
         ensures count { result ≡ self.keys }
         ensures limits { IsLimits self }

@@ -1,4 +1,4 @@
-//! What a change is answered, and how an element is put at its place in a list.
+//! The judgement of a change, and putting an element at its place in a list.
 
 ghost use Rattle.std.specs.Prelude.{◌≡◌, ◌≤◌, OnOk, OnErr, length};
 ghost use Rattle.ds_held.specs.Kept.{put_at, IsGap, IsPlaceIn};
@@ -9,7 +9,7 @@ use ds_join::{JoinFault, Merge};
 use ds_names::NoRoom;
 use std::cmp::Ordering;
 
-// What the change of a held key of its owner is answered.
+// Judges a change of a held key, by the key's owner.
 fn judge_own(held: &Change, change: &Change) -> Result<Merge, JoinFault>
     requires key { held.now.key ≡ change.now.key }
     requires owner { held.now.owner ≡ change.now.owner }
@@ -24,7 +24,7 @@ fn judge_own(held: &Change, change: &Change) -> Result<Merge, JoinFault>
     }
 }
 
-// What the change of a held key is answered.
+// Judges a change of a held key.
 pub(crate) fn judge(held: &Change, is_void: bool, change: &Change) -> Result<Merge, JoinFault>
     requires { held.now.key ≡ change.now.key }
     ensures { AnswersHeld held.now is_void change.now result }
@@ -38,7 +38,7 @@ pub(crate) fn judge(held: &Change, is_void: bool, change: &Change) -> Result<Mer
     }
 }
 
-// What the change of a key that isn't held is answered, where there is memory for it.
+// Judges a change of a key that isn't held, as if there were memory for it.
 pub(crate) fn judge_new(count: usize, most: usize, is_void: bool) -> Result<Merge, JoinFault>
     requires { count ≤ most }
     ensures { UnlessVoid is_void (AnswersNew count most result) result }
@@ -52,7 +52,7 @@ pub(crate) fn judge_new(count: usize, most: usize, is_void: bool) -> Result<Merg
     }
 }
 
-// Puts an element at its place in a list. In the place of another one it takes no memory.
+// Puts an element at its place in a list. Replacing another one allocates nothing.
 #[inline(always)]
 pub(crate) fn put<T: Drop>(
     list: &mut Vec<T>,

@@ -1,4 +1,4 @@
-//! A list of changes in the order of their keys.
+//! Lists of changes in the order of their keys.
 
 ghost use Rattle.std.specs.Prelude.{◌≡◌, Ok, true, filter, All, IfSome};
 ghost use Rattle.std.specs.FinMap.{get};
@@ -12,7 +12,7 @@ use ds_entry::Change;
 use ds_names::Key;
 use std::cmp::Ordering;
 
-// Whether the change of a key stands at an index.
+// Whether the change at an index is of the key.
 #[inline(always)]
 fn is_at(changes: &[Change], index: usize, key: &Key) -> bool
     ensures { result ≡ true → IsPlace changes.now key.now (Ok index) }
@@ -23,7 +23,8 @@ fn is_at(changes: &[Change], index: usize, key: &Key) -> bool
     }
 }
 
-// Where the change of a key stands, or else where it would. Where it is guessed to stand is looked at before it is searched for.
+// Finds a key's change: `Ok` with its index, or `Err` with the index that it would get. The guess is checked before a
+// search.
 pub(crate) fn place_of(changes: &[Change], guess: usize, key: &Key) -> Result<usize, usize>
     requires { AreKeysRising changes.now }
     ensures { IsPlace changes.now key.now result }
@@ -34,7 +35,7 @@ pub(crate) fn place_of(changes: &[Change], guess: usize, key: &Key) -> Result<us
     changes.binary_search_by(|change| change.key().compare(key))
 }
 
-// The change of a key.
+// Returns the change of a key.
 pub(crate) fn change_at<'a>(changes: &'a [Change], guess: usize, key: &Key) -> Option<&'a Change>
     requires rising { AreKeysRising changes.now }
     requires valid { All IsChange changes.now }
@@ -47,7 +48,7 @@ pub(crate) fn change_at<'a>(changes: &'a [Change], guess: usize, key: &Key) -> O
     }
 }
 
-// Whether a change's key comes after another one. Each comes after none.
+// Whether a change's key comes after `low`. Every key comes after `None`.
 fn comes_after(low: Option<&Key>, change: &Change) -> bool
     ensures { result ≡ comes_after (option_copied low.entry) change.now }
 {
@@ -57,7 +58,7 @@ fn comes_after(low: Option<&Key>, change: &Change) -> bool
     }
 }
 
-// The changes whose keys come after another one, or all of them where there is none.
+// Returns the changes whose keys come after `after`, or all of them.
 pub(crate) fn behind<'a>(changes: &'a [Change], after: Option<&Key>) -> &'a [Change]
     requires { AreKeysRising changes.now }
     ensures { result.now ≡ filter (comes_after (option_copied after.entry)) changes.now }
@@ -66,7 +67,7 @@ pub(crate) fn behind<'a>(changes: &'a [Change], after: Option<&Key>) -> &'a [Cha
     &changes[past..]
 }
 
-// The change of the least key, of those after another one where one is given.
+// Returns the change of the least key, or of the least key after `after`.
 pub(crate) fn first_of<'a>(changes: &'a [Change], after: Option<&Key>) -> Option<&'a Change>
     requires rising { AreKeysRising changes.now }
     requires valid { All IsChange changes.now }

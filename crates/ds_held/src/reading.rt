@@ -10,7 +10,7 @@ use ds_entry::{Change, Floor, Item, ItemRef, Items};
 use ds_names::NoRoom;
 use std::alloc::Global;
 
-// The item at an index, the floors first.
+// Returns the item at an index, floors first.
 pub(crate) fn item_at<'a>(
     floors: &'a [Floor],
     changes: &'a [Change],
@@ -27,7 +27,7 @@ pub(crate) fn item_at<'a>(
     }
 }
 
-// Adds the floors to a list of items.
+// Appends the floors to a list of items.
 fn add_floors(items: &mut Items, floors: &[Floor]) -> Result<(), NoRoom>
     ensures { OnOk result (items.new ≡ items.old ++ map floored floors.now) }
 {
@@ -37,7 +37,7 @@ fn add_floors(items: &mut Items, floors: &[Floor]) -> Result<(), NoRoom>
     Ok(())
 }
 
-// Adds the changes to a list of items.
+// Appends copies of the changes to a list of items.
 fn add_changes(alloc: Global, items: &mut Items, changes: &[Change]) -> Result<(), NoRoom>
     ensures { OnOk result (items.new ≡ items.old ++ map change_item changes.now) }
 {
@@ -50,7 +50,7 @@ fn add_changes(alloc: Global, items: &mut Items, changes: &[Change]) -> Result<(
     Ok(())
 }
 
-// All of them, the floors first.
+// Returns copies of all items, floors first.
 pub(crate) fn copy_all(alloc: Global, floors: &[Floor], changes: &[Change]) -> Result<Items, NoRoom>
     ensures { IfOk result (λ items. items ≡ map floored floors.now ++ map change_item changes.now) }
 {

@@ -1,4 +1,4 @@
-//! What a floor drops of a list of changes.
+//! Dropping the changes that a floor voids.
 
 ghost use Rattle.std.specs.Prelude.{◌≡◌, if◌then◌else◌, length, is_some};
 ghost use Rattle.ds_entry.specs.Left.{value_of};
@@ -6,14 +6,14 @@ ghost use Rattle.ds_held.specs.Kept.{left_by_floor, marks_left, puts_void_by};
 
 use ds_entry::{Body, Change, Floor};
 
-// Drops the changes that a floor makes void. It takes no memory.
+// Drops the changes that a floor voids. It allocates nothing.
 pub(crate) fn drop_void(changes: &mut Vec<Change>, floor: &Floor)
     ensures { changes.new.items ≡ left_by_floor floor.now changes.old.items }
 {
     changes.retain(|change| !floor.voids(change));
 }
 
-// How many puts the change is: one, or none where it is a tombstone.
+// Returns 1 for a put, 0 for a tombstone.
 fn puts_in(change: &Change) -> usize
     ensures { result ≡ if is_some (value_of change.now) then 1 else 0 }
 {
@@ -23,8 +23,8 @@ fn puts_in(change: &Change) -> usize
     }
 }
 
-// Drops the changes that a floor makes void, with the marks beside them, in one walk, and tells how many of them were puts. It
-// takes no memory.
+// Drops the changes that a floor voids, with the marks beside them, in one walk, and returns how many of them were
+// puts. It allocates nothing.
 pub(crate) fn drop_beside<M: Drop>(
     changes: &mut Vec<Change>,
     marks: &mut Vec<M>,

@@ -1,4 +1,4 @@
--- What is listed of a holder of changes and floors: no floor makes a label void, so that a raised floor drops none.
+-- What a holder of changes and floors lists: no floor voids a label, so a raised floor drops none.
 use Rattle.std.proofs.Common.{◌≡◌, ℕ, ◌&&◌, nat_le, not, false, cond, List, Option, Some, None, Result, Ok, Err, refl, sym, ap, ◌∙◌, subst}
 use Rattle.std.specs.Ordering.{eq_by_cmp}
 use Rattle.std.specs.FinMap.{get, get-retain_keys}
@@ -23,7 +23,7 @@ use Rattle.ds_index.specs.Indexed.{endpoint_left, holder_for, IsIndexed}
 use Rattle.ds_index.proofs.IndexedLemmas.{other_indexed}
 use Rattle.ds_names.specs.Kind.{is_label}
 
--- no floor makes a label void
+-- No floor voids a label.
 label_stands : (f : Floor) (c : ChangeRecord) → c.key.kind ≡ Label → voids f c ≡ false
 label_stands f c e = ap (λ k. not (is_label k) && (eq_by_cmp name_cmp c.owner f.owner && nat_le c.version.epoch f.generation)) e
 

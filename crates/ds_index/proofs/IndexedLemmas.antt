@@ -176,11 +176,11 @@ module _ {X : Type 0} where
       by_test false q f (inl r) rest = let no : true ≡ false = sym t ∙ ap p r ∙ q in absurd (cc)
       by_test false q f (inr k) rest = rest f k
 
--- one of two names isn't before the other and behind it
+-- Of two names, one isn't both before and after the other.
 not_both : (a b : List ℕ) → name_cmp a b ≡ Less → name_cmp b a ≡ Less → ⊥
 not_both a b l m = let no : Greater ≡ Less = sym (nat_list_cmp_total.antisymm b a ∙ ap ordering_reverse l) ∙ m in absurd (cc)
 
--- a value is the endpoint's label just where it holds that one
+-- A value is the endpoint's label exactly if it has that endpoint.
 value_holds : (e : EndpointRecord) (o : Option Value) → is_label_of e o ≡ true → option_and_then endpoint_of_value o ≡ Some e
 value_holds e None h = absurd (cc)
 value_holds e (Some (values.Label d)) h =
@@ -201,7 +201,7 @@ holds_value e (Some (values.U32 n)) h = none_is h
 holds_value e (Some (values.Str t)) h = none_is h
 holds_value e (Some (values.Mem b)) h = none_is h
 
--- what leaves an endpoint is of a label's kind
+-- A value that leaves an endpoint is a label's.
 label_kind : (e : EndpointRecord) (kind : Kind) (b : Body) → IsOfKind kind b → endpoint_in b ≡ Some e → kind ≡ Label
 label_kind e kind (Put (values.Label d)) k h = sym k
 label_kind e kind (Put (values.U32 n)) k h = none_is h
@@ -209,7 +209,8 @@ label_kind e kind (Put (values.Str t)) k h = none_is h
 label_kind e kind (Put (values.Mem b)) k h = none_is h
 label_kind e kind Gone k h = none_is h
 
-module _ (changes : FinMap key_cmp ChangeRecord) (own : (key : Key) (c : ChangeRecord) → get changes key ≡ Some c → c.key ≡ key) (fit : All IsChange (values changes)) (names : List Named) (sorted : IsStrictlySortedBy named_cmp names) (i : IsIndexed changes names) (e : EndpointRecord) where
+module _ (changes : FinMap key_cmp ChangeRecord) (own : (key : Key) (c : ChangeRecord) → get changes key ≡ Some c → c.key ≡ key) (fit : All IsChange (values changes))
+    (names : List Named) (sorted : IsStrictlySortedBy named_cmp names) (i : IsIndexed changes names) (e : EndpointRecord) where
   -- a held label of the endpoint is listed
   held_label : (c : ChangeRecord) → In c (values changes) → names_endpoint e c ≡ true → c.key ≡ label_key c.key.name
   held_label c k t =
@@ -219,7 +220,8 @@ module _ (changes : FinMap key_cmp ChangeRecord) (own : (key : Key) (c : ChangeR
   held_listed c k t =
       In-from_Contains (named_at (Some e) c.key.name) names
       (i.listed (named_at (Some e) c.key.name)
-      (ap (λ (key : Key). option_map endpoint_left (get changes key)) (sym (held_label c k t)) ∙ ap (option_map endpoint_left) (held_at_key changes own c (Contains-from_In c (values changes) k)) ∙ ap (λ o. Some o) (value_holds e (value_of c) t)))
+      (ap (λ (key : Key). option_map endpoint_left (get changes key)) (sym (held_label c k t)) ∙
+      ap (option_map endpoint_left) (held_at_key changes own c (Contains-from_In c (values changes) k)) ∙ ap (λ o. Some o) (value_holds e (value_of c) t)))
 
   -- and a listed one of the endpoint is held
   pub record Holder (name : List ℕ) : Type 0 where

@@ -1,4 +1,4 @@
--- Labels in the order of their endpoints: where one belongs, and what an edit leaves.
+-- Labels in the order of their endpoints: the place of one, and what an edit leaves.
 use Rattle.std.proofs.Common.{◌≡◌, ℕ, zero, suc, ◌+◌, ◌<◌, ◌≤◌, ◌⊎◌, not, Bool, true, false, cond, List, [], ◌∷◌, length, get_or, set, nat_lt, ◌==◌, Option, Some, None, refl, sym, ap, ◌∙◌, subst, arith, inl, inr, Contains}
 use Rattle.std.specs.declared.cmp.Ordering.{Ordering}
 use Rattle.std.specs.declared.cmp.Ordering.TheVariants.{Less, Equal, Greater}
@@ -47,7 +47,7 @@ same_holder a b h = sym (holder_at-numbers a) ∙ ap holder_at (exact_pairs nat_
 not_itself : (p : Named) → named_cmp p p ≡ Less → ⊥
 not_itself p l = let no : Equal ≡ Less = sym (tied_itself names_total p) ∙ l in absurd (cc)
 
--- slots that differ tell which label stands behind
+-- Slots that differ decide which label comes after the other.
 apart_by : (less same : Bool) (x y : Ordering) → same ≡ false → less ≡ is_lt (ordering_then (ordering_then (cond less Less (cond same Equal Greater)) x) y)
 apart_by true same x y e = refl
 apart_by false false x y e = refl
@@ -56,7 +56,7 @@ apart_by false true x y e = absurd (cc)
 pub slots_tell : (p q : Named) → (slot_of q.endpoint == slot_of p.endpoint) ≡ false → nat_lt (slot_of q.endpoint) (slot_of p.endpoint) ≡ is_label_behind p q
 slots_tell p q e = apart_by (nat_lt (slot_of q.endpoint) (slot_of p.endpoint)) (slot_of q.endpoint == slot_of p.endpoint) (nat_cmp (generation_of q.endpoint) (generation_of p.endpoint)) (name_cmp q.name p.name) e
 
--- where they agree, the generations and names tell it
+-- Where they agree, the generations and names decide.
 pub slots_agree : (p q : Named) → (slot_of q.endpoint == slot_of p.endpoint) ≡ true → is_behind_in_slot p q ≡ is_label_behind p q
 slots_agree p q e =
     let tied : nat_cmp (slot_of q.endpoint) (slot_of p.endpoint) ≡ Equal = ap (λ n. nat_cmp (slot_of q.endpoint) n) (sym (eqb-true (slot_of q.endpoint) (slot_of p.endpoint) e)) ∙ tied_itself nat_cmp_total (slot_of q.endpoint) in
@@ -78,7 +78,7 @@ behind_partitioned p (x ∷ xs) s (suc i) (suc j) d l w h = behind_partitioned p
 place_within : (p x : Named) (xs : List Named) (i : ℕ) → IsLabelPlace p (x ∷ xs) (suc i) → IsLabelPlace p xs i
 place_within p x xs i h = (λ k d l w. h.0 (suc k) d (omega (arith, l)) (omega (arith, w)), λ k d l w. h.1 (suc k) d (omega (arith, l)) (omega (arith, w)))
 
--- a label that is listed stands at its place
+-- A listed label is at its place.
 pub place_is : (b : Named) (xs : List Named) (i : ℕ) → IsStrictlySortedBy named_cmp xs → In b xs → IsLabelPlace b xs i → slice_get xs i ≡ Some b
 unfolding IsStrictlySortedBy
 place_is b [] i s h p = absurd h
@@ -96,13 +96,13 @@ stands_at b xs ys i s h e p = place_is b xs i s (In-from_Contains b xs h) (subst
 pub stands_within : (b : Named) (xs ys : List Named) (i n : ℕ) → IsStrictlySortedBy named_cmp xs → Contains xs b → ys ≡ xs → IsLabelPlace b ys i → n ≡ length xs → i < n
 stands_within b xs ys i n s h e p long = subst (λ m. i < m) (sym long) (slice_get_within xs i b (stands_at b xs ys i s h e p))
 
--- ---- what the labels beside an index tell of all others
+-- ---- what the labels beside an index say of all others
 -- the one at the index passes
 abbrev pub passes_nth : (Named → Bool) → List Named → ℕ → Bool
 passes_nth test xs i = option_map_or test (slice_get xs i) false
 
 module _ (test : Named → Bool) (xs : List Named) (parted : IsPartitionedBy test xs) where
-  -- where one passes, it stands in the list
+  -- An element that passes is in the list.
   passes_within : (i : ℕ) → passes_nth test xs i ≡ true → i < length xs
   passes_within i b = by_found (slice_get xs i) refl b
     where
@@ -138,7 +138,7 @@ module _ (test : Named → Bool) (xs : List Named) (parted : IsPartitionedBy tes
   point_bound i j e low = let w = passes_within j low in omega (arith, w, e)
 
 -- ---- a label between those beside an index
--- what the label does with the one at the index
+-- How the label compares with the one at the index.
 abbrev pub behind_nth : Named → List Named → ℕ → Bool
 behind_nth p xs i = passes_nth (is_label_behind p) xs i
 
@@ -171,7 +171,7 @@ inserted_there p (x ∷ xs) (suc i) w h =
     ap (λ l. x ∷ l) (inserted_there p xs i (omega (arith, w)) (place_within p x xs i h))
     ∙ sym (ap (λ b. cond b (x ∷ inserted_label p xs) (p ∷ x ∷ xs)) (h.0 0 x (omega arith) (omega arith)))
 
--- a label that belongs where another one stands takes its place
+-- A label whose place is that of another one replaces it.
 pub set_there : (a b : Named) (xs : List Named) (i j : ℕ) → slice_get xs i ≡ Some b → IsLabelPlace a xs j → i ≤ j → j ≤ i + 1 → set xs i a ≡ inserted_label a (remove xs i)
 set_there a b [] i j e p l m = absurd (cc)
 set_there a b (x ∷ []) zero j e p l m = refl
@@ -267,13 +267,15 @@ is_added p xs = record {
   only = λ q h. elim (In-from_inserted p q xs (In-from_Contains q (inserted_label p xs) h)) [ inl e ↦ inl e | inr i ↦ inr (Contains-from_In q xs i) ];
 }
 
--- nothing that is listed compares alike with a label that isn't
+-- No listed label compares equal to a label that isn't listed.
 pub no_other : (c : Named) (xs : List Named) → (Contains xs c → ⊥) → (d : Named) → In d xs → named_cmp d c ≡ Equal → ⊥
 no_other c xs n d h e = n (Contains-from_In c xs (subst (λ (y : Named). In y xs) (same_named d c e) h))
   where
     same_named : (a b : Named) → named_cmp a b ≡ Equal → a ≡ b
     same_named a b h =
-        let parts = exact_pairs (λ (x y : ℕ × ℕ). ordering_then (nat_cmp x.0 y.0) (nat_cmp x.1 y.1)) name_cmp (λ x y k. exact_pairs nat_cmp nat_cmp exact_unsigned exact_unsigned x y k) exact_bytes ((slot_of a.endpoint, generation_of a.endpoint), a.name) ((slot_of b.endpoint, generation_of b.endpoint), b.name) h in
+        let parts = exact_pairs (λ (x y : ℕ × ℕ). ordering_then (nat_cmp x.0 y.0) (nat_cmp x.1 y.1)) name_cmp
+        (λ x y k. exact_pairs nat_cmp nat_cmp exact_unsigned exact_unsigned x y k) exact_bytes ((slot_of a.endpoint, generation_of a.endpoint), a.name)
+        ((slot_of b.endpoint, generation_of b.endpoint), b.name) h in
         let endpoint : a.endpoint ≡ b.endpoint = sym (holder_at-numbers a.endpoint) ∙ ap (λ (r : (ℕ × ℕ) × List ℕ). holder_at r.0) parts ∙ holder_at-numbers b.endpoint in
         let name : a.name ≡ b.name = ap (λ (r : (ℕ × ℕ) × List ℕ). r.1) parts in
         ap (λ (o : Option EndpointRecord). record { endpoint = o; name = a.name }) endpoint ∙ ap (λ (n : List ℕ). record { endpoint = b.endpoint; name = n }) name
@@ -297,7 +299,7 @@ module _ (xs : List Named) (i : ℕ) (b a : Named) (s : IsStrictlySortedBy named
       rest.1 (lone (Contains-from_In a xs rest.0)))))
 
 -- ---- the first of an endpoint
--- where an endpoint's labels begin behind one, they begin behind all before that one
+-- Where an endpoint's labels begin after a label, they begin after all before that one.
 begins_down : (e : EndpointRecord) (x y : Named) → named_cmp x y ≡ Less → begins_behind e y ≡ true → begins_behind e x ≡ true
 begins_down e x y l u = by_order (holder_cmp x.endpoint y.endpoint) refl l
   where
@@ -306,7 +308,7 @@ begins_down e x y l u = by_order (holder_cmp x.endpoint y.endpoint) refl l
     by_order Equal q l = ap is_lt (holders_total.congr x.endpoint y.endpoint (Some e) q) ∙ u
     by_order Greater q l = absurd (cc)
 
--- and what is behind one above the endpoint isn't of it
+-- And a label after one above the endpoint doesn't have it.
 of_up : (e : EndpointRecord) (x y : Named) → named_cmp x y ≡ Less → holder_cmp x.endpoint (Some e) ≡ Greater → holds_endpoint e y ≡ false
 of_up e x y l g = by_order (holds_endpoint e y) refl
   where
@@ -352,20 +354,22 @@ abbrev pub if_of : EndpointRecord → Option Named → Option Named
 if_of e None = None
 if_of e (Some p) = cond (holds_endpoint e p) (Some p) None
 
--- the first behind which the endpoint's labels don't begin is the first of them, or there is none
+-- The first label after which the endpoint's labels don't begin is the first of them, or there is none.
 pub first_found : (e : EndpointRecord) (xs : List Named) → IsStrictlySortedBy named_cmp xs → if_of e (find (λ (p : Named). not (begins_behind e p)) xs) ≡ find (holds_endpoint e) xs
 unfolding IsStrictlySortedBy
 first_found e [] s = refl
 first_found e (x ∷ xs) s = by_order (holder_cmp x.endpoint (Some e)) refl (first_found e xs s.1)
   where
-    by_order : (o : Ordering) → holder_cmp x.endpoint (Some e) ≡ o → if_of e (find (λ (p : Named). not (begins_behind e p)) xs) ≡ find (holds_endpoint e) xs → if_of e (find (λ (p : Named). not (begins_behind e p)) (x ∷ xs)) ≡ find (holds_endpoint e) (x ∷ xs)
+    by_order : (o : Ordering) → holder_cmp x.endpoint (Some e) ≡ o → if_of e (find (λ (p : Named). not (begins_behind e p)) xs) ≡ find (holds_endpoint e) xs →
+        if_of e (find (λ (p : Named). not (begins_behind e p)) (x ∷ xs)) ≡ find (holds_endpoint e) (x ∷ xs)
     by_order Less q rest = ap (λ o. if_of e (cond (not (is_lt o)) (Some x) (find (λ (p : Named). not (begins_behind e p)) xs))) q ∙ rest ∙ sym (ap (λ o. cond (is_eq o) (Some x) (find (holds_endpoint e) xs)) q)
-    by_order Equal q rest = ap (λ o. if_of e (cond (not (is_lt o)) (Some x) (find (λ (p : Named). not (begins_behind e p)) xs))) q ∙ ap (λ o. cond (is_eq o) (Some x) None) q ∙ sym (ap (λ o. cond (is_eq o) (Some x) (find (holds_endpoint e) xs)) q)
+    by_order Equal q rest = ap (λ o. if_of e (cond (not (is_lt o)) (Some x) (find (λ (p : Named). not (begins_behind e p)) xs))) q ∙ ap (λ o. cond (is_eq o) (Some x) None) q ∙
+        sym (ap (λ o. cond (is_eq o) (Some x) (find (holds_endpoint e) xs)) q)
     by_order Greater q rest =
         ap (λ o. if_of e (cond (not (is_lt o)) (Some x) (find (λ (p : Named). not (begins_behind e p)) xs))) q ∙ ap (λ o. cond (is_eq o) (Some x) None) q
         ∙ sym (ap (λ o. cond (is_eq o) (Some x) (find (holds_endpoint e) xs)) q ∙ none_of e x xs s.0 q)
 
--- what holds an endpoint doesn't stand before its labels, and what stands before such a label and doesn't hold it does
+-- A label that has the endpoint isn't before its labels; a label before such a one that doesn't have it is.
 of_is_not_before : (o : Ordering) → is_eq o ≡ true → is_lt o ≡ false
 of_is_not_before Less q = absurd (cc)
 of_is_not_before Equal q = refl
@@ -379,11 +383,11 @@ before_of e x y l of other = by_order (holder_cmp x.endpoint (Some e)) refl
     by_order Equal q = opposed (holds_endpoint e x) (ap is_eq q) other
     by_order Greater q = opposed (holds_endpoint e y) of (of_up e x y l q)
 
--- what stands where an endpoint's labels begin is the first of them, if it is one of them
+-- The label where an endpoint's labels begin is the first of them, if it is one of them.
 pub first_by_begin : (e : EndpointRecord) (xs : List Named) (i : ℕ) (o : Option Named) → IsStrictlySortedBy named_cmp xs → IsBegin e xs i → o ≡ slice_get xs i → if_of e o ≡ find (holds_endpoint e) xs
 first_by_begin e xs i o s begin is = ap (if_of e) (is ∙ first_behind (begins_behind e) xs i begin) ∙ first_found e xs s
 
--- a label that holds the endpoint, with none before it, or one that doesn't hold it
+-- A label that has the endpoint, with none before it, or one that doesn't have it.
 module _ (e : EndpointRecord) (xs : List Named) (s : IsStrictlySortedBy named_cmp xs) (p : Named) (of : holds_endpoint e p ≡ true) where
   not_before : (i : ℕ) → slice_get xs i ≡ Some p → passes_nth (begins_behind e) xs i ≡ false
   not_before i here = ap (λ o. option_map_or (begins_behind e) o false) here ∙ of_is_not_before (holder_cmp p.endpoint (Some e)) of

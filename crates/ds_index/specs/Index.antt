@@ -4,7 +4,7 @@ use Rattle.std.specs.List.{remove}
 use Rattle.ds_index.specs.declared.named.Named.{Named}
 use Rattle.ds_index.specs.Named.{inserted_label}
 
--- the labels in their order, and for how many there is room
+-- The labels in order, and the capacity for them.
 pub record Listing : Type 0 where
   pub names : List Named
   pub room : ℕ
@@ -12,18 +12,18 @@ pub record Listing : Type 0 where
 abbrev pub listing : List Named → ℕ → Listing
 listing names room = record { names = names; room = room }
 
--- one label more is listed, and otherwise the same
+-- Whether the list has one more label, and is otherwise the same.
 pub record IsAdded (old new : List Named) (p : Named) : Type 0 where
   pub keeps : (q : Named) → Contains old q → Contains new q
   pub here : Contains new p
   pub only : (q : Named) → Contains new q → (q ≡ p) ⊎ Contains old q
 
--- the one is listed in place of the other, and otherwise the same
+-- Whether the list has `after` in place of `before`, and is otherwise the same.
 pub record IsReplaced (old new : List Named) (before after : Named) : Type 0 where
   pub keeps : (q : Named) → Contains old q → q ≢ before → Contains new q
   pub here : Contains new after
   pub only : (q : Named) → Contains new q → (q ≡ after) ⊎ (Contains old q × (q ≢ before))
 
--- the one was taken out of the list where it stood, and the other put in where it belongs
+-- Whether `before` was removed at its place, and `after` inserted at its own.
 abbrev pub IsMovedLabel : List Named → List Named → Named → Named → Type 0
 IsMovedLabel old new before after = (place : ℕ) × (slice_get old place ≡ Some before) × (new ≡ inserted_label after (remove old place))

@@ -8,15 +8,15 @@ use Rattle.ds_entry.specs.Change.{ChangeRecord}
 use Rattle.ds_index.specs.declared.named.Named.{Named}
 use Rattle.ds_entry.specs.Left.{endpoint_in}
 
--- the endpoint that the change leaves; a tombstone leaves none
+-- The endpoint that the change leaves; a tombstone leaves none.
 abbrev pub endpoint_left : ChangeRecord → Option EndpointRecord
 endpoint_left c = endpoint_in c.body
 
--- what is held of the label with this name: its endpoint, or none
+-- What is held of the label with this name: its endpoint, or that it has none.
 abbrev pub holder_for : FinMap key_cmp ChangeRecord → List ℕ → Option (Option EndpointRecord)
 holder_for changes name = option_map endpoint_left (get changes (label_key name))
 
--- just the held labels are listed, each with its present endpoint
+-- Whether exactly the held labels are listed, each with its present endpoint.
 pub record IsIndexed (changes : FinMap key_cmp ChangeRecord) (names : List Named) : Type 0 where
   pub listed : (p : Named) → holder_for changes p.name ≡ Some p.endpoint → Contains names p
   pub held : (p : Named) → Contains names p → holder_for changes p.name ≡ Some p.endpoint

@@ -1,30 +1,30 @@
-//! Where the labels of each slot begin.
+//! Guesses of where the labels of each slot begin.
 
 use crate::named::{Named, is_first_of_slot};
 use ds_names::Endpoint;
 use std::ops::Range;
 
-// How many slots there are.
+// The number of slots.
 const SLOTS: usize = 1024;
 
-/// For each slot the index at which its labels were last seen to begin, among labels in their order.
+/// For each slot, the index where its labels were last seen to begin, among labels in order.
 ///
-/// It is a guess: whoever asks for it looks at the labels there before it is believed, so that a wrong one costs a search and
-/// nothing else.
+/// An index is a guess: the caller checks the labels there, so a wrong guess costs a search and nothing else.
 #[derive(Drop)]
 pub(crate) struct Begins {
     of_slots: [u16; SLOTS],
 }
 
 impl Begins {
-    /// Where no labels are listed.
+    /// Returns the table for an empty list.
     pub(crate) fn new() -> Begins {
         Begins {
             of_slots: [0; SLOTS],
         }
     }
 
-    /// Where the labels of the endpoint's slot may begin. Before all of them stand those without an endpoint.
+    /// Returns the index where the labels of the endpoint's slot may begin. Labels without an endpoint come before
+    /// all others.
     pub(crate) fn of(&self, endpoint: &Option<Endpoint>) -> usize {
         match endpoint {
             Some(endpoint) => usize::from(self.of_slots[usize::from(endpoint.slot())]),
@@ -32,7 +32,7 @@ impl Begins {
         }
     }
 
-    /// Looks where labels begin among those that stand at other indices now.
+    /// Notes where labels begin among the indices of moved labels.
     pub(crate) fn look(&mut self, names: &[Named], moved: Range<usize>) {
         for index in moved {
             if is_first_of_slot(names, index) {
@@ -41,7 +41,7 @@ impl Begins {
         }
     }
 
-    // The labels of the slot begin at the index.
+    // Notes that the labels of the slot begin at the index.
     fn put(&mut self, names: &[Named], index: usize) {
         let Some(named) = names.get(index) else {
             return;

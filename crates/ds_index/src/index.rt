@@ -17,8 +17,8 @@ use std::alloc::Global;
 use std::marker::Model;
 use std::ops::Range;
 
-/// Labels in the order of their endpoints, and then of their names; and for each slot a guess where its labels begin, so that
-/// mostly two looks find what a search would.
+/// Labels in the order of their endpoints, then of their names, and for each slot a guess of where its labels begin.
+/// Two comparisons at a guess mostly replace a search.
 #[derive(Drop)]
 pub(crate) struct Index {
     names: Vec<Named>,
@@ -38,14 +38,14 @@ impl Model for Index {
     ghost invariant = { λ a. IsStrictlySortedBy named_cmp a.names.items };
 }
 
-// The label at an index.
+// Returns the label at an index.
 fn nth(names: &[Named], index: usize) -> Option<&Named>
     ensures { option_copied result ≡ slice_get names.now index }
 {
     names.get(index)
 }
 
-// Whether the label at the index holds the endpoint.
+// Whether the label at the index has the endpoint.
 fn is_of_nth(names: &[Named], index: usize, endpoint: Endpoint) -> bool
     ensures { result ≡ option_map_or (holds_endpoint endpoint) (slice_get names.now index) false }
 {
@@ -55,7 +55,7 @@ fn is_of_nth(names: &[Named], index: usize, endpoint: Endpoint) -> bool
     }
 }
 
-// The label at the index, if it is the first of the endpoint: it holds the endpoint, and the one before it doesn't.
+// Returns the label at the index if it is the endpoint's first: it has the endpoint, and the one before it doesn't.
 fn first_at<'a>(names: &'a [Named], index: usize, endpoint: Endpoint) -> Option<&'a Named>
     requires { IsStrictlySortedBy named_cmp names.now }
     ensures { IfSome (option_copied result) (λ (p : Named). find (holds_endpoint endpoint) names.now ≡ Some p) }
@@ -68,7 +68,7 @@ fn first_at<'a>(names: &'a [Named], index: usize, endpoint: Endpoint) -> Option<
     }
 }
 
-// Where the labels of the endpoint begin, or would.
+// Returns the index where the labels of the endpoint begin, or would begin.
 fn begin_of(names: &[Named], endpoint: Endpoint) -> usize
     requires { IsStrictlySortedBy named_cmp names.now }
     ensures { IsBegin endpoint names.now result }
@@ -76,7 +76,7 @@ fn begin_of(names: &[Named], endpoint: Endpoint) -> usize
     names.partition_point(|named| begins_behind(endpoint, named))
 }
 
-// The first of the endpoint, which is searched for.
+// Searches for the endpoint's first label.
 #[inline(never)]
 fn search<'a>(names: &'a [Named], endpoint: Endpoint) -> Option<&'a Named>
     requires { IsStrictlySortedBy named_cmp names.now }
@@ -94,7 +94,7 @@ fn search<'a>(names: &'a [Named], endpoint: Endpoint) -> Option<&'a Named>
     }
 }
 
-// The first of the endpoint.
+// Returns the endpoint's first label.
 fn first_of<'a>(names: &'a [Named], guess: usize, endpoint: Endpoint) -> Option<&'a Named>
     requires { IsStrictlySortedBy named_cmp names.now }
     ensures { option_copied result ≡ find (holds_endpoint endpoint) names.now }
@@ -105,7 +105,7 @@ fn first_of<'a>(names: &'a [Named], guess: usize, endpoint: Endpoint) -> Option<
     }
 }
 
-// Whether a label stands behind the one at the index.
+// Whether the label comes after the one at the index.
 fn is_behind_nth(names: &[Named], index: usize, named: &Named) -> bool
     ensures { result ≡ option_map_or (is_label_behind named.now) (slice_get names.now index) false }
 {
@@ -115,8 +115,8 @@ fn is_behind_nth(names: &[Named], index: usize, named: &Named) -> bool
     }
 }
 
-// Whether as many labels stand before the label as the index says: it is behind the one before the index, and not behind the one
-// there.
+// Whether the index is the label's place: it comes after the one before the index, and not after the one at the
+// index.
 fn is_place(names: &[Named], place: usize, named: &Named) -> bool
     requires { IsStrictlySortedBy named_cmp names.now }
     ensures { result ≡ true → (place ≤ length names.now) × IsLabelPlace named.now names.now place }
@@ -127,7 +127,7 @@ fn is_place(names: &[Named], place: usize, named: &Named) -> bool
     !is_behind_nth(names, place, named)
 }
 
-// How many stand before the label.
+// Returns how many labels come before this one.
 fn place_of(names: &[Named], guess: usize, named: &Named) -> usize
     requires { IsStrictlySortedBy named_cmp names.now }
     ensures bound { result ≤ length names.now }
@@ -139,7 +139,7 @@ fn place_of(names: &[Named], guess: usize, named: &Named) -> usize
     names.partition_point(|other| is_behind(named, other))
 }
 
-// One label more. With room it takes no memory. It tells where it stands now.
+// Inserts a label, for which there is capacity, and returns its index.
 fn add(names: &mut Vec<Named>, guess: usize, named: Named) -> usize
     requires sorted { IsStrictlySortedBy named_cmp names.old.items }
     requires room { vec_len names.old < vec_capacity names.old }
@@ -151,7 +151,7 @@ fn add(names: &mut Vec<Named>, guess: usize, named: Named) -> usize
     place
 }
 
-// Whether a label can take the place at the index: it is behind the one before it, and not behind the next one.
+// Whether a label may replace the one at the index: it comes after the one before, and not after the next one.
 fn stays(names: &[Named], index: usize, named: &Named) -> bool
     requires sorted { IsStrictlySortedBy named_cmp names.now }
     requires within { index < length names.now }
@@ -163,7 +163,8 @@ fn stays(names: &[Named], index: usize, named: &Named) -> bool
     !is_behind_nth(names, index + 1, named)
 }
 
-// The one label in place of the other, where it belongs. It takes no memory. It tells from where to where labels moved.
+// Replaces one label with another, and puts it at its place. It allocates nothing, and returns the range of indices
+// whose labels moved.
 fn replace(names: &mut Vec<Named>, guess: usize, before: &Named, after: Named) -> Range<usize>
     requires sorted { IsStrictlySortedBy named_cmp names.old.items }
     requires listed { Contains names.old.items before.now }
@@ -180,7 +181,7 @@ fn replace(names: &mut Vec<Named>, guess: usize, before: &Named, after: Named) -
 }
 
 impl Index {
-    /// No labels. It takes no memory.
+    /// Returns an empty index. It allocates nothing.
     pub(crate) fn new(alloc: Global) -> Index
         ensures { result.names ≡ [] }
     {
@@ -190,7 +191,7 @@ impl Index {
         }
     }
 
-    /// Makes room for one label more.
+    /// Reserves memory for one more label.
     pub(crate) fn reserve(&mut self) -> Result<(), NoRoom>
         ensures names { self.new.names ≡ self.old.names }
         ensures room { OnOk result (length self.new.names < self.new.room) }
@@ -199,7 +200,7 @@ impl Index {
         Ok(())
     }
 
-    /// Lists one label more, for which there is room.
+    /// Inserts a label, for which memory is reserved.
     pub(crate) fn add(&mut self, named: Named)
         requires room { length self.old.names < self.old.room }
         requires new { Contains self.old.names named → ⊥ }
@@ -210,7 +211,7 @@ impl Index {
         self.begins.look(&self.names, place..self.names.len());
     }
 
-    /// Lists the one label in place of the other. It takes no memory.
+    /// Replaces one label with another. It allocates nothing.
     pub(crate) fn replace(&mut self, before: &Named, after: Named)
         requires listed { Contains self.old.names before.now }
         requires lone { Contains self.old.names after → after ≡ before.now }
@@ -221,7 +222,7 @@ impl Index {
         self.begins.look(&self.names, moved);
     }
 
-    /// The least name of an endpoint.
+    /// Returns the least name of an endpoint.
     #[inline(always)]
     pub(crate) fn name_of(&self, endpoint: Endpoint) -> Option<&Name>
         ensures first { option_copied result ≡ option_map (λ (p : Named). p.name) (find (holds_endpoint endpoint) self.now.names) }

@@ -1,4 +1,4 @@
-//! Holders of changes and floors that name endpoints.
+//! Holders of changes and floors that find the name of an endpoint.
 
 ghost use Rattle.std.specs.Prelude.{◌≡◌, Ok, None, length, IfOk, OnOk, OnErr};
 ghost use Rattle.std.specs.Option.{option_copied};
@@ -23,7 +23,7 @@ use std::marker::Model;
 
 mod putting;
 
-/// What a [`Marked`] holds, with the endpoint of each held label.
+/// What a [`Marked`] holds, with an index of the held labels by endpoint.
 #[derive(Drop)]
 pub struct Indexed<M> {
     marked: Marked<M>,
@@ -45,7 +45,7 @@ impl<M> Model for Indexed<M> {
 }
 
 impl<M: Drop> Indexed<M> {
-    /// A holder of nothing, with these limits. It takes no memory.
+    /// Returns an empty holder with these limits. It allocates nothing.
     pub fn bounded(alloc: Global, limits: Limits) -> Indexed<M>
         ensures { result ≡ nothing_marked limits }
     {
@@ -55,7 +55,7 @@ impl<M: Drop> Indexed<M> {
         }
     }
 
-    /// What is held, without the marks.
+    /// Returns what is held, without the marks.
     pub fn held(&self) -> &Held
         ensures value { result.now ≡ self.now.held }
         ensures sound { IsSound self.now.held }
@@ -64,16 +64,16 @@ impl<M: Drop> Indexed<M> {
         self.marked.held()
     }
 
-    /// What is held, with its marks.
+    /// Returns what is held, with its marks.
     pub fn marked(&self) -> &Marked<M>
         ensures { result.now ≡ self.now }
     {
         &self.marked
     }
 
-    /// The least name whose live label holds an endpoint. It takes no memory, and asks no other key.
+    /// Returns the least name whose live label has the endpoint. It allocates nothing, and looks at no other key.
     ///
-    /// MINIX 3's DS names an endpoint by whichever label it finds first; that it is the least one is of this project.
+    /// MINIX 3's DS returns whichever label it finds first. To return the least one is this project's.
     #[inline(always)]
     pub fn name_of(&self, endpoint: Endpoint) -> Option<&Name>
         ensures { option_copied result ≡ first_name_of endpoint (held_changes self.now.held) }
@@ -82,8 +82,8 @@ impl<M: Drop> Indexed<M> {
         self.index.name_of(endpoint)
     }
 
-    /// Puts a change that is to be taken, and its mark, at their place, as [`Marked::put_at`] does. The change of a held label takes
-    /// no memory for its endpoint.
+    /// Puts a change that is to be taken, and its mark, at their place, as [`Marked::put_at`] does. For a held label,
+    /// the index allocates nothing.
     pub fn put_at(
         &mut self,
         place: Result<usize, usize>,
@@ -101,8 +101,8 @@ impl<M: Drop> Indexed<M> {
         put_indexed(&mut self.marked, &mut self.index, place, change, mark)
     }
 
-    /// Puts a floor that is to be taken, and its mark, at their place, as [`Marked::raise_at`] does, and tells how many puts it
-    /// dropped. It drops no label.
+    /// Puts a floor that is to be taken, and its mark, at their place, as [`Marked::raise_at`] does. Returns how many
+    /// puts it dropped. It drops no label.
     pub fn raise_at(
         &mut self,
         place: Result<usize, usize>,
@@ -121,8 +121,8 @@ impl<M: Drop> Indexed<M> {
         self.marked.raise_at(place, floor, mark)
     }
 
-    /// Another mark for the change at an index, in the order of the keys. It takes no memory, and changes nothing behind the
-    /// last one.
+    /// Replaces the mark of the change at an index, in the order of the keys. It allocates nothing, and does nothing
+    /// past the end.
     pub fn set_mark(&mut self, index: usize, mark: M)
         ensures held { self.new.held ≡ self.old.held }
         ensures marks { self.new.marks ≡ remarked_at self.old index mark }
@@ -131,8 +131,8 @@ impl<M: Drop> Indexed<M> {
         self.marked.set_mark(index, mark);
     }
 
-    /// Another mark for the floor at an index, in the order of the owners' names. It takes no memory, and changes nothing
-    /// behind the last one.
+    /// Replaces the mark of the floor at an index, in the order of the owners' names. It allocates nothing, and does
+    /// nothing past the end.
     pub fn set_floor_mark(&mut self, index: usize, mark: M)
         ensures held { self.new.held ≡ self.old.held }
         ensures marks { self.new.marks ≡ self.old.marks }

@@ -1,7 +1,7 @@
 //! What is held, with marks beside it, and the names of endpoints.
 //!
-//! MINIX 3's data store (DS) is asked by an endpoint which label holds it, and looks through all its entries for
-//! one. Here the labels are listed by endpoint as they come, so that one search answers.
+//! MINIX 3's data store (DS) finds the label of an endpoint by looking through all its entries. Here labels are kept
+//! in an index by endpoint, so one search finds it.
 #![tactic(auto)]
 
 mod begins;

@@ -10,14 +10,14 @@ use ds_entry::{Body, Change, Value};
 use ds_names::{Endpoint, Name};
 use std::cmp::Ordering;
 
-/// A label's name with the endpoint that it holds, if it is live.
+/// A label's name, and the endpoint that it has if it is live.
 #[derive(Clone, Copy)]
 pub(crate) struct Named {
     pub endpoint: Option<Endpoint>,
     pub name: Name,
 }
 
-// The slot and one more, or 0 without an endpoint.
+// Returns the slot plus 1, or 0 without an endpoint.
 fn slot_of(endpoint: &Option<Endpoint>) -> u16
     ensures { result ≡ slot_of endpoint.now }
 {
@@ -27,7 +27,7 @@ fn slot_of(endpoint: &Option<Endpoint>) -> u16
     }
 }
 
-// The generation, or 0 without an endpoint.
+// Returns the generation, or 0 without an endpoint.
 fn generation_of(endpoint: &Option<Endpoint>) -> u32
     ensures { result ≡ generation_of endpoint.now }
 {
@@ -37,7 +37,7 @@ fn generation_of(endpoint: &Option<Endpoint>) -> u32
     }
 }
 
-// By slot, then by generation; before all endpoints comes none.
+// Compares by slot, then by generation; `None` comes before all endpoints.
 fn compare_endpoints(a: &Option<Endpoint>, b: &Option<Endpoint>) -> Ordering
     ensures { result ≡ holder_cmp a.now b.now }
 {
@@ -48,7 +48,7 @@ fn compare_endpoints(a: &Option<Endpoint>, b: &Option<Endpoint>) -> Ordering
     }
 }
 
-// Whether the label stands behind the other one, where both have one slot: by generation, then by name.
+// Whether the label comes after the other one of the same slot: by generation, then by name.
 fn is_behind_in_slot(named: &Named, other: &Named) -> bool
     ensures { result ≡ is_behind_in_slot named.now other.now }
 {
@@ -59,7 +59,7 @@ fn is_behind_in_slot(named: &Named, other: &Named) -> bool
     }
 }
 
-/// Whether the label stands behind the other one. Most labels have slots of their own, which tell it.
+/// Whether the label comes after the other one. Most labels have slots of their own, so comparing the slots suffices.
 #[tactic(auto, using(crate::proofs::NamedLemmas::slots_tell, crate::proofs::NamedLemmas::slots_agree))]
 pub(crate) fn is_behind(named: &Named, other: &Named) -> bool
     ensures { result ≡ is_label_behind named.now other.now }
@@ -72,7 +72,7 @@ pub(crate) fn is_behind(named: &Named, other: &Named) -> bool
     is_behind_in_slot(named, other)
 }
 
-/// Whether the labels of the endpoint begin behind this one.
+/// Whether the labels of the endpoint begin after this one.
 pub(crate) fn begins_behind(endpoint: Endpoint, named: &Named) -> bool
     ensures { result ≡ begins_behind endpoint named.now }
 {
@@ -82,7 +82,7 @@ pub(crate) fn begins_behind(endpoint: Endpoint, named: &Named) -> bool
     )
 }
 
-/// Whether the label holds the endpoint.
+/// Whether the label has the endpoint.
 pub(crate) fn is_of(endpoint: Endpoint, named: &Named) -> bool
     ensures { result ≡ holds_endpoint endpoint named.now }
 {
@@ -92,7 +92,7 @@ pub(crate) fn is_of(endpoint: Endpoint, named: &Named) -> bool
     }
 }
 
-/// The endpoint that a change leaves.
+/// Returns the endpoint that a change leaves.
 pub(crate) fn endpoint_in(change: &Change) -> Option<Endpoint>
     ensures { result ≡ endpoint_left change.now }
 {
@@ -102,7 +102,7 @@ pub(crate) fn endpoint_in(change: &Change) -> Option<Endpoint>
     }
 }
 
-/// Whether the label at the index is the first of its slot among labels in their order.
+/// Whether the label at the index is the first of its slot, among labels in order.
 pub(crate) fn is_first_of_slot(names: &[Named], index: usize) -> bool {
     let Some(named) = names.get(index) else {
         return false;

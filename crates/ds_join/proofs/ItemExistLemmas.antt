@@ -1,5 +1,5 @@
--- Items whose changes of a key that aren't void have one owner, as they come, have a top: put them into their places one
--- by one.
+-- Items have a top if, in order of arrival, the changes of each key that aren't void have one owner: insert them at
+-- their places one by one.
 use Rattle.std.proofs.Common.{◌≡◌, Bool, true, false, cond, not, List, [], ◌∷◌, ◌++◌, fold, append_assoc, append-nil, refl, sym, ap, ◌∙◌, subst, inl, inr, ◌⊎◌}
 use Rattle.std.specs.declared.cmp.Ordering.TheVariants.{Less, Equal}
 use Rattle.std.specs.Ordering.{is_lt}
@@ -67,7 +67,7 @@ inserted-in_order c (d ∷ ds) s n = by_test (is_lt (item_cmp c d)) refl (insert
     by_test true e rest = let l : item_cmp c d ≡ Less = less_is (item_cmp c d) e in ((l, below_further c d ds l s.0), s)
     by_test false e rest = (below_inserted d c ds (items_total.antisymm d c ∙ turned (item_cmp c d) e (n d (inl refl))) s.0, rest)
 
--- where no held floor makes a change void, none of the set does
+-- If no held floor voids a change, none of the set does.
 not_void : (set held : List Item) → IsTop held set → (c : ChangeRecord) → ((x : Item) → Contains held x → voids_it c x ≡ false) → is_void set c ≡ false
 not_void set held t c none = by_test (is_void set c) refl
   where
@@ -187,17 +187,20 @@ top_of_all held set [] owners t = subst (IsTop held) (sym (append-nil set)) t
 top_of_all held set (c ∷ more) owners t =
     let grouped : (set ++ c ∷ []) ++ more ≡ set ++ c ∷ more = append_assoc set (c ∷ []) more in
     let first : FitsOwners set c = subst (λ l. FitsOwners l c) (append-nil set) (owners [] more c refl) in
-    let later : (front back : List Item) (i : Item) → more ≡ front ++ i ∷ back → FitsOwners ((set ++ c ∷ []) ++ front) i = λ front back i q. subst (λ l. FitsOwners l i) (sym (append_assoc set (c ∷ []) front)) (owners (c ∷ front) back i (ap (λ l. c ∷ l) q)) in
+    let later : (front back : List Item) (i : Item) → more ≡ front ++ i ∷ back →
+    FitsOwners ((set ++ c ∷ []) ++ front) i = λ front back i q. subst (λ l. FitsOwners l i) (sym (append_assoc set (c ∷ []) front))
+    (owners (c ∷ front) back i (ap (λ l. c ∷ l) q)) in
     subst (IsTop (fold held_after (held_after held c) more)) grouped (top_of_all (held_after held c) (set ++ c ∷ []) more later (top_held_after c held set first t))
 
 pub tops_is_top : TopsIsTop
 tops_is_top items owners = top_of_all [] [] items owners top_of_nothing
 
--- a single-numbered list has one owner a key, in whatever order it comes
+-- In a single-numbered list each key has one owner, in any order of arrival.
 pub single_in_turn : (set : List Item) → AreSingleNumbered set → HasOneOwnerInTurn set
 single_in_turn set n front back (Floored f) q = tt
 single_in_turn set n front back (Changed c) q =
-    λ d h v w e. n.one_owner c d (subst (λ l. Contains l (Changed c)) (sym q) (Contains-append_right front (Changed c ∷ back) (Changed c) (Contains-head (Changed c) back))) (subst (λ l. Contains l (Changed d)) (sym q) (Contains-append_left front (Changed c ∷ back) (Changed d) h)) e
+    λ d h v w e. n.one_owner c d (subst (λ l. Contains l (Changed c)) (sym q) (Contains-append_right front (Changed c ∷ back) (Changed c) (Contains-head (Changed c) back)))
+    (subst (λ l. Contains l (Changed d)) (sym q) (Contains-append_left front (Changed c ∷ back) (Changed d) h)) e
 
 pub top_exists : TopExists
 top_exists set single = (tops set, tops_is_top set (single_in_turn set single))

@@ -28,7 +28,7 @@ greatest_floor set held f t h = let j = t.greatest (Floored f) h in over j.0 j.1
     over (Changed d) k e = let n : false ≡ true = e in absurd (cc)
     over (Floored g) k e = let b = below f.owner g.owner f.generation g.generation e in (g, k, sym b.0, b.1)
 
--- nothing is held that a floor of the set makes void
+-- Nothing that a floor of the set voids is held.
 pub void_isnt_held : NothingVoidIsHeld
 void_isnt_held set held f c t h k = let j = t.greatest (Floored f) h in by_test j.0 j.1 j.2 (voids f c) refl
   where
@@ -37,7 +37,7 @@ void_isnt_held set held f c t h k = let j = t.greatest (Floored f) h in by_test 
     by_test (Changed d) l e true v = let n : false ≡ true = e in absurd (cc)
     by_test (Floored g) l e true v = let differ : true ≡ false = sym (covers-trans (Floored g) (Floored f) (Changed c) e v) ∙ t.none_void g c l k in absurd (cc)
 
--- a held item that another one of the set covers is that one
+-- A held item that another one of the set covers is equal to that one.
 held_is : (set held : List Item) → AreSingleNumbered set → IsTop held set → (c d : Item) → Contains held c → Contains set d → covers d c ≡ true → c ≡ d
 held_is set held n t c d h k q =
     let e = t.greatest d k in
@@ -75,7 +75,7 @@ swapped xs ys = part_union xs ys (ys ++ xs) (λ c h. Contains-append_right ys xs
 pub top_of_same : (held xs ys : List Item) → IsPartOf xs ys → IsPartOf ys xs → IsTop held xs → IsTop held ys
 top_of_same held xs ys f g t = record { in_order = t.in_order; among = λ c h. f c (t.among c h); greatest = λ c h. t.greatest c (g c h); none_void = t.none_void }
 
--- the top of a part that covers the whole is one of the whole
+-- The top of a part that covers the whole is a top of the whole.
 pub top_of_whole : (whole part held : List Item) → IsPartOf part whole → CoversAll part whole → IsTop held part → IsTop held whole
 top_of_whole whole part held f g t =
     record {
@@ -85,7 +85,7 @@ top_of_whole whole part held f g t =
       none_void = t.none_void;
     }
 
--- and where the items are single-numbered, the top of the whole is one of the part
+-- And if the items are single-numbered, the top of the whole is a top of the part.
 top_of_part : (whole part held : List Item) → AreSingleNumbered whole → IsPartOf part whole → CoversAll part whole → IsTop held whole → IsTop held part
 top_of_part whole part held n f g t =
     record {

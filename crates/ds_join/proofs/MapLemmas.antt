@@ -23,7 +23,7 @@ Entry = Key × ChangeRecord
 abbrev values_of : List Entry → List ChangeRecord
 values_of es = map (λ (e : Entry). e.1) es
 
--- a key that ties with one above another doesn't tie with that other
+-- A key that compares equal to one above another doesn't compare equal to that other.
 unlike : (x q y : Key) → eq_by_cmp key_cmp q y ≡ true → T (is_lt (key_cmp x y)) → eq_by_cmp key_cmp q x ≡ false
 unlike x q y tied less =
     elim (key_cmp q x) as (λ r. key_cmp q x ≡ r → is_eq r ≡ false) [
@@ -40,7 +40,7 @@ In-from_find q v (e ∷ es) h =
       | false ↦ λ s. inr (In-from_find q v es s)
     ] h
 
--- a key that stands in a list isn't one below all of the list
+-- A key in a list isn't below all of the list.
 pub apart : (x q : Key) (v : ChangeRecord) (es : List Entry) → T (below_all key_cmp x es) → find key_cmp q es ≡ Some v → eq_by_cmp key_cmp q x ≡ false
 apart x q v [] below h = absurd (cc)
 apart x q v (e ∷ es) below h =

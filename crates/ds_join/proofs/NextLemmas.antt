@@ -1,4 +1,4 @@
--- One change after the other, in the order of the keys.
+-- Changes one by one, in the order of the keys.
 use Rattle.std.proofs.Common.{◌≡◌, ℕ, zero, suc, ◌<◌, List, [], ◌∷◌, length, get_or, filter, Bool, true, false, cond, not, Option, Some, None, refl, sym, ap, ◌∙◌, subst, arith, Contains}
 use Rattle.std.proofs.lemmas.Option.{same_Some}
 use Rattle.std.specs.declared.cmp.Ordering.TheVariants.{Less, Greater}
@@ -59,7 +59,8 @@ left_after low (x ∷ xs) c sorted h =
     elim (comes_after low x) as (λ b. comes_after low x ≡ b → cond b (Some x) (find (comes_after low) xs) ≡ Some c → cond b (x ∷ filter (comes_after low) xs) (filter (comes_after low) xs) ≡ c ∷ filter (comes_after (Some c.key)) (x ∷ xs)) [
       | true ↦ λ t s. subst (λ (y : ChangeRecord). x ∷ filter (comes_after low) xs ≡ y ∷ filter (comes_after (Some y.key)) (x ∷ xs)) (same_Some x c s) (ap (λ l. x ∷ l) (
           filter_all (comes_after low) xs (λ d i. after_through low x.key d.key t (rest_after x xs sorted d i))
-          ∙ sym (ap (λ r. cond (is_lt r) (x ∷ filter (comes_after (Some x.key)) xs) (filter (comes_after (Some x.key)) xs)) (tied_itself keys_total x.key) ∙ filter_all (comes_after (Some x.key)) xs (λ d i. ap is_lt (rest_after x xs sorted d i)))))
+          ∙ sym (ap (λ r. cond (is_lt r) (x ∷ filter (comes_after (Some x.key)) xs) (filter (comes_after (Some x.key)) xs)) (tied_itself keys_total x.key) ∙
+          filter_all (comes_after (Some x.key)) xs (λ d i. ap is_lt (rest_after x xs sorted d i)))))
       | false ↦ λ t s.
           left_after low xs c (rest_in_order x xs sorted) s
           ∙ ap (λ l. c ∷ l) (sym (ap (λ r. cond (is_lt r) (x ∷ filter (comes_after (Some c.key)) xs) (filter (comes_after (Some c.key)) xs)) (turned_less x.key c.key (rest_after x xs sorted c (found_among (comes_after low) xs c s)))))
@@ -67,7 +68,7 @@ left_after low (x ∷ xs) c sorted h =
 
 -- ---- the first that comes after a key
 
--- what is before a key that doesn't come after another doesn't either
+-- A key before one that doesn't come after another doesn't either.
 not_after_down : (low : Option Key) (a b : Key) → key_cmp a b ≡ Less → not (is_after b low) ≡ true → not (is_after a low) ≡ true
 not_after_down low a b less h = by_test (is_after a low) refl
   where
@@ -80,7 +81,7 @@ at P [] j d a l = absurd (omega (arith, l))
 at P (x ∷ xs) zero d a l = a.0
 at P (x ∷ xs) (suc j) d a l = at P xs j d a.1 (omega (arith, l))
 
--- those that don't come after a key stand in front
+-- Those that don't come after a key are at the front.
 pub after_partitioned : (low : Option Key) (xs : List ChangeRecord) → IsStrictlySortedBy change_cmp xs → IsPartitionedBy (λ (c : ChangeRecord). not (comes_after low c)) xs
 unfolding IsStrictlySortedBy
 after_partitioned low [] s i j d l w h = absurd (omega (arith, w))
@@ -89,7 +90,7 @@ after_partitioned low (x ∷ xs) s zero (suc j) d l w h = not_after_down low x.k
 after_partitioned low (x ∷ xs) s (suc i) zero d l w h = absurd (omega (arith, l))
 after_partitioned low (x ∷ xs) s (suc i) (suc j) d l w h = after_partitioned low xs s.1 i j d (omega (arith, l)) (omega (arith, w)) h
 
--- behind those that fail a test stands the first that passes it
+-- After those that fail a test comes the first that passes it.
 pub first_behind : (p : ChangeRecord → Bool) (xs : List ChangeRecord) (i : ℕ) → IsPartitionPoint (λ y. not (p y) ≡ true) (λ y. not (p y) ≡ false) xs i → slice_get xs i ≡ find p xs
 first_behind p [] i h = refl
 first_behind p (x ∷ xs) zero h = by_test (p x) refl

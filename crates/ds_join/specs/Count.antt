@@ -1,4 +1,4 @@
--- How items are counted.
+-- Counting items by their outcome.
 use Rattle.std.specs.Prelude.{◌+◌, ◌≤◌, ◌<◌, ◌^◌, Option, Some, None}
 use Rattle.ds_join.specs.declared.merge.Merge.{Merge}
 use Rattle.ds_join.specs.declared.merge.Merge.TheVariants.{Taken, Known, Stale}
@@ -6,23 +6,23 @@ use Rattle.ds_join.specs.declared.merge.JoinFault.{JoinFault}
 use Rattle.ds_join.specs.declared.merge.Stop.{Stop}
 use Rattle.ds_join.specs.declared.count.Count.{Count}
 
--- no item came
+-- The count of no items.
 abbrev pub none_counted : Count
 none_counted = record { done = 0; taken = 0; stale = 0 }
 
--- one more item is done, and it was taken, or stale, or neither
+-- The count with one more item, which was taken, stale, or neither.
 abbrev pub counted : Count → Option Merge → Count
 counted n (Some Taken) = record { done = n.done + 1; taken = n.taken + 1; stale = n.stale }
 counted n (Some Stale) = record { done = n.done + 1; taken = n.taken; stale = n.stale + 1 }
 counted n (Some Known) = record { done = n.done + 1; taken = n.taken; stale = n.stale }
 counted n None = record { done = n.done + 1; taken = n.taken; stale = n.stale }
 
--- no more were taken, or stale, than are done, and one more can be counted
+-- Whether no more items are taken, or stale, than are done, and the counters have room for one more.
 pub record CanCountOne (n : Count) : Type 0 where
   pub taken : n.taken ≤ n.done
   pub stale : n.stale ≤ n.done
   pub done : n.done + 1 < 2 ^ 64
 
--- the stop behind so many items, for this fault
+-- The stop after the counted items, with this fault.
 abbrev pub stop_behind : Count → JoinFault → Stop
 stop_behind n fault = record { done = n.done; fault = fault }

@@ -6,16 +6,16 @@ use Rattle.ds_entry.specs.declared.floor.Floor.{Floor}
 use Rattle.ds_entry.specs.declared.item.Item.{Item}
 use Rattle.ds_entry.specs.declared.item.Item.TheVariants.{Change as Changed, Floor as Floored}
 
--- a floor of the owner is among the items that isn't below this one
+-- Whether a floor of the owner that isn't below this one is among the items.
 abbrev pub IsFloorKept : List Item → Floor → Type 0
 IsFloorKept items f = (g : Floor) × Contains items (Floored g) × (g.owner ≡ f.owner) × (f.generation ≤ g.generation)
 
--- no change is among the items that the floor makes void: none of the owner, of another kind than label, with an epoch up to
--- the floor's generation
+-- Whether the floor voids no change among the items: none of its owner, except labels, has an epoch up to its
+-- generation.
 abbrev pub IsDropped : List Item → Floor → Type 0
 IsDropped items f = (c : ChangeRecord) → Contains items (Changed c) → voids f c ≡ false
 
--- the floor, or a higher one of its owner, is held, and nothing that it makes void is
+-- Whether the floor, or a higher one of its owner, is held, and nothing that it voids is.
 pub record FloorStands (held : List Item) (f : Floor) : Type 0 where
   pub kept : IsFloorKept held f
   pub dropped : IsDropped held f

@@ -1,10 +1,10 @@
--- The join of what two holders of items hold, and its laws.
+-- The join of what two holders hold, and its laws.
 use Rattle.std.specs.Prelude.{List, ◌++◌}
 use Rattle.ds_entry.specs.ItemCovers.{AreSingleNumbered}
 use Rattle.ds_entry.specs.declared.item.Item.{Item}
 use Rattle.ds_join.specs.ItemTop.{IsTop, CoversAll}
 
--- the top of all that is in either
+-- Whether `joined` is the top of all that is in either.
 abbrev pub IsJoin : List Item → List Item → List Item → Type 0
 IsJoin joined xs ys = IsTop joined (xs ++ ys)
 
@@ -12,13 +12,15 @@ abbrev pub JoinIsCommutative : Type 0
 JoinIsCommutative = (xs ys joined : List Item) → IsJoin joined xs ys → IsJoin joined ys xs
 
 abbrev pub JoinIsAssociative : Type 0
-JoinIsAssociative = (xs ys zs left right joined : List Item) → AreSingleNumbered (xs ++ (ys ++ zs)) → IsJoin left xs ys → IsJoin right ys zs → IsJoin joined left zs → IsJoin joined xs right
+JoinIsAssociative =
+    (xs ys zs left right joined : List Item) → AreSingleNumbered (xs ++ (ys ++ zs)) → IsJoin left xs ys → IsJoin right ys zs →
+    IsJoin joined left zs → IsJoin joined xs right
 
--- of a set that is its own top
+-- A law: the join of a top with itself is that top.
 abbrev pub JoinIsIdempotent : Type 0
 JoinIsIdempotent = (xs : List Item) → IsTop xs xs → IsJoin xs xs xs
 
--- it covers whatever either side holds, and whatever does so covers it
+-- Whether `joined` covers everything that either side holds, and whatever does so covers it.
 pub record IsLeastAbove (joined xs ys : List Item) : Type 0 where
   pub left : CoversAll joined xs
   pub right : CoversAll joined ys

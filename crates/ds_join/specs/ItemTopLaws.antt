@@ -8,38 +8,44 @@ use Rattle.ds_entry.specs.declared.item.Item.{Item}
 use Rattle.ds_entry.specs.declared.item.Item.TheVariants.{Change as Changed, Floor as Floored}
 use Rattle.ds_join.specs.ItemTop.{IsTop, tops, HasOneOwnerInTurn}
 
--- a single-numbered set has a top
+-- A law: a single-numbered set has a top.
 abbrev pub TopExists : Type 0
 TopExists = (set : List Item) → AreSingleNumbered set → (held : List Item) × IsTop held set
 
--- and only one
+-- A law: it has only one.
 abbrev pub TopIsUnique : Type 0
 TopIsUnique = (set held other : List Item) → AreSingleNumbered set → IsTop held set → IsTop other set → held ≡ other
 
--- what is held is its own top
+-- A law: what is held is its own top.
 abbrev pub HeldIsItsTop : Type 0
 HeldIsItsTop = (held set : List Item) → IsTop held set → IsTop held held
 
--- a floor of the owner is held that isn't below any of the set
+-- A law: a floor of the owner is held that isn't below any of the set.
 abbrev pub GreatestFloorIsHeld : Type 0
-GreatestFloorIsHeld = (set held : List Item) (f : Floor) → IsTop held set → Contains set (Floored f) → (g : Floor) × Contains held (Floored g) × (g.owner ≡ f.owner) × (f.generation ≤ g.generation)
+GreatestFloorIsHeld =
+    (set held : List Item) (f : Floor) → IsTop held set → Contains set (Floored f) →
+    (g : Floor) × Contains held (Floored g) × (g.owner ≡ f.owner) × (f.generation ≤ g.generation)
 
--- what a floor of the set makes void isn't held, early or late as it came
+-- A law: what a floor of the set voids isn't held, whether it arrived early or late.
 abbrev pub NothingVoidIsHeld : Type 0
-NothingVoidIsHeld = (set held : List Item) (f : Floor) (c : ChangeRecord) → IsTop held set → Contains set (Floored f) → Contains held (Changed c) → voids f c ≡ false
+NothingVoidIsHeld =
+    (set held : List Item) (f : Floor) (c : ChangeRecord) → IsTop held set → Contains set (Floored f) → Contains held (Changed c) →
+    voids f c ≡ false
 
--- `tops` gives a top of every list in which the changes of a key that aren't void have one owner, as they come
+-- A law: `tops` returns a top of every list in which, in order of arrival, the changes of a key that aren't void have
+-- one owner.
 abbrev pub TopsIsTop : Type 0
 TopsIsTop = (items : List Item) → HasOneOwnerInTurn items → IsTop (tops items) items
 
--- the top of top(X) and Y is one of X and Y
+-- A law: the top of top(X) and Y is a top of X and Y.
 abbrev pub TopOfTop : Type 0
 TopOfTop = (xs ys top joined : List Item) → IsTop top xs → IsTop joined (top ++ ys) → IsTop joined (xs ++ ys)
 
--- and where the items are single-numbered, the top of X and Y is one of top(X) and Y
+-- A law: if the items are single-numbered, the top of X and Y is a top of top(X) and Y.
 abbrev pub TopOfUnion : Type 0
-TopOfUnion = (xs ys top joined : List Item) → AreSingleNumbered (xs ++ ys) → IsTop top xs → IsTop joined (xs ++ ys) → IsTop joined (top ++ ys)
+TopOfUnion =
+    (xs ys top joined : List Item) → AreSingleNumbered (xs ++ ys) → IsTop top xs → IsTop joined (xs ++ ys) → IsTop joined (top ++ ys)
 
--- the top of all known items that a known one covers is that one alone
+-- A law: the top of all known items that a known one covers is that one alone.
 abbrev pub TopOfCovered : Type 0
 TopOfCovered = (i : Item) (known : List Item) → Contains known i → IsTop (i ∷ []) (covered_by i known)

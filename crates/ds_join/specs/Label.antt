@@ -8,15 +8,15 @@ use Rattle.ds_entry.specs.declared.body.Value.TheVariants as values
 use Rattle.ds_entry.specs.Change.{ChangeRecord}
 use Rattle.ds_entry.specs.Left.{value_of}
 
--- the value is the label of the endpoint
+-- Whether the value is the label of the endpoint.
 abbrev pub is_label_of : EndpointRecord → Option Value → Bool
 is_label_of e (Some (values.Label d)) = is_same_endpoint d e
 is_label_of e _ = false
 
--- the change leaves a live label that holds the endpoint
+-- Whether the change leaves a live label with the endpoint.
 abbrev pub names_endpoint : EndpointRecord → ChangeRecord → Bool
 names_endpoint e c = is_label_of e (value_of c)
 
--- the name of the first of the changes that leaves such a label
+-- The name of the first of the changes that leaves such a label.
 abbrev pub first_name_of : EndpointRecord → List ChangeRecord → Option (List ℕ)
 first_name_of e changes = option_map (λ (c : ChangeRecord). c.key.name) (find (names_endpoint e) changes)

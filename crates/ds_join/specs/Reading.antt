@@ -5,11 +5,11 @@ use Rattle.ds_names.specs.declared.key.Key.{Key}
 use Rattle.ds_names.specs.Key.{key_cmp}
 use Rattle.ds_entry.specs.Change.{ChangeRecord}
 
--- the key comes after another one; each comes after none
+-- Whether the key comes after `low`; every key comes after `None`.
 abbrev pub is_after : Key → Option Key → Bool
 is_after key None = true
 is_after key (Some low) = is_lt (key_cmp low key)
 
--- the change's key does
+-- Whether the change's key comes after `low`.
 abbrev pub comes_after : Option Key → ChangeRecord → Bool
 comes_after low c = is_after c.key low

@@ -1,26 +1,26 @@
-//! How items that came are counted.
+//! Counting items by their outcome.
 
 ghost use Rattle.std.specs.Prelude.{◌≡◌};
 ghost use Rattle.ds_join.specs.Count.{counted, none_counted, stop_behind, CanCountOne};
 
 use crate::merge::{JoinFault, Merge, Stop};
 
-/// What became of items that came one after the other, to a map or by a delivery. Those that were neither taken nor stale were
-/// known, or passed over as not under a map's query.
+/// The outcomes of items that reached a map or a delivery in order. Those that are neither taken nor stale were
+/// known, or skipped because they aren't under the map's query.
 #[derive(Clone, Copy, Debug, PartialEq, Eq)]
 pub struct Count {
-    /// How many items came, those too that were passed over.
+    /// How many items are done, including those that were skipped.
     pub done: usize,
-    /// How many took effect: changes of which nothing was held, or a smaller version, and floors above the one that was held
-    /// of their owner.
+    /// How many took effect: changes of keys for which nothing or a smaller version was held, and floors of owners with
+    /// none or a lower one.
     pub taken: usize,
-    /// How many were stale: a greater version was held, or a floor that makes the change void, or a higher floor of the same
-    /// owner.
+    /// How many were stale: a greater version was held, or a floor that voids the change, or a higher floor of the
+    /// same owner.
     pub stale: usize,
 }
 
 impl Count {
-    /// Of no items.
+    /// Returns the count of no items.
     pub fn none() -> Count
         ensures { result ≡ none_counted }
     {
@@ -31,7 +31,7 @@ impl Count {
         }
     }
 
-    /// Counts one more item, by the answer to it where it was merged or raised, `None` where it was passed over.
+    /// Counts one more item, by its answer, or `None` if it was skipped.
     pub fn add(&mut self, answer: Option<Merge>)
         requires { CanCountOne self.old }
         ensures { self.new ≡ counted self.old answer }
@@ -44,7 +44,7 @@ impl Count {
         }
     }
 
-    /// The stop behind so many items, at the next one.
+    /// Returns the stop at the next item, with this fault.
     pub fn stop(&self, fault: JoinFault) -> Stop
         ensures { result ≡ stop_behind self.now fault }
     {

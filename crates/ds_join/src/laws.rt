@@ -4,10 +4,12 @@ ghost use Rattle.ds_join.specs.ItemJoin.{JoinIsCommutative, JoinIsAssociative, J
 ghost use Rattle.ds_join.specs.ItemTopLaws.{TopExists, TopIsUnique, HeldIsItsTop, GreatestFloorIsHeld};
 ghost use Rattle.ds_join.specs.ItemTopLaws.{NothingVoidIsHeld, TopsIsTop, TopOfTop, TopOfUnion, TopOfCovered};
 
-/// The laws of tops of items: a single-numbered set has just one; what is held is its own; each owner's greatest floor
-/// is held, and nothing that a floor of the set makes void; `tops` gives it, where each change has the owner of those of
-/// its key that aren't void, as they come; of a union it can be had from the top of one side; and what an item covers of
-/// what is known has that item alone as its top.
+/// The laws of tops of items.
+///
+/// A single-numbered set has exactly one top. What is held is its own top. Each owner's greatest floor is held, and
+/// nothing that a floor of the set voids. `tops` computes a top if, in order of arrival, the changes of each key that
+/// aren't void have one owner. The top of a union can be computed from the top of one side. The known items that an
+/// item covers have that item alone as their top.
 pub fn item_top_laws()
     ensures exists { TopExists }
     ensures unique { TopIsUnique }

@@ -1,8 +1,9 @@
-//! What is held of a set of items: for each owner its greatest floor, and for each key the change with the greatest version that
-//! no floor makes void. The definitions and laws of such tops and of their joins, and what whoever merges answers.
+//! What is held of a set of items: of each owner its greatest floor, and of each key the change with the greatest
+//! version that no floor voids. Here are the definitions and laws of such tops and of their joins, and the answers of
+//! a merge.
 //!
-//! Merging is a join: what is held is the same, whatever the order and the repeats in which items come. MINIX 3's data store
-//! overwrites in order of arrival; versions, tombstones that stand beside puts, floors, and replicas that converge are of this
+//! Merging is a join: the result doesn't depend on the order in which items arrive, nor on repeats. MINIX 3's data
+//! store overwrites in order of arrival. Versions, tombstones, floors, and replicas that converge are of this
 //! project.
 #![tactic(auto)]
 

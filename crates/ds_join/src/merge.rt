@@ -1,23 +1,23 @@
-//! What a merge and a join answer.
+//! The answers of a merge and of a join.
 
 use ds_names::Version;
 use thiserror::Error;
 
-/// What became of a change or a floor that wasn't refused.
+/// The outcome of a change or a floor that wasn't refused.
 #[derive(Clone, Copy, Debug, PartialEq, Eq)]
 pub enum Merge {
-    /// It is held now. For a change's key nothing was held, or a smaller version of its owner; for a floor's owner no floor, or
-    /// a lower one.
+    /// It is held now. For the change's key, nothing or a smaller version of its owner was held; for the floor's
+    /// owner, no floor or a lower one.
     Taken,
     /// It was held already, and nothing changed.
     Known,
-    /// What is held goes further, and nothing changed: a greater version of the change's owner, a floor that makes the change
-    /// void, or a higher floor of the floor's owner.
+    /// Something greater is held, and nothing changed: a greater version of the change's owner, a floor that voids
+    /// the change, or a higher floor of the floor's owner.
     Stale,
 }
 
-/// Why a change or a floor was refused, in the order in which the causes are judged. Nothing changed. A floor is refused for
-/// `Full` and `NoRoom` alone.
+/// Why a change or a floor was refused. Causes are judged in this order, and a refusal changes nothing. A floor is
+/// refused only as `Full` or `NoRoom`.
 #[derive(Clone, Copy, Debug, PartialEq, Eq, Error)]
 pub enum JoinFault {
     /// The change that is held for its key has another owner.
@@ -26,17 +26,18 @@ pub enum JoinFault {
     /// The change that is held for its key has the same version and another body.
     #[error("the key has another change of the same version")]
     Clash { version: Version },
-    /// Its key isn't held, and as many others are as may be, 4096 or 1024. Of a floor: its owner has none, and 64 others have.
+    /// The change's key isn't held, and as many others are as the limits allow, 4096 or 1024; or the floor's owner
+    /// has none, and 64 others have one.
     #[error("no more keys or floors can be held")]
     Full,
-    /// There was no memory for it: its key isn't held, or its owner has no floor, or, where someone else keeps it, it would be
-    /// taken and couldn't be copied.
+    /// Out of memory: its key isn't held, or its owner has no floor, or the change is borrowed, would be taken, and
+    /// couldn't be copied.
     #[error("out of memory")]
     NoRoom,
 }
 
-/// Where a join stopped: so many of the other's items were merged, floors in the order of their owners' names and then changes
-/// in the order of their keys, and the next one was refused.
+/// Where a join stopped: `done` of the other's items were merged, and the next one was refused. Floors come first, in
+/// the order of their owners' names, then changes in the order of their keys.
 #[derive(Clone, Copy, Debug, PartialEq, Eq, Error)]
 #[error("stopped after {done} items: {fault}")]
 pub struct Stop {

@@ -1,4 +1,4 @@
--- What it says that no cause stands against a change or a floor.
+-- What follows if no cause applies to a change or a floor.
 use Rattle.std.proofs.Common.{◌≡◌, ℕ, List, Option, Some, None, IfNone}
 use Rattle.ds_names.specs.Endpoint.{EndpointRecord}
 use Rattle.ds_entry.specs.Change.{ChangeRecord}

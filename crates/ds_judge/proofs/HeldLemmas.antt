@@ -1,4 +1,4 @@
--- The first cause by what is held for the key, and behind it what stands for want of room.
+-- The first cause by what is held for the key, and after it that of the limits.
 use Rattle.std.proofs.Common.{◌≡◌, ℕ, Bool, true, false, not, ◌&&◌, cond, List, ◌++◌, map, Option, Some, None, refl, ap, sym, ◌∙◌}
 use Rattle.std.proofs.lemmas.List.Folds.{find-append}
 use Rattle.std.specs.List.{find}
@@ -32,7 +32,8 @@ module _ (t : Standing) (c : ChangeRecord) (owner : List ℕ) (version : Version
   pub change_stands : (r : Option Cause) (cause : Cause) → r ≡ find (against_change t (change_of c.key owner version body)) (by_version (Some version)) → r ≡ Some cause → Some cause ≡ first_cause (Some c.version) (against_change t c)
   change_stands r cause e s = sym (in_front (against_change t c) (by_version (Some c.version)) (map causes.Refused by_room) cause (sym same ∙ sym e ∙ s))
 
-  pub change_left : (r : Option Cause) (room : Option Cause) → r ≡ find (against_change t (change_of c.key owner version body)) (by_version (Some version)) → r ≡ None → room ≡ cause_by_room t → room ≡ first_cause (Some c.version) (against_change t c)
+  pub change_left : (r : Option Cause) (room : Option Cause) → r ≡ find (against_change t (change_of c.key owner version body)) (by_version (Some version)) → r ≡ None →
+      room ≡ cause_by_room t → room ≡ first_cause (Some c.version) (against_change t c)
   change_left r room e s w =
       w ∙ sym (behind (against_change t c) (by_version (Some c.version)) (map causes.Refused by_room) (sym same ∙ sym e ∙ s))
 
@@ -47,7 +48,8 @@ module _ (t : Standing) (owner : List ℕ) (x : Asked) (body : Body) where
   abbrev a : AskedChange
   a = request_of x
 
-  pub asked_stands : (r : Option Cause) (cause : Cause) → r ≡ find (against_change t (change_of a.key owner a.version body)) (by_version (Some a.version)) → r ≡ Some cause → Some cause ≡ find (against_asked t (Some owner) a body) (by_held a.version)
+  pub asked_stands : (r : Option Cause) (cause : Cause) → r ≡ find (against_change t (change_of a.key owner a.version body)) (by_version (Some a.version)) → r ≡ Some cause →
+      Some cause ≡ find (against_asked t (Some owner) a body) (by_held a.version)
   asked_stands r cause e s = sym (in_front (against_asked t (Some owner) a body) (by_version (Some a.version)) (map causes.Refused by_room) cause (sym e ∙ s))
 
   module _ (r : Option Cause) (e : r ≡ find (against_change t (change_of a.key owner a.version body)) (by_version (Some a.version))) (n : r ≡ None) (need : Option Cause) (w : need ≡ cause_by_need x.need (is_live t.held)) where

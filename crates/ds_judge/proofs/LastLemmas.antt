@@ -1,4 +1,4 @@
--- What the machine answers of itself wants no memory.
+-- The machine's own answers need no memory.
 use Rattle.std.proofs.Common.{◌≢◌, ℕ, List, [], ◌∷◌, length, take, Option, Some, None, refl}
 use Rattle.std.specs.Option.{option_map, option_map_or}
 use Rattle.ds_names.specs.Endpoint.{EndpointRecord}
@@ -28,7 +28,7 @@ use Rattle.ds_machine.specs.declared.reply.Reply.TheVariants as replies
 use Rattle.ds_judge.specs.Last.{IsLast, OutcomesAreLast}
 use Rattle.ds_judge.proofs.RoomLemmas.{no_cause, no_refusal, no_course}
 
--- a reply that isn't want of memory, nor a merge that was stopped for it
+-- a reply that isn't lack of memory, nor a merge that stopped for it
 refused : (s : State) (command : Command) (r : Refusal) → r ≢ refusals.NoRoom → IsLast s command (replies.Refused r)
 refused s command refusals.NoRoom n = absurd (n refl)
 refused s command refusals.BadSub n = tt
@@ -59,8 +59,9 @@ some_refusal r n e = n (cc)
 some_cause : (r : Refusal) → Some (causes.Refused r) ≢ Some (causes.Refused refusals.NoRoom) → r ≢ refusals.NoRoom
 some_cause r n e = n (cc)
 
--- the answer where a refusal may stand, and what stands else is no want of memory
-or_refused : (s : State) (command : Command) (o : Option Refusal) → o ≢ Some refusals.NoRoom → (other : Reply × State) → IsLast s command other.0 → IsLast s command (option_map_or {U = Reply × State} (λ (r : Refusal). (replies.Refused r, s)) o other).0
+-- the answer if a refusal may apply that isn't lack of memory, and the answer otherwise isn't either
+or_refused : (s : State) (command : Command) (o : Option Refusal) → o ≢ Some refusals.NoRoom → (other : Reply × State) → IsLast s command other.0 →
+    IsLast s command (option_map_or {U = Reply × State} (λ (r : Refusal). (replies.Refused r, s)) o other).0
 or_refused s command None n other last = last
 or_refused s command (Some r) n other last = refused s command r (some_refusal r n)
 
@@ -75,7 +76,8 @@ asked s command a body = by_cause (cause_against s a body) (no_cause (Some a.ver
 swept : (s : State) (command : Command) (caller : EndpointRecord) (f : Floor) → IsLast s command (sweeping s caller f).0
 swept s command caller f = by_cause (sweep_cause s caller f) (no_cause None (against_sweep (floor_standing_of s f) caller f)) _ _ _
   where
-    by_cause : (o : Option Cause) → o ≢ Some (causes.Refused refusals.NoRoom) → (count other : ℕ) (t : State) → IsLast s command (option_map_or {U = Reply × State} (λ (cause : Cause). (sweep_answer cause, s)) o (replies.Swept count other, t)).0
+    by_cause : (o : Option Cause) → o ≢ Some (causes.Refused refusals.NoRoom) → (count other : ℕ) (t : State) →
+        IsLast s command (option_map_or {U = Reply × State} (λ (cause : Cause). (sweep_answer cause, s)) o (replies.Swept count other, t)).0
     by_cause None n count other t = tt
     by_cause (Some causes.Known) n count other t = tt
     by_cause (Some (causes.Refused r)) n count other t = by_refusal r (some_cause r n)
@@ -116,14 +118,16 @@ shown_last : (s : State) (command : Command) (sub : ℕ) (seer : Subscription) (
 shown_last s command sub seer [] = tt
 shown_last s command sub seer (i ∷ items) = tt
 
-checked_last : (s : State) (command : Command) (sub max : ℕ) (seer : Option Subscription) → IsLast s command (option_map_or {U = Reply × State} (λ (f : Subscription). shows s sub f (take max (unseen s f))) seer (replies.Refused refusals.NotFound, s)).0
+checked_last : (s : State) (command : Command) (sub max : ℕ) (seer : Option Subscription) →
+    IsLast s command (option_map_or {U = Reply × State} (λ (f : Subscription). shows s sub f (take max (unseen s f))) seer (replies.Refused refusals.NotFound, s)).0
 checked_last s command sub max None = tt
 checked_last s command sub max (Some f) = shown_last s command sub f (take max (unseen s f))
 
 merged_last : (s : State) (items : List Item) (k : Course) → k.stop ≢ Some refusals.NoRoom → IsLast s (Merge items) (merge_reply s k)
 merged_last s items k n = by_stop k.stop n k.done (length k.taken) k.stale (owed s k.taken)
   where
-    by_stop : (o : Option Refusal) → o ≢ Some refusals.NoRoom → (done taken stale owed : ℕ) → IsLast s (Merge items) (option_map_or {U = Reply} (λ (fault : Refusal). replies.MergeStopped done fault owed) o (replies.Merged done taken stale owed))
+    by_stop : (o : Option Refusal) → o ≢ Some refusals.NoRoom → (done taken stale owed : ℕ) →
+        IsLast s (Merge items) (option_map_or {U = Reply} (λ (fault : Refusal). replies.MergeStopped done fault owed) o (replies.Merged done taken stale owed))
     by_stop None m done taken stale owed = tt
     by_stop (Some refusals.NoRoom) m done taken stale owed = absurd (m refl)
     by_stop (Some (refusals.Clash v)) m done taken stale owed = tt

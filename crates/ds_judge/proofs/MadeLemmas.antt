@@ -1,4 +1,4 @@
--- What no cause stands against is a change.
+-- What no cause applies to is a change.
 use Rattle.std.proofs.Common.{◌≡◌, ℕ, ◌<◌, ◌≤◌, ◌^◌, Bool, true, false, not, ◌&&◌, ◌==◌, nat_le, List, ◌++◌, map, Option, Some, None, IfNone, refl, ap, ap₂, sym, ◌∙◌, arith, Contains}
 use Rattle.std.proofs.lemmas.Bool.Decides.{nat_tests}
 use Rattle.std.specs.Option.{unwrap_or}

@@ -1,4 +1,4 @@
--- Want of memory is no cause of the one order.
+-- Lack of memory isn't in the order of causes.
 use Rattle.std.proofs.Common.{◌≡◌, ◌≢◌, Bool, true, false, cond, ◌||◌, List, [], ◌∷◌, ◌++◌, map, fold, Option, Some, None, refl, sym, ap, ◌∙◌}
 use Rattle.std.proofs.lemmas.Option.{same_Some}
 use Rattle.std.specs.List.{find, list_any}
@@ -76,7 +76,7 @@ course_on k (i ∷ items) n = course_on (item_merged k i) items (merged_on k i n
 pub no_course : (s : State) (items : List Item) → (course s items).stop ≢ Some refusals.NoRoom
 no_course s items = course_on (begun s) items (λ e. cc)
 
--- ---- where a command with a scope may tell it
+-- ---- where a command with a scope may report it
 pub pattern_may : PatternMayLackRoom
 pattern_may All stands e = absurd e
 pattern_may (Under query) stands e = e

@@ -1,4 +1,4 @@
--- What a Subscribe and a Check meet, as the machine has it.
+-- What a Subscribe and a Check meet, in the machine's terms.
 use Rattle.std.specs.Prelude.{◌≡◌, ℕ, ◌<◌, ◌≤◌, Bool, ◌&&◌, cond, nat_le, Option, Some, None, is_some}
 use Rattle.ds_pattern.specs.declared.query.Query.{Query}
 use Rattle.ds_machine.specs.Calling as machine
@@ -9,23 +9,30 @@ use Rattle.ds_judge.specs.declared.subscribe.SubscribeCase.{SubscribeCase}
 use Rattle.ds_judge.specs.declared.check.CheckCase.{CheckCase}
 use Rattle.ds_names.specs.Limits.{most_items, last_place}
 
--- a Subscribe with its query
+-- A Subscribe with its query.
 abbrev pub machine_subscribe : SubscribeCase → Query → machine.SubscribeCase
-machine_subscribe x query = record { places = x.places; taken = x.taken; stamp = x.stamp; sub = x.sub; query = query; overwrite = x.overwrite }
+machine_subscribe x query = record {
+  places = x.places;
+  taken = x.taken;
+  stamp = x.stamp;
+  sub = x.sub;
+  query = query;
+  overwrite = x.overwrite;
+}
 
--- a Check, with whether something is to be shown, and the last stamp
+-- A Check, with whether something is to be shown, and with the last stamp.
 abbrev pub machine_check : CheckCase → Bool → ℕ → machine.CheckCase
 machine_check x some stamp = record { places = x.places; taken = is_some x.last; some = some; stamp = stamp; sub = x.sub; max = x.max }
 
--- the first refusal of a Check, where something is to be shown or isn't, and with this last stamp
+-- The first refusal of a Check, by whether something is to be shown and by the last stamp.
 abbrev pub refusal_of_case : CheckCase → Bool → ℕ → Option Refusal
 refusal_of_case x some stamp = first_refusal (machine.against_check (machine_check x some stamp))
 
--- what stands against showing something
+-- The refusal to show something, if one applies.
 abbrev pub refusal_of_showing : Bool → ℕ → Option Refusal
 refusal_of_showing some stamp = cond (some && nat_le last_place stamp) (Some Worn) None
 
--- there is a subscription at its place, with this stamp, and it asks for 1 to 256 items
+-- The subscription exists, with this stamp, and the Check asks for 1 to 256 items.
 pub record IsCheckable (x : CheckCase) (stamp : ℕ) : Type 0 where
   pub place : x.sub < x.places
   pub some : 0 < x.max

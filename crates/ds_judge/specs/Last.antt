@@ -1,4 +1,4 @@
--- Where a store may answer that memory is wanting: behind every cause that stands, and where memory is taken.
+-- When a store may report that it is out of memory: only where memory is taken, and after every cause that applies.
 use Rattle.std.specs.Prelude.{◌≡◌, ◌≢◌, ◌⊎◌, ℕ, Bool, true, List, [], ◌∷◌, Option, Some, None, is_some, slice_get, take}
 use Rattle.std.specs.List.{find}
 use Rattle.ds_names.specs.declared.kind.Kind.{Kind}
@@ -30,86 +30,89 @@ use Rattle.ds_machine.specs.declared.command.Command.TheVariants.{Publish, Delet
 use Rattle.ds_machine.specs.declared.reply.Reply.{Reply}
 use Rattle.ds_machine.specs.declared.reply.Reply.TheVariants.{MergeStopped, Refused}
 
--- the causes that are judged before a pattern is read, which may take memory
+-- The refusals that are judged before a pattern is read, which may take memory.
 abbrev pub before_patterns : List Refusal
 before_patterns = BadSub ∷ TooMany ∷ TooLong ∷ []
 
--- the scope has a pattern, and no cause stands that is judged before it
+-- The scope has a pattern, and no refusal judged before it applies.
 abbrev pub ReadsPattern : Scope → (Refusal → Bool) → Type 0
 ReadsPattern All stands = ⊥
 ReadsPattern (Under query) stands = find stands before_patterns ≡ None
 
--- where a command with a scope may be refused for want of memory: no cause stands against it, or, where its scope has a
--- pattern, none that is judged before the pattern
+-- A command with a scope may be refused for lack of memory: no refusal applies, or none judged before the scope's
+-- pattern.
 abbrev pub MayLackFor : Scope → (Refusal → Bool) → Type 0
 MayLackFor All stands = first_refusal stands ≡ None
 MayLackFor (Under query) stands = find stands before_patterns ≡ None
 
--- values of the kind take no memory
+-- Values of the kind take no memory.
 abbrev pub IsKindInPlace : Kind → Type 0
 IsKindInPlace Label = Unit {0}
 IsKindInPlace U32 = Unit {0}
 IsKindInPlace Str = ⊥
 IsKindInPlace Mem = ⊥
 
--- an item that takes effect takes memory: a change where its key isn't held, or for the copy of a text or a blob; a floor where
--- its owner has none
+-- The item takes memory when it takes effect: a change if its key isn't held or if its body is a text or a blob, a
+-- floor if its owner has none.
 abbrev pub MergeTakesMemory : State → Item → Type 0
 MergeTakesMemory s (Changed c) = (held_at (held s) c.key ≡ None) ⊎ (¬ IsBodyInPlace c.body)
 MergeTakesMemory s (Floored f) = floor_at (held s) f.owner ≡ None
 
--- what a caller asks for would take effect, since no cause stands against it, and that takes memory
+-- What the caller asks for takes effect, since no cause applies to it, and takes memory.
 abbrev pub MayLackAsked : State → AskedChange → Body → Type 0
 MayLackAsked s a body = (cause_against s a body ≡ None) × MergeTakesMemory s (Changed (asked_in s a body))
 
--- an item that another holder gave would take effect, since no cause stands against it and it isn't known or stale, and that
--- takes memory
+-- The item of another holder takes effect, since no cause applies to it, and takes memory.
 abbrev pub MayLackItem : State → Item → Type 0
 MayLackItem s i = (cause_of s i ≡ None) × MergeTakesMemory s i
 
--- where a command may be refused for want of memory: no cause stands against it, or, where it has a pattern, none that is
--- judged before the pattern; and it takes memory (a Merge never is: it is stopped at an item)
+-- The command may be refused for lack of memory: no cause applies, or none judged before its pattern, and it takes
+-- memory. A Merge is never refused so; it stops at an item.
 abbrev pub MayLackRoom : State → Command → Type 0
 MayLackRoom s (Publish caller key version value overwrite) = MayLackAsked s (published caller key version overwrite) (Put value)
 MayLackRoom s (Delete caller key version) = MayLackAsked s (deleted caller key version) Gone
-MayLackRoom s (Sweep caller owner generation) = let f = floor_of owner generation in (sweep_cause s caller f ≡ None) × MergeTakesMemory s (Floored f)
+MayLackRoom s (Sweep caller owner generation) =
+    let f = floor_of owner generation in (sweep_cause s caller f ≡ None) × MergeTakesMemory s (Floored f)
 MayLackRoom s (Retrieve key) = (is_some (live_at s key) ≡ true) × (¬ IsKindInPlace key.kind)
 MayLackRoom s (NameOf endpoint) = ⊥
-MayLackRoom s (Subscribe sub query initial overwrite) = find (against_subscribe (subscribe_case s sub query overwrite)) before_patterns ≡ None
-MayLackRoom s (Check sub max) = let case = check_case s sub max (subscription_at s sub) in (first_refusal (against_check case) ≡ None) × (case.some ≡ true)
+MayLackRoom s (Subscribe sub query initial overwrite) =
+    find (against_subscribe (subscribe_case s sub query overwrite)) before_patterns ≡ None
+MayLackRoom s (Check sub max) =
+    let case = check_case s sub max (subscription_at s sub) in (first_refusal (against_check case) ≡ None) × (case.some ≡ true)
 MayLackRoom s (Since scope at max) = MayLackFor scope (against_since s.feed scope at max)
 MayLackRoom s (Snapshot scope) = MayLackFor scope (against_scope scope)
 MayLackRoom s (Page scope after max) = MayLackFor scope (against_page scope max)
 MayLackRoom s (Merge items) = ⊥
 
--- the item behind so many of a Merge would take effect, and that takes memory
+-- The item after the first `done` ones of a Merge takes effect and takes memory.
 pub record TakesNext (s : State) (items : List Item) (done : ℕ) : Type 0 where
   pub item : Item
   pub is_next : slice_get items done ≡ Some item
   pub lacks : MayLackItem (course s (take done items)).state item
 
--- want of memory is told only there, and a Merge is stopped for it only at an item that would take effect and takes memory
+-- The reply reports lack of memory only where it may. A Merge stops for it only at an item that takes effect and takes
+-- memory.
 abbrev pub IsLast : State → Command → Reply → Type 0
 IsLast s command (Refused NoRoom) = MayLackRoom s command
 IsLast s (Merge items) (MergeStopped done NoRoom owed) = TakesNext s items done
 IsLast s command reply = Unit {0}
 
--- want of memory isn't in the one order
+-- A law: lack of memory isn't in the order of causes.
 abbrev pub NoRoomIsNoCause : Type 0
 NoRoomIsNoCause = (version : Option Version) (stands : Cause → Bool) → first_cause version stands ≢ Some (causes.Refused NoRoom)
 
--- nor in the order of refusals alone
+-- A law: nor is it in the order of refusals.
 abbrev pub NoRoomIsNoRefusal : Type 0
 NoRoomIsNoRefusal = (stands : Refusal → Bool) → first_refusal stands ≢ Some NoRoom
 
--- the machine's own answers want no memory
+-- A law: the machine's own answers never need memory.
 abbrev pub OutcomesAreLast : Type 0
 OutcomesAreLast = (s : State) (command : Command) → IsLast s command (outcome s command).0
 
--- the pattern is read, so that memory may be wanted for it
+-- A law: a command that reads a pattern may be out of memory.
 abbrev pub PatternMayLackRoom : Type 0
 PatternMayLackRoom = (scope : Scope) (stands : Refusal → Bool) → ReadsPattern scope stands → MayLackFor scope stands
 
--- nothing stands, so that memory may be wanted for what is given
+-- A law: a command that no refusal applies to may be out of memory for what it returns.
 abbrev pub BehindMayLackRoom : Type 0
 BehindMayLackRoom = (scope : Scope) (stands : Refusal → Bool) → first_refusal stands ≡ None → MayLackFor scope stands

@@ -1,4 +1,4 @@
--- What becomes of an item of a Merge against which a cause stands.
+-- What becomes of an item of a Merge that a cause applies to.
 use Rattle.std.specs.Prelude.{◌+◌, Result, Ok, Err, Some, None}
 use Rattle.ds_entry.specs.declared.item.Item.{Item}
 use Rattle.ds_join.specs.declared.merge.Merge.{Merge}
@@ -9,13 +9,13 @@ use Rattle.ds_machine.specs.declared.refusal.Cause.TheVariants as causes
 use Rattle.ds_machine.specs.declared.refusal.Refusal.{Refusal}
 use Rattle.ds_machine.specs.declared.refusal.Refusal.TheVariants as refusals
 
--- it is passed over as known or as stale, or stops the merge
+-- The item is passed over as known or stale, or stops the merge.
 abbrev pub passed_as : Cause → Result Merge Refusal
 passed_as causes.Known = Ok merges.Known
 passed_as (causes.Refused refusals.Stale) = Ok merges.Stale
 passed_as (causes.Refused refusal) = Err refusal
 
--- how far the merge has come behind the item
+-- The progress of the merge after the item.
 abbrev pub item_passed : Course → Item → Result Merge Refusal → Course
 item_passed k i (Ok merges.Taken) = item_judged k i None
 item_passed k i (Ok merges.Known) = record k { done = k.done + 1 }

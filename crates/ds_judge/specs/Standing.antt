@@ -1,4 +1,4 @@
--- What the judge is told of what is there, as the machine has it.
+-- What the judge is passed about a store, in the machine's terms.
 use Rattle.std.specs.Prelude.{ℕ, ◌&&◌, cond, is_none, nat_le, List, Option, Some, None}
 use Rattle.std.specs.List.{find}
 use Rattle.std.specs.Option.{option_copied, option_map}
@@ -14,18 +14,19 @@ use Rattle.ds_judge.specs.declared.standing.Standing.{Standing}
 use Rattle.ds_judge.specs.declared.standing.FloorStanding.{FloorStanding}
 use Rattle.ds_names.specs.Limits.{last_place}
 
--- what is there before a change, by value
+-- What a change meets.
 abbrev pub machine_standing : Standing → machine.Standing
 machine_standing t = record { held = option_copied t.held; void = t.void; count = t.count; most = t.most; position = t.position }
 
--- what is there before a floor of this owner
+-- What a floor of this owner meets.
 abbrev pub machine_floor_standing : List ℕ → FloorStanding → machine.FloorStanding
 machine_floor_standing owner t = record { held = option_map (floor_of owner) t.held; count = t.count; position = t.position }
 
--- the first cause against the change by its owner and its version: by what is held for its key, and by floors
+-- The first cause against the change by owner and version, from its key's held change and from floors.
 abbrev pub cause_by_version : machine.Standing → ChangeRecord → Option Cause
 cause_by_version t c = find (against_change t c) (by_version (Some c.version))
 
--- the first cause by the room that is left: no free key, or no position
+-- The first cause by the limits: all keys used, or no position left.
 abbrev pub cause_by_room : machine.Standing → Option Cause
-cause_by_room t = cond (is_none t.held && nat_le t.most t.count) (Some (Refused Full)) (cond (nat_le last_place t.position) (Some (Refused Worn)) None)
+cause_by_room t =
+    cond (is_none t.held && nat_le t.most t.count) (Some (Refused Full)) (cond (nat_le last_place t.position) (Some (Refused Worn)) None)

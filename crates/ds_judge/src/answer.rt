@@ -1,4 +1,4 @@
-//! What is answered where a cause stands.
+//! The reply if a cause applies to a command.
 
 ghost use Rattle.std.specs.Prelude.{◌≡◌, Some};
 ghost use Rattle.ds_entry.specs.declared.item.Item.{Item};
@@ -9,7 +9,7 @@ ghost use Rattle.ds_judge.specs.Passed.{passed_as, item_passed};
 use ds_join::Merge;
 use ds_machine::{Cause, Refusal, Reply};
 
-/// The answer to a Publish or a Delete: a repeat is known, and every other cause refuses.
+/// Returns the reply if a cause applies to a Publish or a Delete: Known for a repeat, else Refused by the cause.
 pub fn answer_to(cause: Cause) -> Reply
     ensures { result ≡ answer_for cause }
 {
@@ -19,7 +19,8 @@ pub fn answer_to(cause: Cause) -> Reply
     }
 }
 
-/// The answer to a Sweep: a floor that isn't above the one that is held changes nothing, and every other cause refuses.
+/// Returns the reply if a cause applies to a Sweep: Swept with nothing changed for a floor not above the held one, else
+/// Refused by the cause.
 pub fn sweep_answer(cause: Cause) -> Reply
     ensures { result ≡ sweep_answer cause }
 {
@@ -29,7 +30,8 @@ pub fn sweep_answer(cause: Cause) -> Reply
     }
 }
 
-/// What becomes of an item of a Merge: what is known or stale is passed over, and every other cause stops the Merge.
+/// Returns what becomes of an item of a Merge that a cause applies to: Known and Stale are passed over, any other cause
+/// stops the Merge.
 pub fn passed_as(cause: Cause) -> Result<Merge, Refusal>
     ensures value { result ≡ passed_as cause }
     ensures course { (k : Course) (i : Item) → item_judged k i (Some cause) ≡ item_passed k i result }

@@ -1,4 +1,4 @@
-//! What callers ask: publishing and deleting.
+//! Judging a Publish and a Delete.
 
 ghost use Rattle.std.specs.Prelude.{◌≡◌, ◌<◌, ◌≤◌, ◌^◌, ℕ, List, Option, Some, None, IfNone};
 ghost use Rattle.std.specs.Option.{option_copied, unwrap_or};
@@ -21,7 +21,7 @@ use ds_machine::{Cause, Refusal};
 use ds_names::limits::LAST_SEQ;
 use ds_names::{Endpoint, Generation, Key, Name, Version};
 
-/// What the entry has to be before a change: not live, anything, or live.
+/// What the entry has to be before the change: not live, anything, or live.
 #[derive(Clone, Copy)]
 pub enum Need {
     NotLive,
@@ -29,7 +29,7 @@ pub enum Need {
     Live,
 }
 
-/// What a caller asks, by a Publish or a Delete, beside the body of the change.
+/// A Publish or a Delete without the body of its change.
 #[derive(Clone, Copy)]
 pub struct Asked {
     pub caller: Endpoint,
@@ -38,7 +38,7 @@ pub struct Asked {
     pub need: Need,
 }
 
-/// What a Publish asks, beside its put: without `overwrite` only where nothing is live.
+/// Returns what a Publish asks for: a change that, without `overwrite`, needs an entry that isn't live.
 pub fn published(caller: Endpoint, key: Key, version: Version, overwrite: bool) -> Asked
     ensures { request_of result ≡ published caller key version overwrite }
 {
@@ -50,7 +50,7 @@ pub fn published(caller: Endpoint, key: Key, version: Version, overwrite: bool) 
     }
 }
 
-/// What a Delete asks, beside its tombstone: only of what is live.
+/// Returns what a Delete asks for: a change that needs a live entry.
 pub fn deleted(caller: Endpoint, key: Key, version: Version) -> Asked
     ensures { request_of result ≡ deleted caller key version }
 {
@@ -62,7 +62,7 @@ pub fn deleted(caller: Endpoint, key: Key, version: Version) -> Asked
     }
 }
 
-/// Whether a floor of the caller's at this generation makes the change void that is asked for, where there is one.
+/// Returns whether the caller's floor, if there is one, makes the change asked for void.
 pub fn is_void_under(floor: Option<Generation>, asked: &Asked) -> bool
     ensures { (caller : List ℕ) (body : Body) → result ≡ is_void_under floor (change_asked (Some caller) (request_of asked.now) body) }
 {
@@ -74,7 +74,7 @@ pub fn is_void_under(floor: Option<Generation>, asked: &Asked) -> bool
     }
 }
 
-// The owner of what a caller of this name asks for: the caller, and RS where there is no name.
+// Returns the owner of what a caller asks for: the caller's name, or RS if it has none.
 fn owner_of(caller: &Option<Name>) -> Name
     ensures value { result ≡ unwrap_or caller.now rs_name }
     ensures name { IsName result }
@@ -87,8 +87,8 @@ fn owner_of(caller: &Option<Name>) -> Name
     owner
 }
 
-/// The change that is asked for, in the name of the caller. That no cause stands against it says that its parts make a
-/// change, so nothing is judged again.
+/// Returns the change asked for, owned by the caller. The precondition follows from judging that no cause applies to
+/// it, so nothing is judged twice.
 pub fn change_asked(asked: &Asked, body: Body, caller: Option<Name>) -> Change
     requires { IsChange (change_asked caller (request_of asked.now) body) }
     ensures { result ≡ change_asked caller (request_of asked.now) body }
@@ -96,7 +96,7 @@ pub fn change_asked(asked: &Asked, body: Body, caller: Option<Name>) -> Change
     Change::from_parts(asked.key, owner_of(&caller), asked.version, body)
 }
 
-// Whether what is asked for keeps the rule of labels.
+// Returns whether the change asked for keeps the rules of labels.
 fn is_label_change(asked: &Asked, body: &Body) -> bool
     ensures { result ≡ is_label_change (request_of asked.now) body.now }
 {
@@ -104,14 +104,14 @@ fn is_label_change(asked: &Asked, body: &Body) -> bool
     !asked.key.name.is_rs() && epoch != 0 && body.fits_label(&asked.version)
 }
 
-// Whether the version is one that the caller gives.
+// Returns whether the version is one that the caller may use.
 fn is_callers_version(asked: &Asked) -> bool
     ensures { result ≡ is_callers_version (request_of asked.now) }
 {
     asked.version.epoch == asked.caller.generation() && asked.version.seq < LAST_SEQ
 }
 
-// Whether the held change leaves a value.
+// Returns whether the held change leaves a value.
 fn is_live(held: Option<&Change>) -> bool
     ensures { result ≡ is_live (option_copied held.entry) }
 {
@@ -121,7 +121,7 @@ fn is_live(held: Option<&Change>) -> bool
     }
 }
 
-// The cause where the entry isn't as it has to be before the change.
+// Returns the cause if the entry isn't what the change needs.
 fn cause_by_need(need: Need, is_live: bool) -> Option<Cause>
     ensures { result ≡ cause_by_need need is_live }
 {
@@ -132,7 +132,7 @@ fn cause_by_need(need: Need, is_live: bool) -> Option<Cause>
     }
 }
 
-// The first cause by what is held, where the owner is the one who asks.
+// Returns the first cause by what is held, for a change owned by `owner`.
 fn cause_by_held(standing: &Standing<'_>, owner: &Name, asked: &Asked, body: &Body) -> Option<Cause>
     ensures { result ≡ find (causes_against standing.now (Some owner.now) asked.now body.now) (by_held asked.now.version) }
 {
@@ -145,7 +145,7 @@ fn cause_by_held(standing: &Standing<'_>, owner: &Name, asked: &Asked, body: &Bo
     cause_by_room(standing)
 }
 
-// The first cause by what is asked, by who asks, and by what is held.
+// Returns the first cause by the command, by its caller, and by what is held.
 fn first_cause_of(
     standing: &Standing<'_>,
     caller: Option<Name>,
@@ -174,7 +174,7 @@ fn first_cause_of(
     cause_by_held(standing, &owner, asked, body)
 }
 
-// The parts of what a caller of this name asks for are in their ranges, as their types say.
+// Shows that the parts of what the caller asks for are in their ranges, as their types guarantee.
 fn parts_are_in_range(asked: &Asked, caller: &Option<Name>)
     ensures name { IsName asked.now.key.name }
     ensures owner { IsName (unwrap_or caller.now rs_name) }
@@ -187,10 +187,9 @@ fn parts_are_in_range(asked: &Asked, caller: &Option<Name>)
     let _seq = asked.version.seq;
 }
 
-/// The first cause against what a caller asks for, where `caller` is its name: BadKind, BadLabel, BadVersion, NoCaller,
-/// NotAllowed, and then by what is held NotOwner, Clash, Stale, Known, Exists, NotFound, Full, Worn. Where there is none, the
-/// change that is asked for can be made, has room for its key or takes the place of what is held there, no floor makes it
-/// void, and the position is below 2^62.
+/// Returns the first cause against what a caller of this name asks for: BadKind, BadLabel, BadVersion, NoCaller,
+/// NotAllowed; then, by what is held, NotOwner, Clash, Stale, Known, Exists, NotFound, Full, Worn. Without a cause, the
+/// change is valid and isn't void, its key has room or its held change yields, and the position is below 2^62.
 pub fn cause_of_asked(
     standing: &Standing<'_>,
     caller: Option<Name>,

@@ -1,4 +1,4 @@
-//! What stands against a change.
+//! Judging a change.
 
 ghost use Rattle.std.specs.Prelude.{◌≡◌, None, IfNone};
 ghost use Rattle.ds_names.specs.declared.key.Key.{Key};
@@ -14,7 +14,7 @@ use ds_names::limits::LAST_PLACE;
 use ds_names::{Name, Version};
 use std::cmp::Ordering;
 
-// The first cause against a change of these parts by what is held for its key and by floors.
+// Returns the first cause against the change by its key's held change and by floors.
 #[inline(always)]
 pub(crate) fn cause_by_version(
     standing: &Standing<'_>,
@@ -43,7 +43,7 @@ pub(crate) fn cause_by_version(
     }
 }
 
-// The first cause by the room that is left: no free key, or no position.
+// Returns the first cause by the limits: all keys used, or no position left.
 pub(crate) fn cause_by_room(standing: &Standing<'_>) -> Option<Cause>
     ensures { result ≡ cause_by_room (machine_standing standing.now) }
 {
@@ -56,9 +56,9 @@ pub(crate) fn cause_by_room(standing: &Standing<'_>) -> Option<Cause>
     None
 }
 
-/// The first cause against a change that another holder gave: NotOwner, Clash, Stale (a greater version is held, or a floor
-/// makes it void), Known, Full, Worn. Where there is none, the change has room for its key or takes the place of what is
-/// held there, no floor makes it void, and the position is below 2^62.
+/// Returns the first cause against a change of another holder: NotOwner, Clash, Stale (a greater version is held, or a
+/// floor makes it void), Known, Full, Worn. Without a cause, the change isn't void, its key has room or its held change
+/// yields, and the position is below 2^62.
 pub fn cause_of_change(standing: &Standing<'_>, change: &Change) -> Option<Cause>
     ensures first { result ≡ first_cause (Some change.now.version) (against_change (machine_standing standing.now) change.now) }
     ensures free { IfNone result (IsFree (machine_standing standing.now) change.now) }

@@ -1,4 +1,4 @@
-//! What stands against a floor.
+//! Judging a floor.
 
 ghost use Rattle.std.specs.Prelude.{◌≡◌, None, IfNone};
 ghost use Rattle.ds_machine.specs.Order.{first_cause};
@@ -12,9 +12,9 @@ use ds_machine::{Cause, Refusal};
 use ds_names::Endpoint;
 use ds_names::limits::{LAST_PLACE, MOST_FLOORS};
 
-/// The first cause against a floor that another holder gave: Stale below the one that is held of its owner, Known at it,
-/// Full where none is held and 64 of other owners are, Worn. Where there is none, it is above the one that is held or there
-/// is room for it, and the position is below 2^62.
+/// Returns the first cause against a floor of another holder: Stale below its owner's held floor, Known at it, Full if
+/// its owner has none and 64 others do, Worn. Without a cause, it is above the held one or has room, and the position
+/// is below 2^62.
 pub fn cause_of_floor(standing: &FloorStanding, floor: &Floor) -> Option<Cause>
     ensures first { result ≡ first_cause None (against_floor (machine_floor_standing floor.now.owner standing.now) floor.now) }
     ensures free { IfNone result (IsFloorFree (machine_floor_standing floor.now.owner standing.now) floor.now) }
@@ -29,7 +29,7 @@ pub fn cause_of_floor(standing: &FloorStanding, floor: &Floor) -> Option<Cause>
     }
 }
 
-/// The first cause against a Sweep: NotAllowed from all but RS, and then as against its floor.
+/// Returns the first cause against a Sweep: NotAllowed unless the caller is RS, then the causes against its floor.
 pub fn cause_of_sweep(standing: &FloorStanding, caller: Endpoint, floor: &Floor) -> Option<Cause>
     ensures first { result ≡ first_cause None (against_sweep (machine_floor_standing floor.now.owner standing.now) caller floor.now) }
     ensures free { IfNone result (IsFloorFree (machine_floor_standing floor.now.owner standing.now) floor.now) }

@@ -1,20 +1,20 @@
-//! Laws of the judging.
+//! Laws of judging.
 
 ghost use Rattle.ds_judge.specs.Last.{NoRoomIsNoCause, NoRoomIsNoRefusal, OutcomesAreLast, PatternMayLackRoom, BehindMayLackRoom};
 
-/// Want of memory is no cause of the one order, so it is never judged.
+/// A law: NoRoom isn't in the order of causes, so it is never judged.
 pub fn want_of_room_is_no_cause()
     ensures causes { NoRoomIsNoCause }
     ensures refusals { NoRoomIsNoRefusal }
 {}
 
-/// A command with a scope may tell want of memory where the scope's pattern is read, and where no cause stands.
+/// A law: a command with a scope may be out of memory when its pattern is read, and when no cause applies.
 pub fn scopes_may_lack_room()
     ensures pattern { PatternMayLackRoom }
     ensures behind { BehindMayLackRoom }
 {}
 
-/// What the machine answers of itself tells no want of memory where it may not be told.
+/// A law: the machine's own answers are never out of memory where they may not be.
 pub fn outcomes_have_room()
     ensures { OutcomesAreLast }
 {}

@@ -1,10 +1,9 @@
-//! The judging of commands to a store: what stands against each, judged in the one order, and nothing else. It is pure:
-//! the store says what it holds for a key or an owner, how much is held and may be, and its position, and gets the first
-//! cause that stands, or that none does.
+//! The judge of a store's commands: it returns the first cause that applies to a command, in the one order, or none. It
+//! is pure: the store passes what it holds for the key or the owner, what its limits leave, and its position.
 //!
-//! That each entry has an owner, that only RS publishes labels, and that a live entry is overwritten only with the overwrite
-//! flag are rules of MINIX 3's data store (DS; its interface, and Herder and others, DSN 2007). Versions, floors, cursors and
-//! the one order of all causes are of this project.
+//! From MINIX 3's data store (DS; Herder and others, DSN 2007): each entry has an owner, only RS publishes labels, and
+//! a live entry is overwritten only with the overwrite flag. Of this project: versions, floors, cursors and the order
+//! of causes.
 #![tactic(auto)]
 
 mod answer;

@@ -1,4 +1,4 @@
-//! What stands against a Since, a Snapshot, a Page and a Merge.
+//! Judging a Since, a Snapshot, a Page and a Merge.
 
 ghost use Rattle.std.specs.Prelude.{◌≡◌, None, Err, IfOk, IfErr, OnOk, IfNone, ◌≤◌};
 ghost use Rattle.ds_feed.specs.declared.cursor.Cursor.{Cursor};
@@ -17,7 +17,7 @@ use ds_machine::{Refusal, Scope};
 use ds_names::limits::MOST_ITEMS;
 use std::alloc::Global;
 
-/// The refusal of a cursor.
+/// Returns the refusal for a fault of a cursor.
 pub fn refusal_of_journal(fault: SinceFault) -> Refusal
     ensures { result ≡ refusal_of_journal fault }
 {
@@ -29,8 +29,8 @@ pub fn refusal_of_journal(fault: SinceFault) -> Refusal
     }
 }
 
-/// Reads the scope of a Page, unless a cause stands against it: TooMany unless it asks for 1 to 256, and then as the scope's
-/// pattern is refused.
+/// Reads the scope of a Page. Refuses as TooMany unless `max` is 1 to 256; then as TooLong, BadPattern or NoRoom for
+/// its pattern.
 pub fn scope_of_page(alloc: Global, scope: &Scope, max: u32) -> Result<ScopeFilter, Refusal>
     ensures read { IfOk result (λ filter. scope_of filter ≡ scope.now) }
     ensures none { OnOk result (first_refusal (against_page scope.now max) ≡ None) }
@@ -43,8 +43,7 @@ pub fn scope_of_page(alloc: Global, scope: &Scope, max: u32) -> Result<ScopeFilt
     ScopeFilter::read(alloc, scope)
 }
 
-/// Reads the scope of a Since, unless a cause stands against it that is judged before the cursor: the same ones as for a
-/// Page. What stands behind them is what the journal says of the cursor.
+/// Reads the scope of a Since. Refuses like `scope_of_page`; the journal judges the cursor later.
 pub fn scope_of_since(alloc: Global, scope: &Scope, max: u32) -> Result<ScopeFilter, Refusal>
     ensures read { IfOk result (λ filter. scope_of filter ≡ scope.now) }
     ensures none { OnOk result ((f : Feed) (at : Cursor) → refusal_of_since f scope.now at max ≡ refusal_of_cursor f at) }
@@ -54,7 +53,7 @@ pub fn scope_of_since(alloc: Global, scope: &Scope, max: u32) -> Result<ScopeFil
     scope_of_page(alloc, scope, max)
 }
 
-/// What stands against a Merge of so many items: TooMany above 256.
+/// Refuses a Merge of more than 256 items, as TooMany.
 pub fn refusal_of_merge(count: usize) -> Option<Refusal>
     ensures first { result ≡ first_refusal (against_merge count) }
     ensures few { IfNone result (count ≤ most_items) }

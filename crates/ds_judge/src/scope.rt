@@ -15,27 +15,27 @@ use ds_names::{Key, NoRoom};
 use ds_pattern::{Asker, Filter};
 use std::alloc::Global;
 
-/// A scope whose pattern was read, if it has one.
+/// A scope whose pattern, if it has one, was read.
 #[derive(Drop)]
 pub enum ScopeFilter {
     /// All keys.
     All,
-    /// Those under a query.
+    /// The keys under a query.
     Under(Filter),
 }
 
-/// What asks a scope about many keys.
+/// A matcher of many keys against a scope.
 #[derive(Drop)]
 pub enum ScopeAsker<'f> {
     /// All keys.
     All,
-    /// Those under a query.
+    /// The keys under a query.
     Under(Asker<'f>),
 }
 
 impl ScopeFilter {
-    /// Reads the pattern of a scope: TooLong, BadPattern, or NoRoom in that one's place. The scope of all keys has none, and
-    /// is never refused.
+    /// Reads the pattern of a scope. Refuses as TooLong, then as BadPattern, or as NoRoom if memory runs out while
+    /// reading. The scope of all keys is never refused.
     pub fn read(alloc: Global, scope: &Scope) -> Result<ScopeFilter, Refusal>
         ensures read { IfOk result (λ filter. scope_of filter ≡ scope.now) }
         ensures none { OnOk result (first_refusal (against_scope scope.now) ≡ None) }
@@ -51,7 +51,7 @@ impl ScopeFilter {
         }
     }
 
-    /// What asks the scope about many keys. It takes memory, but for the scope of all keys, where it never fails.
+    /// Returns a matcher for many keys. Fails only if memory runs out; the scope of all keys takes none.
     pub fn asker(&self, alloc: Global) -> Result<ScopeAsker<'_>, NoRoom>
         ensures asks { IfOk result (λ asker. asker_scope asker ≡ scope_of self.now) }
         ensures all { scope_of self.now ≡ Scope.All → IsOk result }

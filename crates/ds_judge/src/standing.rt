@@ -1,14 +1,14 @@
-//! What is there before a change or a floor.
+//! What a change or a floor meets in a store.
 
 use ds_entry::Change;
 use ds_names::Generation;
 
-/// What is there before a change.
+/// What a change meets.
 #[derive(Clone, Copy)]
 pub struct Standing<'a> {
-    /// The change that is held for its key.
+    /// The change held for its key.
     pub held: Option<&'a Change>,
-    /// Whether a floor that is held makes the change void.
+    /// Whether a held floor makes the change void.
     pub void: bool,
     /// How many keys are held.
     pub count: usize,
@@ -18,10 +18,10 @@ pub struct Standing<'a> {
     pub position: u64,
 }
 
-/// What is there before a floor.
+/// What a floor meets.
 #[derive(Clone, Copy)]
 pub struct FloorStanding {
-    /// The generation of the floor that is held of its owner.
+    /// The generation of its owner's held floor.
     pub held: Option<Generation>,
     /// How many floors are held.
     pub count: usize,

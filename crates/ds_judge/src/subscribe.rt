@@ -1,4 +1,4 @@
-//! What stands against a Subscribe.
+//! Judging a Subscribe.
 
 ghost use Rattle.std.specs.Prelude.{◌≡◌, ◌<◌, None, Err, IfOk, IfErr, OnOk};
 ghost use Rattle.std.specs.List.{find};
@@ -14,22 +14,22 @@ use ds_names::limits::LAST_PLACE;
 use ds_pattern::{Filter, PatternFault, Query};
 use std::alloc::Global;
 
-/// A Subscribe, beside its query, with what it meets.
+/// A Subscribe without its query, and what it meets.
 #[derive(Clone, Copy)]
 pub struct SubscribeCase {
     /// How many places there are for subscriptions.
     pub places: u32,
-    /// Whether there is a subscription at its place.
+    /// Whether its place has a subscription.
     pub taken: bool,
     /// The last stamp.
     pub stamp: u64,
-    /// Its place.
+    /// The number of the subscription.
     pub sub: u32,
-    /// Whether it may be made over another one.
+    /// Whether it may replace another subscription.
     pub overwrite: bool,
 }
 
-/// The refusal of a query whose pattern isn't read.
+/// Returns the refusal for a fault of a pattern.
 pub(crate) fn refusal_of_pattern(fault: PatternFault) -> Refusal
     ensures { result ≡ refusal_of_pattern fault }
 {
@@ -40,8 +40,8 @@ pub(crate) fn refusal_of_pattern(fault: PatternFault) -> Refusal
     }
 }
 
-/// Takes up the query of a Subscribe, unless a cause stands against it: BadSub; then its pattern is read, TooLong,
-/// BadPattern, or NoRoom in that one's place; Exists; Worn.
+/// Compiles the query of a Subscribe. Refuses as BadSub, TooLong, BadPattern, Exists, Worn, in this order. NoRoom is
+/// reported in the place of BadPattern, where memory is taken.
 pub fn take_up(alloc: Global, case: SubscribeCase, query: &Query) -> Result<Filter, Refusal>
     ensures value { IfOk result (λ filter. filter ≡ query.now) }
     ensures none { OnOk result (first_refusal (against_subscribe (machine_subscribe case query.now)) ≡ None) }

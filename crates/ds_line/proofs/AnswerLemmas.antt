@@ -1,4 +1,4 @@
--- What tests say.
+-- What tests return.
 use Rattle.std.proofs.Common.{Bool, true, false, ◌≡◌, ℕ, ◌<◌, ◌≤◌, refl, sym, ◌∙◌, arith}
 use Rattle.std.specs.Prelude.{not, nat_eq, nat_lt, nat_le}
 use Rattle.std.proofs.lemmas.Bool.{false≢true, eqb-true}

@@ -1,4 +1,4 @@
--- Lines stand apart: two changes with one line are one, and no line begins another.
+-- Two changes with one line are equal, and no line begins another.
 use Rattle.std.proofs.Common.{◌≡◌, ◌≢◌, ℕ, List, [], ◌∷◌, ◌++◌, length, get_or, drop, refl, sym, ap, subst, ◌∙◌, arith}
 use Rattle.std.proofs.lemmas.Fmt.{decimal_injective}
 use Rattle.ds_names.specs.Kind.{kind_place}
@@ -22,19 +22,19 @@ use Rattle.ds_line.proofs.OpeningLemmas.{text_at, word_is_word, word_one, key_is
 use Rattle.ds_line.proofs.BodyLemmas.{class_one, value_text}
 use Rattle.ds_line.proofs.LineLemmas.{line_stands}
 
--- each text is one of its part's class
+-- Each text is one of its part's class.
 abbrev pub AllTexts : List Part → Type 0
 AllTexts [] = Unit {0}
 AllTexts (p ∷ parts) = IsText p.class p.text × AllTexts parts
 
--- the classes are the same as long as the texts are, and both end at once
+-- The classes are equal as long as the texts are, and both lists end together.
 abbrev pub Alike : List Part → List Part → Type 0
 Alike [] [] = Unit {0}
 Alike [] (q ∷ qs) = ⊥
 Alike (p ∷ ps) [] = ⊥
 Alike (p ∷ ps) (q ∷ qs) = (p.class ≡ q.class) × (p.text ≡ q.text → Alike ps qs)
 
--- parts that all stand at one front are the same
+-- Parts that are all at one front are equal.
 pub same_parts : (ps qs : List Part) (bytes r s : List ℕ) → AllTexts ps → AllTexts qs → Alike ps qs → Stand (length ps) ps bytes r → Stand (length qs) qs bytes s → (ps ≡ qs) × (r ≡ s)
 same_parts [] [] bytes r s texts_p texts_q alike stand_p stand_q = (refl, sym stand_p ∙ stand_q)
 same_parts [] (q ∷ qs) bytes r s texts_p texts_q alike stand_p stand_q = absurd alike
@@ -100,7 +100,7 @@ pub change_texts : (c : ChangeRecord) → IsChange c → AllTexts (change_parts 
 change_texts c is =
     (is.name.allowed, (refl, (word_is_word c.key.kind, (refl, (is.owner.allowed, (refl, ((c.version.epoch, omega (arith, is.epoch), refl), (refl, ((c.version.seq, omega (arith, is.seq), refl), (refl, body_texts c.body is.body))))))))))
 
--- ---- the parts give the change
+-- ---- the parts determine the change
 
 texts_one : (a b : List ℕ) → quoted a ≡ quoted b → a ≡ b
 texts_one a b text = (quoted_one a b [] [] (ap (λ (x : List ℕ). x ++ []) text)).0

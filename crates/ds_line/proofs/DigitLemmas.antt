@@ -43,7 +43,7 @@ hex_run (b ∷ rest) h =
     and_from (is_written (b / 16)) (list_all is_hex_byte (slice_index lower_digits (b % 16) ∷ encode_lower rest)) (written_at 16 (b / 16) refl (omega (arith, fits)))
     (and_from (is_written (b % 16)) (list_all is_hex_byte (encode_lower rest)) (written_at 16 (b % 16) refl (omega arith)) (hex_run rest (λ i. h (suc i))))
 
--- two blobs with one hex are one
+-- Two blobs with the same hex are equal.
 pub hex_one : (a b : List ℕ) → IsBytes a → IsBytes b → encode_lower a ≡ encode_lower b → a ≡ b
 hex_one a b is_a is_b e =
     ap (λ (r : Result (List ℕ) _). result_unwrap_or r []) (sym (decode_of-encode_lower a is_a) ∙ ap decode_of e ∙ decode_of-encode_lower b is_b)

@@ -1,4 +1,4 @@
--- Reading a floor: each part is missing where it has to stand, or is read there.
+-- Reading a floor: each part is missing where it is expected, or is read there.
 use Rattle.std.proofs.Common.{◌≡◌, ◌≢◌, ℕ, zero, suc, ◌-◌, ◌<◌, ◌≤◌, List, [], ◌∷◌, ◌++◌, length, take, drop, Ok, Err, refl, sym, ap, subst, ◌∙◌, length-append, arith}
 use Rattle.std.specs.Char.{is_ascii_digit}
 use Rattle.std.specs.Fmt.{decimal}
@@ -27,18 +27,18 @@ floor_texts f is = (refl, (refl, (is.owner.allowed, (refl, ((f.generation, omega
 pub floors_alike : (f g : Floor) → Alike (floor_parts f) (floor_parts g)
 floors_alike f g = (refl, λ _. (refl, λ _. (refl, λ _. (refl, λ _. (refl, λ _. (refl, λ _. tt))))))
 
--- as many parts of two floors leave one rest
+-- After equally many parts of two floors, the rest is the same.
 pub floors_rest : (f g : Floor) (count : ℕ) (bytes r s : List ℕ) → IsFloor f → IsFloor g → Stand count (floor_parts f) bytes r → Stand count (floor_parts g) bytes s → r ≡ s
 floors_rest f g count bytes r s is_f is_g a b =
     same_rest count (floor_parts f) (floor_parts g) bytes r s (floor_texts f is_f) (floor_texts g is_g) (alike_agree (floor_parts f) (floor_parts g) (floors_alike f g)) a b
 
--- the last of the parts that stand
+-- The last of the parts that are there.
 last_stands : (k : ℕ) (parts : List Part) (bytes after : List ℕ) → Stand (suc k) parts bytes after → (mid : List ℕ) × Stand k parts bytes mid × Stand 1 (drop k parts) mid after
 last_stands zero parts bytes after h = (bytes, refl, h)
 last_stands (suc k) [] bytes after h = absurd h
 last_stands (suc k) (p ∷ parts) bytes after h = let m = last_stands k parts h.0 after h.2 in (m.0, (h.0, h.1, m.1), m.2)
 
--- no floor's next part stands behind the first ones of one
+-- After the first parts of a floor, no floor's next part is there.
 breaks_behind : (k : ℕ) (f : Floor) (bytes r : List ℕ) → k < 6 → IsFloor f → Stand k (floor_parts f) bytes r → ((g : Floor) (after : List ℕ) → IsFloor g → ¬ Stand 1 (drop k (floor_parts g)) r after) → Breaks a_floor bytes r
 breaks_behind k f bytes r lt is front none =
     record { count = k; thing = f; can = is; front = front; most = most; none = λ g after is_g h. let n = fewer (suc k) 6 (floor_parts g) bytes after (omega (arith, lt)) h in most g n.0 is_g n.1 }
@@ -60,7 +60,7 @@ pub mark_missing : (bytes : List ℕ) (stop : PartFault) → stop ≡ BadPart (l
 mark_missing bytes stop at none =
     reads_stop bytes bytes stop at (breaks_behind 0 (floor_of rs_name 0) bytes bytes (omega arith) (with_owner rs_name rs_is_name) refl (λ g after is h. none h.0 h.1.parts))
 
--- what stands up to the owner
+-- The parts up to the owner.
 up_to_owner : (f : Floor) (bytes r s : List ℕ) → bytes ≡ 33 ∷ r → r ≡ 32 ∷ s → Stand 2 (floor_parts f) bytes s
 up_to_owner f bytes r s mark gap = (r, byte_begins 33 bytes r mark, (s, byte_begins 32 r s gap, refl))
 
@@ -72,7 +72,7 @@ pub owner_missing : (bytes r s : List ℕ) (stop : PartFault) → stop ≡ BadPa
 owner_missing bytes r s stop at mark gap none =
     reads_stop bytes s stop at (breaks_behind 2 (floor_of rs_name 0) bytes s (omega arith) (with_owner rs_name rs_is_name) (up_to_owner (floor_of rs_name 0) bytes r s mark gap) (λ g after is h. none g.owner h.0 is.owner h.1))
 
--- what stands up to the generation
+-- The parts up to the generation.
 up_to_space : (f : Floor) (bytes r s t : List ℕ) → bytes ≡ 33 ∷ r → r ≡ 32 ∷ s → Begins is_name_byte s f.owner t → Stand 3 (floor_parts f) bytes t
 up_to_space f bytes r s t mark gap name = (r, byte_begins 33 bytes r mark, (s, byte_begins 32 r s gap, (t, name, refl)))
 
@@ -88,7 +88,7 @@ pub generation_missing : (n bytes r s t u : List ℕ) (stop : PartFault) → sto
 generation_missing n bytes r s t u stop at mark gap is name space_is none =
     reads_stop bytes u stop at (breaks_behind 4 (floor_of n 0) bytes u (omega arith) (with_owner n is) (up_to_generation (floor_of n 0) bytes r s t u mark gap name space_is) (λ g after is_g h. none g.generation h.0 is_g.generation h.1))
 
--- what stands up to the newline
+-- The parts up to the newline.
 up_to_newline : (f : Floor) (bytes r s t u v : List ℕ) → bytes ≡ 33 ∷ r → r ≡ 32 ∷ s → Begins is_name_byte s f.owner t → t ≡ 32 ∷ u → Begins is_ascii_digit u (decimal f.generation) v → Stand 5 (floor_parts f) bytes v
 up_to_newline f bytes r s t u v mark gap name space_is number =
     (r, byte_begins 33 bytes r mark, (s, byte_begins 32 r s gap, (t, name, (u, byte_begins 32 t u space_is, (v, number, refl)))))

@@ -45,7 +45,7 @@ pub bytes_last : (xs : List ℕ) (b : ℕ) → IsBytes xs → b < 256 → IsByte
 bytes_last [] b h lt = bytes_more b [] lt (λ i. omega arith)
 bytes_last (x ∷ xs) b h lt = bytes_more x (xs ++ b ∷ []) (h 0) (bytes_last xs b (λ i. h (suc i)) lt)
 
--- the first bytes of a block are written out at the front, and the rest comes behind them
+-- The bytes begin with the hex of the first bytes of a block, and the rest comes after it.
 pub record IsPaired (bytes block rest : List ℕ) (n : ℕ) : Type 0 where
   pub parts : bytes ≡ encode_lower (take n block) ++ rest
   pub each : IsBytes (take n block)
@@ -78,7 +78,7 @@ paired_blob bytes block rest n begun le = record { limit = omega (arith, length-
 
 -- ---- no blob
 
--- where the hex of some bytes stands at the front, that of a blob goes on behind it
+-- Where the bytes begin with the hex of some bytes, that of a blob continues after it.
 goes_on : (done blob r s : List ℕ) → IsBytes done → IsBytes blob → encode_lower done ++ r ≡ encode_lower blob ++ s → Ends is_hex_byte s
     → (more : List ℕ) × (length blob ≡ length done + length more) × IsBytes more × (r ≡ encode_lower more ++ s)
 unfolding encode_with
@@ -88,7 +88,7 @@ goes_on (b ∷ done) (c ∷ blob) r s is_d is_b e ends =
     let more = goes_on done blob r s (λ i. is_d (suc i)) (λ i. is_b (suc i)) (ap (drop 2) e) ends in
     (more.0, omega (arith, more.1), more.2, more.3)
 
--- a run goes on behind what is read, but not by a byte's two digits
+-- The run continues after what is read, but not with a byte's two digits.
 pub paired_stops : (bytes block r : List ℕ) (n : ℕ) → IsPaired bytes block r n → ¬ Ends is_hex_byte r → ((b : ℕ) (rest : List ℕ) → b < 256 → r ≢ encode_lower (b ∷ []) ++ rest)
     → (blob rest : List ℕ) → IsBlob blob → ¬ Begins (run_of Hex) bytes (encode_lower blob) rest
 unfolding encode_with
@@ -99,7 +99,7 @@ paired_stops bytes block r n begun goes none blob rest is begins =
       | m ∷ ms ↦ λ each same. none m (encode_lower ms ++ rest) (each 0) same
     ] more.2 more.3
 
--- the blob has 1024 bytes already, and the run goes on
+-- The blob has 1024 bytes already, and the run continues.
 pub paired_full : (bytes block r : List ℕ) → IsPaired bytes block r 1024 → ¬ Ends is_hex_byte r → (blob rest : List ℕ) → IsBlob blob → ¬ Begins (run_of Hex) bytes (encode_lower blob) rest
 unfolding encode_with
 paired_full bytes block r begun goes blob rest is begins =

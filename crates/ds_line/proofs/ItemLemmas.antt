@@ -45,18 +45,18 @@ name_opens (b ∷ n) rest more is = λ same.
     let allowed : is_name_byte b ≡ true = (and_parts (is_name_byte b) (list_all is_name_byte n) is.allowed).0 in
     false≢true (sym mark_is_none ∙ ap is_name_byte (sym first) ∙ allowed)
 
--- no part of a change stands where `!` does
+-- No part of a change begins with `!`.
 no_change_there : (c : ChangeRecord) (k : ℕ) (bytes more after : List ℕ) → IsChange c → bytes ≡ 33 ∷ more → ¬ Stand (suc k) (change_parts c) bytes after
 no_change_there c k bytes more after is mark h = name_opens c.key.name h.0 more is.name (sym h.1.parts ∙ mark)
 
 no_change_line : (c : ChangeRecord) (bytes more rest : List ℕ) → IsChange c → bytes ≡ 33 ∷ more → bytes ≢ spelling c ++ rest
 no_change_line c bytes more rest is mark = λ eq. (let h = line_stands c bytes rest eq in name_opens c.key.name h.0 more is.name (sym h.1.parts ∙ mark))
 
--- where one of a floor stands, `!` does
+-- Where a part of a floor is, `!` is.
 floor_there : (f : Floor) (k : ℕ) (bytes after : List ℕ) → Stand (suc k) (floor_parts f) bytes after → (more : List ℕ) × (bytes ≡ 33 ∷ more)
 floor_there f k bytes after h = (h.0, h.1.parts)
 
--- ---- what is spelled out stands there
+-- ---- what is spelled is there
 
 pub floor_stands : (f : Floor) (rest : List ℕ) → AllStand (floor_parts f) rest
 floor_stands f rest =
@@ -73,7 +73,7 @@ floor_line_stands f bytes rest eq = subst (λ (x : List ℕ). Stand 6 (floor_par
 
 -- ---- faults
 
--- where no `!` stands, the fault of a change is the fault of an item
+-- Where there is no `!`, the fault of a change is the fault of an item.
 pub change_faults : (fault : LineFault) (bytes : List ℕ) → ((more : List ℕ) → bytes ≢ 33 ∷ more) → IsFaultIn fault bytes → IsItemFaultIn fault bytes
 change_faults NoRoom bytes other h = h
 change_faults (BadLine place) bytes other h =
@@ -98,7 +98,7 @@ change_faults (BadLine place) bytes other h =
     no_more after (Changed c) is st = h.first.stops.most after (record { member = c; is = is; front = st })
     no_more after (Floored f) is st = let t = floor_there f h.first.stops.count bytes after st in other t.0 t.1
 
--- and so is what a change's reader put into a place
+-- And so is what a change's reader stored.
 pub change_line : (bytes : List ℕ) (result : Result ℕ LineFault) (placed : Option Item) → ((more : List ℕ) → bytes ≢ 33 ∷ more)
     → ReadsChangeLine bytes result placed → ReadsItemLine bytes result placed
 change_line bytes (Ok len) (Some (Changed c)) other h = h
@@ -106,7 +106,7 @@ change_line bytes (Ok len) (Some (Floored f)) other h = absurd h
 change_line bytes (Ok len) None other h = absurd h
 change_line bytes (Err fault) placed other h = change_faults fault bytes other h
 
--- where `!` stands, that of a floor is
+-- Where `!` is, the fault of a floor is the fault of an item.
 pub floor_faults : (bytes more rest : List ℕ) (place : ℕ) → bytes ≡ 33 ∷ more → Breaks a_floor bytes rest → place + length rest ≡ length bytes → IsItemFault bytes place
 floor_faults bytes more rest place mark b begins =
     record {
@@ -144,7 +144,7 @@ items_leave_one (Floored f) (Changed d) (suc k) bytes r s is_f is_d a b = let t 
 pub one_item_place : (bytes : List ℕ) (p q : ℕ) → IsFaultPlace IsItem item_parts bytes p → IsFaultPlace IsItem item_parts bytes q → p ≡ q
 one_item_place = one_place_by IsItem item_parts items_leave_one
 
--- ---- lines stand apart
+-- ---- lines differ
 
 floor_one : (f g : Floor) → IsFloor f → IsFloor g → floor_parts f ≡ floor_parts g → f ≡ g
 floor_one f g is_f is_g eq =

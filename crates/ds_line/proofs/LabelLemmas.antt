@@ -1,4 +1,4 @@
--- What labels and the other kinds ask of a change's parts: which parts some change has.
+-- What labels and the other kinds require of a change's parts: which parts some change has.
 use Rattle.std.proofs.Common.{◌≡◌, ◌≢◌, ℕ, ◌^◌, ◌<◌, ◌≤◌, ◌⊎◌, inl, inr, List, [], refl, sym, subst, ◌∙◌, arith}
 use Rattle.std.proofs.lemmas.Bool.{cases_eq}
 use Rattle.ds_names.specs.Name.{is_name_byte, IsName, rs_name}
@@ -125,7 +125,7 @@ label_at_most : (v : Version) (b : Body) → IsLabelBody v b → v.seq ≤ 1
 label_at_most v (Put value) rule = omega (arith, put_epoch v value rule)
 label_at_most v Gone rule = omega (arith, rule)
 
--- ---- what the parts so far leave
+-- ---- what the parts so far allow
 
 pub owner_of_label : (key : Key) → key.kind ≡ Label → IsName key.name → key.name ≢ rs_name → HasOwner key
 owner_of_label key kind name not_rs = (rs_name, (version_of 1 0, (put_of 1, label_put key rs_name (version_of 1 0) kind name not_rs refl (omega arith) (omega arith) refl)))

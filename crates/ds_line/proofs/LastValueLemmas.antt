@@ -1,4 +1,4 @@
--- A value and the newline behind it: each is missing where it has to stand, or both are read.
+-- A value and the newline after it: each is missing where it is expected, or both are read.
 use Rattle.std.proofs.Common.{◌≡◌, ◌≢◌, ℕ, ◌≤◌, List, [], ◌∷◌, length, refl, sym, ap, subst, ◌∙◌, arith}
 use Rattle.std.specs.Char.{is_ascii_digit}
 use Rattle.std.specs.Fmt.{decimal}
@@ -24,18 +24,19 @@ use Rattle.ds_line.proofs.PieceLemmas.{part_missing}
 pub some_value_of : (kind : Kind) → IsValueOf kind (some_value kind)
 some_value_of kind = record { valid = some_is kind; of = some_kind kind }
 
--- no value of the kind stands here
+-- No value of the kind is here.
 pub value_missing : (kind : Kind) (bytes : List ℕ) → ((value : Value) (rest : List ℕ) → IsValueOf kind value → ¬ Begins (run_of (value_part value).class) bytes (value_part value).text rest) → Breaks (last_value kind) bytes bytes
 value_missing kind bytes none = part_missing (last_value kind) value_part (λ _. newline ∷ []) (some_value kind) bytes (λ _. refl) (some_value_of kind) none
 
--- behind two values of the kind at one front the same stands
-behind_one : (kind : Kind) (v w : Value) (bytes r s : List ℕ) → IsValueOf kind v → IsValueOf kind w → Begins (run_of (value_part v).class) bytes (value_part v).text r → Begins (run_of (value_part w).class) bytes (value_part w).text s → s ≡ r
+-- After two values of the kind at one front, the rest is the same.
+behind_one : (kind : Kind) (v w : Value) (bytes r s : List ℕ) → IsValueOf kind v → IsValueOf kind w → Begins (run_of (value_part v).class) bytes (value_part v).text r →
+    Begins (run_of (value_part w).class) bytes (value_part w).text s → s ≡ r
 behind_one kind v w bytes r s is_v is_w begins_v begins_w =
     let class : (value_part w).class ≡ (value_part v).class = class_one w v (is_w.of ∙ sym is_v.of) in
     (part_one (value_part v).class bytes (value_part w).text (value_part v).text s r (subst (λ (c : Class). IsText c (value_part w).text) class (value_text w is_w.valid)) (value_text v is_v.valid)
     (subst (λ (c : Class). Begins (run_of c) bytes (value_part w).text s) class begins_w) begins_v).1
 
--- a value is read, and behind it the newline is missing
+-- A value is read, and the newline after it is missing.
 pub end_missing : (kind : Kind) (v : Value) (bytes r : List ℕ) → IsValueOf kind v → Begins (run_of (value_part v).class) bytes (value_part v).text r → ((rest : List ℕ) → r ≢ 10 ∷ rest) → Breaks (last_value kind) bytes r
 end_missing kind v bytes r is begins none =
     record {
@@ -51,7 +52,7 @@ end_missing kind v bytes r is begins none =
 pub value_whole : (kind : Kind) (v : Value) (bytes r rest : List ℕ) → IsValueOf kind v → Begins (run_of (value_part v).class) bytes (value_part v).text r → r ≡ 10 ∷ rest → Found (last_value kind) v bytes rest
 value_whole kind v bytes r rest is begins end = record { can = is; front = (r, begins, (rest, byte_begins 10 r rest end, refl)) }
 
--- a reader that stops so
+-- A reader that stops for such a reason.
 pub stops_value : (kind : Kind) (stop : PartFault) (bytes rest : List ℕ) → stop ≡ BadPart (length rest) → Breaks (last_value kind) bytes rest → StopsValue kind stop bytes
 stops_value kind stop bytes rest is s = subst (λ (x : PartFault). StopsValue kind x bytes) (sym is) (rest, s, refl)
 

@@ -1,4 +1,4 @@
--- The whole line: what is spelled out stands part by part, so where no line stands there is a fault.
+-- The whole line: what is spelled is there part by part, so where there is no line there is a fault.
 use Rattle.std.proofs.Common.{◌≡◌, ℕ, zero, suc, ◌≤◌, List, [], ◌∷◌, ◌++◌, length, refl, sym, ap, subst, ◌∙◌, append_assoc, arith}
 use Rattle.std.specs.Fmt.{decimal}
 use Rattle.std.proofs.lemmas.List.{length-append}
@@ -24,13 +24,13 @@ stand_length (suc count) (p ∷ parts) bytes rest h = omega (arith, stand_length
 pub rest_fits : (bytes rest : List ℕ) → ChangeStops [] bytes rest → length rest ≤ length bytes
 rest_fits bytes rest s = stand_length s.count s.further bytes rest s.front
 
--- ---- what is spelled out stands there
+-- ---- what is spelled is there
 
--- the parts are spelled out, and the rest comes behind them
+-- The spelling of the parts, and the rest after it.
 abbrev pub spelled : List Part → List ℕ → List ℕ
 spelled parts rest = texts parts ++ rest
 
--- all of the parts stand where they are spelled out
+-- All parts are where they are spelled.
 abbrev pub AllStand : List Part → List ℕ → Type 0
 AllStand parts rest = Stand (length parts) parts (spelled parts rest) rest
 
@@ -87,7 +87,7 @@ change_stands c rest =
     (part_stands (part Number (decimal c.version.seq)) (from_seq_space c) rest refl
     (byte_stands 32 (body_parts c.body) rest (body_stands c.body rest))))))))))
 
--- a line at the front stands there part by part
+-- A line at the front is there part by part.
 pub line_stands : (c : ChangeRecord) (bytes rest : List ℕ) → bytes ≡ spelling c ++ rest → Stand (length (change_parts c)) (change_parts c) bytes rest
 line_stands c bytes rest eq = subst (λ (x : List ℕ). Stand (length (change_parts c)) (change_parts c) x rest) (sym eq) (change_stands c rest)
 
@@ -98,7 +98,7 @@ no_line bytes rest s = λ c after line eq. s.none c (change_parts c) after line 
 pub line_is : (c : ChangeRecord) (bytes rest : List ℕ) → Completes [] c bytes rest → IsChange c × (bytes ≡ spelling c ++ rest)
 line_is c bytes rest k = (k.change, k.text ∙ ap (λ (ps : List Part). spelled ps rest) (sym k.split))
 
--- so has the one that there was no room for
+-- So has the change for whose value memory ran out.
 pub no_room : (bytes : List ℕ) → CompletesInRoom [] bytes → LineTakesRoom bytes
 no_room bytes k =
     let line = line_is k.put bytes k.rest k.completes in

@@ -1,4 +1,4 @@
--- The parts of a change before its mark: each is missing where it has to stand, or is read there.
+-- The parts of a change before its mark: each is missing where it is expected, or is read there.
 use Rattle.std.proofs.Common.{◌≡◌, ◌≢◌, ℕ, ◌^◌, ◌<◌, ◌≤◌, List, [], ◌∷◌, ◌++◌, length, get_or, drop, true, Result, Err, refl, sym, ap, subst, ◌∙◌, arith}
 use Rattle.std.specs.Char.{is_ascii_digit, is_ascii_alphanumeric}
 use Rattle.std.specs.Fmt.{decimal}
@@ -23,7 +23,7 @@ use Rattle.ds_line.proofs.PartLemmas.{part_one, byte_begins}
 use Rattle.ds_line.proofs.ReadLemmas.{Begun, Comes, missing, read_on}
 use Rattle.ds_line.proofs.LabelLemmas.{rs_is_name, version_of}
 
--- ---- what the known parts tell
+-- ---- what the known parts determine
 
 -- the text of the part at an index
 abbrev pub text_at : ℕ → List Part → List ℕ
@@ -38,7 +38,7 @@ word_is_word Mem = refl
 abbrev kind_at_letter : List ℕ → ℕ
 kind_at_letter word = get_or word 0 0
 
--- the word of a kind is no other kind's
+-- Two kinds with one word are equal.
 pub word_one : (j k : Kind) → kind_word j ≡ kind_word k → j ≡ k
 word_one Label Label e = refl
 word_one Label U32 e = absurd (omega (arith, ap kind_at_letter e))
@@ -61,11 +61,11 @@ word_one Mem Mem e = refl
 pub key_is : (k l : Key) → k.name ≡ l.name → k.kind ≡ l.kind → k ≡ l
 key_is k l name kind = ap (λ (n : List ℕ). record { name = n; kind = k.kind }) name ∙ ap (λ (x : Kind). record { name = l.name; kind = x }) kind
 
--- the parts up to the kind tell the key
+-- The parts up to the kind determine the key.
 pub key_known : (key : Key) (c : ChangeRecord) (more : List Part) → change_parts c ≡ up_to_kind key ++ more → c.key ≡ key
 key_known key c more eq = key_is c.key key (ap (text_at 0) eq) (word_one c.key.kind key.kind (ap (text_at 2) eq))
 
--- those up to the epoch tell the owner, too
+-- The parts up to the epoch determine the owner, too.
 pub owner_known : (key : Key) (owner : List ℕ) (c : ChangeRecord) (more : List Part) → change_parts c ≡ up_to_epoch key owner ++ more → (c.key ≡ key) × (c.owner ≡ owner)
 owner_known key owner c more eq = (key_is c.key key (ap (text_at 0) eq) (word_one c.key.kind key.kind (ap (text_at 2) eq)), ap (text_at 4) eq)
 
@@ -103,13 +103,15 @@ name_space_missing n bytes stop name at none =
     missing (behind_name_part n) Byte bytes stop (tombstone n) (drop 1 (change_parts (tombstone n))) (tombstone_is n name) refl (name_space_comes n) at
     (λ c more after is eq h. let first = subst (λ (x : List Part). Stand 1 x bytes after) (sym (ap (drop 1) eq)) h in none first.0 first.1.parts)
 
-pub kind_missing : (n bytes : List ℕ) (stop : PartFault) → IsName n → stop ≡ BadPart (length bytes) → ((kind : Kind) (rest : List ℕ) → ¬ Begins is_ascii_alphanumeric bytes (kind_word kind) rest) → ReadsChange (behind_name_space n) bytes (Err stop)
+pub kind_missing : (n bytes : List ℕ) (stop : PartFault) → IsName n → stop ≡ BadPart (length bytes) →
+    ((kind : Kind) (rest : List ℕ) → ¬ Begins is_ascii_alphanumeric bytes (kind_word kind) rest) → ReadsChange (behind_name_space n) bytes (Err stop)
 kind_missing n bytes stop name at none =
     missing (behind_name_space n) Word bytes stop (tombstone n) (drop 2 (change_parts (tombstone n))) (tombstone_is n name) refl (kind_comes n) at
     (λ c more after is eq h. let first = subst (λ (x : List Part). Stand 1 x bytes after) (sym (ap (drop 2) eq)) h in none c.key.kind first.0 first.1)
 
 -- the word is read, but no change has this name and kind
-pub kind_refused : (key : Key) (bytes r : List ℕ) (stop : PartFault) → IsName key.name → stop ≡ BadPart (length bytes) → Begins is_ascii_alphanumeric bytes (kind_word key.kind) r → ¬ HasOwner key → ReadsChange (behind_name_space key.name) bytes (Err stop)
+pub kind_refused : (key : Key) (bytes r : List ℕ) (stop : PartFault) → IsName key.name → stop ≡ BadPart (length bytes) → Begins is_ascii_alphanumeric bytes (kind_word key.kind) r →
+    ¬ HasOwner key → ReadsChange (behind_name_space key.name) bytes (Err stop)
 kind_refused key bytes r stop name at begins none =
     missing (behind_name_space key.name) Word bytes stop (tombstone key.name) (drop 2 (change_parts (tombstone key.name))) (tombstone_is key.name name) refl (kind_comes key.name) at
     (λ c more after is eq h.
@@ -160,13 +162,15 @@ owner_space_missing key bytes stop has at none =
 pub owner_space_then : (key : Key) (bytes r : List ℕ) (result : Result (ChangeRecord × ℕ) PartFault) → bytes ≡ 32 ∷ r → ReadsChange (up_to_owner key) r result → ReadsChange (up_to_kind key) bytes result
 owner_space_then key bytes r result is k = read_on (up_to_kind key) space bytes r result refl (owner_space_comes key) (byte_begins 32 bytes r is) k
 
-pub owner_missing : (key : Key) (bytes : List ℕ) (stop : PartFault) → HasOwner key → stop ≡ BadPart (length bytes) → ((name rest : List ℕ) → IsName name → ¬ Begins is_name_byte bytes name rest) → ReadsChange (up_to_owner key) bytes (Err stop)
+pub owner_missing : (key : Key) (bytes : List ℕ) (stop : PartFault) → HasOwner key → stop ≡ BadPart (length bytes) →
+    ((name rest : List ℕ) → IsName name → ¬ Begins is_name_byte bytes name rest) → ReadsChange (up_to_owner key) bytes (Err stop)
 owner_missing key bytes stop has at none =
     missing (up_to_owner key) Name bytes stop (with_key key has) (drop 4 (change_parts (with_key key has))) has.1.1.1 refl (owner_comes key) at
     (λ c more after is eq h. let first = subst (λ (x : List Part). Stand 1 x bytes after) (sym (ap (drop 4) eq)) h in none c.owner first.0 is.owner first.1)
 
 -- a name is read, but no change with the key has that owner
-pub owner_refused : (key : Key) (owner bytes r : List ℕ) (stop : PartFault) → HasOwner key → stop ≡ BadPart (length bytes) → IsName owner → Begins is_name_byte bytes owner r → ¬ HasVersion key owner → ReadsChange (up_to_owner key) bytes (Err stop)
+pub owner_refused : (key : Key) (owner bytes r : List ℕ) (stop : PartFault) → HasOwner key → stop ≡ BadPart (length bytes) → IsName owner → Begins is_name_byte bytes owner r →
+    ¬ HasVersion key owner → ReadsChange (up_to_owner key) bytes (Err stop)
 owner_refused key owner bytes r stop has at name begins none =
     missing (up_to_owner key) Name bytes stop (with_key key has) (drop 4 (change_parts (with_key key has))) has.1.1.1 refl (owner_comes key) at
     (λ c more after is eq h.
@@ -174,7 +178,8 @@ owner_refused key owner bytes r stop has at name begins none =
     let same = (part_one Name bytes c.owner owner first.0 r is.owner.allowed name.allowed first.1 begins).0 in
     none (subst (HasVersion key) same (subst (λ (k : Key). HasVersion k c.owner) (key_known key c (space ∷ more) eq) (c.version, (c.body, is)))))
 
-pub owner_then : (key : Key) (owner bytes r : List ℕ) (result : Result (ChangeRecord × ℕ) PartFault) → IsName owner → Begins is_name_byte bytes owner r → ReadsChange (behind_owner key owner) r result → ReadsChange (up_to_owner key) bytes result
+pub owner_then : (key : Key) (owner bytes r : List ℕ) (result : Result (ChangeRecord × ℕ) PartFault) → IsName owner → Begins is_name_byte bytes owner r →
+    ReadsChange (behind_owner key owner) r result → ReadsChange (up_to_owner key) bytes result
 owner_then key owner bytes r result name begins k = read_on (up_to_owner key) (part Name owner) bytes r result name.allowed (owner_comes key) begins k
 
 pub epoch_space_missing : (key : Key) (owner bytes : List ℕ) (stop : PartFault) → HasVersion key owner → stop ≡ BadPart (length bytes) → ((rest : List ℕ) → bytes ≢ 32 ∷ rest) → ReadsChange (behind_owner key owner) bytes (Err stop)
@@ -208,13 +213,15 @@ seq_comes key owner epoch c more is eq = subst (Begun Number) (ap (drop 8) eq) (
 mark_space_comes : (key : Key) (owner : List ℕ) (version : Version) → Comes (behind_seq key owner version) Byte
 mark_space_comes key owner version c more is eq = subst (Begun Byte) (ap (drop 9) eq) (refl, refl)
 
-pub epoch_missing : (key : Key) (owner bytes : List ℕ) (stop : PartFault) → HasVersion key owner → stop ≡ BadPart (length bytes) → ((n : ℕ) (rest : List ℕ) → n ≤ 2097151 → ¬ Begins is_ascii_digit bytes (decimal n) rest) → ReadsChange (up_to_epoch key owner) bytes (Err stop)
+pub epoch_missing : (key : Key) (owner bytes : List ℕ) (stop : PartFault) → HasVersion key owner → stop ≡ BadPart (length bytes) →
+    ((n : ℕ) (rest : List ℕ) → n ≤ 2097151 → ¬ Begins is_ascii_digit bytes (decimal n) rest) → ReadsChange (up_to_epoch key owner) bytes (Err stop)
 epoch_missing key owner bytes stop has at none =
     missing (up_to_epoch key owner) Number bytes stop (change_of key owner has.0 has.1.0) (drop 6 (change_parts (change_of key owner has.0 has.1.0))) has.1.1 refl (epoch_comes key owner) at
     (λ c more after is eq h. let first = subst (λ (x : List Part). Stand 1 x bytes after) (sym (ap (drop 6) eq)) h in none c.version.epoch first.0 is.epoch first.1)
 
 -- a number is read, but no change with the key and the owner has that epoch
-pub epoch_refused : (key : Key) (owner bytes r : List ℕ) (epoch : ℕ) (stop : PartFault) → HasVersion key owner → stop ≡ BadPart (length bytes) → epoch ≤ 2097151 → Begins is_ascii_digit bytes (decimal epoch) r → ¬ HasSeq key owner epoch → ReadsChange (up_to_epoch key owner) bytes (Err stop)
+pub epoch_refused : (key : Key) (owner bytes r : List ℕ) (epoch : ℕ) (stop : PartFault) → HasVersion key owner → stop ≡ BadPart (length bytes) → epoch ≤ 2097151 →
+    Begins is_ascii_digit bytes (decimal epoch) r → ¬ HasSeq key owner epoch → ReadsChange (up_to_epoch key owner) bytes (Err stop)
 epoch_refused key owner bytes r epoch stop has at most begins none =
     missing (up_to_epoch key owner) Number bytes stop (change_of key owner has.0 has.1.0) (drop 6 (change_parts (change_of key owner has.0 has.1.0))) has.1.1 refl (epoch_comes key owner) at
     (λ c more after is eq h.
@@ -226,11 +233,13 @@ epoch_refused key owner bytes r epoch stop has at most begins none =
     let of_owner : HasSeq c.key owner epoch = subst (λ (o : List ℕ). HasSeq c.key o epoch) known.1 of_epoch in
     none (subst (λ (k : Key). HasSeq k owner epoch) known.0 of_owner))
 
-pub epoch_then : (key : Key) (owner bytes r : List ℕ) (epoch : ℕ) (result : Result (ChangeRecord × ℕ) PartFault) → epoch ≤ 2097151 → Begins is_ascii_digit bytes (decimal epoch) r → ReadsChange (behind_epoch key owner epoch) r result → ReadsChange (up_to_epoch key owner) bytes result
+pub epoch_then : (key : Key) (owner bytes r : List ℕ) (epoch : ℕ) (result : Result (ChangeRecord × ℕ) PartFault) → epoch ≤ 2097151 → Begins is_ascii_digit bytes (decimal epoch) r →
+    ReadsChange (behind_epoch key owner epoch) r result → ReadsChange (up_to_epoch key owner) bytes result
 epoch_then key owner bytes r epoch result most begins k =
     read_on (up_to_epoch key owner) (part Number (decimal epoch)) bytes r result (epoch, omega arith, refl) (epoch_comes key owner) begins k
 
-pub dot_missing : (key : Key) (owner bytes : List ℕ) (epoch : ℕ) (stop : PartFault) → HasSeq key owner epoch → stop ≡ BadPart (length bytes) → ((rest : List ℕ) → bytes ≢ 46 ∷ rest) → ReadsChange (behind_epoch key owner epoch) bytes (Err stop)
+pub dot_missing : (key : Key) (owner bytes : List ℕ) (epoch : ℕ) (stop : PartFault) → HasSeq key owner epoch → stop ≡ BadPart (length bytes) →
+    ((rest : List ℕ) → bytes ≢ 46 ∷ rest) → ReadsChange (behind_epoch key owner epoch) bytes (Err stop)
 dot_missing key owner bytes epoch stop has at none =
     missing (behind_epoch key owner epoch) Byte bytes stop (change_of key owner (version_of epoch has.0) has.1.0) (drop 7 (change_parts (change_of key owner (version_of epoch has.0) has.1.0))) has.1.1 refl (dot_comes key owner epoch) at
     (λ c more after is eq h. let first = subst (λ (x : List Part). Stand 1 x bytes after) (sym (ap (drop 7) eq)) h in none first.0 first.1.parts)
@@ -238,7 +247,8 @@ dot_missing key owner bytes epoch stop has at none =
 pub dot_then : (key : Key) (owner bytes r : List ℕ) (epoch : ℕ) (result : Result (ChangeRecord × ℕ) PartFault) → bytes ≡ 46 ∷ r → ReadsChange (up_to_seq key owner epoch) r result → ReadsChange (behind_epoch key owner epoch) bytes result
 dot_then key owner bytes r epoch result is k = read_on (behind_epoch key owner epoch) (byte 46) bytes r result refl (dot_comes key owner epoch) (byte_begins 46 bytes r is) k
 
-pub seq_missing : (key : Key) (owner bytes : List ℕ) (epoch : ℕ) (stop : PartFault) → HasSeq key owner epoch → stop ≡ BadPart (length bytes) → ((n : ℕ) (rest : List ℕ) → n ≤ 4294967295 → ¬ Begins is_ascii_digit bytes (decimal n) rest) → ReadsChange (up_to_seq key owner epoch) bytes (Err stop)
+pub seq_missing : (key : Key) (owner bytes : List ℕ) (epoch : ℕ) (stop : PartFault) → HasSeq key owner epoch → stop ≡ BadPart (length bytes) →
+    ((n : ℕ) (rest : List ℕ) → n ≤ 4294967295 → ¬ Begins is_ascii_digit bytes (decimal n) rest) → ReadsChange (up_to_seq key owner epoch) bytes (Err stop)
 seq_missing key owner bytes epoch stop has at none =
     missing (up_to_seq key owner epoch) Number bytes stop (change_of key owner (version_of epoch has.0) has.1.0) (drop 8 (change_parts (change_of key owner (version_of epoch has.0) has.1.0))) has.1.1 refl (seq_comes key owner epoch) at
     (λ c more after is eq h. let first = subst (λ (x : List Part). Stand 1 x bytes after) (sym (ap (drop 8) eq)) h in none c.version.seq first.0 (omega (arith, is.seq)) first.1)
@@ -260,9 +270,11 @@ known_body key owner version c k o v is =
     subst (λ (x : Key). HasBody x owner version) k of_owner
 
 -- a number is read, but no change has that version
-pub seq_refused : (key : Key) (owner bytes r : List ℕ) (version : Version) (stop : PartFault) → HasSeq key owner version.epoch → stop ≡ BadPart (length bytes) → version.seq < 2 ^ 32 → Begins is_ascii_digit bytes (decimal version.seq) r → ¬ HasBody key owner version → ReadsChange (up_to_seq key owner version.epoch) bytes (Err stop)
+pub seq_refused : (key : Key) (owner bytes r : List ℕ) (version : Version) (stop : PartFault) → HasSeq key owner version.epoch → stop ≡ BadPart (length bytes) →
+    version.seq < 2 ^ 32 → Begins is_ascii_digit bytes (decimal version.seq) r → ¬ HasBody key owner version → ReadsChange (up_to_seq key owner version.epoch) bytes (Err stop)
 seq_refused key owner bytes r version stop has at fits begins none =
-    missing (up_to_seq key owner version.epoch) Number bytes stop (change_of key owner (version_of version.epoch has.0) has.1.0) (drop 8 (change_parts (change_of key owner (version_of version.epoch has.0) has.1.0))) has.1.1 refl (seq_comes key owner version.epoch) at
+    missing (up_to_seq key owner version.epoch) Number bytes stop (change_of key owner (version_of version.epoch has.0) has.1.0)
+    (drop 8 (change_parts (change_of key owner (version_of version.epoch has.0) has.1.0))) has.1.1 refl (seq_comes key owner version.epoch) at
     (λ c more after is eq h.
     let first = subst (λ (x : List Part). Stand 1 x bytes after) (sym (ap (drop 8) eq)) h in
     let known = owner_known key owner c (part Number (decimal version.epoch) ∷ byte 46 ∷ more) eq in
@@ -270,19 +282,22 @@ seq_refused key owner bytes r version stop has at fits begins none =
     let seq : c.version.seq ≡ version.seq = (decimal_one bytes c.version.seq version.seq first.0 r (omega (arith, is.seq)) (omega arith) first.1 begins).0 in
     none (known_body key owner version c known.0 known.1 (version_is c.version version epoch seq) is))
 
-pub seq_then : (key : Key) (owner bytes r : List ℕ) (version : Version) (result : Result (ChangeRecord × ℕ) PartFault) → version.seq < 2 ^ 32 → Begins is_ascii_digit bytes (decimal version.seq) r → ReadsChange (behind_seq key owner version) r result → ReadsChange (up_to_seq key owner version.epoch) bytes result
+pub seq_then : (key : Key) (owner bytes r : List ℕ) (version : Version) (result : Result (ChangeRecord × ℕ) PartFault) → version.seq < 2 ^ 32 →
+    Begins is_ascii_digit bytes (decimal version.seq) r → ReadsChange (behind_seq key owner version) r result → ReadsChange (up_to_seq key owner version.epoch) bytes result
 seq_then key owner bytes r version result fits begins k =
     read_on (up_to_seq key owner version.epoch) (part Number (decimal version.seq)) bytes r result (version.seq, omega arith, refl) (seq_comes key owner version.epoch) begins k
 
-pub mark_space_missing : (key : Key) (owner bytes : List ℕ) (version : Version) (stop : PartFault) → HasBody key owner version → stop ≡ BadPart (length bytes) → ((rest : List ℕ) → bytes ≢ 32 ∷ rest) → ReadsChange (behind_seq key owner version) bytes (Err stop)
+pub mark_space_missing : (key : Key) (owner bytes : List ℕ) (version : Version) (stop : PartFault) → HasBody key owner version → stop ≡ BadPart (length bytes) →
+    ((rest : List ℕ) → bytes ≢ 32 ∷ rest) → ReadsChange (behind_seq key owner version) bytes (Err stop)
 mark_space_missing key owner bytes version stop has at none =
     missing (behind_seq key owner version) Byte bytes stop (change_of key owner version has.0) (drop 9 (change_parts (change_of key owner version has.0))) has.1 refl (mark_space_comes key owner version) at
     (λ c more after is eq h. let first = subst (λ (x : List Part). Stand 1 x bytes after) (sym (ap (drop 9) eq)) h in none first.0 first.1.parts)
 
-pub mark_space_then : (key : Key) (owner bytes r : List ℕ) (version : Version) (result : Result (ChangeRecord × ℕ) PartFault) → bytes ≡ 32 ∷ r → ReadsChange (up_to_mark key owner version) r result → ReadsChange (behind_seq key owner version) bytes result
+pub mark_space_then : (key : Key) (owner bytes r : List ℕ) (version : Version) (result : Result (ChangeRecord × ℕ) PartFault) → bytes ≡ 32 ∷ r →
+    ReadsChange (up_to_mark key owner version) r result → ReadsChange (behind_seq key owner version) bytes result
 mark_space_then key owner bytes r version result is k = read_on (behind_seq key owner version) space bytes r result refl (mark_space_comes key owner version) (byte_begins 32 bytes r is) k
 
--- the parts up to the mark tell all but the body
+-- The parts up to the mark determine all but the body.
 pub version_known : (key : Key) (owner : List ℕ) (version : Version) (c : ChangeRecord) (more : List Part) → version.epoch ≤ 2097151 → version.seq < 2 ^ 32 → IsChange c → change_parts c ≡ up_to_mark key owner version ++ more
     → IsChange (change_of key owner version c.body) × (drop 10 (change_parts c) ≡ more)
 version_known key owner version c more most fits is eq =

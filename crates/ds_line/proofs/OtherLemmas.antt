@@ -44,7 +44,8 @@ other_completes key owner version value bytes rest other has f =
     record { change = other_is key owner version value other has f.can; further = value_part value ∷ newline ∷ []; split = refl; text = stand_texts (value_part value ∷ newline ∷ []) bytes rest f.front }
 
 -- no value is read
-pub other_stops : (key : Key) (owner : List ℕ) (version : Version) (bytes : List ℕ) (stop : PartFault) → key.kind ≢ Label → HasValue key owner version → StopsValue key.kind stop bytes → ReadsChange (up_to_value key owner version) bytes (Err stop)
+pub other_stops : (key : Key) (owner : List ℕ) (version : Version) (bytes : List ℕ) (stop : PartFault) → key.kind ≢ Label → HasValue key owner version →
+    StopsValue key.kind stop bytes → ReadsChange (up_to_value key owner version) bytes (Err stop)
 other_stops key owner version bytes (BadPart left) other has s = (s.0, other_breaks key owner version bytes s.0 other has s.1, s.2)
 other_stops key owner version bytes NoRoom other has s = record { put = change_of key owner version (Put s.0); rest = s.1; completes = other_completes key owner version s.0 bytes s.1 other has s.2; value = s.3 }
 

@@ -1,4 +1,4 @@
--- A part that stands at the front is one part alone: its class says where it ends.
+-- Bytes begin with one part of a class at most: the class says where it ends.
 use Rattle.std.proofs.Common.{◌≡◌, ℕ, ◌^◌, ◌<◌, Bool, true, List, [], ◌∷◌, ◌++◌, length, take, drop, refl, sym, ap, subst, ◌∙◌}
 use Rattle.std.specs.List.{list_all, prefix_len}
 use Rattle.std.specs.Char.{is_ascii_digit, is_ascii_alphanumeric}
@@ -26,14 +26,14 @@ same_front : (t u r s : List ℕ) → length t ≡ length u → t ++ r ≡ u ++ 
 same_front t u r s len same =
     (sym (take_at t r (length u) len) ∙ ap (take (length u)) same ∙ take_at u s (length u) refl, sym (drop_at t r (length u) len) ∙ ap (drop (length u)) same ∙ drop_at u s (length u) refl)
 
--- two runs at one front are one
+-- Two runs at one front are equal.
 run_one : (run : ℕ → Bool) (bytes t u r s : List ℕ) → list_all run t ≡ true → list_all run u ≡ true → Begins run bytes t r → Begins run bytes u s → (t ≡ u) × (r ≡ s)
 run_one run bytes t u r s all_t all_u begins_t begins_u =
     let len_t : prefix_len run bytes ≡ length t = ap (prefix_len run) begins_t.parts ∙ run_is run t r all_t begins_t.ends in
     let len_u : prefix_len run bytes ≡ length u = ap (prefix_len run) begins_u.parts ∙ run_is run u s all_u begins_u.ends in
     same_front t u r s (sym len_t ∙ len_u) (sym begins_t.parts ∙ begins_u.parts)
 
--- two parts of a class at one front are one
+-- Two parts of a class at one front are equal.
 pub part_one : (class : Class) (bytes t u r s : List ℕ) → IsText class t → IsText class u → Begins (run_of class) bytes t r → Begins (run_of class) bytes u s → (t ≡ u) × (r ≡ s)
 part_one Byte bytes t u r s is_t is_u begins_t begins_u = same_front t u r s (is_t ∙ sym is_u) (sym begins_t.parts ∙ begins_u.parts)
 part_one Name bytes t u r s is_t is_u begins_t begins_u = run_one is_name_byte bytes t u r s is_t is_u begins_t begins_u
@@ -49,16 +49,16 @@ part_one Quoted bytes t u r s is_t is_u begins_t begins_u =
     (is_t.1 ∙ ap quoted one.0 ∙ sym is_u.1, one.1)
 part_one Hex bytes t u r s is_t is_u begins_t begins_u = run_one is_hex_byte bytes t u r s is_t is_u begins_t begins_u
 
--- the run that is counted stands at the front
+-- The bytes begin with the counted run.
 pub run_begins : (run : ℕ → Bool) (bytes front rest : List ℕ) → front ≡ take (prefix_len run bytes) bytes → rest ≡ drop (prefix_len run bytes) bytes → Begins run bytes front rest
 run_begins run bytes front rest is_front is_rest =
     record { parts = rw (is_front, is_rest) (sym (take-append-drop (prefix_len run bytes) bytes)); ends = rw is_rest (run_parts run bytes).1 }
 
--- behind one byte anything may stand
+-- Anything may follow a single byte.
 pub byte_ends : (bytes : List ℕ) → Ends (run_of Byte) bytes
 byte_ends [] = tt
 byte_ends (b ∷ bytes) = refl
 
--- a byte at the front stands there as a part
+-- A byte at the front is a part there.
 pub byte_begins : (b : ℕ) (bytes rest : List ℕ) → bytes ≡ b ∷ rest → Begins (run_of Byte) bytes (b ∷ []) rest
 byte_begins b bytes rest is = record { parts = is; ends = byte_ends rest }

@@ -1,4 +1,4 @@
--- Reading things of several parts, one behind the other.
+-- Reading things of several parts, in order.
 use Rattle.std.proofs.Common.{◌≡◌, ◌≢◌, ℕ, zero, suc, ◌+◌, ◌<◌, ◌≤◌, inl, inr, List, [], ◌∷◌, ◌++◌, length, drop, refl, sym, ap, subst, ◌∙◌, append_assoc, length-append, arith}
 use Rattle.std.proofs.lemmas.Bool.{cases_lt}
 use Rattle.ds_names.specs.Run.{Begins}
@@ -10,7 +10,7 @@ use Rattle.ds_line.specs.declared.part_fault.PartFault.TheVariants.{BadPart, NoR
 use Rattle.ds_line.proofs.PartLemmas.{byte_begins}
 use Rattle.ds_line.proofs.ApartLemmas.{AllTexts, Alike, same_parts}
 
--- ---- parts that stand in a row
+-- ---- consecutive parts
 
 pub stand_wider : (k : ℕ) (xs ys : List Part) (bytes rest : List ℕ) → Stand k xs bytes rest → Stand k (xs ++ ys) bytes rest
 stand_wider zero xs ys bytes rest h = h
@@ -43,14 +43,14 @@ count_fits zero xs bytes rest h = omega arith
 count_fits (suc k) [] bytes rest h = absurd h
 count_fits (suc k) (x ∷ xs) bytes rest h = omega (arith, count_fits k xs h.0 rest h.2)
 
--- what stands there is spelled out
+-- What is there is spelled.
 pub stand_texts : (xs : List Part) (bytes rest : List ℕ) → Stand (length xs) xs bytes rest → bytes ≡ texts xs ++ rest
 stand_texts [] bytes rest h = h
 stand_texts (x ∷ xs) bytes rest h = h.1.parts ∙ ap (λ (t : List ℕ). x.text ++ t) (stand_texts xs h.0 rest h.2) ∙ sym (append_assoc x.text (texts xs) rest)
 
 -- ---- pieces
 
--- one piece, and behind it another, which may depend on what the first one says
+-- A piece, and after it another, which may depend on the first.
 abbrev pub behind : (p : Piece) → (p.Of → Piece) → Piece
 behind p q = record {
   Of = (a : p.Of) × (q a).Of;
@@ -58,15 +58,15 @@ behind p q = record {
   parts = λ x. p.parts x.0 ++ (q x.0).parts x.1;
 }
 
--- it has so many parts, whatever it says
+-- The piece always has `n` parts.
 abbrev pub Fixed : Piece → ℕ → Type 0
 Fixed p n = (a : p.Of) → length (p.parts a) ≡ n
 
--- two of it at one front are one
+-- Two things of the piece at one front are equal.
 abbrev pub One : Piece → Type 0
 One p = (a b : p.Of) (bytes r s : List ℕ) → Found p a bytes r → Found p b bytes s → (b ≡ a) × (s ≡ r)
 
--- behind whatever it says something can come
+-- After each thing of the piece, something can come.
 abbrev pub Goes : (p : Piece) → (p.Of → Piece) → Type 0
 Goes p q = (a : p.Of) → p.Can a → (b : (q a).Of) × (q a).Can b
 
@@ -84,7 +84,7 @@ breaks_below p bytes rest s =
           absurd (s.none s.thing rest s.can (subst (λ (k : ℕ). Stand k (p.parts s.thing) bytes rest) same s.front)))
     ]
 
--- what can be read ends within the first of two pieces
+-- What can be read ends within the first of two pieces.
 pub first_breaks : (p : Piece) (q : p.Of → Piece) (n : ℕ) (bytes rest : List ℕ) → Fixed p n → Goes p q → Breaks p bytes rest → Breaks (behind p q) bytes rest
 first_breaks p q n bytes rest fixed goes s =
     let next = goes s.thing s.can in
@@ -100,15 +100,16 @@ first_breaks p q n bytes rest fixed goes s =
           s.none x.0 two.0 can.0 two.1;
     }
 
--- what of the second piece stands behind a first one, stands behind the one that is there
-second_stands : (p : Piece) (q : p.Of → Piece) (n k m : ℕ) (a : p.Of) (bytes r after : List ℕ) → Fixed p n → One p → Found p a bytes r → (x : (b : p.Of) × (q b).Of) → p.Can x.0 → m ≡ length (p.parts x.0) + k → Stand m (p.parts x.0 ++ (q x.0).parts x.1) bytes after
+-- A part of the second piece after some first one is a part after the one that is there.
+second_stands : (p : Piece) (q : p.Of → Piece) (n k m : ℕ) (a : p.Of) (bytes r after : List ℕ) → Fixed p n → One p → Found p a bytes r → (x : (b : p.Of) × (q b).Of) → p.Can x.0 →
+    m ≡ length (p.parts x.0) + k → Stand m (p.parts x.0 ++ (q x.0).parts x.1) bytes after
     → (x.0 ≡ a) × Stand k ((q x.0).parts x.1) r after
 second_stands p q n k m a bytes r after fixed one found x can eq h =
     let two = stand_split m k (p.parts x.0) ((q x.0).parts x.1) bytes after eq h in
     let same = one a x.0 bytes r two.0 found (record { can = can; front = two.1 }) in
     (same.0, subst (λ (b : List ℕ). Stand k ((q x.0).parts x.1) b after) same.1 two.2)
 
--- what can be read ends within the second, behind a first one that is there
+-- What can be read ends within the second piece, after a first one that is there.
 pub then_breaks : (p : Piece) (q : p.Of → Piece) (n : ℕ) (a : p.Of) (bytes r rest : List ℕ) → Fixed p n → One p → Found p a bytes r → Breaks (q a) r rest → Breaks (behind p q) bytes rest
 then_breaks p q n a bytes r rest fixed one found s =
     record {
@@ -124,7 +125,7 @@ then_breaks p q n a bytes r rest fixed one found s =
           subst (λ (b : p.Of). (y : (q b).Of) → (q b).Can y → Stand (length ((q b).parts y)) ((q b).parts y) r after → ⊥) (sym second.0) (λ y is st. s.none y after is st) x.1 can.1 second.1;
     }
 
--- both stand there
+-- Both pieces are there.
 pub both_found : (p : Piece) (q : p.Of → Piece) (a : p.Of) (b : (q a).Of) (bytes r rest : List ℕ) → Found p a bytes r → Found (q a) b r rest → Found (behind p q) (a, b) bytes rest
 both_found p q a b bytes r rest first second =
     record {
@@ -171,7 +172,7 @@ view_stops p q v NoRoom bytes s = (v.to s.0, s.1, view_found p q v s.0 bytes s.1
 
 -- ---- the first part
 
--- no such first part stands here
+-- No such first part is here.
 pub part_missing : (p : Piece) (first : p.Of → Part) (more : p.Of → List Part) (a : p.Of) (bytes : List ℕ) → ((b : p.Of) → p.parts b ≡ first b ∷ more b) → p.Can a
     → ((b : p.Of) (rest : List ℕ) → p.Can b → ¬ Begins (run_of (first b).class) bytes (first b).text rest) → Breaks p bytes bytes
 part_missing p first more a bytes starts can none =
@@ -184,7 +185,7 @@ part_missing p first more a bytes starts can none =
       none = λ b after is h. let s = subst (λ (x : List Part). Stand (length x) x bytes after) (starts b) h in none b s.0 is s.1;
     }
 
--- a byte, and behind it the piece
+-- A byte, and after it the piece.
 abbrev pub after_byte : ℕ → Piece → Piece
 after_byte b p = record { Of = p.Of; Can = p.Can; parts = λ a. byte b ∷ p.parts a }
 
@@ -214,6 +215,6 @@ byte_stops b p NoRoom bytes r is s = (s.0, s.1, byte_found b p s.0 bytes r s.1 i
 
 -- ---- a reader that stops
 
--- it stops where it begins
+-- The reader stops where it began.
 pub stops_from : (p : Piece) (stop : PartFault) (bytes rest : List ℕ) → stop ≡ BadPart (length rest) → Breaks p bytes rest → StopsIn p stop bytes
 stops_from p stop bytes rest is s = subst (λ (x : PartFault). StopsIn p x bytes) (sym is) (rest, s, refl)

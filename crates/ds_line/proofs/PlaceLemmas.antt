@@ -9,7 +9,7 @@ use Rattle.ds_line.specs.FaultPlace.{Stand, StopsAt, IsFaultPlace}
 use Rattle.ds_line.proofs.PartLemmas.{IsText, part_one}
 use Rattle.ds_line.proofs.ApartLemmas.{AllTexts, Alike, changes_alike, change_texts}
 
--- the classes are the same as long as the texts are, and both have more parts
+-- The classes are equal as long as the texts are and both lists have more parts.
 abbrev pub Agree : List Part → List Part → Type 0
 Agree [] qs = Unit {0}
 Agree (p ∷ ps) [] = Unit {0}
@@ -20,7 +20,7 @@ alike_agree [] qs alike = tt
 alike_agree (p ∷ ps) [] alike = tt
 alike_agree (p ∷ ps) (q ∷ qs) alike = (alike.0, λ same. alike_agree ps qs (alike.1 same))
 
--- as many parts that stand at one front leave one rest
+-- After equally many parts at one front, the rest is the same.
 pub same_rest : (count : ℕ) (ps qs : List Part) (bytes r s : List ℕ) → AllTexts ps → AllTexts qs → Agree ps qs → Stand count ps bytes r → Stand count qs bytes s → r ≡ s
 same_rest zero ps qs bytes r s texts_p texts_q agree stand_p stand_q = sym stand_p ∙ stand_q
 same_rest (suc count) [] qs bytes r s texts_p texts_q agree stand_p stand_q = absurd stand_p
@@ -29,7 +29,7 @@ same_rest (suc count) (p ∷ ps) (q ∷ qs) bytes r s texts_p texts_q agree stan
     let one = part_one q.class bytes p.text q.text stand_p.0 stand_q.0 (subst (λ (c : Class). IsText c p.text) agree.0 texts_p.0) texts_q.0 (subst (λ (c : Class). Begins (run_of c) bytes p.text stand_p.0) agree.0 stand_p.1) stand_q.1 in
     same_rest count ps qs stand_q.0 r s texts_p.1 texts_q.1 (agree.1 one.0) (subst (λ (x : List ℕ). Stand count ps x r) one.1 stand_p.2) stand_q.2
 
--- fewer parts stand there too
+-- Fewer parts are there too.
 pub fewer : (j k : ℕ) (parts : List Part) (bytes rest : List ℕ) → j ≤ k → Stand k parts bytes rest → (after : List ℕ) × Stand j parts bytes after
 fewer zero k parts bytes rest le h = (bytes, refl)
 fewer (suc j) zero parts bytes rest le h = absurd (omega arith)
@@ -41,7 +41,7 @@ no_more IsMember parts bytes r s a b lt =
     let f = fewer (suc a.count) b.count (parts b.read.member) bytes s (omega arith) b.read.front in
     a.most f.0 (record { member = b.read.member; is = b.read.is; front = f.1 })
 
--- as many parts of two members that stand at one front leave one rest
+-- After equally many parts of two members at one front, the rest is the same.
 abbrev pub LeavesOne : {T : Type 0} → (T → Type 0) → (T → List Part) → Type 0
 LeavesOne {T} IsMember parts = (m n : T) (count : ℕ) (bytes r s : List ℕ) → IsMember m → IsMember n → Stand count (parts m) bytes r → Stand count (parts n) bytes s → r ≡ s
 
@@ -64,7 +64,7 @@ one_place_by IsMember parts leaves bytes p q a b =
     let same : a.rest ≡ b.rest = same_stop IsMember parts leaves bytes a.rest b.rest a.stops b.stops in
     omega (arith, a.begins, b.begins, ap length same)
 
--- and where members agree
+-- One place, for members that agree.
 pub one_place : {T : Type 0} (IsMember : T → Type 0) (parts : T → List Part) → ((m : T) → IsMember m → AllTexts (parts m)) → ((m n : T) → IsMember m → IsMember n → Agree (parts m) (parts n))
     → (bytes : List ℕ) (p q : ℕ) → IsFaultPlace IsMember parts bytes p → IsFaultPlace IsMember parts bytes q → p ≡ q
 one_place IsMember parts all agree =

@@ -1,4 +1,4 @@
--- A text in quotes is written run by run: bytes that stand for themselves are copied.
+-- A quoted text is written run by run: bytes that need no escape are copied.
 use Rattle.std.proofs.Common.{◌≡◌, ℕ, ◌==◌, Bool, true, false, ◌||◌, List, [], ◌∷◌, ◌++◌, take, drop, refl, sym, ap, ◌∙◌, append_assoc}
 use Rattle.std.specs.Prelude.{not}
 use Rattle.std.specs.List.{list_all, prefix_len}
@@ -8,7 +8,7 @@ use Rattle.std.proofs.lemmas.List.Concat.{flat_map-append}
 use Rattle.ds_names.proofs.DecimalLemmas.{run_parts}
 use Rattle.ds_line.specs.Spelling.{escaped_byte, escaped}
 
--- the byte stands for itself
+-- Whether the byte needs no escape.
 abbrev pub is_plain : ℕ → Bool
 is_plain b = not (b == 34 || b == 92)
 
@@ -22,7 +22,7 @@ plain_text (b ∷ text) all =
     let parts = and_parts (is_plain b) (list_all is_plain text) all in
     ap (λ (t : List ℕ). t ++ escaped text) (plain_byte b (b == 34 || b == 92) refl parts.0) ∙ ap (λ (t : List ℕ). b ∷ t) (plain_text text parts.1)
 
--- one byte, the run behind it, and what follows
+-- One byte, the run after it, and the rest.
 pub run_written : (text : List ℕ) (b : ℕ) (behind plain more : List ℕ) → text ≡ b ∷ behind → plain ≡ take (prefix_len is_plain behind) behind → more ≡ drop (prefix_len is_plain behind) behind
     → escaped text ≡ (escaped_byte b ++ plain) ++ escaped more
 run_written text b behind plain more is is_plain_run is_more =
@@ -35,6 +35,7 @@ run_written text b behind plain more is is_plain_run is_more =
     ∙ sym (append_assoc (escaped_byte b) plain (escaped more))
 
 -- what is written before the rest, and one run more
-pub run_more : (items new first rest text more : List ℕ) (b : ℕ) (plain : List ℕ) → items ++ escaped rest ≡ first ++ escaped text → escaped rest ≡ (escaped_byte b ++ plain) ++ escaped more → new ≡ items ++ (escaped_byte b ++ plain) → new ++ escaped more ≡ first ++ escaped text
+pub run_more : (items new first rest text more : List ℕ) (b : ℕ) (plain : List ℕ) → items ++ escaped rest ≡ first ++ escaped text →
+    escaped rest ≡ (escaped_byte b ++ plain) ++ escaped more → new ≡ items ++ (escaped_byte b ++ plain) → new ++ escaped more ≡ first ++ escaped text
 run_more items new first rest text more b plain before one is =
     ap (λ (t : List ℕ). t ++ escaped more) is ∙ append_assoc items (escaped_byte b ++ plain) (escaped more) ∙ ap (λ (t : List ℕ). items ++ t) (sym one) ∙ before

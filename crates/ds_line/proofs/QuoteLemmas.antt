@@ -1,9 +1,9 @@
--- A text in quotes is one text alone: its closing quote ends it.
+-- Bytes begin with one quoted text at most: its closing quote ends it.
 use Rattle.std.proofs.Common.{◌≡◌, ◌≢◌, ℕ, ◌==◌, Bool, true, false, ◌⊎◌, inl, inr, List, [], ◌∷◌, ◌++◌, get_or, drop, refl, sym, ap, ◌∙◌, append_assoc, arith}
 use Rattle.std.proofs.lemmas.Bool.{false≢true, eqb-true}
 use Rattle.ds_line.specs.Spelling.{escaped_byte, escaped, quoted}
 
--- a byte that is escaped, or one that stands for itself
+-- A byte that is escaped, or one that stands for itself.
 abbrev Shape : ℕ → Type 0
 Shape b = ((escaped_byte b ≡ 92 ∷ b ∷ []) × ((b ≡ 34) ⊎ (b ≡ 92))) ⊎ ((escaped_byte b ≡ b ∷ []) × (b ≢ 34) × (b ≢ 92))
 
@@ -27,7 +27,7 @@ never_quote b r s e =
       | inr x ↦ (let f = first_same 34 b r s (e ∙ ap (λ (t : List ℕ). t ++ s) x.0) in x.1 (sym f.0))
     ]
 
--- two bytes that are written at one front are one
+-- Two bytes that are written at one front are equal.
 pub byte_one : (b c : ℕ) (r s : List ℕ) → escaped_byte b ++ r ≡ escaped_byte c ++ s → (b ≡ c) × (r ≡ s)
 byte_one b c r s e =
     elim (shape b) [
@@ -41,7 +41,7 @@ byte_one b c r s e =
       ])
     ]
 
--- where a front of bytes is written out, a text that stands there in quotes ends with it, or goes on behind it
+-- Where the bytes of a front are written, a quoted text there ends with them, or continues after them.
 abbrev pub GoesOn : List ℕ → List ℕ → List ℕ → List ℕ → Type 0
 GoesOn done text r s =
     ((text ≡ done) × (r ≡ 34 ∷ s)) ⊎ ((b : ℕ) × (more : List ℕ) × (text ≡ done ++ b ∷ more) × (r ≡ escaped_byte b ++ (escaped more ++ 34 ∷ s)))
@@ -57,11 +57,11 @@ goes_on (b ∷ done) (c ∷ text) r s e =
       | inr y ↦ inr (y.0, y.1, ap (λ (t : List ℕ). c ∷ t) y.2 ∙ ap (λ (h : ℕ). h ∷ (done ++ y.0 ∷ y.1)) (sym one.0), y.3)
     ]
 
--- behind its first quote, a text that is written out has its own bytes
+-- After its first quote, a written text has its own bytes.
 pub unquoted : (text r : List ℕ) → quoted text ++ r ≡ 34 ∷ (escaped text ++ 34 ∷ r)
 unquoted text r = ap (λ (t : List ℕ). 34 ∷ t) (append_assoc (escaped text) (34 ∷ []) r)
 
--- two texts in quotes at one front are one
+-- Two quoted texts at one front are equal.
 pub quoted_one : (t u r s : List ℕ) → quoted t ++ r ≡ quoted u ++ s → (t ≡ u) × (r ≡ s)
 quoted_one t u r s e =
     let e1 : escaped t ++ 34 ∷ r ≡ escaped u ++ 34 ∷ s = ap (drop 1) (sym (unquoted t r) ∙ e ∙ unquoted u s) in

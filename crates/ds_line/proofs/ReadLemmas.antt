@@ -1,4 +1,4 @@
--- Reading a change one part further: the next part is missing, or it is read.
+-- Reading one more part of a change: the next part is missing, or it is read.
 use Rattle.std.proofs.Common.{◌≡◌, ℕ, ◌<◌, List, [], ◌∷◌, ◌++◌, length, Result, Ok, Err, Option, Some, None, refl, sym, subst, arith}
 use Rattle.ds_names.specs.Run.{Begins}
 use Rattle.ds_entry.specs.Change.{ChangeRecord, IsChange}
@@ -18,7 +18,7 @@ abbrev pub Begun : Class → List Part → Type 0
 Begun class [] = ⊥
 Begun class (p ∷ parts) = (p.class ≡ class) × IsText p.class p.text
 
--- behind the known parts of a change comes a part of the class
+-- After the known parts of a change comes a part of the class.
 abbrev pub Comes : List Part → Class → Type 0
 Comes known class = (c : ChangeRecord) (more : List Part) → IsChange c → change_parts c ≡ known ++ more → Begun class more
 
@@ -30,7 +30,7 @@ begun_some : (class : Class) (parts : List Part) → Begun class parts → 0 < l
 begun_some class [] h = absurd h
 begun_some class (p ∷ parts) h = omega arith
 
--- no change goes on behind the known parts with what stands here
+-- No change continues after the known parts with what is here.
 abbrev pub Misses : List Part → List ℕ → Type 0
 Misses known bytes = (c : ChangeRecord) (more : List Part) (after : List ℕ) → IsChange c → change_parts c ≡ known ++ more → ¬ Stand 1 more bytes after
 
@@ -50,7 +50,7 @@ read_on known p bytes r (Err (BadPart left)) text comes begins k =
 read_on known p bytes r (Err NoRoom) text comes begins k =
     record { put = k.put; rest = k.rest; completes = completes_behind_part known p k.put bytes r k.rest begins.parts k.completes; value = k.value }
 
--- the same of a reader that puts the change into a place
+-- `read_on`, for a reader that stores the change.
 pub into_on : (known more : List Part) (bytes r : List ℕ) (result : Result ℕ PartFault) (placed : Option Item) → ((given : Result (ChangeRecord × ℕ) PartFault) → ReadsChange more r given → ReadsChange known bytes given)
     → ReadsInto more r result placed → ReadsInto known bytes result placed
 into_on known more bytes r (Ok left) (Some (Changed c)) on k = on (Ok (c, left)) k

@@ -12,7 +12,7 @@ use Rattle.ds_line.proofs.TextLemmas.{block_more}
 
 -- ---- the numbers of digits
 
--- two functions have one value below n
+-- Two functions are equal below n.
 abbrev same : (ℕ → ℕ) → (ℕ → ℕ) → ℕ → Bool
 same f g zero = true
 same f g (suc n) = (f n == g n) && same f g n
@@ -46,7 +46,7 @@ high_digit n ge lt =
     let e : n - 10 + 10 ≡ n = omega (arith, ge) in
     ap (λ (m : ℕ). slice_index lower_digits m) (sym e) ∙ high_at (n - 10) (omega (arith, ge, lt)) ∙ omega (arith, ge)
 
--- the first n numbers are those of the digits, where no other byte was met, which the flag says
+-- The first n numbers are those of the digits, unless the flag says that another byte was met.
 pub record IsJudged (digits numbers : List ℕ) (alone : Bool) (n : ℕ) : Type 0 where
   pub are : alone ≡ true → AreNumbersOf digits n numbers
   pub whole : length numbers ≡ 32
@@ -124,7 +124,7 @@ written_all digits block rest bytes done len is =
 pub written_each : (digits block : List ℕ) → IsWritten digits block 16 → IsBytes block
 written_each digits block done = subst IsBytes (take_whole block 16 done.whole) done.each
 
--- ---- sixteen bytes behind others
+-- ---- sixteen bytes after others
 
 bytes_both : (xs ys : List ℕ) → IsBytes xs → IsBytes ys → IsBytes (xs ++ ys)
 bytes_both [] ys h k = k
@@ -237,7 +237,7 @@ out_more blob block sixteen digits n begun le limit is spelled =
       whole = ap length joined ∙ length-append (front ++ digits) (drop k block) ∙ omega (arith, both, length-drop k block, begun.whole, le, limit, long);
     }
 
--- a blob in two pieces, behind a list and between two texts
+-- The hex of a blob in two parts, after a list and between two texts.
 pub out_joined : (old before after blob block digits : List ℕ) (n : ℕ) → take (2 * n) block ≡ encode_lower (take n blob) → digits ≡ encode_lower (drop n blob)
     → old ++ (before ++ (take (2 * n) block ++ (digits ++ (after ++ [])))) ≡ old ++ (before ++ (encode_lower blob ++ after))
 out_joined old before after blob block digits n is_front is_rest =

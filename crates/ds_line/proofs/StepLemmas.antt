@@ -1,4 +1,4 @@
--- Reading one part more, of whatever is written part by part.
+-- Reading one more part, of anything that is written part by part.
 use Rattle.std.proofs.Common.{◌≡◌, ℕ, suc, ◌<◌, List, [], ◌∷◌, ◌++◌, length, refl, sym, ap, subst, ◌∙◌, append_assoc, arith}
 use Rattle.ds_names.specs.Run.{Begins}
 use Rattle.ds_entry.specs.Change.{ChangeRecord}
@@ -12,7 +12,7 @@ abbrev pub Opens : Class → List Part → Type 0
 Opens class [] = Unit {0}
 Opens class (p ∷ parts) = (p.class ≡ class) × IsText p.class p.text
 
--- two parts of one class at one front are one
+-- Two parts of one class at one front are equal.
 same_part : (p q : Part) (bytes r s : List ℕ) → IsText p.class p.text → (q.class ≡ p.class) → IsText q.class q.text → Begins (run_of p.class) bytes p.text r → Begins (run_of q.class) bytes q.text s → (q ≡ p) × (s ≡ r)
 same_part p q bytes r s text_p class text_q begins_p begins_q =
     let one = part_one p.class bytes q.text p.text s r (subst (λ (c : Class). IsText c q.text) class text_q) text_p (subst (λ (c : Class). Begins (run_of c) bytes q.text s) class begins_q) begins_p in
@@ -22,7 +22,7 @@ none_first : (parts : List Part) (bytes rest : List ℕ) → 0 < length parts �
 none_first [] bytes rest some none = λ h. absurd (omega arith)
 none_first (p ∷ parts) bytes rest some none = λ h. none h.0 (h.0, h.1, refl)
 
--- no member's next part stands here, so what can be read ends here
+-- No member's next part is here, so what can be read ends here.
 pub stops_here : {T : Type 0} (IsMember : T → Type 0) (parts : T → List Part) (known : List Part) (bytes : List ℕ) (member : T) (further : List Part)
     → IsMember member → parts member ≡ known ++ further
     → ((m : T) (more : List Part) (after : List ℕ) → IsMember m → parts m ≡ known ++ more → ¬ Stand 1 more bytes after)
@@ -47,7 +47,7 @@ none_behind IsMember parts known p bytes r at text begins s m (q ∷ more) after
     let split : parts m ≡ (known ++ p ∷ []) ++ more = eq ∙ ap (λ (x : Part). known ++ x ∷ more) same.0 ∙ sym (append_assoc known (p ∷ []) more) in
     s.none m more after whole split (subst (λ (b : List ℕ). Stand (length more) more b after) same.1 h.2)
 
--- the next part stands here, and what can be read ends somewhere behind it
+-- The next part is here, and what can be read ends somewhere after it.
 pub stops_behind_part : {T : Type 0} (IsMember : T → Type 0) (parts : T → List Part) (known : List Part) (p : Part) (bytes r at : List ℕ)
     → IsText p.class p.text
     → ((m : T) (more : List Part) → IsMember m → parts m ≡ known ++ more → Opens p.class more)
@@ -65,7 +65,7 @@ stops_behind_part IsMember parts known p bytes r at text opens some begins s =
       none = λ m more after whole eq h. none_behind IsMember parts known p bytes r at text begins s m more after whole (opens m more whole eq) eq (some m more whole eq) h;
     }
 
--- with no part known, that is where what can be read ends
+-- With no part known, that is where what can be read ends.
 pub stops_at : {T : Type 0} (IsMember : T → Type 0) (parts : T → List Part) (bytes at : List ℕ) → StopsBehind IsMember parts [] bytes at → StopsAt IsMember parts bytes at
 stops_at IsMember parts bytes at s =
     record {
@@ -74,7 +74,7 @@ stops_at IsMember parts bytes at s =
       most = λ after can. s.most can.member (parts can.member) after can.is refl can.front;
     }
 
--- a part stands here, and the rest of the line behind it
+-- A part is here, and the rest of the line after it.
 pub completes_behind_part : (known : List Part) (p : Part) (c : ChangeRecord) (bytes r rest : List ℕ) → bytes ≡ p.text ++ r → Completes (known ++ p ∷ []) c r rest → Completes known c bytes rest
 completes_behind_part known p c bytes r rest is k =
     record {

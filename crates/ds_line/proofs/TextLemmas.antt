@@ -1,4 +1,4 @@
--- Reading a text in quotes byte by byte into a block.
+-- Reading a quoted text byte by byte into a block.
 use Rattle.std.proofs.Common.{◌≡◌, ◌≢◌, ℕ, ◌+◌, ◌<◌, ◌≤◌, true, inl, inr, List, [], ◌∷◌, ◌++◌, length, get_or, take, drop, refl, sym, ap, subst, ◌∙◌, append_assoc, arith}
 use Rattle.std.proofs.Math.ListN.{set}
 use Rattle.std.specs.List.{list_all}
@@ -12,14 +12,14 @@ use Rattle.ds_line.specs.Part.{Quoted, run_of}
 use Rattle.ds_line.specs.Spelling.{escaped_byte, escaped, quoted}
 use Rattle.ds_line.proofs.QuoteLemmas.{goes_on, unquoted}
 
--- a byte written behind the first ones of a block
+-- A byte written after the first ones of a block.
 pub block_more : (block : List ℕ) (n b : ℕ) → n < length block → take (n + 1) (set block n b) ≡ take n block ++ b ∷ []
 block_more block n b lt =
     take_more (set block n b) n 0 (omega (arith, length-set block n b))
     ∙ ap (λ (t : List ℕ). t ++ get_or (set block n b) n 0 ∷ []) (take-set-le n block n b (omega arith))
     ∙ ap (λ (x : ℕ). take n block ++ x ∷ []) (get_or-set_same block n b 0 lt)
 
--- the first bytes of a block are written out behind the first quote, and the rest comes behind them
+-- The first bytes of a block are written after the first quote, and the rest comes after them.
 pub record IsOpen (bytes block rest : List ℕ) (n : ℕ) : Type 0 where
   pub parts : bytes ≡ 34 ∷ (escaped (take n block) ++ rest)
   pub printable : list_all is_text_byte (take n block) ≡ true
@@ -65,7 +65,7 @@ last_allowed front more b all =
     let halves = and_parts (list_all is_text_byte front) (list_all is_text_byte (b ∷ more)) (sym (list_all-append is_text_byte front (b ∷ more)) ∙ all) in
     (and_parts (is_text_byte b) (list_all is_text_byte more) halves.1).0
 
--- neither the closing quote nor a byte of a text stands behind what is read
+-- Neither the closing quote nor a byte of a text follows what is read.
 pub open_stops : (bytes block r : List ℕ) (n : ℕ) → IsOpen bytes block r n → ((rest : List ℕ) → r ≢ 34 ∷ rest) → ((b : ℕ) (rest : List ℕ) → is_text_byte b ≡ true → r ≢ escaped_byte b ++ rest)
     → (text rest : List ℕ) → IsText text → ¬ Begins (run_of Quoted) bytes (quoted text) rest
 open_stops bytes block r n begun no_quote no_byte text rest is begins =
@@ -79,5 +79,6 @@ pub open_full : (bytes block r : List ℕ) → IsOpen bytes block r 256 → ((re
 open_full bytes block r begun no_quote text rest is begins =
     elim (goes_on (take 256 block) text r rest (ap (drop 1) (sym begun.parts ∙ begins.parts ∙ unquoted text rest))) [
       | inl x ↦ no_quote rest x.1
-      | inr y ↦ (let len : length text ≡ 256 + length (y.0 ∷ y.1) = ap length y.2 ∙ length-append (take 256 block) (y.0 ∷ y.1) ∙ ap (λ (k : ℕ). k + length (y.0 ∷ y.1)) (length-take-le 256 block (omega (arith, begun.whole))) in omega (arith, len, is.limit))
+      | inr y ↦ (let len : length text ≡ 256 + length (y.0 ∷ y.1) = ap length y.2 ∙ length-append (take 256 block) (y.0 ∷ y.1) ∙
+          ap (λ (k : ℕ). k + length (y.0 ∷ y.1)) (length-take-le 256 block (omega (arith, begun.whole))) in omega (arith, len, is.limit))
     ]

@@ -1,4 +1,4 @@
--- Where what can be read of a text ends, for whatever is written part by part: a change, or a command.
+-- Where the readable part of a text ends, for anything that is written part by part: a change, or a command.
 use Rattle.std.specs.Prelude.{◌≡◌, ◌≢◌, ℕ, zero, suc, ◌+◌, List, [], ◌∷◌, ◌++◌, length}
 use Rattle.ds_names.specs.Run.{Begins}
 use Rattle.ds_entry.specs.Change.{ChangeRecord, IsChange, IsBodyInPlace}
@@ -7,41 +7,42 @@ use Rattle.ds_line.specs.Spelling.{change_parts, spelling}
 use Rattle.ds_line.specs.declared.fault.LineFault.{LineFault}
 use Rattle.ds_line.specs.declared.fault.LineFault.TheVariants.{BadLine, NoRoom}
 
--- The first `count` of the parts stand at the front of the bytes, one behind the other, and none is followed by a
--- byte that would make it longer. The rest comes behind them.
+-- Whether the bytes begin with the first `count` of the parts, in order, followed by the rest, and no part is
+-- followed by a byte that would make it longer.
 abbrev pub Stand : ℕ → List Part → List ℕ → List ℕ → Type 0
 Stand zero parts bytes rest = bytes ≡ rest
 Stand (suc count) [] bytes rest = ⊥
 Stand (suc count) (p ∷ parts) bytes rest = (after : List ℕ) × Begins (run_of p.class) bytes p.text after × Stand count parts after rest
 
--- some member has so many first parts that stand at the front of the bytes
+-- Whether some member's first `count` parts are at the front of the bytes.
 pub record CanRead {T : Type 0} (IsMember : T → Type 0) (parts : T → List Part) (count : ℕ) (bytes rest : List ℕ) : Type 0 where
   pub member : T
   pub is : IsMember member
   pub front : Stand count (parts member) bytes rest
 
--- the most parts that can be read end where the rest begins
+-- Whether the most parts that can be read end where the rest begins.
 pub record StopsAt {T : Type 0} (IsMember : T → Type 0) (parts : T → List Part) (bytes rest : List ℕ) : Type 0 where
   pub count : ℕ
   pub read : CanRead IsMember parts count bytes rest
   pub most : (after : List ℕ) → ¬ CanRead IsMember parts (suc count) bytes after
 
--- the first part that can't be read begins at the place
+-- Whether the first part that can't be read begins at the place.
 pub record IsFaultPlace {T : Type 0} (IsMember : T → Type 0) (parts : T → List Part) (bytes : List ℕ) (place : ℕ) : Type 0 where
   pub rest : List ℕ
   pub stops : StopsAt IsMember parts bytes rest
   pub begins : place + length rest ≡ length bytes
 
--- no change's line stands at the front
+-- Whether the bytes don't begin with a change's line.
 abbrev pub HasNoLine : List ℕ → Type 0
 HasNoLine bytes = (c : ChangeRecord) (rest : List ℕ) → IsChange c → bytes ≢ spelling c ++ rest
 
--- no change's line stands at the front, and the first part of a change that can't be read begins at the place
+-- Whether the bytes don't begin with a change's line, and the first part of a change that can't be read begins at the
+-- place.
 pub record IsLineFault (bytes : List ℕ) (place : ℕ) : Type 0 where
   pub none : HasNoLine bytes
   pub first : IsFaultPlace IsChange change_parts bytes place
 
--- the whole line of a put of a text or a blob stands at the front, and its value takes memory
+-- Whether the bytes begin with the whole line of a put whose value takes memory: a text or a blob.
 pub record LineTakesRoom (bytes : List ℕ) : Type 0 where
   pub change : ChangeRecord
   pub rest : List ℕ
@@ -49,7 +50,7 @@ pub record LineTakesRoom (bytes : List ℕ) : Type 0 where
   pub value : ¬ IsBodyInPlace change.body
   pub front : bytes ≡ spelling change ++ rest
 
--- what a fault says of the bytes
+-- The meaning of a fault.
 abbrev pub IsFaultIn : LineFault → List ℕ → Type 0
 IsFaultIn (BadLine place) bytes = IsLineFault bytes place
 IsFaultIn NoRoom bytes = LineTakesRoom bytes

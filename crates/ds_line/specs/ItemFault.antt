@@ -1,4 +1,4 @@
--- Why no item is read, and where it can't be.
+-- Why no item is read, and where its first fault is.
 use Rattle.std.specs.Prelude.{◌≢◌, ℕ, List, ◌++◌}
 use Rattle.ds_entry.specs.Item.{IsItem}
 use Rattle.ds_entry.specs.declared.item.Item.{Item}
@@ -7,16 +7,17 @@ use Rattle.ds_line.specs.ItemSpelling.{item_parts, item_spelling}
 use Rattle.ds_line.specs.declared.fault.LineFault.{LineFault}
 use Rattle.ds_line.specs.declared.fault.LineFault.TheVariants.{BadLine, NoRoom}
 
--- no item's line stands at the front
+-- Whether the bytes don't begin with an item's line.
 abbrev pub HasNoItem : List ℕ → Type 0
 HasNoItem bytes = (i : Item) (rest : List ℕ) → IsItem i → bytes ≢ item_spelling i ++ rest
 
--- no item's line stands at the front, and the first part of an item that can't be read begins at the place
+-- Whether the bytes don't begin with an item's line, and the first part of an item that can't be read begins at the
+-- place.
 pub record IsItemFault (bytes : List ℕ) (place : ℕ) : Type 0 where
   pub none : HasNoItem bytes
   pub first : IsFaultPlace IsItem item_parts bytes place
 
--- what a fault says of the bytes: there is no room for puts of texts and blobs alone
+-- The meaning of a fault: out of memory is possible only for puts of texts and blobs.
 abbrev pub IsItemFaultIn : LineFault → List ℕ → Type 0
 IsItemFaultIn (BadLine place) bytes = IsItemFault bytes place
 IsItemFaultIn NoRoom bytes = LineTakesRoom bytes

@@ -1,4 +1,4 @@
--- What the reader of an item's line answers that puts the item into a place.
+-- The answer of the reader that stores an item.
 use Rattle.std.specs.Prelude.{◌≡◌, ℕ, List, length, take, Option, None, Some, Result, Ok, Err}
 use Rattle.ds_entry.specs.Item.{IsItem}
 use Rattle.ds_entry.specs.declared.item.Item.{Item}
@@ -6,7 +6,8 @@ use Rattle.ds_line.specs.ItemFault.{IsItemFaultIn}
 use Rattle.ds_line.specs.ItemSpelling.{item_spelling}
 use Rattle.ds_line.specs.declared.fault.LineFault.{LineFault}
 
--- an item's line stands at the front, so long, and the item is in the place; or why no line stands there
+-- The answer: the bytes begin with an item's line of this length, and the item is stored; or the fault says why they
+-- don't.
 abbrev pub ReadsItemLine : List ℕ → Result ℕ LineFault → Option Item → Type 0
 ReadsItemLine bytes (Ok len) (Some i) = IsItem i × (take len bytes ≡ item_spelling i) × (len ≡ length (item_spelling i))
 ReadsItemLine bytes (Ok len) None = ⊥

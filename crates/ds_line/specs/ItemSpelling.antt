@@ -7,15 +7,15 @@ use Rattle.ds_entry.specs.declared.item.Item.TheVariants.{Change as Changed, Flo
 use Rattle.ds_line.specs.Part.{Part, part, byte, Name, Number, texts}
 use Rattle.ds_line.specs.Spelling.{space, newline, change_parts}
 
--- `!`, the owner, and the generation
+-- The parts of a floor: `!`, the owner, and the generation.
 abbrev pub floor_parts : Floor → List Part
 floor_parts f = byte 33 ∷ space ∷ part Name f.owner ∷ space ∷ part Number (decimal f.generation) ∷ newline ∷ []
 
--- the parts of the change, or of the floor
+-- The parts of the change, or of the floor.
 abbrev pub item_parts : Item → List Part
 item_parts (Changed c) = change_parts c
 item_parts (Floored f) = floor_parts f
 
--- the item's one line, its newline included
+-- The item's one line, newline included.
 abbrev pub item_spelling : Item → List ℕ
 item_spelling i = texts (item_parts i)

@@ -2,6 +2,7 @@
 use Rattle.std.specs.Prelude.{◌≡◌, ℕ, ◌<◌, List, slice_index}
 use Rattle.hex.specs.Hex.{lower_digits}
 
--- each of the first `count` numbers is below 16, and the byte at its place is its digit
+-- Whether each of the first `count` numbers is below 16, and its digit is the byte at its index.
 abbrev pub AreNumbersOf : List ℕ → ℕ → List ℕ → Type 0
-AreNumbersOf digits count numbers = (i : ℕ) → i < count → (slice_index numbers i < 16) × (slice_index lower_digits (slice_index numbers i) ≡ slice_index digits i)
+AreNumbersOf digits count numbers =
+    (i : ℕ) → i < count → (slice_index numbers i < 16) × (slice_index lower_digits (slice_index numbers i) ≡ slice_index digits i)

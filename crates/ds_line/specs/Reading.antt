@@ -1,4 +1,4 @@
--- What the readers of a change's parts say, one after the other.
+-- The answers of the readers of a change's parts.
 use Rattle.std.specs.Prelude.{◌≡◌, ℕ, suc, List, [], ◌∷◌, ◌++◌, length, take, Result, Ok, Err, Option, Some, None}
 use Rattle.std.specs.Fmt.{decimal}
 use Rattle.ds_names.specs.declared.key.Key.{Key}
@@ -16,45 +16,45 @@ use Rattle.ds_line.specs.declared.fault.LineFault.{LineFault}
 use Rattle.ds_line.specs.declared.part_fault.PartFault.{PartFault}
 use Rattle.ds_line.specs.declared.part_fault.PartFault.TheVariants.{BadPart, NoRoom}
 
--- the parts of a change up to the word of its kind
+-- The parts of a change up to the word of its kind.
 abbrev pub up_to_kind : Key → List Part
 up_to_kind key = part Name key.name ∷ space ∷ part Word (kind_word key.kind) ∷ []
 
--- the parts before its epoch
+-- The parts before its epoch.
 abbrev pub up_to_epoch : Key → List ℕ → List Part
 up_to_epoch key owner = up_to_kind key ++ space ∷ part Name owner ∷ space ∷ []
 
--- the parts before its mark
+-- The parts before its mark.
 abbrev pub up_to_mark : Key → List ℕ → Version → List Part
 up_to_mark key owner version =
     up_to_epoch key owner ++ part Number (decimal version.epoch) ∷ byte 46 ∷ part Number (decimal version.seq) ∷ space ∷ []
 
--- the parts of a put before its value
+-- The parts of a put before its value.
 abbrev pub up_to_value : Key → List ℕ → Version → List Part
 up_to_value key owner version = up_to_mark key owner version ++ byte 61 ∷ space ∷ []
 
--- some change has the key, the owner and the version
+-- Whether some change has the key, the owner and the version.
 abbrev pub HasBody : Key → List ℕ → Version → Type 0
 HasBody key owner version = (body : Body) × IsChange (change_of key owner version body)
 
--- some put has them
+-- Whether some put has the key, the owner and the version.
 abbrev pub HasValue : Key → List ℕ → Version → Type 0
 HasValue key owner version = (value : Value) × IsChange (change_of key owner version (Put value))
 
--- some change has the key, the owner and the epoch
+-- Whether some change has the key, the owner and the epoch.
 abbrev pub HasSeq : Key → List ℕ → ℕ → Type 0
 HasSeq key owner epoch = (seq : ℕ) × HasBody key owner (record { epoch = epoch; seq = seq })
 
--- some change has the key and the owner
+-- Whether some change has the key and the owner.
 abbrev pub HasVersion : Key → List ℕ → Type 0
 HasVersion key owner = (version : Version) × HasBody key owner version
 
--- some change has the key
+-- Whether some change has the key.
 abbrev pub HasOwner : Key → Type 0
 HasOwner key = (owner : List ℕ) × HasVersion key owner
 
--- `StopsAt` for the members whose first parts are the known ones, of whose further parts the text is read; and of none
--- of them do all further parts stand there.
+-- `StopsAt` for the members whose first parts are the known ones; the text of their further parts is read. None of
+-- them has all its further parts there.
 pub record StopsBehind {T : Type 0} (IsMember : T → Type 0) (parts : T → List Part) (known : List Part) (bytes rest : List ℕ) : Type 0 where
   pub count : ℕ
   pub member : T
@@ -65,44 +65,45 @@ pub record StopsBehind {T : Type 0} (IsMember : T → Type 0) (parts : T → Lis
   pub most : (m : T) (more : List Part) (after : List ℕ) → IsMember m → parts m ≡ known ++ more → ¬ Stand (suc count) more bytes after
   pub none : (m : T) (more : List Part) (after : List ℕ) → IsMember m → parts m ≡ known ++ more → ¬ Stand (length more) more bytes after
 
--- the same of changes
+-- `StopsBehind` for changes.
 abbrev pub ChangeStops : List Part → List ℕ → List ℕ → Type 0
 ChangeStops known bytes rest = StopsBehind IsChange change_parts known bytes rest
 
--- the further parts of the change stand at the front, and the rest behind them
+-- Whether the further parts of the change are at the front, and the rest comes after them.
 pub record Completes (known : List Part) (c : ChangeRecord) (bytes rest : List ℕ) : Type 0 where
   pub change : IsChange c
   pub further : List Part
   pub split : change_parts c ≡ known ++ further
   pub text : bytes ≡ texts further ++ rest
 
--- the further parts of a put whose value takes memory stand at the front
+-- Whether the further parts of a put whose value takes memory are at the front.
 pub record CompletesInRoom (known : List Part) (bytes : List ℕ) : Type 0 where
   pub put : ChangeRecord
   pub rest : List ℕ
   pub completes : Completes known put bytes rest
   pub value : ¬ IsBodyInPlace put.body
 
--- What a reader gives behind the known parts: the change, and how many bytes are left behind its line; how many are
--- left from the first part on that can't be read; or that there is no room for the value.
+-- The answer of a reader after the known parts: the change, and how many bytes are left after its line; how many are
+-- left from the first part that can't be read on; or that memory ran out for the value.
 abbrev pub ReadsChange : List Part → List ℕ → Result (ChangeRecord × ℕ) PartFault → Type 0
 ReadsChange known bytes (Ok r) = (rest : List ℕ) × Completes known r.0 bytes rest × (length rest ≡ r.1)
 ReadsChange known bytes (Err (BadPart left)) = (rest : List ℕ) × ChangeStops known bytes rest × (length rest ≡ left)
 ReadsChange known bytes (Err NoRoom) = CompletesInRoom known bytes
 
--- what a reader of the body gives of the change with these other parts
+-- The answer of a body's reader, as one about the change with these other parts.
 abbrev pub with_body : Key → List ℕ → Version → Result (Body × ℕ) PartFault → Result (ChangeRecord × ℕ) PartFault
 with_body key owner version (Ok r) = Ok (change_of key owner version r.0, r.1)
 with_body key owner version (Err stop) = Err stop
 
--- `ReadsChange` where the change is put into a place as an item, and the reader gives how many bytes are left
+-- `ReadsChange` for a reader that stores the change as an item and returns how many bytes are left.
 abbrev pub ReadsInto : List Part → List ℕ → Result ℕ PartFault → Option Item → Type 0
 ReadsInto known bytes (Ok left) (Some (Changed c)) = ReadsChange known bytes (Ok (c, left))
 ReadsInto known bytes (Ok left) (Some (Floored f)) = ⊥
 ReadsInto known bytes (Ok left) None = ⊥
 ReadsInto known bytes (Err stop) placed = ReadsChange known bytes (Err stop)
 
--- a change's line stands at the front, so long, and the change is in the place; or why no line stands there
+-- The answer: the bytes begin with a change's line of this length, and the change is stored; or the fault says why
+-- they don't.
 abbrev pub ReadsChangeLine : List ℕ → Result ℕ LineFault → Option Item → Type 0
 ReadsChangeLine bytes (Ok len) (Some (Changed c)) = IsChange c × (take len bytes ≡ spelling c) × (len ≡ length (spelling c))
 ReadsChangeLine bytes (Ok len) (Some (Floored f)) = ⊥

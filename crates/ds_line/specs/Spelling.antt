@@ -1,4 +1,4 @@
--- The parts of a change's line, and the line that they make.
+-- The parts of a change's line, and the line that they form.
 use Rattle.std.specs.Prelude.{ℕ, ◌==◌, ◌||◌, if◌then◌else◌, List, [], ◌∷◌, ◌++◌, codes}
 use Rattle.std.specs.List.{flat_map}
 use Rattle.std.specs.Fmt.{decimal}
@@ -13,46 +13,47 @@ use Rattle.ds_entry.specs.declared.body.Body.TheVariants.{Put, Gone}
 use Rattle.ds_entry.specs.Change.{ChangeRecord}
 use Rattle.ds_line.specs.Part.{Part, part, byte, Name, Word, Number, Endpoint, Quoted, Hex, texts}
 
--- the space between two parts
+-- The space between two parts.
 abbrev pub space : Part
 space = byte 32
 
--- the newline that ends a line
+-- The newline that ends a line.
 abbrev pub newline : Part
 newline = byte 10
 
--- the word of a kind: `label`, `u32`, `str` or `mem`
+-- The word of a kind: `label`, `u32`, `str` or `mem`.
 abbrev pub kind_word : Kind → List ℕ
 kind_word Label = codes "label"
 kind_word U32 = codes "u32"
 kind_word Str = codes "str"
 kind_word Mem = codes "mem"
 
--- a quote and a backslash have a backslash before them, and every other byte stands for itself
+-- The escaped form of a byte: a quote and a backslash get a backslash before them, any other byte stands for itself.
 abbrev pub escaped_byte : ℕ → List ℕ
 escaped_byte b = if b == 34 || b == 92 then 92 ∷ b ∷ [] else b ∷ []
 
--- each byte of the text so
+-- The escaped form of each byte of the text.
 abbrev pub escaped : List ℕ → List ℕ
 escaped text = flat_map escaped_byte text
 
--- the text between two quotes
+-- The escaped text between two quotes.
 abbrev pub quoted : List ℕ → List ℕ
 quoted text = 34 ∷ (escaped text ++ 34 ∷ [])
 
--- a label's value is its endpoint, a number is written in decimal, a text in quotes, and a blob in lower-case hex
+-- The part of a value: a label's endpoint, a number in decimal, a text in quotes, or a blob in lower-case hex.
 abbrev pub value_part : Value → Part
 value_part (values.Label endpoint) = part Endpoint (endpoint_text endpoint)
 value_part (values.U32 number) = part Number (decimal number)
 value_part (values.Str text) = part Quoted (quoted text)
 value_part (values.Mem blob) = part Hex (encode_lower blob)
 
--- a put: `=`, a space, the value, the newline. A tombstone: `-`, the newline
+-- The parts of a body. A put: `=`, a space, the value, the newline. A tombstone: `-`, the newline.
 abbrev pub body_parts : Body → List Part
 body_parts (Put value) = byte 61 ∷ space ∷ value_part value ∷ newline ∷ []
 body_parts Gone = byte 45 ∷ newline ∷ []
 
--- the name, the word of the kind, the owner, the epoch, a dot, the sequence number, and the body
+-- The parts of a change: the name, the word of the kind, the owner, the epoch, a dot, the sequence number, and the
+-- body.
 abbrev pub change_parts : ChangeRecord → List Part
 change_parts c =
     part Name c.key.name ∷ space
@@ -61,6 +62,6 @@ change_parts c =
     ∷ part Number (decimal c.version.epoch) ∷ byte 46 ∷ part Number (decimal c.version.seq) ∷ space
     ∷ body_parts c.body
 
--- the change's one line, its newline included
+-- The change's one line, newline included.
 abbrev pub spelling : ChangeRecord → List ℕ
 spelling c = texts (change_parts c)

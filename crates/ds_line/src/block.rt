@@ -2,7 +2,7 @@
 
 ghost use Rattle.std.specs.Prelude.{◌≡◌, ◌+◌, ◌≤◌, ◌++◌, length, take, drop};
 
-/// Writes some bytes into a block, from a place on.
+/// Copies the bytes into the block, from an index on.
 #[inline(always)]
 pub fn put(block: &mut [u8], at: usize, bytes: &[u8])
     requires { at + length bytes.now ≤ length block.old }

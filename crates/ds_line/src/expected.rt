@@ -1,10 +1,11 @@
-//! What a reader of a line asks for next.
+//! The part of a line that a reader expects next.
 
 use ds_names::Kind;
 
-/// A part of a line, by what it says. Readers of lines note the part that they read next, so that where one can't be
-/// read it is the part that was expected. Those of changes and floors stand first; the others are for whoever reads lines
-/// of its own.
+/// A part of a line, by its meaning. A reader notes the part that it reads next, so when that part can't be read, the
+/// note names what was expected.
+///
+/// The parts of changes and floors come first. The others are for callers that read lines of their own.
 #[derive(Clone, Copy, Debug, PartialEq, Eq)]
 pub enum Expected {
     /// The space before another part.
@@ -23,11 +24,11 @@ pub enum Expected {
     Value(Kind),
     /// The newline.
     End,
-    /// The word that a line begins with.
+    /// The first word of a line.
     Command,
-    /// The endpoint of whoever asks.
+    /// The endpoint of the caller.
     Caller,
-    /// An endpoint that is asked about.
+    /// The endpoint whose name is queried.
     Endpoint,
     /// `new` or `over`.
     Mode,
@@ -36,7 +37,7 @@ pub enum Expected {
     Generation,
     /// The number of a subscription.
     Sub,
-    /// How many changes are asked for.
+    /// The most changes of the answer.
     Max,
     Pattern,
     Kinds,
@@ -44,7 +45,7 @@ pub enum Expected {
     Initial,
     /// The number of a map.
     Map,
-    /// How many items a journal has room for.
+    /// The capacity of a journal, in items.
     Ring,
     /// `a` or `b`, a side of a world.
     Side,
@@ -54,13 +55,13 @@ pub enum Expected {
     Position,
     /// `*`, or a pattern and kinds.
     Scope,
-    /// The key that a page begins behind, or `-`.
+    /// The key that a page begins after, or `-`.
     After,
     /// The number of a message.
     Message,
-    /// Who is given a message: a side, or a map.
+    /// The receiver of a message: a side, or a map.
     Holder,
-    /// How many items of a message are given, or `*`.
+    /// The count of a message's items to deliver, or `*`.
     Count,
     /// `up`, `down`, `refresh` or `restart`.
     Request,
@@ -82,6 +83,6 @@ pub enum Expected {
     Id,
     /// The number of a major device or a port.
     Unit,
-    /// That the line had ended before: it is too long.
+    /// An earlier end of the line: it is too long.
     Limit,
 }

@@ -6,8 +6,8 @@ ghost use Rattle.ds_names.specs.Run.{Ends};
 ghost use Rattle.ds_line.specs.Part.{is_hex_byte};
 ghost use Rattle.ds_line.specs.Numbers.{AreNumbersOf};
 
-// The number of a digit, below 16, and another number for every other byte. It takes no table, so that sixteen of them are
-// worked out at once.
+// Returns the number of a digit, below 16, or 255 for any other byte. It needs no table, so the compiler can
+// vectorize it.
 #[inline(always)]
 #[tactic(auto, using(crate::proofs::SixteenLemmas::digit_number, crate::proofs::SixteenLemmas::letter_number))]
 fn number_of(byte: u8) -> u8
@@ -23,8 +23,8 @@ fn number_of(byte: u8) -> u8
     }
 }
 
-/// Reads the byte that the two digits at the front write, the high four bits first, and gives it with what comes behind
-/// them. `None` where no two digits stand there.
+/// Reads the byte that two hex digits at the front write, high half first, and returns it with the rest. `None` if
+/// the bytes don't begin with two digits.
 #[inline]
 pub fn pair_at(bytes: &[u8]) -> Option<(u8, &[u8])>
     ensures found { IfSome result (λ r. bytes.now ≡ encode_lower (r.0 ∷ []) ++ r.1.now) }
@@ -40,7 +40,7 @@ pub fn pair_at(bytes: &[u8]) -> Option<(u8, &[u8])>
     Some((high * 16 + low, rest))
 }
 
-// The numbers of thirty-two digits. `None` where another byte is among them.
+// Returns the numbers of 32 hex digits. `None` if one of the bytes isn't a digit.
 #[inline(always)]
 fn numbers_of(digits: &[u8; 32]) -> Option<[u8; 32]>
     ensures { IfSome result (λ numbers. AreNumbersOf digits.now 32 numbers) }
@@ -55,8 +55,8 @@ fn numbers_of(digits: &[u8; 32]) -> Option<[u8; 32]>
     if digits_alone { Some(numbers) } else { None }
 }
 
-/// Reads the sixteen bytes that the thirty-two digits at the front write into a block, and gives what comes behind the
-/// digits. `None` where no thirty-two digits stand there.
+/// Reads the 16 bytes that 32 hex digits at the front write into the block, and returns the rest. `None` if the bytes
+/// don't begin with 32 digits.
 #[inline(always)]
 pub fn sixteen_at<'a>(bytes: &'a [u8], block: &mut [u8; 16]) -> Option<&'a [u8]>
     ensures found { IfSome result (λ rest. bytes.now ≡ encode_lower block.new ++ rest.now) }
@@ -70,7 +70,7 @@ pub fn sixteen_at<'a>(bytes: &'a [u8], block: &mut [u8; 16]) -> Option<&'a [u8]>
     Some(rest)
 }
 
-/// Whether no digit stands at the front.
+/// Whether the bytes don't begin with a hex digit.
 #[inline]
 pub fn ends_digits(bytes: &[u8]) -> bool
     ensures { IsTrue result ↔ Ends is_hex_byte bytes.now }
@@ -81,7 +81,7 @@ pub fn ends_digits(bytes: &[u8]) -> bool
     }
 }
 
-// The digit of a number below 16.
+// Returns the digit of a number below 16.
 #[inline(always)]
 #[tactic(auto, using(crate::proofs::SixteenLemmas::low_digit, crate::proofs::SixteenLemmas::high_digit))]
 fn digit_of(number: u8) -> u8
@@ -95,7 +95,7 @@ fn digit_of(number: u8) -> u8
     }
 }
 
-/// The thirty-two digits that sixteen bytes are written as.
+/// Returns the 32 hex digits of 16 bytes.
 #[inline(always)]
 pub fn digits_of(bytes: &[u8; 16]) -> [u8; 32]
     ensures { result ≡ encode_lower bytes.now }

@@ -1,4 +1,4 @@
-//! What holds of the lines of items, whoever reads or writes them.
+//! Laws of the lines of items.
 
 ghost use Rattle.std.specs.Prelude.{◌≡◌, ℕ, List, ◌++◌};
 ghost use Rattle.ds_entry.specs.Item.{IsItem};
@@ -7,23 +7,23 @@ ghost use Rattle.ds_line.specs.FaultPlace.{IsFaultPlace};
 ghost use Rattle.ds_line.specs.ItemSpelling.{item_parts, item_spelling};
 ghost use Rattle.line_io.specs.Lines.{EndsLine};
 
-/// The law of spellings: two items with one spelling are one item.
+/// A law: two items with the same spelling are equal.
 pub fn items_have_one_line()
     ensures { (i j : Item) → IsItem i → IsItem j → item_spelling i ≡ item_spelling j → i ≡ j }
 {}
 
-/// The law of fronts: no spelling begins another. Where the lines of two items stand at the front of the same bytes,
-/// the two are one item, and the same bytes follow.
+/// A law: no spelling is a prefix of another. If the same bytes begin with the lines of two items, the items are
+/// equal, and so is the rest.
 pub fn item_lines_are_apart()
     ensures { (i j : Item) (r s : List ℕ) → IsItem i → IsItem j → item_spelling i ++ r ≡ item_spelling j ++ s → (i ≡ j) × (r ≡ s) }
 {}
 
-/// The law of faults: the first part of an item that can't be read has one place.
+/// A law: the first part of an item that can't be read has one place.
 pub fn item_faults_have_one_place()
     ensures { (bytes : List ℕ) (p q : ℕ) → IsFaultPlace IsItem item_parts bytes p → IsFaultPlace IsItem item_parts bytes q → p ≡ q }
 {}
 
-/// The law of newlines: a spelling ends with its one newline.
+/// A law: a spelling ends with its only newline.
 pub fn newlines_end_item_lines()
     ensures { (i : Item) → IsItem i → EndsLine (item_spelling i) }
 {}

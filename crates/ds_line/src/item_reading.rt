@@ -17,11 +17,11 @@ use ds_names::limits::LAST_GENERATION;
 use ds_names::{Generation, read_byte, read_decimal};
 use std::alloc::Global;
 
-/// Reads the item whose line stands at the front of the bytes, and gives it with the line's length, its newline
-/// included. A line that begins with `!` is a floor's, any other is read as a change's.
+/// Reads the item whose line is at the front, and returns it with the line's length, newline included.
 ///
-/// Where no item's line stands at the front it gives BadLine, with the place where the first part that can't be read
-/// begins. NoRoom comes only where the whole line of a put of a text or a blob stands there.
+/// A line that begins with `!` is read as a floor's, any other as a change's. Refuses bytes that don't begin with an
+/// item's line as BadLine, with the place of the first part that can't be read. NoRoom is possible only for a whole
+/// line of a put of a text or a blob.
 pub fn read_item(alloc: Global, bytes: &[u8]) -> Result<(Item, usize), LineFault>
     ensures line { IfOk result (λ r. IsItem r.0) }
     ensures found { IfOk result (λ r. take r.1 bytes.now ≡ item_spelling r.0) }
@@ -37,9 +37,10 @@ pub fn read_item(alloc: Global, bytes: &[u8]) -> Result<(Item, usize), LineFault
     }
 }
 
-/// Reads an item as `read_item` does, into its caller's place, where a result would be copied from each reader to the one
-/// above it, and gives the line's length. It notes the part that it reads next: at BadLine it is the part that begins at the
-/// place.
+/// Like `read_item`, but stores the item in `slot` and returns the line's length. A result would be copied from each
+/// reader to its caller.
+///
+/// It notes the part that it reads next: at BadLine, the part that begins at the place.
 #[inline(always)]
 pub fn read_item_into(
     alloc: Global,
@@ -55,7 +56,7 @@ pub fn read_item_into(
     floor_into(bytes, expected, slot)
 }
 
-// Reads a floor's line likewise. It stays a call: most items are changes, for each of which its room would be cleared.
+// Reads a floor's line. Not inlined: most items are changes, and each would pay for clearing this function's frame.
 #[inline(never)]
 fn floor_into(
     bytes: &[u8],
@@ -78,7 +79,7 @@ fn floor_into(
     Ok(length)
 }
 
-// Reads a floor from its mark on, and gives how many bytes are left behind its line.
+// Reads a floor from its mark on, and returns how many bytes are left after its line.
 fn floor_at(bytes: &[u8], expected: &mut Expected) -> Result<(Floor, usize), PartFault>
     ensures { ReadsFloor bytes.now result }
 {

@@ -10,7 +10,7 @@ use ds_names::NoRoom;
 use itoa::Buffer;
 use std::alloc::Global;
 
-/// Writes the line of an item, its newline included.
+/// Writes the line of an item, newline included.
 pub fn write_item(alloc: Global, item: &Item) -> Result<Vec<u8>, NoRoom>
     ensures { IfOk result (λ line. line.items ≡ item_spelling item.now) }
 {
@@ -19,8 +19,7 @@ pub fn write_item(alloc: Global, item: &Item) -> Result<Vec<u8>, NoRoom>
     Ok(line)
 }
 
-/// Writes the line of an item, its newline included, behind what a buffer has. Where there is no room for all of it,
-/// the buffer is as it was.
+/// Appends the line of an item, newline included, to a buffer. If memory runs out, the buffer is unchanged.
 pub fn append_item(buffer: &mut Vec<u8>, item: &Item) -> Result<(), NoRoom>
     ensures written { OnOk result (buffer.new.items ≡ buffer.old.items ++ item_spelling item.now) }
     ensures unchanged { OnErr result (buffer.new.items ≡ buffer.old.items) }

@@ -12,11 +12,11 @@ use ds_entry::{Blob, Text, Value};
 use ds_names::{Kind, read_byte, read_decimal};
 use std::alloc::Global;
 
-/// Reads a value of the kind and the newline behind it, and gives the value with what follows the newline. It is
-/// for whoever reads lines of its own that end with a value.
+/// Reads a value of the kind and the newline after it, and returns the value with the rest. It is for callers that
+/// read lines of their own that end with a value.
 ///
-/// It notes which of the two it reads next. A label's value is `generation/slot`, of any generation. NoRoom comes only
-/// where the value and the newline stand there: a label or a number takes no memory.
+/// It notes which of the two it reads next. A label's value is `generation/slot`, of any generation. NoRoom is
+/// possible only if both are there and the value is a text or a blob.
 pub fn last_value_at<'a>(
     alloc: Global,
     kind: Kind,

@@ -1,8 +1,8 @@
-//! The lines of changes and floors: the one spelling of each, read and written.
+//! The lines of changes and floors: each has one spelling, which is read and written here.
 //!
-//! A change's line is `NAME KIND OWNER EPOCH.SEQ = VALUE`, or `-` for a tombstone, a floor's is `! OWNER GENERATION`, and
-//! each ends with a newline. Bytes that begin with no line fault where the first part of one that can't be read begins.
-//! The format is of this project.
+//! A change's line is `NAME KIND OWNER EPOCH.SEQ = VALUE`, or ends with `-` for a tombstone. A floor's is `! OWNER
+//! GENERATION`. Each ends with a newline. Bytes that don't begin with a line are refused with the place of the first
+//! part that can't be read. The format is this project's.
 #![tactic(auto)]
 
 mod block;

@@ -1,4 +1,4 @@
-//! Lines that are written in place.
+//! Lines that are built in place.
 
 ghost use Rattle.std.specs.Prelude.{◌≡◌, ◌+◌, ◌≤◌, ◌++◌, [], length};
 ghost use Rattle.std.specs.Fmt.{decimal};
@@ -7,8 +7,8 @@ use crate::block::put;
 use itoa::Buffer;
 use std::marker::Model;
 
-/// The front of a line, which is written in place, so that a buffer is asked for room once. It has room for 256 bytes, which
-/// all of a line is but a text or a blob.
+/// The front of a line, built in place so that a buffer grows once. It has room for 256 bytes, which is enough for
+/// all of a line but a text or a blob.
 #[derive(Drop)]
 pub struct Line {
     block: [u8; 256],
@@ -26,7 +26,7 @@ impl Model for Line {
 }
 
 impl Line {
-    /// A line with nothing in it.
+    /// Returns an empty line.
     #[inline(always)]
     pub fn new() -> Line
         ensures { result ≡ [] }
@@ -35,7 +35,7 @@ impl Line {
         Line { block, len: 0 }
     }
 
-    /// Writes a text behind what it has.
+    /// Appends a text.
     #[inline(always)]
     pub fn put(&mut self, text: &[u8])
         requires { length self.old + length text.now ≤ 256 }
@@ -46,7 +46,7 @@ impl Line {
         self.len += text.len();
     }
 
-    /// Writes a number behind what it has, in decimal. Most numbers of versions have one digit or two.
+    /// Appends a number in decimal. Most numbers of versions have one digit or two.
     #[tactic(auto, using(std::proofs::lemmas::Fmt::decimal_digit, crate::proofs::DecimalLemmas::two_digits))]
     #[inline(always)]
     pub fn put_number(&mut self, number: u32)
@@ -64,7 +64,7 @@ impl Line {
         self.put(digits.format(number).as_bytes());
     }
 
-    /// What it has.
+    /// Returns its bytes.
     #[inline(always)]
     pub fn bytes(&self) -> &[u8]
         ensures { result.now ≡ self.now }

@@ -8,7 +8,7 @@ use crate::writing::{append, append_all};
 use ds_names::NoRoom;
 use itoa::Buffer;
 
-/// Appends a line of numbers in decimal, each after a text of its own. Where there is no room for all of it, the buffer is as it was.
+/// Appends a line of decimal numbers, each after a text of its own. If memory runs out, the buffer is unchanged.
 pub fn append_numbers(buffer: &mut Vec<u8>, numbers: &[(&[u8], u64)]) -> Result<(), NoRoom>
     ensures written { OnOk result (buffer.new.items
         ≡ buffer.old.items ++ (flat_map (λ n. n.0.now ++ decimal n.1) numbers.now ++ 10 ∷ [])) }
@@ -22,7 +22,7 @@ pub fn append_numbers(buffer: &mut Vec<u8>, numbers: &[(&[u8], u64)]) -> Result<
     written
 }
 
-// The same, but a part of it may be there where there is no room for all.
+// Like `append_numbers`, but if memory runs out, a part of the line may have been appended.
 fn put_numbers(buffer: &mut Vec<u8>, numbers: &[(&[u8], u64)]) -> Result<(), NoRoom>
     ensures written { OnOk result (buffer.new.items
         ≡ buffer.old.items ++ (flat_map (λ n. n.0.now ++ decimal n.1) numbers.now ++ 10 ∷ [])) }

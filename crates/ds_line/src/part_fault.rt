@@ -1,18 +1,18 @@
-//! Why a reader of parts gives nothing.
+//! Why parts can't be read.
 
 ghost use Rattle.std.specs.Prelude.{◌≡◌, length};
 ghost use Rattle.ds_line.specs.declared.part_fault.PartFault.TheVariants.{BadPart};
 
-/// Why parts aren't read.
+/// Why parts can't be read.
 #[derive(Clone, Copy, Debug, PartialEq, Eq)]
 pub enum PartFault {
-    /// The next part can't be read. So many bytes are left from its first one on.
+    /// The next part can't be read; it begins `left` bytes before the end.
     BadPart { left: usize },
-    /// Out of memory for what the parts say.
+    /// Out of memory for what the parts hold.
     NoRoom,
 }
 
-/// The next part, which can't be read, begins with the bytes.
+/// Returns the fault for a next part that can't be read and begins these bytes.
 pub fn stop_at(bytes: &[u8]) -> PartFault
     ensures { result ≡ BadPart (length bytes.now) }
 {

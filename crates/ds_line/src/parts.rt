@@ -11,8 +11,8 @@ ghost use Rattle.ds_line.specs.Spelling.{kind_word};
 
 use ds_names::{Endpoint, Generation, Kind, Name, read_endpoint};
 
-/// Reads the name at the front, which is the longest run of name bytes. `None` where that run is no name. It is for
-/// whoever reads lines of its own, as the readers below.
+/// Reads the name at the front, the longest run of name bytes. `None` if that run isn't a name. Like the readers
+/// below, it is for callers that read lines of their own.
 pub fn name_at(bytes: &[u8]) -> Option<Name>
     ensures found { IfSome result (λ name. Begins is_name_byte bytes.now name (drop (length name) bytes.now)) }
     ensures name { IfSome result IsName }
@@ -21,7 +21,7 @@ pub fn name_at(bytes: &[u8]) -> Option<Name>
     Name::front(bytes)
 }
 
-/// What comes behind a name that stands at the front.
+/// Returns the rest after a name at the front.
 pub fn behind_name<'a>(bytes: &'a [u8], name: &Name) -> &'a [u8]
     requires { length name.now ≤ length bytes.now }
     ensures { result.now ≡ drop (length name.now) bytes.now }
@@ -29,7 +29,7 @@ pub fn behind_name<'a>(bytes: &'a [u8], name: &Name) -> &'a [u8]
     &bytes[name.bytes().len()..]
 }
 
-// Each letter and digit stands at its own place, and a comma at every other place.
+// Each letter and digit is at its own index; a comma fills the rest.
 static WORD_BYTES: [u8; 256] = *b"\
     ,,,,,,,,,,,,,,,,,,,,,,,,,,,,,,,,\
     ,,,,,,,,,,,,,,,,0123456789,,,,,,\
@@ -48,15 +48,14 @@ fn is_word_byte(b: u8) -> bool
     WORD_BYTES[usize::from(b)] != b','
 }
 
-// How many letters and digits stand at the front.
+// Returns the count of letters and digits at the front.
 fn word_len(bytes: &[u8]) -> usize
     ensures { result ≡ prefix_len is_ascii_alphanumeric bytes.now }
 {
     bytes.iter().take_while(|b| is_word_byte(**b)).count()
 }
 
-/// The word at the front, which is the longest run of letters and digits, and what comes behind it. No byte of it may
-/// stand there.
+/// Splits off the word at the front, the longest run of letters and digits, which may be empty.
 pub fn word_at(bytes: &[u8]) -> (&[u8], &[u8])
     ensures found { Begins is_ascii_alphanumeric bytes.now result.0.now result.1.now }
     ensures valid { IsTrue (list_all is_ascii_alphanumeric result.0.now) }
@@ -64,7 +63,7 @@ pub fn word_at(bytes: &[u8]) -> (&[u8], &[u8])
     bytes.split_at(word_len(bytes))
 }
 
-// The kind whose word begins the bytes, and what comes behind the word. No kind's word begins another's.
+// Returns the kind whose word the bytes begin with, and the rest. No kind's word begins another's.
 #[inline(always)]
 fn kind_front(bytes: &[u8]) -> Option<(Kind, &[u8])>
     ensures found { IfSome result (λ r. bytes.now ≡ kind_word r.0 ++ r.1.now) }
@@ -83,8 +82,8 @@ fn kind_front(bytes: &[u8]) -> Option<(Kind, &[u8])>
     }
 }
 
-/// Reads the word of a kind at the front, and gives the kind with what comes behind the word. `None` where the
-/// longest run of letters and digits is another.
+/// Reads the word of a kind at the front, and returns the kind with the rest. `None` if the longest run of letters
+/// and digits is another word.
 #[inline(always)]
 pub fn kind_at(bytes: &[u8]) -> Option<(Kind, &[u8])>
     ensures found { IfSome result (λ r. Begins is_ascii_alphanumeric bytes.now (kind_word r.0) r.1.now) }
@@ -99,8 +98,8 @@ pub fn kind_at(bytes: &[u8]) -> Option<(Kind, &[u8])>
     }
 }
 
-/// Reads the text of an endpoint at the front, and gives the endpoint with what comes behind its text. `None` where
-/// no endpoint's text stands there.
+/// Reads the text of an endpoint at the front, and returns the endpoint with the rest. `None` if the bytes don't
+/// begin with one.
 pub fn endpoint_at(bytes: &[u8]) -> Option<(Endpoint, &[u8])>
     ensures found { IfSome result (λ r. Begins is_ascii_digit bytes.now (endpoint_text r.0) r.1.now) }
     ensures valid { IfSome result (λ r. IsEndpoint r.0) }

@@ -24,12 +24,10 @@ use ds_names::{
 };
 use std::alloc::Global;
 
-/// Reads the change whose line stands at the front of the bytes, and gives it with the line's length, its
-/// newline included.
+/// Reads the change whose line is at the front, and returns it with the line's length, newline included.
 ///
-/// Where no change's line stands at the front it gives BadLine, with the place where the first part that can't
-/// be read begins. NoRoom comes only where the whole line of a put of a text or a blob stands there: all other
-/// lines take no memory to read.
+/// Refuses bytes that don't begin with a change's line as BadLine, with the place of the first part that can't be
+/// read. NoRoom is possible only for a whole line of a put of a text or a blob: no other line needs memory.
 pub fn read_change(alloc: Global, bytes: &[u8]) -> Result<(Change, usize), LineFault>
     ensures line { IfOk result (λ r. IsChange r.0) }
     ensures found { IfOk result (λ r. take r.1 bytes.now ≡ spelling r.0) }
@@ -40,8 +38,7 @@ pub fn read_change(alloc: Global, bytes: &[u8]) -> Result<(Change, usize), LineF
     read_change_noting(alloc, bytes, &mut expected)
 }
 
-// Reads a change as `read_change` does, and notes the part that it reads next: at BadLine it is the part that begins
-// at the place.
+// Like `read_change`, and notes the part that it reads next: at BadLine, the part that begins at the place.
 fn read_change_noting(
     alloc: Global,
     bytes: &[u8],
@@ -60,8 +57,8 @@ fn read_change_noting(
     }
 }
 
-/// Reads a change as `read_change_noting` does, into its caller's place: a result would be copied from each reader to the
-/// one above it. It gives the line's length.
+/// Like `read_change_noting`, but stores the change in `slot` and returns the line's length. A result would be copied
+/// from each reader to its caller.
 pub(crate) fn change_into(
     alloc: Global,
     bytes: &[u8],
@@ -82,9 +79,9 @@ pub(crate) fn change_into(
     Ok(length)
 }
 
-// Each reader below gives how many bytes are left behind the change's line, or how many are left from the first part on that
-// can't be read. What it read of the change is in its caller's place, or the body that it gives. A name is read where its key or the
-// owner stands, and from there the change is put together in the caller's place: so each name is copied once.
+// Each reader below returns how many bytes are left after the change's line, or from the first part that can't be
+// read on. What it read of the change is in `slot`, or in the body that it returns. Each name is copied once: it is
+// read where the key and the owner are kept, and the change is built in `slot` from there.
 
 // Reads a change from its name on.
 fn change_at(
@@ -118,7 +115,7 @@ fn change_at(
     owner_at(alloc, &key, rest, expected, slot)
 }
 
-// Reads a change from the space behind its kind on.
+// Reads a change from the space after its kind on.
 fn owner_at(
     alloc: Global,
     key: &Key,

@@ -1,4 +1,4 @@
-//! What the parts of a change that were read leave for those behind them.
+//! What the parts of a change that were read allow for the parts after them.
 //!
 //! Labels have rules of their own, and the last sequence number is left to the tombstones of sweeps.
 
@@ -16,7 +16,7 @@ use ds_names::{Generation, Key, Name, Version};
 pub fn has_owner(key: &Key) -> bool
     ensures { IsTrue result ↔ HasOwner key.now }
 {
-    // Any name will do for another kind, and its bytes are known to be one.
+    // Any name is allowed for another kind; the call states that its bytes are one.
     let _name = key.name.bytes();
     if key.kind.is_label() {
         !key.name.is_rs()
@@ -30,7 +30,7 @@ pub fn has_version(key: &Key, owner: &Name) -> bool
     requires { HasOwner key.now }
     ensures { IsTrue result ↔ HasVersion key.now owner.now }
 {
-    // As above, any owner.
+    // Likewise for the owner.
     let _owner = owner.bytes();
     if key.kind.is_label() {
         owner.is_rs()
@@ -73,7 +73,7 @@ pub fn has_value(key: &Key, owner: &Name, version: &Version) -> bool
     }
 }
 
-/// Whether some tombstone has them.
+/// Whether some tombstone has the key, the owner and the version.
 pub fn has_tombstone(key: &Key, owner: &Name, version: &Version) -> bool
     requires { HasBody key.now owner.now version.now }
     ensures { IsTrue result ↔ IsChange (change_of key.now owner.now version.now Gone) }

@@ -1,4 +1,4 @@
-//! Writing the line of a change, and the value alone.
+//! Writing the line of a change, and a value alone.
 
 ghost use Rattle.std.specs.Prelude.{◌≡◌, ◌==◌, ◌||◌, not, ◌<◌, ◌≤◌, ◌+◌, ◌*◌, ◌++◌, List, ℕ, [], ◌∷◌, length, take, drop, OnOk, OnErr, IfOk};
 ghost use Rattle.std.specs.List.{flat_map, prefix_len};
@@ -15,7 +15,7 @@ use ds_names::{Kind, NoRoom};
 use itoa::Buffer;
 use std::alloc::Global;
 
-/// Writes the line of a change, its newline included.
+/// Writes the line of a change, newline included.
 pub fn write_change(alloc: Global, change: &Change) -> Result<Vec<u8>, NoRoom>
     ensures { IfOk result (λ line. line.items ≡ spelling change.now) }
 {
@@ -24,8 +24,7 @@ pub fn write_change(alloc: Global, change: &Change) -> Result<Vec<u8>, NoRoom>
     Ok(line)
 }
 
-/// Writes the line of a change, its newline included, behind what a buffer has. Where there is no room
-/// for all of it, the buffer is as it was.
+/// Appends the line of a change, newline included, to a buffer. If memory runs out, the buffer is unchanged.
 pub fn append_change(buffer: &mut Vec<u8>, change: &Change) -> Result<(), NoRoom>
     ensures written { OnOk result (buffer.new.items ≡ buffer.old.items ++ spelling change.now) }
     ensures unchanged { OnErr result (buffer.new.items ≡ buffer.old.items) }
@@ -78,8 +77,7 @@ fn put_kind(line: &mut Line, kind: Kind)
     }
 }
 
-/// Appends a value, as the lines of changes spell it, between two texts. Where there is no room for all of
-/// it, the buffer is as it was.
+/// Appends a value, as the lines of changes spell it, between two texts. If memory runs out, the buffer is unchanged.
 pub fn append_value(
     buffer: &mut Vec<u8>,
     before: &[u8],
@@ -108,7 +106,7 @@ pub fn append_value(
     }
 }
 
-/// Appends one text. Where there is no room for it, the buffer is as it was.
+/// Appends a text. If memory runs out, the buffer is unchanged.
 #[inline(always)]
 pub fn append(buffer: &mut Vec<u8>, text: &[u8]) -> Result<(), NoRoom>
     ensures written { OnOk result (buffer.new.items ≡ buffer.old.items ++ text.now) }
@@ -118,7 +116,7 @@ pub fn append(buffer: &mut Vec<u8>, text: &[u8]) -> Result<(), NoRoom>
     Ok(())
 }
 
-/// Appends each of the texts. Where there is no room for all of them, the buffer is as it was.
+/// Appends the texts, in order. If memory runs out, the buffer is unchanged.
 pub fn append_all(buffer: &mut Vec<u8>, texts: &[&[u8]]) -> Result<(), NoRoom>
     ensures written { OnOk result (buffer.new.items ≡ buffer.old.items ++ flat_map (λ text. text.now) texts.now) }
     ensures unchanged { OnErr result (buffer.new.items ≡ buffer.old.items) }
@@ -133,7 +131,7 @@ pub fn append_all(buffer: &mut Vec<u8>, texts: &[&[u8]]) -> Result<(), NoRoom>
     Ok(())
 }
 
-// Appends a text in quotes between two others, or nothing.
+// Appends a quoted text between two others, or nothing.
 fn append_text(buffer: &mut Vec<u8>, before: &[u8], text: &[u8], after: &[u8]) -> Result<(), NoRoom>
     ensures written { OnOk result (buffer.new.items ≡ buffer.old.items ++ (before.now ++ (quoted text.now ++ after.now))) }
     ensures unchanged { OnErr result (buffer.new.items ≡ buffer.old.items) }
@@ -147,7 +145,7 @@ fn append_text(buffer: &mut Vec<u8>, before: &[u8], text: &[u8], after: &[u8]) -
     written
 }
 
-// Appends the bytes of the text as they stand in quotes, the closing quote and another text, or nothing.
+// Appends the escaped bytes of a text, the closing quote and another text, or nothing.
 fn append_closed(buffer: &mut Vec<u8>, text: &[u8], after: &[u8]) -> Result<(), NoRoom>
     ensures written { OnOk result (buffer.new.items ≡ buffer.old.items ++ (escaped text.now ++ 34 ∷ after.now)) }
     ensures unchanged { OnErr result (buffer.new.items ≡ buffer.old.items) }
@@ -161,7 +159,7 @@ fn append_closed(buffer: &mut Vec<u8>, text: &[u8], after: &[u8]) -> Result<(), 
     written
 }
 
-// Appends the bytes of the text as they stand in quotes, or nothing.
+// Appends the escaped bytes of a text, or nothing.
 fn append_escaped(buffer: &mut Vec<u8>, text: &[u8]) -> Result<(), NoRoom>
     ensures written { OnOk result (buffer.new.items ≡ buffer.old.items ++ escaped text.now) }
     ensures unchanged { OnErr result (buffer.new.items ≡ buffer.old.items) }
@@ -183,7 +181,7 @@ fn append_escaped(buffer: &mut Vec<u8>, text: &[u8]) -> Result<(), NoRoom>
     Ok(())
 }
 
-// How many bytes at the front stand for themselves in quotes.
+// Returns the count of leading bytes that need no escape.
 fn plain_len(text: &[u8]) -> usize
     ensures { result ≡ prefix_len (λ b. not (b == 34 || b == 92)) text.now }
 {
@@ -192,7 +190,7 @@ fn plain_len(text: &[u8]) -> usize
         .count()
 }
 
-// Where a byte as it stands in quotes begins, in a backslash and the byte.
+// Returns where the escaped byte begins in the two bytes of a backslash and itself.
 fn spelled_from(byte: u8) -> usize
     ensures fits { result ≤ 1 }
     ensures spelled { drop result (92 ∷ byte ∷ []) ≡ escaped_byte byte }
@@ -217,8 +215,8 @@ fn append_blob(buffer: &mut Vec<u8>, before: &[u8], blob: &[u8], after: &[u8]) -
     }
 }
 
-// Writes the hex of a blob to the front of a block, sixteen bytes at a time, and gives how many bytes of it are written:
-// fewer than sixteen are left.
+// Writes the hex of a blob to the front of the block, 16 bytes at a time. Returns how many bytes of the blob are
+// written; fewer than 16 are left.
 fn write_sixteens(blob: &[u8], block: &mut [u8; 2048]) -> usize
     requires { length blob.now ≤ 1024 }
     ensures written { take (2 * result) block.new ≡ encode_lower (take result blob.now) }

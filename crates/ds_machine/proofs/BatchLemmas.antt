@@ -1,4 +1,4 @@
--- A merge in which nothing stands against an item when it comes, in parts.
+-- A merge in which no cause applies to any item at its turn, in parts.
 use Rattle.std.proofs.Common.{◌≡◌, ℕ, zero, suc, ◌<◌, ◌≤◌, ◌==◌, Bool, true, not, cond, max, ◌||◌, nat_le, List, [], ◌∷◌, ◌++◌, length, Option, Some, None, refl, ap, sym, ◌∙◌, subst, inl, arith, append_assoc, append-nil}
 use Rattle.std.specs.Int.{bit_at}
 use Rattle.std.specs.Int.Bits.{bit_or}
@@ -43,7 +43,7 @@ free_in_parts s (i ∷ part) rest free =
 not_too_many : (n : ℕ) → n ≤ most_items → nat_le n most_items ≡ true
 not_too_many n l = grind (arith, nat_tests)
 
--- nothing stands against a merge of so few
+-- no refusal applies to a merge of at most 256 items
 pub none_stands : (n : ℕ) → n ≤ most_items → first_refusal (against_merge n) ≡ None
 none_stands n l = ap (λ (b : Bool). cond (not b) (Some refusals.TooMany) None) (not_too_many n l)
 

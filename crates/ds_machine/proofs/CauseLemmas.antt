@@ -41,7 +41,7 @@ change_order v = map causes.Refused by_command ++ by_version (Some v) ++ map cau
 abbrev floor_order : List Cause
 floor_order = map causes.Refused by_command ++ by_version None ++ map causes.Refused by_room
 
--- where no cause stands, none of them does
+-- without a first cause, no cause applies
 free : (v : Version) (stands : Cause → Bool) → first_cause (Some v) stands ≡ None → (cause : Cause) → Contains (change_order v) cause → stands cause ≡ false
 free v stands e cause h = missing stands (change_order v) cause e h
 
@@ -210,7 +210,9 @@ module _ (s : State) (c : ChangeRecord) where
   pub change_covered : (cause : Cause) → first_cause (Some c.version) (against_change (standing_of s c) c) ≡ Some cause → IsPassed cause → IsCoveredIn (held s) (Changed c)
   change_covered cause e k = over_by (against_change (standing_of s c) c) cause e k refl refl refl
 
-pub asked_covered : (s : State) (caller : Option (List ℕ)) (a : AskedChange) (body : Body) (cause : Cause) → first_cause (Some a.version) (against_asked (standing_of s (change_asked caller a body)) caller a body) ≡ Some cause → IsPassed cause → IsCoveredIn (held s) (Changed (change_asked caller a body))
+pub asked_covered : (s : State) (caller : Option (List ℕ)) (a : AskedChange) (body : Body) (cause : Cause) →
+    first_cause (Some a.version) (against_asked (standing_of s (change_asked caller a body)) caller a body) ≡ Some cause → IsPassed cause →
+    IsCoveredIn (held s) (Changed (change_asked caller a body))
 asked_covered s caller a body cause e k = over_by s (change_asked caller a body) (against_asked (standing_of s (change_asked caller a body)) caller a body) cause e k refl refl refl
 
 module _ (s : State) (f : Floor) where

@@ -71,7 +71,7 @@ item_news s (Changed c) r e =
 item_news s (Floored f) r e = news_floor s.feed.accepted r.owners f (room_above (floor_at (held s) f.owner) (length (floors_in (held s))) f (floor_is_free (floor_standing_of s f) f e).room)
 
 -- ---- a merge
--- from one point of a merge to a later one: so many items were done, all of them where nothing stopped it
+-- from one point of a merge to a later one: `count` items were done, all of them if nothing stopped it
 pub record Went (k : Course) (items : List Item) (end : Course) : Type 0 where
   pub count : ℕ
   pub done : end.done ≡ k.done + count
@@ -116,7 +116,8 @@ module _ (i : Item) (items : List Item) (k : Course) (r : IsReached k.state) (e 
         whole = λ z. ap suc (w.whole z);
         some_left = λ x z. omega (arith, w.some_left x z);
         counted = omega (arith, w.counted, length-append k.taken (i ∷ []));
-        grows = grows_one k.state end.state i (i ∷ take w.count items) fresh (Contains-head i (take w.count items)) (grows_wider (takes_effect k.state (i ∷ [])) end.state (take w.count items) (i ∷ take w.count items) (λ x h. Contains-tail i (take w.count items) x h) w.grows);
+        grows = grows_one k.state end.state i (i ∷ take w.count items) fresh (Contains-head i (take w.count items))
+            (grows_wider (takes_effect k.state (i ∷ [])) end.state (take w.count items) (i ∷ take w.count items) (λ x h. Contains-tail i (take w.count items) x h) w.grows);
         holds = covers_first i (take w.count items) (held end.state) (covered_accepted end.state last i here) w.holds;
       }
 

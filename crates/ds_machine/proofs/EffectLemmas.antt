@@ -97,7 +97,9 @@ module _ (s t : State) (r : IsReached s) (reply : Reply) where
       by_cause (Some causes.Known) q g h = told (Swept 0 0) g (learns_known s t i h (sweep_covered s f caller causes.Known q (inl refl)))
       by_cause (Some (causes.Refused refusals.Stale)) q g h = told (Swept 0 0) g (learns_known s t i h (sweep_covered s f caller (causes.Refused refusals.Stale) q (inr refl)))
       by_cause (Some (causes.Refused refusal)) q g h = told (Refused refusal) g (learns_none s t h)
-      by_cause None q g h = told (Swept (length (puts_void_by f (changes_in (held s)))) (owed s (i ∷ []))) g (learns_news s t i r (news_floor s.feed.accepted r.owners f (room_above (floor_at (held s) f.owner) (length (floors_in (held s))) f (sweep_is_free (floor_standing_of s f) caller f q).room)) h)
+      by_cause None q g h = told (Swept (length (puts_void_by f (changes_in (held s)))) (owed s (i ∷ []))) g
+          (learns_news s t i r (news_floor s.feed.accepted r.owners f
+          (room_above (floor_at (held s) f.owner) (length (floors_in (held s))) f (sweep_is_free (floor_standing_of s f) caller f q).room)) h)
 
 -- ---- a Merge
 pub begun_went : (s : State) (items : List Item) → IsReached s → Went (begun s) items (course s items)
@@ -184,7 +186,8 @@ module _ (s t : State) (r : IsReached s) where
       })
 
       by_cause : (o : Option Subscription) → subscription_at s sub ≡ o → (p : Option Refusal) → first_refusal (against_check (check_case s sub max o)) ≡ p
-          → t ≡ (option_map_or {U = Reply × State} (λ refusal. (Refused refusal, s)) p (option_map_or {U = Reply × State} (λ f. shows s sub f (take max (unseen s f))) o (Refused refusals.NotFound, s))).1 → Grows s learnt t ⊎ Serves s (Check sub max) t
+          → t ≡ (option_map_or {U = Reply × State} (λ refusal. (Refused refusal, s)) p
+          (option_map_or {U = Reply × State} (λ f. shows s sub f (take max (unseen s f))) o (Refused refusals.NotFound, s))).1 → Grows s learnt t ⊎ Serves s (Check sub max) t
       by_cause o here (Some refusal) q f = inl (grows_none s t learnt f)
       by_cause None here None q f = inl (grows_none s t learnt f)
       by_cause (Some seer) here None q f =

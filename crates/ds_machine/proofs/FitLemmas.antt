@@ -24,7 +24,7 @@ use Rattle.ds_machine.specs.declared.reply.Reply.{Reply}
 use Rattle.ds_machine.specs.declared.reply.Reply.TheVariants.{Found, Named, Merged, MergeStopped, Refused}
 
 module _ (s : State) where
-  -- a reply of its own, or what is answered to what stands against it
+  -- a reply of its own, or the answer to what applies to it
   fits_or : (P : Reply → Type 0) {X : Type 0} (o : Option X) (f : X → Reply) (reply : Reply) (new : State) → ((x : X) → P (f x)) → P reply → P (option_map_or {U = Reply × State} (λ x. (f x, s)) o (reply, new)).0
   fits_or P (Some x) f reply new each own = each x
   fits_or P None f reply new each own = own
@@ -53,7 +53,9 @@ module _ (s : State) where
       by_items seer [] = tt
       by_items seer (i ∷ items) = tt
 
-      by_cause : (o : Option Subscription) (p : Option Refusal) → IsCheckReply (option_map_or {U = Reply × State} (λ r. (Refused r, s)) p (option_map_or {U = Reply × State} (λ f. shows s sub f (take max (unseen s f))) o (Refused refusals.NotFound, s))).0
+      by_cause : (o : Option Subscription) (p : Option Refusal) →
+          IsCheckReply (option_map_or {U = Reply × State} (λ r. (Refused r, s)) p
+          (option_map_or {U = Reply × State} (λ f. shows s sub f (take max (unseen s f))) o (Refused refusals.NotFound, s))).0
       by_cause o (Some r) = tt
       by_cause None None = tt
       by_cause (Some seer) None = by_items seer (take max (unseen s seer))
@@ -62,7 +64,9 @@ module _ (s : State) where
   merge_fits items (Some r) = tt
   merge_fits items None = by_stop (course s items).stop
     where
-      by_stop : (o : Option Refusal) → IsMergeReply (option_map_or {U = Reply} (λ fault. MergeStopped (course s items).done fault (owed s (course s items).taken)) o (Merged (course s items).done (length (course s items).taken) (course s items).stale (owed s (course s items).taken)))
+      by_stop : (o : Option Refusal) → IsMergeReply
+          (option_map_or {U = Reply} (λ fault. MergeStopped (course s items).done fault (owed s (course s items).taken)) o
+          (Merged (course s items).done (length (course s items).taken) (course s items).stale (owed s (course s items).taken)))
       by_stop (Some fault) = tt
       by_stop None = tt
 

@@ -1,4 +1,4 @@
--- What a reply gives had been accepted.
+-- What a reply shows was accepted.
 use Rattle.std.proofs.Common.{◌≡◌, ℕ, zero, suc, ◌≤◌, ◌-◌, Bool, cond, List, [], ◌∷◌, length, take, filter, Option, Some, None, ap, sym, subst, inl, inr, arith, Contains}
 use Rattle.std.specs.Option.{option_map, option_map_or}
 use Rattle.std.proofs.lemmas.List.Elements.{Contains-append_cases}
@@ -93,7 +93,9 @@ module _ (s : State) (r : IsReached s) where
       by_items seer [] part = nothing
       by_items seer (i ∷ items) part = part
 
-      by_cause : (o : Option Subscription) (p : Option Refusal) → Gives (option_map_or {U = Reply × State} (λ r. (Refused r, s)) p (option_map_or {U = Reply × State} (λ f. shows s sub f (take max (unseen s f))) o (Refused refusals.NotFound, s))).0
+      by_cause : (o : Option Subscription) (p : Option Refusal) →
+          Gives (option_map_or {U = Reply × State} (λ r. (Refused r, s)) p
+          (option_map_or {U = Reply × State} (λ f. shows s sub f (take max (unseen s f))) o (Refused refusals.NotFound, s))).0
       by_cause o (Some r) = nothing
       by_cause None None = nothing
       by_cause (Some seer) None = by_items seer (take max (unseen s seer)) (of_held (take max (unseen s seer)) (λ i h. (Contains-from_filter (is_unseen seer.query seer.shown) (held s) i (Contains-from_take max (unseen s seer) i h)).0))
@@ -111,7 +113,8 @@ module _ (s : State) (r : IsReached s) where
   merge_gives items (Some r) = nothing
   merge_gives items None = by_stop (course s items).stop
     where
-      by_stop : (o : Option Refusal) → Gives (option_map_or {U = Reply} (λ fault. MergeStopped (course s items).done fault (owed s (course s items).taken)) o (Merged (course s items).done (length (course s items).taken) (course s items).stale (owed s (course s items).taken)))
+      by_stop : (o : Option Refusal) → Gives (option_map_or {U = Reply} (λ fault. MergeStopped (course s items).done fault (owed s (course s items).taken)) o
+          (Merged (course s items).done (length (course s items).taken) (course s items).stale (owed s (course s items).taken)))
       by_stop (Some fault) = nothing
       by_stop None = nothing
 

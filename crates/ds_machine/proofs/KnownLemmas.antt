@@ -1,4 +1,4 @@
--- What stays: the feed only grows, what is held is the top of what is known, and floors stand.
+-- What lasts: the feed only grows, what is held is the top of what is known, and floors hold.
 use Rattle.std.proofs.Common.{◌≡◌, ◌+◌, ◌≤◌, true, List, [], ◌∷◌, ◌++◌, refl, ap, sym, ◌∙◌, subst, inl, inr, ◌⊎◌, arith, Contains, append_assoc}
 use Rattle.std.proofs.lemmas.List.{append-nil}
 use Rattle.std.proofs.lemmas.List.Elements.{Contains-append_left, Contains-append_right, Contains-append_cases}
@@ -32,7 +32,7 @@ runs_stay_reached s t (command ∷ commands) (reply ∷ replies) r run = runs_st
 runs_stay_reached s t [] (reply ∷ replies) r run = absurd run
 runs_stay_reached s t (command ∷ commands) [] r run = absurd run
 
--- ---- the store goes on
+-- ---- the store grows
 news_append : (accepted xs ys : List Item) → AreNews accepted xs → AreNews (accepted ++ xs) ys → AreNews accepted (xs ++ ys)
 news_append accepted [] ys n m = subst (λ l. AreNews l ys) (append-nil accepted) m
 news_append accepted (i ∷ xs) ys n m = (n.0, news_append (accepted ++ i ∷ []) xs ys n.1 (subst (λ l. AreNews l ys) (sym (append_assoc accepted (i ∷ []) xs)) m))

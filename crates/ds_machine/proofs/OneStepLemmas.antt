@@ -1,4 +1,4 @@
--- A step is one, by the state, the command and where memory was wanted.
+-- The state, the command and the point where memory ran out determine the step.
 use Rattle.std.proofs.Common.{◌≡◌, ℕ, Bool, false, cond, List, [], ◌∷◌, ◌++◌, length, map, take, fold, Option, Some, None, is_some, refl, ap, sym, ◌∙◌, inl, inr, arith}
 use Rattle.std.specs.Option.{option_map, option_map_or}
 use Rattle.std.proofs.lemmas.Bool.{false≢true}
@@ -31,7 +31,7 @@ use Rattle.ds_machine.specs.declared.reply.Reply.TheVariants.{Found, Named, Merg
 use Rattle.ds_machine.proofs.PartLemmas.{found}
 use Rattle.ds_machine.specs.OneStep.{is_noroom, room_wanted, OutcomesWantNone, StepsAreOne, OneItemWantsAlike}
 
--- ---- no cause is want of memory
+-- ---- no cause is lack of memory
 
 wants : Cause → Bool
 wants causes.Known = false
@@ -67,7 +67,7 @@ module _ (s : State) where
   swept_none (causes.Refused refusals.NoRoom) e = absurd (false≢true (sym e))
   swept_none (causes.Refused _) e = refl
 
-  -- its own reply, or what is answered to what stands against it
+  -- its own reply, or the answer to what applies to it
   none_or : {X : Type 0} (o : Option X) (f : X → Reply) (reply : Reply) (new : State) → ((x : X) → o ≡ Some x → WantsNone (f x)) → WantsNone reply → WantsNone (option_map_or {U = Reply × State} (λ x. (f x, s)) o (reply, new)).0
   none_or (Some x) f reply new each own = each x refl
   none_or None f reply new each own = own
@@ -90,7 +90,9 @@ module _ (s : State) where
       by_items seer [] = refl
       by_items seer (i ∷ items) = refl
 
-      by_cause : (o : Option Subscription) (p : Option Refusal) → ((r : Refusal) → p ≡ Some r → is_noroom r ≡ false) → WantsNone (option_map_or {U = Reply × State} (λ r. (Refused r, s)) p (option_map_or {U = Reply × State} (λ f. shows s sub f (take max (unseen s f))) o (Refused refusals.NotFound, s))).0
+      by_cause : (o : Option Subscription) (p : Option Refusal) → ((r : Refusal) → p ≡ Some r → is_noroom r ≡ false) →
+          WantsNone (option_map_or {U = Reply × State} (λ r. (Refused r, s)) p
+          (option_map_or {U = Reply × State} (λ f. shows s sub f (take max (unseen s f))) o (Refused refusals.NotFound, s))).0
       by_cause o (Some r) none = refused_none r (none r refl)
       by_cause None None none = refl
       by_cause (Some seer) None none = by_items seer (take max (unseen s seer))
@@ -101,7 +103,7 @@ item_cause : (s : State) (i : Item) (c : Cause) → cause_of s i ≡ Some c → 
 item_cause s (Changed d) c e = change_cause d.version (against_change (standing_of s d) d) c e
 item_cause s (Floored f) c e = floor_cause (against_floor (floor_standing_of s f) f) c e
 
--- what stopped it, if anything did, isn't want of memory
+-- what stopped it, if anything did, isn't lack of memory
 abbrev StopsWell : Option Refusal → Type 0
 StopsWell stop = option_map_or is_noroom stop false ≡ false
 
@@ -125,7 +127,9 @@ merge_none : (s : State) (items : List Item) (o : Option Refusal) → ((r : Refu
 merge_none s items (Some r) none = refused_none r (none r refl)
 merge_none s items None none = by_stop (course s items).stop (course_well items (begun s) refl)
   where
-    by_stop : (o : Option Refusal) → StopsWell o → WantsNone (option_map_or {U = Reply} (λ fault. MergeStopped (course s items).done fault (owed s (course s items).taken)) o (Merged (course s items).done (length (course s items).taken) (course s items).stale (owed s (course s items).taken)))
+    by_stop : (o : Option Refusal) → StopsWell o →
+        WantsNone (option_map_or {U = Reply} (λ fault. MergeStopped (course s items).done fault (owed s (course s items).taken)) o
+        (Merged (course s items).done (length (course s items).taken) (course s items).stale (owed s (course s items).taken)))
     by_stop (Some fault) well = ap (λ (b : Bool). cond b (Some (Some (course s items).done)) None) well
     by_stop None well = refl
 
@@ -154,7 +158,7 @@ outcomes_want_none s (Merge items) = merge_none s items (first_refusal (against_
 pub none_some : {X : Type 0} (x : X) → None ≡ Some x → ⊥
 none_some x e = false≢true (ap (λ o. is_some o) e)
 
--- a merge that wanted memory behind some items
+-- a merge that ran out of memory after some items
 stops_at : (s t : State) (items : List Item) (reply : Reply) (w : MergeWantsRoom s (Merge items) reply t) → room_wanted reply ≡ Some (Some w.0)
 stops_at s t items reply w = ap room_wanted w.1.reply_is
 
@@ -181,7 +185,7 @@ both_merges s t u (Since scope at max) reply other v w e = absurd v
 both_merges s t u (Snapshot scope) reply other v w e = absurd v
 both_merges s t u (Page scope after max) reply other v w e = absurd v
 
--- it wanted memory behind some number of items
+-- it ran out of memory after some number of items
 some_done : (s t : State) (command : Command) (reply : Reply) → MergeWantsRoom s command reply t → (done : ℕ) × (room_wanted reply ≡ Some (Some done))
 some_done s t (Merge items) reply v = (v.0, stops_at s t items reply v)
 some_done s t (Publish caller key version value overwrite) reply v = absurd v

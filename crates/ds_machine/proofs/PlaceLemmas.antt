@@ -43,7 +43,7 @@ run_keeps s t (c ∷ commands) (q ∷ replies) sub r run e =
     let n = or_parts (uses sub c) (list_any (uses sub) commands) e in
     run_keeps run.0 t commands replies sub (steps_stay_reached s run.0 c q r run.1) run.2 n.1 ∙ step_keeps s run.0 c q sub r run.1 n.0
 
--- ---- what its stamp tells
+-- ---- what its stamp means
 pub step_stamps : StepStampsSubscription
 step_stamps s t command reply sub r step = by_effect (step_has_effect s t command reply r step)
   where
@@ -121,7 +121,9 @@ module _ (s t : State) (sub max : ℕ) (seer : Subscription) (given : List Item)
       let b : before ≡ seer.stamp = cc in
       let a : after ≡ seer.stamp = cc in
       let same : seer ≡ record seer { stamp = after; shown = seer.shown ++ given } =
-      sym (ap (λ (l : List Item). record seer { shown = l }) (append-nil seer.shown)) ∙ (ap (λ (n : ℕ). record seer { stamp = n; shown = seer.shown ++ [] }) (sym a) ∙ ap (λ (l : List Item). record seer { stamp = after; shown = seer.shown ++ l }) (sym none)) in
+      sym (ap (λ (l : List Item). record seer { shown = l }) (append-nil seer.shown)) ∙
+      (ap (λ (n : ℕ). record seer { stamp = n; shown = seer.shown ++ [] }) (sym a) ∙ ap (λ (l : List Item). record seer { stamp = after; shown = seer.shown ++ l }) (sym none))
+      in
       record {
         items_are = none ∙ q;
         before_is = b;

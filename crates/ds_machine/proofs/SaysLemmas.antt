@@ -49,7 +49,7 @@ unfolding is_refused
 refused_not refusal reply f e = let t : true ≡ false = ap is_refused e ∙ f in absurd (cc)
 
 module _ (s t : State) (refusal : Refusal) where
-  -- one that is answered by a reply of its own unless something stands against it
+  -- a command with a reply of its own, unless something applies to it
   stays_unless : {X : Type 0} (o : Option X) (f : X → Reply) (reply : Reply) (new : State)
       → Refused refusal ≡ (option_map_or {U = Reply × State} (λ x. (f x, s)) o (reply, new)).0 → t ≡ (option_map_or {U = Reply × State} (λ x. (f x, s)) o (reply, new)).1 → is_refused reply ≡ false → t ≡ s
   stays_unless (Some x) f reply new e q differs = q
@@ -59,7 +59,8 @@ module _ (s t : State) (refusal : Refusal) where
   merge_unless items (Some r) e q = q
   merge_unless items None e q = absurd (by_stop (course s items).stop e)
     where
-      by_stop : (o : Option Refusal) → Refused refusal ≡ option_map_or {U = Reply} (λ fault. MergeStopped (course s items).done fault (owed s (course s items).taken)) o (Merged (course s items).done (length (course s items).taken) (course s items).stale (owed s (course s items).taken)) → ⊥
+      by_stop : (o : Option Refusal) → Refused refusal ≡ option_map_or {U = Reply} (λ fault. MergeStopped (course s items).done fault (owed s (course s items).taken)) o
+          (Merged (course s items).done (length (course s items).taken) (course s items).stale (owed s (course s items).taken)) → ⊥
       by_stop (Some fault) h = cc
       by_stop None h = cc
 
@@ -130,7 +131,9 @@ merged_says s t items done taken stale owes r (inl (inl is)) = by_cause (first_r
     w : Went (begun s) items k
     w = begun_went s items r
 
-    by_stop : (o : Option Refusal) → k.stop ≡ o → Merged done taken stale owes ≡ option_map_or {U = Reply} (λ fault. MergeStopped k.done fault (owed s k.taken)) o (Merged k.done (length k.taken) k.stale (owed s k.taken)) → t ≡ k.state → IsMerged items done taken stale t
+    by_stop : (o : Option Refusal) → k.stop ≡ o →
+        Merged done taken stale owes ≡ option_map_or {U = Reply} (λ fault. MergeStopped k.done fault (owed s k.taken)) o (Merged k.done (length k.taken) k.stale (owed s k.taken)) →
+        t ≡ k.state → IsMerged items done taken stale t
     by_stop (Some fault) q e f = absurd (cc)
     by_stop None q e f =
         let d : done ≡ k.done = cc in

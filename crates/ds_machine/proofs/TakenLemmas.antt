@@ -30,14 +30,15 @@ use Rattle.ds_machine.proofs.CourseLemmas.{item_news}
 use Rattle.ds_machine.specs.Batches.{AreFree, FreeAreTaken, PlacesAreFree}
 use Rattle.ds_machine.specs.Taken.{HasNoFloor, TakesHeld, KeysApart, PlacesAreTaken}
 
--- ---- a merge in which nothing stands against an item when it comes
+-- ---- a merge in which no cause applies to any item at its turn
 
 abbrev course_of : State → ℕ → List Item → Course
 course_of s done taken = record { state = s; done = done; taken = taken; stale = 0; stop = None }
 
 free_course : (items : List Item) (s : State) (done : ℕ) (taken : List Item) → AreFree s items → fold item_merged (course_of s done taken) items ≡ course_of (takes_effect s items) (done + length items) (taken ++ items)
 free_course [] s done taken free =
-    ap (λ (l : List Item). course_of (with_accepted s l) done taken) (sym (append-nil s.feed.accepted)) ∙ ap (λ (l : List Item). course_of (takes_effect s []) done l) (sym (append-nil taken)) ∙ ap (λ (n : ℕ). course_of (takes_effect s []) n (taken ++ [])) (omega arith)
+    ap (λ (l : List Item). course_of (with_accepted s l) done taken) (sym (append-nil s.feed.accepted)) ∙
+    ap (λ (l : List Item). course_of (takes_effect s []) done l) (sym (append-nil taken)) ∙ ap (λ (n : ℕ). course_of (takes_effect s []) n (taken ++ [])) (omega arith)
 free_course (i ∷ items) s done taken free =
     let first : item_merged (course_of s done taken) i ≡ course_of (takes_effect s (i ∷ [])) (done + 1) (taken ++ i ∷ []) = ap (λ (o : Option Cause). item_judged (course_of s done taken) i o) free.0 in
     ap (λ (k : Course). fold item_merged k items) first
@@ -48,7 +49,8 @@ free_course (i ∷ items) s done taken free =
 
 -- ---- a change that takes a held one's place
 
-six : {X : Type 0} (p q r s t u : X) (a b c d e f : Bool) → a ≡ false → b ≡ false → c ≡ false → d ≡ false → e ≡ false → f ≡ false → cond a (Some p) (cond b (Some q) (cond c (Some r) (cond d (Some s) (cond e (Some t) (cond f (Some u) None))))) ≡ None
+six : {X : Type 0} (p q r s t u : X) (a b c d e f : Bool) → a ≡ false → b ≡ false → c ≡ false → d ≡ false → e ≡ false → f ≡ false →
+    cond a (Some p) (cond b (Some q) (cond c (Some r) (cond d (Some s) (cond e (Some t) (cond f (Some u) None))))) ≡ None
 six p q r s t u true b c d e f ha hb hc hd he hf = absurd (false≢true (sym ha))
 six p q r s t u false true c d e f ha hb hc hd he hf = absurd (false≢true (sym hb))
 six p q r s t u false false true d e f ha hb hc hd he hf = absurd (false≢true (sym hc))
@@ -74,7 +76,7 @@ none_against t h c here place void left =
     (ap (λ (o : Option ChangeRecord). is_none o && nat_le t.most t.count) here)
     left
 
--- ---- what is held for a key stays, where nothing of the key comes
+-- ---- what is held for a key stays if no item of the key follows
 
 module _ (s t : State) (rs : IsReached s) (rt : IsReached t) (floors : HasNoFloor t) (part : IsPartOf s.feed.accepted t.feed.accepted) where
   -- what covers a change is one of its key
@@ -125,7 +127,7 @@ none_void s r floors c = by_test (is_void (held s) c) refl
 not_full : (n : ℕ) → n < last_place → nat_le last_place n ≡ false
 not_full n lt = grind (arith, nat_tests)
 
--- ---- one after the other
+-- ---- in order
 
 no_floor_more : (t : State) (c : ChangeRecord) → HasNoFloor t → HasNoFloor (takes_effect t (Changed c ∷ []))
 no_floor_more t c floors f h = elim (Contains-push_cases t.feed.accepted (Changed c) (Floored f) h) [

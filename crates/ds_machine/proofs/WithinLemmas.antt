@@ -43,7 +43,7 @@ use Rattle.ds_machine.proofs.CountLemmas.{total, change_weight, floor_weight, ch
 use Rattle.ds_names.specs.Limits.{most_floors, last_place}
 
 -- ---- one more item takes effect
--- nothing stands against the item
+-- no cause applies to the item
 abbrev pub HasPlace : State → Item → Type 0
 HasPlace s (Changed c) = IsFree (standing_of s c) c
 HasPlace s (Floored f) = IsFloorFree (floor_standing_of s f) f
@@ -67,7 +67,8 @@ module _ (s : State) (w : IsWithin s) where
   change_room c (Some h) e room =
       let at = key_found (held s) c.key h e in
       let over : covers (Changed c) (Changed h) ≡ true = covers-make c h (sym at.1) room.0 (ap is_le room.1) in
-      let less : total change_weight (filter (λ j. not (covers (Changed c) j)) (held s)) + 1 ≤ total change_weight (held s) = total_dropped change_weight (λ j. not (covers (Changed c) j)) (held s) (Changed h) at.0 (not_from_true (covers (Changed c) (Changed h)) over) in
+      let less : total change_weight (filter (λ j. not (covers (Changed c) j)) (held s)) + 1 ≤ total change_weight (held s) = total_dropped change_weight
+      (λ j. not (covers (Changed c) j)) (held s) (Changed h) at.0 (not_from_true (covers (Changed c) (Changed h)) over) in
       omega (arith, less, few_changes)
 
   floor_room : (f : Floor) (o : Option Floor) → floor_at (held s) f.owner ≡ o → HasFloorRoom o (length (floors_in (held s))) f
@@ -82,7 +83,8 @@ module _ (s : State) (w : IsWithin s) where
       let at = owner_found (held s) f.owner g e in
       let low : g.generation < f.generation = room in
       let over : covers (Floored f) (Floored g) ≡ true = below-make g.owner f.owner g.generation f.generation (sym at.1) (omega (arith, low)) in
-      let less : total floor_weight (filter (λ j. not (covers (Floored f) j)) (held s)) + 1 ≤ total floor_weight (held s) = total_dropped floor_weight (λ j. not (covers (Floored f) j)) (held s) (Floored g) at.0 (not_from_true (covers (Floored f) (Floored g)) over) in
+      let less : total floor_weight (filter (λ j. not (covers (Floored f) j)) (held s)) + 1 ≤ total floor_weight (held s) = total_dropped floor_weight
+      (λ j. not (covers (Floored f) j)) (held s) (Floored g) at.0 (not_from_true (covers (Floored f) (Floored g)) over) in
       omega (arith, less, few_floors)
 
   -- the position after one more
@@ -166,7 +168,9 @@ module _ (s t : State) (w : IsWithin s) where
   swept_within : (caller : EndpointRecord) (f : Floor) → t ≡ (sweeping s caller f).1 → IsWithin t
   swept_within caller f e = by_cause (sweep_cause s caller f) refl e
     where
-      by_cause : (o : Option Cause) → sweep_cause s caller f ≡ o → t ≡ (option_map_or {U = Reply × State} (λ cause. (sweep_answer cause, s)) o (Swept (length (puts_void_by f (changes_in (held s)))) (owed s (Floored f ∷ [])), takes_effect s (Floored f ∷ []))).1 → IsWithin t
+      by_cause : (o : Option Cause) → sweep_cause s caller f ≡ o →
+          t ≡ (option_map_or {U = Reply × State} (λ cause. (sweep_answer cause, s)) o
+          (Swept (length (puts_void_by f (changes_in (held s)))) (owed s (Floored f ∷ [])), takes_effect s (Floored f ∷ []))).1 → IsWithin t
       by_cause (Some cause) q g = same g
       by_cause None q g = subst IsWithin (sym g) (within_more s w (Floored f) (swept_place s caller f q))
 

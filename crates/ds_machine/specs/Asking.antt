@@ -1,4 +1,4 @@
--- What stands against a Publish, a Delete and a Sweep.
+-- The causes against a Publish, a Delete and a Sweep.
 use Rattle.std.specs.Prelude.{ℕ, Bool, true, false, not, ◌&&◌, ◌==◌, nat_le, List, Option, Some, None, is_some, is_none, cond}
 use Rattle.std.specs.Option.{unwrap_or}
 use Rattle.ds_names.specs.declared.key.Key.{Key}
@@ -23,7 +23,8 @@ use Rattle.ds_entry.specs.Left.{value_of}
 
 -- ---- a Publish or a Delete
 
--- what a caller asks, beside the body of the change, and whether it may come where an entry is live, and where none is
+-- A Publish or a Delete without its body. `over_live` and `over_none`: whether it may find a live entry, and whether it
+-- may find none.
 pub record AskedChange : Type 0 where
   pub caller : EndpointRecord
   pub key : Key
@@ -31,35 +32,35 @@ pub record AskedChange : Type 0 where
   pub over_live : Bool
   pub over_none : Bool
 
--- what a Publish asks, beside its put: without overwrite only where nothing is live
+-- The change that a Publish asks for: without `overwrite`, only if no entry is live.
 abbrev pub published : EndpointRecord → Key → Version → Bool → AskedChange
 published caller key version overwrite = record { caller = caller; key = key; version = version; over_live = overwrite; over_none = true }
 
--- what a Delete asks, beside its tombstone: only of what is live
+-- The change that a Delete asks for: only if an entry is live.
 abbrev pub deleted : EndpointRecord → Key → Version → AskedChange
 deleted caller key version = record { caller = caller; key = key; version = version; over_live = true; over_none = false }
 
--- the name of an endpoint: RS is `rs`, another one the least name whose live label holds it
+-- The name of an endpoint: `rs` for RS, otherwise the least name whose live label holds it.
 abbrev pub name_of : List Item → EndpointRecord → Option (List ℕ)
 name_of held e = cond (is_rs e) (Some rs_name) (first_name_of e (changes_in held))
 
--- a label isn't called `rs`, and its epoch isn't 0
+-- Whether the change keeps the rules of labels: not named `rs`, an epoch other than 0, and a body that fits a label.
 abbrev pub is_label_change : AskedChange → Body → Bool
 is_label_change a body = not (is_same_name a.key.name rs_name) && (not (a.version.epoch == 0) && is_label_body a.version body)
 
--- a caller numbers its own entries in its own generation, below the last number
+-- Whether the version is one that a caller may use: its own generation, and below the last sequence number.
 abbrev pub is_callers_version : AskedChange → Bool
 is_callers_version a = a.version.epoch == a.caller.generation && not (nat_le last_seq a.version.seq)
 
--- the change that is asked for, in the name of the caller
+-- The change asked for, owned by the caller.
 abbrev pub change_asked : Option (List ℕ) → AskedChange → Body → ChangeRecord
 change_asked caller a body = change_of a.key (unwrap_or caller rs_name) a.version body
 
--- the held change leaves a value
+-- Whether the held change leaves a value.
 abbrev pub is_live : Option ChangeRecord → Bool
 is_live held = on_held held (λ h. is_some (value_of h))
 
--- what stands against a Publish or a Delete, `caller` being the caller's name
+-- Whether the cause applies to a Publish or a Delete. `caller` is the caller's name.
 abbrev pub against_asked : Standing → Option (List ℕ) → AskedChange → Body → Cause → Bool
 against_asked t caller a body (Refused BadKind) = not (is_of_kind a.key.kind body)
 against_asked t caller a body (Refused BadLabel) = is_label a.key.kind && not (is_label_change a body)
@@ -70,7 +71,7 @@ against_asked t caller a body (Refused Exists) = is_live t.held && not a.over_li
 against_asked t caller a body (Refused NotFound) = not (is_live t.held) && not a.over_none
 against_asked t caller a body cause = against_change t (change_asked caller a body) cause
 
--- the change that the caller asks for in this state
+-- The change that the caller asks for in this state.
 abbrev pub asked_in : State → AskedChange → Body → ChangeRecord
 asked_in s a body = change_asked (name_of (held s) a.caller) a body
 
@@ -79,7 +80,7 @@ cause_against s a body = first_cause (Some a.version) (against_asked (standing_o
 
 -- ---- a Sweep
 
--- what stands against a Sweep: whoever isn't RS may not, and then what stands against the floor
+-- Whether the cause applies to a Sweep: NotAllowed unless the caller is RS, then the causes against the floor.
 abbrev pub against_sweep : FloorStanding → EndpointRecord → Floor → Cause → Bool
 against_sweep t caller f (Refused NotAllowed) = not (is_rs caller)
 against_sweep t caller f cause = against_floor t f cause

@@ -1,4 +1,4 @@
--- What one step of the store's machine, or a run of them, can do to its state.
+-- What one step, or a run of steps, can do to the machine's state.
 use Rattle.std.specs.Prelude.{◌≡◌, ◌==◌, ℕ, ◌<◌, ◌≤◌, Bool, true, false, ◌⊎◌, List, [], ◌∷◌, ◌++◌, take, Contains}
 use Rattle.ds_entry.specs.ItemCovers.{covers}
 use Rattle.ds_entry.specs.declared.body.Body.TheVariants.{Put, Gone}
@@ -17,7 +17,7 @@ use Rattle.ds_machine.specs.declared.command.Command.TheVariants.{Publish, Delet
 use Rattle.ds_machine.specs.declared.reply.Reply.{Reply}
 use Rattle.ds_machine.specs.declared.reply.Reply.TheVariants.{Changed as Accepted, Known, Swept, Merged, MergeStopped}
 
--- the items that a command brings: the change that is asked for, the floor of a Sweep, the items of a Merge
+-- The items that a command brings: the change asked for, a Sweep's floor, a Merge's items.
 abbrev pub brought_by : State → Command → List Item
 brought_by s (Publish caller key version value overwrite) = Changed (asked_in s (published caller key version overwrite) (Put value)) ∷ []
 brought_by s (Delete caller key version) = Changed (asked_in s (deleted caller key version) Gone) ∷ []
@@ -25,8 +25,7 @@ brought_by s (Sweep caller owner generation) = Floored (floor_of owner generatio
 brought_by s (Merge items) = items
 brought_by s _ = []
 
--- those of them that the store knows after this reply: a refused command leaves none, a merge that was stopped those that
--- were done
+-- Those of the items that the store knows after this reply: none if refused, those done if a merge was stopped.
 abbrev pub known_after : Reply → List Item → List Item
 known_after (Accepted owed) items = items
 known_after Known items = items
@@ -38,30 +37,30 @@ known_after _ items = []
 abbrev pub learnt_by : State → Command → Reply → List Item
 learnt_by s command reply = known_after reply (brought_by s command)
 
--- no accepted item covers it, and if it is a change, then those of its key that aren't void have its owner
+-- The item is news: no accepted item covers it, and a change has the owner of those of its key that aren't void.
 pub record IsNews (accepted : List Item) (i : Item) : Type 0 where
   pub newer : (j : Item) → Contains accepted j → covers j i ≡ false
   pub fits : FitsOwners accepted i
 
--- each of the items is news when it comes
+-- Each of the items is news when its turn comes.
 abbrev pub AreNews : List Item → List Item → Type 0
 AreNews accepted [] = Unit {0}
 AreNews accepted (i ∷ items) = IsNews accepted i × AreNews (accepted ++ i ∷ []) items
 
--- some of the items took effect, each of them news when it came, and nothing else happened
+-- Some of the learnt items took effect, each news at its turn, and nothing else happened.
 pub record Grows (old : State) (learnt : List Item) (new : State) : Type 0 where
   pub items : List Item
   pub news : AreNews old.feed.accepted items
   pub part : IsPartOf items learnt
   pub state_is : new ≡ takes_effect old items
 
--- the command may change the subscription at the place
+-- Whether the command may change the subscription at the place.
 abbrev pub uses : ℕ → Command → Bool
 uses sub (Subscribe k query initial overwrite) = k == sub
 uses sub (Check k max) = k == sub
 uses sub _ = false
 
--- the place of a subscription was written, by a command for it
+-- A subscription's place was written by a command for it, and nothing else happened.
 pub record Serves (old : State) (command : Command) (new : State) : Type 0 where
   pub sub : ℕ
   pub query : Query
@@ -74,22 +73,23 @@ pub record Serves (old : State) (command : Command) (new : State) : Type 0 where
 abbrev pub Effect : State → Command → Reply → State → Type 0
 Effect old command reply new = Grows old (learnt_by old command reply) new ⊎ Serves old command new
 
--- the opening state is one that is reached
+-- A law: the opening state is reached.
 abbrev pub OpeningIsReached : Type 0
-OpeningIsReached = (incarnation first ring : ℕ) (limits : LimitsRecord) → IsLimits limits → IsReached (opening incarnation first ring limits)
+OpeningIsReached =
+    (incarnation first ring : ℕ) (limits : LimitsRecord) → IsLimits limits → IsReached (opening incarnation first ring limits)
 
--- and each step leads to one
+-- Laws: steps and runs lead from reached states to reached states.
 abbrev pub StepsStayReached : Type 0
 StepsStayReached = (s t : State) (command : Command) (reply : Reply) → IsReached s → Step s command reply t → IsReached t
 
 abbrev pub RunsStayReached : Type 0
 RunsStayReached = (s t : State) (commands : List Command) (replies : List Reply) → IsReached s → Run s commands replies t → IsReached t
 
--- every step makes learnt items take effect, or writes the place of one subscription
+-- A law: every step makes learnt items take effect, or writes one subscription's place.
 abbrev pub StepHasEffect : Type 0
 StepHasEffect = (s t : State) (command : Command) (reply : Reply) → IsReached s → Step s command reply t → Effect s command reply t
 
--- the same store later, or the same: of one incarnation, and what took effect since then stands behind what had
+-- The state `new` is `old` or a later state of the same incarnation: its accepted list extends the old one.
 pub record GoesOn (old new : State) : Type 0 where
   pub limits : new.limits ≡ old.limits
   pub incarnation : new.feed.incarnation ≡ old.feed.incarnation
@@ -98,7 +98,7 @@ pub record GoesOn (old new : State) : Type 0 where
   pub grown : (since : List Item) × AreNews old.feed.accepted since × (new.feed.accepted ≡ old.feed.accepted ++ since)
   pub stamp : old.stamp ≤ new.stamp
 
--- every store is the same one later than itself, and later than later is later
+-- Laws: the relation is reflexive and transitive, and every step and run keeps it.
 abbrev pub GoesOnSame : Type 0
 GoesOnSame = (s : State) → GoesOn s s
 
@@ -111,14 +111,18 @@ StepsGoOn = (s t : State) (command : Command) (reply : Reply) → IsReached s �
 abbrev pub RunsGoOn : Type 0
 RunsGoOn = (s t : State) (commands : List Command) (replies : List Reply) → IsReached s → Run s commands replies t → GoesOn s t
 
--- what is held is the top of all that was accepted
+-- A law: what is held is the top of everything accepted.
 abbrev pub HeldIsTop : Type 0
 HeldIsTop = (s : State) → IsReached s → IsTop (held s) s.feed.accepted
 
--- what was learnt is held, or what covers it
+-- A law: for everything learnt, the item or one that covers it is held.
 abbrev pub LearntIsHeld : Type 0
-LearntIsHeld = (s t : State) (command : Command) (reply : Reply) → IsReached s → Step s command reply t → CoversAll (held t) (learnt_by s command reply)
+LearntIsHeld =
+    (s t : State) (command : Command) (reply : Reply) → IsReached s → Step s command reply t →
+    CoversAll (held t) (learnt_by s command reply)
 
--- and so what is held stays the top of all that the store knows
+-- A law: so what is held stays the top of everything that the store knows.
 abbrev pub KnownStaysHeld : Type 0
-KnownStaysHeld = (s t : State) (command : Command) (reply : Reply) (known : List Item) → IsReached s → Step s command reply t → IsTop (held s) known → IsTop (held t) (known ++ learnt_by s command reply)
+KnownStaysHeld =
+    (s t : State) (command : Command) (reply : Reply) (known : List Item) → IsReached s → Step s command reply t → IsTop (held s) known →
+    IsTop (held t) (known ++ learnt_by s command reply)

@@ -1,4 +1,4 @@
--- What a floor makes void stays away.
+-- Laws: what a floor makes void stays away.
 use Rattle.std.specs.Prelude.{List, Contains}
 use Rattle.ds_entry.specs.declared.floor.Floor.{Floor}
 use Rattle.ds_entry.specs.declared.item.Item.TheVariants.{Floor as Floored}
@@ -12,6 +12,8 @@ use Rattle.ds_join.specs.FloorStands.{FloorStands}
 abbrev pub AcceptedFloorStands : Type 0
 AcceptedFloorStands = (s : State) (f : Floor) → IsReached s → Contains s.feed.accepted (Floored f) → FloorStands (held s) f
 
--- and no command ever brings it
+-- A law: no later command ever brings it.
 abbrev pub FloorStandsOverRuns : Type 0
-FloorStandsOverRuns = (s t : State) (f : Floor) (commands : List Command) (replies : List Reply) → IsReached s → Contains (held s) (Floored f) → Run s commands replies t → FloorStands (held t) f
+FloorStandsOverRuns =
+    (s t : State) (f : Floor) (commands : List Command) (replies : List Reply) → IsReached s → Contains (held s) (Floored f) →
+    Run s commands replies t → FloorStands (held t) f

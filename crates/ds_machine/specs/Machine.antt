@@ -36,12 +36,12 @@ use Rattle.ds_entry.specs.Left.{value_of}
 
 -- ---- a Publish or a Delete
 
--- a repeat is known, and every other cause refuses
+-- The reply if a cause applies to a Publish or a Delete: Known for a repeat, else a refusal.
 abbrev pub answer_for : Cause → Reply
 answer_for causes.Known = Known
 answer_for (causes.Refused refusal) = Refused refusal
 
--- it takes effect unless a cause stands against it
+-- The reply and state of a Publish or a Delete. The change takes effect unless a cause applies to it.
 abbrev pub asking : State → AskedChange → Body → Reply × State
 asking s a body =
     option_map_or (λ cause. (answer_for cause, s)) (cause_against s a body)
@@ -49,13 +49,13 @@ asking s a body =
 
 -- ---- a Sweep
 
--- a floor that isn't above the one that is held changes nothing, and every other cause refuses
+-- The reply if a cause applies to a Sweep: a floor not above the held one changes nothing; any other cause refuses.
 abbrev pub sweep_answer : Cause → Reply
 sweep_answer causes.Known = Swept 0 0
 sweep_answer (causes.Refused refusals.Stale) = Swept 0 0
 sweep_answer (causes.Refused refusal) = Refused refusal
 
--- the floor is raised unless a cause stands against it; it is owed to every subscription that was made
+-- The reply and state of a Sweep. The floor is raised unless a cause applies to it, and is owed to every subscription.
 abbrev pub sweeping : State → EndpointRecord → Floor → Reply × State
 sweeping s caller f =
     option_map_or (λ cause. (sweep_answer cause, s)) (sweep_cause s caller f)
@@ -63,12 +63,12 @@ sweeping s caller f =
 
 -- ---- a Retrieve and a NameOf
 
--- the answer where there is one, else NotFound
+-- The reply if there is one, else NotFound.
 abbrev pub found_or : Option Reply → Reply
 found_or (Some reply) = reply
 found_or None = Refused refusals.NotFound
 
--- the value that is live for the key
+-- The live value of the key.
 abbrev pub live_at : State → Key → Option Value
 live_at s key = option_and_then value_of (held_at (held s) key)
 
@@ -80,22 +80,28 @@ naming s endpoint = (found_or (option_map Named (name_of (held s) endpoint)), s)
 
 -- ---- a Since, a Snapshot and a Page
 
--- what is under the scope of the accepted items from the cursor on, up to `max` of them, and the cursor behind all that
--- was looked at
+-- The reply and state of a Since: up to `max` accepted items under the scope from the cursor on, and the cursor after
+-- all that was looked at.
 abbrev pub journaling : State → Scope → Cursor → ℕ → Reply × State
-journaling s scope at max = option_map_or (λ r. (Refused r, s)) (first_refusal (against_since s.feed scope at max)) (Journaled (since_of s.feed (is_kept scope) at max), s)
+journaling s scope at max =
+    option_map_or (λ r. (Refused r, s)) (first_refusal (against_since s.feed scope at max))
+    (Journaled (since_of s.feed (is_kept scope) at max), s)
 
--- all that is held under the scope
+-- The reply and state of a Snapshot: everything held under the scope.
 abbrev pub snapping : State → Scope → Reply × State
-snapping s scope = option_map_or (λ r. (Refused r, s)) (first_refusal (against_scope scope)) (Snapped (snapshot_of (is_kept scope) (held s) (cursor s)), s)
+snapping s scope =
+    option_map_or (λ r. (Refused r, s)) (first_refusal (against_scope scope)) (Snapped (snapshot_of (is_kept scope) (held s) (cursor s)), s)
 
--- the first `max` changes behind the key of what is held under the scope, with all floors on the first page
+-- The reply and state of a Page: the first `max` changes after the key that are held under the scope, and all floors on
+-- the first page.
 abbrev pub paging : State → Scope → Option Key → ℕ → Reply × State
-paging s scope after max = option_map_or (λ r. (Refused r, s)) (first_refusal (against_page scope max)) (Paged (page_of (is_kept scope) after max (held s) (cursor s)), s)
+paging s scope after max =
+    option_map_or (λ r. (Refused r, s)) (first_refusal (against_page scope max))
+    (Paged (page_of (is_kept scope) after max (held s) (cursor s)), s)
 
 -- ---- all commands
 
--- the answer to a command, and the state after it
+-- The reply to a command, and the state after it.
 abbrev pub outcome : State → Command → Reply × State
 outcome s (Publish caller key version value overwrite) = asking s (published caller key version overwrite) (Put value)
 outcome s (Delete caller key version) = asking s (deleted caller key version) Gone
@@ -109,12 +115,12 @@ outcome s (Snapshot scope) = snapping s scope
 outcome s (Page scope after max) = paging s scope after max
 outcome s (Merge items) = merging s items (first_refusal (against_merge (length items)))
 
--- the reply and the state are these
+-- The reply and the new state are those of the outcome.
 pub record IsOutcome (out : Reply × State) (reply : Reply) (new : State) : Type 0 where
   pub reply_is : reply ≡ out.0
   pub state_is : new ≡ out.1
 
--- memory was wanted, and nothing changed
+-- The command was refused for lack of memory, and nothing changed.
 pub record WantsRoom (old : State) (reply : Reply) (new : State) : Type 0 where
   pub reply_is : reply ≡ Refused refusals.NoRoom
   pub state_is : new ≡ old
@@ -122,7 +128,7 @@ pub record WantsRoom (old : State) (reply : Reply) (new : State) : Type 0 where
 abbrev pub Answers : State → Reply × State → Reply → State → Type 0
 Answers old out reply new = IsOutcome out reply new ⊎ WantsRoom old reply new
 
--- memory was wanted after so many items of a merge, none of which was refused, and those stand
+-- Memory ran out after `done` items of a merge. None of them was refused, and they took effect.
 pub record StopsForRoom (old : State) (items : List Item) (reply : Reply) (new : State) (done : ℕ) : Type 0 where
   pub few : length items ≤ most_items
   pub some_left : done < length items
@@ -130,16 +136,16 @@ pub record StopsForRoom (old : State) (items : List Item) (reply : Reply) (new :
   pub reply_is : reply ≡ MergeStopped done refusals.NoRoom (owed old (course old (take done items)).taken)
   pub state_is : new ≡ (course old (take done items)).state
 
--- a merge was stopped so, after some number of items
+-- A merge ran out of memory after some number of items.
 abbrev pub MergeWantsRoom : State → Command → Reply → State → Type 0
 MergeWantsRoom old (Merge items) reply new = (done : ℕ) × StopsForRoom old items reply new done
 MergeWantsRoom old _ reply new = ⊥
 
--- one step of the machine
+-- One step of the machine.
 abbrev pub Step : State → Command → Reply → State → Type 0
 Step old command reply new = Answers old (outcome old command) reply new ⊎ MergeWantsRoom old command reply new
 
--- these replies to these commands, one step after the other
+-- A run: each command gets its reply, one step after another.
 abbrev pub Run : State → List Command → List Reply → State → Type 0
 Run old [] [] new = new ≡ old
 Run old (command ∷ commands) (reply ∷ replies) new = (mid : State) × Step old command reply mid × Run mid commands replies new

@@ -1,9 +1,9 @@
--- To whom a reply owes a notice.
+-- Which subscriptions a reply owes a notice.
 use Rattle.std.specs.Prelude.{ℕ}
 use Rattle.ds_machine.specs.declared.reply.Reply.{Reply}
 use Rattle.ds_machine.specs.declared.reply.Reply.TheVariants.{Changed, Swept, Subscribed, Merged, MergeStopped}
 
--- the mask of the subscriptions to which a notice is owed: of none, where the reply has no mask
+-- The mask of subscriptions owed a notice, or 0 for a reply without a mask.
 abbrev pub owed_by : Reply → ℕ
 owed_by (Changed owed) = owed
 owed_by (Swept count owed) = owed

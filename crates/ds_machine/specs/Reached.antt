@@ -1,4 +1,4 @@
--- What every state has that the store's machine comes to from its opening.
+-- What holds in every state that the store's machine reaches from its opening.
 use Rattle.std.specs.Prelude.{◌≡◌, true, ℕ, ◌≤◌, List, length, Contains, Some}
 use Rattle.ds_entry.specs.ItemCovers.{covers}
 use Rattle.ds_entry.specs.declared.item.Item.{Item}
@@ -7,19 +7,19 @@ use Rattle.ds_join.specs.ItemTop.{IsPartOf, HasOneOwnerInTurn}
 use Rattle.ds_machine.specs.Subscription.{Subscription}
 use Rattle.ds_machine.specs.State.{State, subscription_at}
 
--- what was shown had been accepted, and the stamp is one that was given
+-- What the subscription was shown was accepted, and its stamp is one that was taken.
 pub record IsServed (s : State) (seer : Subscription) : Type 0 where
   pub shown : IsPartOf seer.shown s.feed.accepted
   pub stamp : seer.stamp ≤ s.stamp
 
--- items that cover each other are one: no two changes of a key and an owner have one version and two bodies
+-- Items that cover each other are equal: no two changes of one key, owner and version have two bodies.
 abbrev pub AreExact : List Item → Type 0
 AreExact items = (i j : Item) → Contains items i → Contains items j → covers j i ≡ true → covers i j ≡ true → i ≡ j
 
 pub record IsReached (s : State) : Type 0 where
   pub limits : IsLimits s.limits
   pub places : length s.subscriptions ≡ s.limits.subs
-  -- as they came, changes of one key that weren't void had one owner
+  -- at each change's turn, those of its key that aren't void have its owner
   pub owners : HasOneOwnerInTurn s.feed.accepted
   pub exact : AreExact s.feed.accepted
   pub served : (k : ℕ) (seer : Subscription) → subscription_at s k ≡ Some seer → IsServed s seer

@@ -1,4 +1,4 @@
--- What the answers of the store's machine say of its states.
+-- What each reply says about the machine's states.
 use Rattle.std.specs.Prelude.{◌≡◌, ℕ, ◌+◌, ◌<◌, ◌≤◌, ◌^◌, ◌⊎◌, Bool, List, [], ◌∷◌, ◌++◌, length, take, Option, Some}
 use Rattle.ds_names.specs.declared.key.Key.{Key}
 use Rattle.ds_names.specs.Endpoint.{EndpointRecord}
@@ -33,48 +33,56 @@ use Rattle.ds_machine.specs.declared.command.Command.TheVariants.{Publish, Delet
 use Rattle.ds_machine.specs.declared.reply.Reply.{Reply}
 use Rattle.ds_machine.specs.declared.reply.Reply.TheVariants.{Changed as Accepted, Known, Swept, Found, Named, Subscribed, Checked, Journaled, Snapped, Paged, Merged, MergeStopped, Refused}
 
--- a refused command leaves the state as it was
+-- A law: a refused command leaves the state unchanged.
 abbrev pub RefusedSays : Type 0
 RefusedSays = (s t : State) (command : Command) (refusal : Refusal) → Step s command (Refused refusal) t → t ≡ s
 
--- the change that was asked for took effect, and is owed to those under whose query it is
+-- The items took effect, and are owed to the subscriptions whose queries they are under.
 pub record IsTaken (s : State) (items : List Item) (owed_mask : ℕ) (t : State) : Type 0 where
   pub owed_is : owed_mask ≡ owed s items
   pub state_is : t ≡ takes_effect s items
 
 abbrev pub ChangedSays : Type 0
-ChangedSays = (s t : State) (command : Command) (owed_mask : ℕ) → Step s command (Accepted owed_mask) t → IsTaken s (brought_by s command) owed_mask t
+ChangedSays =
+    (s t : State) (command : Command) (owed_mask : ℕ) → Step s command (Accepted owed_mask) t → IsTaken s (brought_by s command) owed_mask t
 
--- what is found is live
+-- A law: a value that is found is live.
 abbrev pub FoundSays : Type 0
 FoundSays = (s t : State) (key : Key) (value : Value) → Step s (Retrieve key) (Found value) t → (live_at s key ≡ Some value) × (t ≡ s)
 
--- and so is the name of an endpoint
+-- A law: a name that is returned holds the endpoint.
 abbrev pub NamedSays : Type 0
-NamedSays = (s t : State) (endpoint : EndpointRecord) (name : List ℕ) → Step s (NameOf endpoint) (Named name) t → (name_of (held s) endpoint ≡ Some name) × (t ≡ s)
+NamedSays =
+    (s t : State) (endpoint : EndpointRecord) (name : List ℕ) → Step s (NameOf endpoint) (Named name) t →
+    (name_of (held s) endpoint ≡ Some name) × (t ≡ s)
 
--- a floor that was swept took effect, or nothing changed; either way it is held then, or what covers it (LearntIsHeld)
+-- The floor took effect, or nothing changed. In both cases it or one that covers it is held after (LearntIsHeld).
 pub record IsSwept (s : State) (f : Floor) (count owed_mask : ℕ) (t : State) : Type 0 where
-  pub raised : ((count ≡ length (puts_void_by f (changes_in (held s)))) × (owed_mask ≡ owed s (Floored f ∷ [])) × (t ≡ takes_effect s (Floored f ∷ []))) ⊎ ((count ≡ 0) × (owed_mask ≡ 0) × (t ≡ s))
+  pub raised : ((count ≡ length (puts_void_by f (changes_in (held s)))) × (owed_mask ≡ owed s (Floored f ∷ [])) ×
+      (t ≡ takes_effect s (Floored f ∷ []))) ⊎ ((count ≡ 0) × (owed_mask ≡ 0) × (t ≡ s))
 
 abbrev pub SweptSays : Type 0
-SweptSays = (s t : State) (caller : EndpointRecord) (owner : List ℕ) (generation count owed_mask : ℕ) → Step s (Sweep caller owner generation) (Swept count owed_mask) t → IsSwept s (floor_of owner generation) count owed_mask t
+SweptSays =
+    (s t : State) (caller : EndpointRecord) (owner : List ℕ) (generation count owed_mask : ℕ) →
+    Step s (Sweep caller owner generation) (Swept count owed_mask) t → IsSwept s (floor_of owner generation) count owed_mask t
 
--- a subscription was made, and has this stamp
+-- The subscription was made with this stamp.
 pub record IsMade (s : State) (sub : ℕ) (query : Query) (initial : Bool) (stamp : ℕ) (t : State) : Type 0 where
   pub place : sub < s.limits.subs
   pub stamp_is : stamp ≡ s.stamp + 1
   pub state_is : t ≡ subscribes s sub query (shown_at_first (held s) initial)
 
 abbrev pub SubscribedSays : Type 0
-SubscribedSays = (s t : State) (sub : ℕ) (query : Query) (initial overwrite : Bool) (stamp owed : ℕ) → Step s (Subscribe sub query initial overwrite) (Subscribed stamp owed) t → IsMade s sub query initial stamp t
+SubscribedSays =
+    (s t : State) (sub : ℕ) (query : Query) (initial overwrite : Bool) (stamp owed : ℕ) →
+    Step s (Subscribe sub query initial overwrite) (Subscribed stamp owed) t → IsMade s sub query initial stamp t
 
--- the subscription was shown these items, or nothing
+-- The state after the subscription was shown the items. If there are none, nothing changed.
 abbrev pub LeavesShown : State → ℕ → Subscription → List Item → ℕ → State → Type 0
 LeavesShown s sub seer [] after t = (after ≡ seer.stamp) × (t ≡ s)
 LeavesShown s sub seer (i ∷ items) after t = (after ≡ s.stamp + 1) × (t ≡ subscribes s sub seer.query (seer.shown ++ i ∷ items))
 
--- the subscription was shown the first `max` of what is unseen
+-- The subscription was shown the first `max` of its unseen items.
 pub record IsShown (s : State) (sub max : ℕ) (items : List Item) (before after : ℕ) (t : State) : Type 0 where
   pub seer : Subscription
   pub here : subscription_at s sub ≡ Some seer
@@ -84,40 +92,53 @@ pub record IsShown (s : State) (sub max : ℕ) (items : List Item) (before after
   pub leaves : LeavesShown s sub seer items after t
 
 abbrev pub CheckedSays : Type 0
-CheckedSays = (s t : State) (sub max : ℕ) (items : List Item) (before after : ℕ) → Step s (Check sub max) (Checked items before after) t → IsShown s sub max items before after t
+CheckedSays =
+    (s t : State) (sub max : ℕ) (items : List Item) (before after : ℕ) → Step s (Check sub max) (Checked items before after) t →
+    IsShown s sub max items before after t
 
--- what a reader is given is what its definition says, and the state stays as it was
+-- Laws: a reader gets exactly what the definition says, and the state is unchanged.
 abbrev pub JournaledSays : Type 0
-JournaledSays = (s t : State) (scope : Scope) (at : Cursor) (max : ℕ) (since : readings.Since) → Step s (Since scope at max) (Journaled since) t → IsGiven s.feed (is_kept scope) at max since × (t ≡ s)
+JournaledSays =
+    (s t : State) (scope : Scope) (at : Cursor) (max : ℕ) (since : readings.Since) → Step s (Since scope at max) (Journaled since) t →
+    IsGiven s.feed (is_kept scope) at max since × (t ≡ s)
 
 abbrev pub SnappedSays : Type 0
-SnappedSays = (s t : State) (scope : Scope) (snapshot : Snap) → Step s (Snapshot scope) (Snapped snapshot) t → (snapshot ≡ snapshot_of (is_kept scope) (held s) (cursor s)) × (t ≡ s)
+SnappedSays =
+    (s t : State) (scope : Scope) (snapshot : Snap) → Step s (Snapshot scope) (Snapped snapshot) t →
+    (snapshot ≡ snapshot_of (is_kept scope) (held s) (cursor s)) × (t ≡ s)
 
 abbrev pub PagedSays : Type 0
-PagedSays = (s t : State) (scope : Scope) (after : Option Key) (max : ℕ) (page : Leaf) → Step s (Page scope after max) (Paged page) t → (page ≡ page_of (is_kept scope) after max (held s) (cursor s)) × (t ≡ s)
+PagedSays =
+    (s t : State) (scope : Scope) (after : Option Key) (max : ℕ) (page : Leaf) → Step s (Page scope after max) (Paged page) t →
+    (page ≡ page_of (is_kept scope) after max (held s) (cursor s)) × (t ≡ s)
 
--- a merge that wasn't stopped has done all its items: each is held, or what covers it
+-- A merge that wasn't stopped has done all its items: for each, it or one that covers it is held.
 pub record IsMerged (items : List Item) (done taken stale : ℕ) (t : State) : Type 0 where
   pub holds : CoversAll (held t) items
   pub all : done ≡ length items
   pub within : taken + stale ≤ done
 
 abbrev pub MergedSays : Type 0
-MergedSays = (s t : State) (items : List Item) (done taken stale owed : ℕ) → IsReached s → Step s (Merge items) (Merged done taken stale owed) t → IsMerged items done taken stale t
+MergedSays =
+    (s t : State) (items : List Item) (done taken stale owed : ℕ) → IsReached s → Step s (Merge items) (Merged done taken stale owed) t →
+    IsMerged items done taken stale t
 
--- a merge that was stopped has done the first ones
+-- A stopped merge has done its first `done` items.
 pub record IsMergeStopped (items : List Item) (done : ℕ) (t : State) : Type 0 where
   pub holds : CoversAll (held t) (take done items)
   pub some_left : done < length items
 
 abbrev pub MergeStoppedSays : Type 0
-MergeStoppedSays = (s t : State) (items : List Item) (done : ℕ) (fault : Refusal) (owed : ℕ) → IsReached s → Step s (Merge items) (MergeStopped done fault owed) t → IsMergeStopped items done t
+MergeStoppedSays =
+    (s t : State) (items : List Item) (done : ℕ) (fault : Refusal) (owed : ℕ) → IsReached s →
+    Step s (Merge items) (MergeStopped done fault owed) t → IsMergeStopped items done t
 
--- a mask of subscriptions fits their places
+-- A law: a mask of subscriptions fits their places.
 abbrev pub OwedFits : Type 0
 OwedFits = (s : State) (items : List Item) → IsReached s → owed s items < 2 ^ s.limits.subs
 
--- and has the bit of each to which something is owed: a change under its query, or a floor, and of no other
+-- A law: the mask has exactly the bits of the subscriptions that are owed something: a change under the query, or a
+-- floor.
 abbrev pub OwedTells : Type 0
 OwedTells = (s : State) (items : List Item) (k : ℕ) → has_bit (owed s items) k ≡ is_owed items (subscription_at s k)
 

@@ -1,4 +1,4 @@
--- What stands against a change or a floor that is to take effect.
+-- The causes against a change or a floor that is to take effect.
 use Rattle.std.specs.Prelude.{◌≡◌, ℕ, ◌<◌, Bool, true, false, not, ◌&&◌, ◌||◌, ◌==◌, nat_le, nat_lt, length, Option, Some, None, is_none}
 use Rattle.std.specs.declared.cmp.Ordering.TheVariants.{Less}
 use Rattle.std.specs.Ordering.{is_eq, is_gt}
@@ -37,8 +37,8 @@ is_same_body _ _ = false
 
 -- ---- a change
 
--- what is there before it: the change that is held for its key, whether a floor makes it void, how many keys are held and
--- may be, and the position
+-- What a change meets: its key's held change, whether a floor makes it void, the number of keys held and allowed, and
+-- the position.
 pub record Standing : Type 0 where
   pub held : Option ChangeRecord
   pub void : Bool
@@ -47,15 +47,21 @@ pub record Standing : Type 0 where
   pub position : ℕ
 
 abbrev pub standing_of : State → ChangeRecord → Standing
-standing_of s c = record { held = held_at (held s) c.key; void = is_void (held s) c; count = length (changes_in (held s)); most = s.limits.keys; position = next_position s }
+standing_of s c = record {
+  held = held_at (held s) c.key;
+  void = is_void (held s) c;
+  count = length (changes_in (held s));
+  most = s.limits.keys;
+  position = next_position s;
+}
 
--- there is a held change, and it passes the test
+-- Whether a change is held and passes the test.
 abbrev pub on_held : Option ChangeRecord → (ChangeRecord → Bool) → Bool
 on_held None test = false
 on_held (Some h) test = test h
 
--- what stands against a change of its key: another owner, another body at its version, a greater version or a floor that
--- makes it void, itself, no room for one more key, and no position left
+-- Whether the cause applies to the change: another owner, the same version with another body, a greater version or a
+-- floor, a repeat, all keys used, or no position left.
 abbrev pub against_change : Standing → ChangeRecord → Cause → Bool
 against_change t c (Refused NotOwner) = on_held t.held (λ h. not (is_same_name h.owner c.owner))
 against_change t c (Refused (Clash v)) = on_held t.held (λ h. is_eq (version_cmp h.version c.version) && not (is_same_body h.body c.body))
@@ -65,17 +71,17 @@ against_change t c (Refused Full) = is_none t.held && nat_le t.most t.count
 against_change t c (Refused Worn) = nat_le last_place t.position
 against_change t c _ = false
 
--- the change is of the owner of what is held for its key, in a greater version, so that it takes that one's place
+-- The change `c` has the owner of `h` and a greater version, so it takes the place of `h`.
 abbrev pub TakesPlace : ChangeRecord → ChangeRecord → Type 0
 TakesPlace h c = (h.owner ≡ c.owner) × (version_cmp h.version c.version ≡ Less)
 
--- there is room for its key, or it takes the place of what is held for it
+-- There is room for another key, or the change takes the place of its key's held one.
 abbrev pub HasRoom : Option ChangeRecord → ℕ → ℕ → ChangeRecord → Type 0
 HasRoom None count most c = count < most
 HasRoom (Some h) count most c = TakesPlace h c
 
--- nothing stands against the change: there is room for its key, or it takes the place of what is held there, no floor makes
--- it void, and a position is left
+-- No cause applies to the change: its key has room or its held change yields, no floor makes it void, and a position is
+-- left.
 pub record IsFree (t : Standing) (c : ChangeRecord) : Type 0 where
   pub room : HasRoom t.held t.count t.most c
   pub valid : t.void ≡ false
@@ -83,7 +89,7 @@ pub record IsFree (t : Standing) (c : ChangeRecord) : Type 0 where
 
 -- ---- a floor
 
--- what is there before it: the floor that is held of its owner, how many floors are held, and the position
+-- What a floor meets: its owner's held floor, the number of floors held, and the position.
 pub record FloorStanding : Type 0 where
   pub held : Option Floor
   pub count : ℕ
@@ -92,12 +98,13 @@ pub record FloorStanding : Type 0 where
 abbrev pub floor_standing_of : State → Floor → FloorStanding
 floor_standing_of s f = record { held = floor_at (held s) f.owner; count = length (floors_in (held s)); position = next_position s }
 
--- there is a floor, and its generation passes the test
+-- Whether a floor is held and its generation passes the test.
 abbrev pub on_floor : Option Floor → (ℕ → Bool) → Bool
 on_floor None test = false
 on_floor (Some g) test = test g.generation
 
--- what stands against a floor: a greater one of its owner, an equal one, no room for one more, and no position left
+-- Whether the cause applies to the floor: a greater one of its owner, an equal one, all floors used, or no position
+-- left.
 abbrev pub against_floor : FloorStanding → Floor → Cause → Bool
 against_floor t f (Refused Stale) = on_floor t.held (λ g. nat_lt f.generation g)
 against_floor t f Known = on_floor t.held (λ g. g == f.generation)
@@ -105,19 +112,19 @@ against_floor t f (Refused Full) = is_none t.held && nat_le most_floors t.count
 against_floor t f (Refused Worn) = nat_le last_place t.position
 against_floor t f _ = false
 
--- there is room for one more floor, or it is above the one that is held of its owner
+-- There is room for another floor, or this one is above its owner's held one.
 abbrev pub HasFloorRoom : Option Floor → ℕ → Floor → Type 0
 HasFloorRoom None count f = count < most_floors
 HasFloorRoom (Some g) count f = g.generation < f.generation
 
--- nothing stands against the floor: there is room for it, and a position is left
+-- No cause applies to the floor: it has room, and a position is left.
 pub record IsFloorFree (t : FloorStanding) (f : Floor) : Type 0 where
   pub room : HasFloorRoom t.held t.count f
   pub left : t.position < last_place
 
 -- ---- an item
 
--- the first cause against an item that another holder gave
+-- The first cause against an item of another holder.
 abbrev pub cause_of : State → Item → Option Cause
 cause_of s (Changed c) = first_cause (Some c.version) (against_change (standing_of s c) c)
 cause_of s (Floored f) = first_cause None (against_floor (floor_standing_of s f) f)

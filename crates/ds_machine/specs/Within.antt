@@ -8,7 +8,7 @@ use Rattle.ds_machine.specs.declared.command.Command.{Command}
 use Rattle.ds_machine.specs.declared.reply.Reply.{Reply}
 use Rattle.ds_names.specs.Limits.{most_floors, last_place}
 
--- no more keys and floors are held than may be, and no position or stamp passes the last one
+-- At most the allowed keys and floors are held, and no position or stamp is above the last one.
 pub record IsWithin (s : State) : Type 0 where
   pub keys : length (changes_in (held s)) ≤ s.limits.keys
   pub floors : length (floors_in (held s)) ≤ most_floors
@@ -16,7 +16,8 @@ pub record IsWithin (s : State) : Type 0 where
   pub stamp : s.stamp ≤ last_place
 
 abbrev pub OpeningIsWithin : Type 0
-OpeningIsWithin = (incarnation first ring : ℕ) (limits : LimitsRecord) → first ≤ last_place → IsWithin (opening incarnation first ring limits)
+OpeningIsWithin =
+    (incarnation first ring : ℕ) (limits : LimitsRecord) → first ≤ last_place → IsWithin (opening incarnation first ring limits)
 
 abbrev pub StepsStayWithin : Type 0
 StepsStayWithin = (s t : State) (command : Command) (reply : Reply) → IsWithin s → Step s command reply t → IsWithin t

@@ -1,23 +1,23 @@
-//! What a store is asked.
+//! Commands to a store.
 
 use ds_entry::{Items, Value};
 use ds_feed::Cursor;
 use ds_names::{Endpoint, Generation, Key, Name, Version};
 use ds_pattern::Query;
 
-/// Of which keys a reader of a store is told. Floors are under every scope.
+/// The keys that a reader asks about. A floor is under every scope.
 #[derive(Debug, Drop)]
 pub enum Scope {
-    /// Of all keys.
+    /// Every key.
     All,
-    /// Of those under a query.
+    /// The keys under a query.
     Under(Query),
 }
 
 /// A command to a store.
 #[derive(Debug, Drop)]
 pub enum Command {
-    /// Puts a value under a key in the name of the caller, over a live entry only with `overwrite`.
+    /// Puts a value under a key, owned by the caller. A live entry is overwritten only with `overwrite`.
     Publish {
         caller: Endpoint,
         key: Key,
@@ -25,59 +25,59 @@ pub enum Command {
         value: Value,
         overwrite: bool,
     },
-    /// Leaves a tombstone under the key of a live entry of the caller's.
+    /// Ends a live entry of the caller with a tombstone.
     Delete {
         caller: Endpoint,
         key: Key,
         version: Version,
     },
-    /// Raises the floor of an owner to a generation: all its changes of epochs up to there are dropped, and stay so,
-    /// labels aside.
+    /// Raises an owner's floor to a generation: its changes of epochs up to that one are dropped for good, labels
+    /// excepted.
     Sweep {
         caller: Endpoint,
         owner: Name,
         generation: Generation,
     },
-    /// Asks for the value of a live entry.
+    /// Reads the value of a live entry.
     Retrieve {
         key: Key,
     },
-    /// Asks for the least name whose live label holds the endpoint.
+    /// Reads the least name whose live label holds the endpoint.
     NameOf {
         endpoint: Endpoint,
     },
-    /// Makes the subscription of this number, over another one only with `overwrite`. With `initial` all that is held
-    /// under the query is to be shown to it, without it only what comes later.
+    /// Makes subscription number `sub`, over an existing one only with `overwrite`. With `initial`, all that is held
+    /// under the query is to be shown; without it, only later changes.
     Subscribe {
         sub: u32,
         query: Query,
         initial: bool,
         overwrite: bool,
     },
-    /// Asks for the first `max` items that are to be shown to the subscription, 1 to 256, floors first and then changes in
+    /// Reads the first `max` items (1 to 256) that are to be shown to the subscription: floors first, then changes in
     /// key order.
     Check {
         sub: u32,
         max: u32,
     },
-    /// Asks for what took effect under the scope from the cursor on, at most `max` items, 1 to 256.
+    /// Reads at most `max` items (1 to 256) that took effect under the scope from the cursor on.
     Since {
         scope: Scope,
         cursor: Cursor,
         max: u32,
     },
-    /// Asks for all that is held under the scope.
+    /// Reads everything held under the scope.
     Snapshot {
         scope: Scope,
     },
-    /// Asks for the first `max` changes, 1 to 256, that are held under the scope behind the key; behind none for all floors
+    /// Reads the first `max` changes (1 to 256) held under the scope after the key. Without a key, reads all floors
     /// too.
     Page {
         scope: Scope,
         after: Option<Key>,
         max: u32,
     },
-    /// Takes over items that another holder gave, at most 256. No caller is asked.
+    /// Merges at most 256 items of another holder. It has no caller.
     Merge {
         items: Items,
     },

@@ -1,4 +1,4 @@
-//! The same command, and the same reply, again.
+//! Copies of commands and replies.
 
 ghost use Rattle.std.specs.Prelude.{◌≡◌, IfOk};
 ghost use Rattle.ds_machine.specs.declared.reply.Reply.TheVariants.{Checked, Merged, MergeStopped};
@@ -12,7 +12,7 @@ use ds_names::NoRoom;
 use std::alloc::Global;
 
 impl Scope {
-    /// The same scope again.
+    /// Returns a copy. Fails only if memory runs out.
     pub fn copy(&self, alloc: Global) -> Result<Scope, NoRoom>
         ensures { IfOk result (λ copy. copy ≡ self.now) }
     {
@@ -24,7 +24,7 @@ impl Scope {
 }
 
 impl Command {
-    /// The same command again.
+    /// Returns a copy. Fails only if memory runs out.
     pub fn copy(&self, alloc: Global) -> Result<Command, NoRoom>
         ensures { IfOk result (λ copy. copy ≡ self.now) }
     {
@@ -99,7 +99,7 @@ impl Command {
     }
 }
 
-// What a check shows.
+// Returns the reply to a Check.
 fn checked(items: Items, before: u64, after: u64) -> Reply
     ensures { result ≡ Checked items before after }
 {
@@ -110,7 +110,7 @@ fn checked(items: Items, before: u64, after: u64) -> Reply
     }
 }
 
-// What came of a Merge of which all items were done.
+// Returns the reply to a Merge that did all its items.
 fn merged(done: usize, taken: usize, stale: usize, owed: u128) -> Reply
     ensures { result ≡ Merged done taken stale owed }
 {
@@ -122,7 +122,7 @@ fn merged(done: usize, taken: usize, stale: usize, owed: u128) -> Reply
     }
 }
 
-// What came of one that stopped.
+// Returns the reply to a Merge that stopped.
 fn stopped(done: usize, fault: Refusal, owed: u128) -> Reply
     ensures { result ≡ MergeStopped done fault owed }
 {
@@ -158,7 +158,7 @@ fn page_again(alloc: Global, page: &Page) -> Result<Page, NoRoom>
 }
 
 impl Reply {
-    /// The same reply again.
+    /// Returns a copy. Fails only if memory runs out.
     pub fn copy(&self, alloc: Global) -> Result<Reply, NoRoom>
         ensures { IfOk result (λ copy. copy ≡ self.now) }
     {

@@ -1,4 +1,4 @@
-//! Laws of the machine's steps and runs, over its definitions alone.
+//! Laws of the machine's steps and runs. They cite only its definitions.
 
 ghost use Rattle.ds_machine.specs.Batches.{FreeAreTaken, FreeInParts, FreeAreAnswered, PlacesAreFree, OwedInParts};
 ghost use Rattle.ds_machine.specs.Effect.{OpeningIsReached, StepsStayReached, RunsStayReached, StepHasEffect, GoesOnSame};
@@ -15,8 +15,8 @@ ghost use Rattle.ds_machine.specs.SubscriptionLaws.{RunStampsSubscription, Stamp
 ghost use Rattle.ds_machine.specs.Taken.{PlacesAreTaken};
 ghost use Rattle.ds_machine.specs.Within.{OpeningIsWithin, StepsStayWithin, RunsStayWithin};
 
-/// The opening state is reached, and each step and each run leads from a state that is reached to another: its accepted
-/// items have a top, which is what is held.
+/// A law: the opening state is reached, and every step or run leads from a reached state to a reached one. In a reached
+/// state, what is held is the top of the accepted items.
 pub fn states_are_reached()
     ensures opening { OpeningIsReached }
     ensures steps { StepsStayReached }
@@ -24,16 +24,17 @@ pub fn states_are_reached()
     ensures held { HeldIsTop }
 {}
 
-/// Every state stays within its limits: no more keys and floors are held than may be, and no position or stamp passes 2^62.
+/// A law: every state stays within its limits. It holds at most the allowed keys and floors, and no position or stamp
+/// is above 2^62.
 pub fn limits_are_kept()
     ensures opening { OpeningIsWithin }
     ensures steps { StepsStayWithin }
     ensures runs { RunsStayWithin }
 {}
 
-/// A step makes items take effect that its command brought, each of which is news when it comes, or writes the place of one
-/// subscription, which its command names. So what was accepted only grows, and limits, incarnation, first position and ring
-/// stay. What a store learns is held, or what covers it, and all that is held it has learnt.
+/// A law: a step either makes some of its command's items take effect, each of them news when its turn comes, or writes
+/// the subscription that its command names. So the accepted list only grows; limits, incarnation, first position and
+/// ring never change. Everything learnt is held, or an item that covers it is; everything held was learnt.
 pub fn steps_have_effects()
     ensures effect { StepHasEffect }
     ensures goes_on { StepsGoOn }
@@ -44,9 +45,9 @@ pub fn steps_have_effects()
     ensures known { KnownStaysHeld }
 {}
 
-/// A subscription stays as it is over each step, and each run, in which no command is a Subscribe or a Check of it; where it
-/// isn't as it was, its stamp is above all that had been given. A Subscribe leaves its query at the place, and with INITIAL
-/// nothing shown; a Check adds what it gave to what was shown; neither lets anything take effect.
+/// A law: a subscription is unchanged by every step or run without a Subscribe or a Check of it. If it differs, its
+/// stamp is above every stamp taken before. A Subscribe stores its query, with nothing shown under INITIAL; a Check
+/// adds the items that it returns to those shown. Neither lets an item take effect.
 pub fn subscriptions_are_kept()
     ensures step { StepKeepsSubscription }
     ensures run { RunKeepsSubscription }
@@ -57,13 +58,13 @@ pub fn subscriptions_are_kept()
     ensures checked { CheckedLeaves }
 {}
 
-/// Where a floor is held, nothing is held that it makes void, and no commands ever bring such a change.
+/// A law: while a floor is held, nothing that it makes void is held, and no command ever brings such a change.
 pub fn floors_stand()
     ensures accepted { AcceptedFloorStands }
     ensures runs { FloorStandsOverRuns }
 {}
 
-/// What each answer says of the states before and after it.
+/// A law: what each reply says about the states before and after it.
 pub fn answers_say()
     ensures refused { RefusedSays }
     ensures changed { ChangedSays }
@@ -79,16 +80,16 @@ pub fn answers_say()
     ensures stopped { MergeStoppedSays }
 {}
 
-/// Each command has replies of its own; masks of subscriptions fit their places, and have just the bits of those to which
-/// something is owed.
+/// A law: each command gets only its own kinds of reply. A mask fits the subscriptions' places, and has exactly the
+/// bits of those that are owed something.
 pub fn answers_fit()
     ensures replies { RepliesFit }
     ensures owed { OwedFits }
     ensures bits { OwedTells }
 {}
 
-/// Worked rows, computed: refusals in their order, a floor under what a dead driver left, a ring of two, pages, also with
-/// changes between them, and the last place.
+/// A law: worked rows, computed. Refusals in their order, the floor of a dead driver, a ring of two, pages, pages
+/// between which the store changes, and the last position.
 pub fn rows_are_answered()
     ensures publish { PublishRow }
     ensures sweep { SweepRow }
@@ -98,29 +99,30 @@ pub fn rows_are_answered()
     ensures last { LastPlaceRow }
 {}
 
-/// A step is one by the state, the command, and where memory was wanted: nowhere, for the whole command, or behind so many items
-/// of a Merge. A Merge of one item for which memory is wanted changes nothing, and owes nothing, whichever of the last two it is.
+/// A law: the state, the command and the point where memory ran out determine the step. That point is nowhere, the
+/// whole command, or after some items of a Merge. A one-item Merge that is out of memory changes and owes nothing, in
+/// either form of reply.
 pub fn steps_are_one()
     ensures one { StepsAreOne }
     ensures outcome { OutcomesWantNone }
     ensures single { OneItemWantsAlike }
 {}
 
-/// What a reply gives had been accepted, and a Merge that was stopped has done no more items than one may have.
+/// A law: every item that a reply shows was accepted before, and a stopped Merge has done at most 256 items.
 pub fn given_was_accepted()
     ensures given { GivenWasAccepted }
     ensures few { FewAreDone }
 {}
 
-/// Where no floor was accepted, changes of different keys, each of which takes the place of the held one of its key, all take
-/// effect.
+/// A law: if no floor was accepted, changes of distinct keys that each take the place of their key's held change all
+/// take effect.
 pub fn places_are_taken()
     ensures free { PlacesAreFree }
     ensures taken { PlacesAreTaken }
 {}
 
-/// Where nothing stands against each of some items when it comes, a Merge takes all of them, in one or in parts, and owes for
-/// each part what is owed for it.
+/// A law: if no cause applies to any of the items when its turn comes, a Merge takes all of them, at once or in parts.
+/// What is owed for the parts is what is owed for the whole.
 pub fn free_items_are_taken()
     ensures taken { FreeAreTaken }
     ensures parts { FreeInParts }

@@ -1,10 +1,9 @@
-//! The machine of a store: what its states are, in which order it judges what stands against a command, what each command does
-//! and answers, and laws of its steps and of whole runs. `ds_store` steps by it.
+//! The machine of a store: its states, the order in which causes against a command are judged, the effect and reply of
+//! each command, and laws of steps and runs. `ds_store` implements its step.
 //!
-//! Publishing, deleting, retrieving, naming, subscribing and checking are MINIX 3's data store's (DS), where each entry has
-//! an owner, only RS publishes labels, and a live entry is overwritten only with the overwrite flag (the DS interface of
-//! MINIX 3; Herder and others, DSN 2007). Versions, tombstones, floors under the entries of a dead owner, the journal,
-//! snapshots, pages and merges are of this project.
+//! From MINIX 3's data store (DS; Herder and others, DSN 2007): publish, delete, retrieve, name, subscribe and check;
+//! each entry has an owner, only RS publishes labels, and a live entry is overwritten only with the overwrite flag. Of
+//! this project: versions, tombstones, floors, the journal, snapshots, pages and merges.
 #![tactic(auto)]
 
 mod command;

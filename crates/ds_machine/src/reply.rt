@@ -1,4 +1,4 @@
-//! What a store answers.
+//! Replies of a store.
 
 ghost use Rattle.std.specs.Prelude.{◌≡◌};
 ghost use Rattle.ds_machine.specs.Owed.{owed_by};
@@ -8,17 +8,17 @@ use ds_entry::{Items, Value};
 use ds_feed::{Page, Since, Snapshot};
 use ds_names::Name;
 
-/// What a store answers. `owed` is the mask of the subscriptions under whose query something is that took effect: a change
-/// by its key, a floor under every query.
+/// The reply to a command. `owed` is the mask of subscriptions to notify: those whose query has a change that took
+/// effect, and all of them for a floor.
 #[derive(Debug, Drop)]
 pub enum Reply {
     /// The change took effect.
     Changed {
         owed: u128,
     },
-    /// The change is held already.
+    /// The change is already held.
     Known,
-    /// The floor is raised, or was as high; so many puts were dropped.
+    /// The floor was raised and dropped `count` puts, or it was already as high.
     Swept {
         count: usize,
         owed: u128,
@@ -27,32 +27,32 @@ pub enum Reply {
     Found(Value),
     /// The name of an endpoint.
     Named(Name),
-    /// The subscription was made, and has this stamp. `owed` is its own bit where something is to be shown.
+    /// The subscription was made with this stamp. `owed` is its own bit if something is to be shown.
     Subscribed {
         stamp: u64,
         owed: u128,
     },
-    /// What is shown, floors and tombstones too, with the subscription's stamp before and after: one stamp where nothing is
-    /// shown.
+    /// The items shown, floors and tombstones included, and the subscription's stamps before and after. The stamps are
+    /// equal if nothing is shown.
     Checked {
         items: Items,
         before: u64,
         after: u64,
     },
-    /// What took effect from the cursor on, and the cursor behind it.
+    /// The items that took effect from the cursor on, and the cursor after them.
     Journaled(Since),
-    /// What is held, and the cursor at that time.
+    /// What is held, and the current cursor.
     Snapped(Snapshot),
-    /// A part of what is held, and the cursor at that time.
+    /// A part of what is held, and the current cursor.
     Paged(Page),
-    /// All items were done: some were taken, some were stale, and the others were known.
+    /// All items were done: some taken, some stale, the rest known.
     Merged {
         done: usize,
         taken: usize,
         stale: usize,
         owed: u128,
     },
-    /// The first items were done, and the next one was refused.
+    /// The first `done` items were done, and the next one was refused.
     MergeStopped {
         done: usize,
         fault: Refusal,
@@ -63,7 +63,7 @@ pub enum Reply {
 }
 
 impl Reply {
-    /// The mask of the subscriptions to which a notice is owed: 0 where the reply has none.
+    /// Returns the mask of subscriptions to notify, or 0 for a reply without one.
     pub fn owed(&self) -> u128
         ensures { result ≡ owed_by self.now }
     {

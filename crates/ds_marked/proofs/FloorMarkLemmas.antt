@@ -41,7 +41,7 @@ module _ (h : Holding) where
   pub floor_missing : (owner : List ℕ) (i : ℕ) → IsFloorPlace (held_floors h) owner (Err i) → floor_for h owner ≡ None
   floor_missing owner i p = ap (λ (m : FinMap name_cmp ℕ). get m owner) (sym floors_held) ∙ get_none name_cmp nat_list_cmp_total exact_bytes owned (held_floors h) owner i p
 
-  -- a floor that is taken stands at its place
+  -- A floor that is taken is at its place.
   pub raise_puts : (f : Floor) (place : Result ℕ ℕ) → IsFloorPlace (held_floors h) f.owner place → held_floors (after_raise h f (Ok Taken)) ≡ put_at (held_floors h) place f
   raise_puts f place at =
       ap (λ es. map floor_from es)
@@ -54,7 +54,7 @@ module _ (h : Holding) where
   floor_room_there owner (Ok i) n cap at e w = omega (arith, at.0, e)
   floor_room_there owner (Err i) n cap at e w = (omega (arith, at.0, e), w)
 
-  -- where nothing stands at an owner's place, the owner has no floor
+  -- If an owner's place has no element, the owner has no floor.
   pub gap_has_no_floor : (owner : List ℕ) (place : Result ℕ ℕ) → IsFloorPlace (held_floors h) owner place → IsGap place → floor_for h owner ≡ None
   gap_has_no_floor owner (Ok i) at gap = absurd gap
   gap_has_no_floor owner (Err i) at gap = floor_missing owner i at
@@ -76,11 +76,12 @@ module _ {M : Type 0} (h : Holding) (ms : List M) (beside : IsBesideFloors h ms)
       sym (mark_is f.owner
       ∙ find_mark name_cmp nat_list_cmp_total exact_bytes owned (held_floors h) ms f.owner i (rising_floors h) beside (place_from_get name_cmp nat_list_cmp_total exact_bytes owned (held_floors h) i f e))
 
-  -- a floor and a mark at one index stand beside each other
+  -- A floor and a mark at one index belong together.
   floor_mark_at : (i : ℕ) (f : Floor) (m : M) → slice_get (held_floors h) i ≡ Some f → slice_get ms i ≡ Some m → get (marks_beside_floors (held_floors h) ms) f.owner ≡ Some m
   floor_mark_at i f m e g = sym (own_floor_mark i f e) ∙ g
 
-  pub floor_beside_at : {P : Type 0} (r : Option P) (f : P → Floor) (m : P → M) (i : ℕ) → option_map f r ≡ slice_get (held_floors h) i → option_map m r ≡ slice_get ms i → IfSome r (λ p. get (marks_beside_floors (held_floors h) ms) (f p).owner ≡ Some (m p))
+  pub floor_beside_at : {P : Type 0} (r : Option P) (f : P → Floor) (m : P → M) (i : ℕ) → option_map f r ≡ slice_get (held_floors h) i → option_map m r ≡ slice_get ms i →
+      IfSome r (λ p. get (marks_beside_floors (held_floors h) ms) (f p).owner ≡ Some (m p))
   floor_beside_at None f m i e g = tt
   floor_beside_at (Some p) f m i e g = floor_mark_at i (f p) (m p) (sym e) (sym g)
 

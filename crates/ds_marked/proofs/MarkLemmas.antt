@@ -31,7 +31,7 @@ use Rattle.ds_names.proofs.Tests.{none_from, both}
 find_first : (e : Key × ChangeRecord) (es : List (Key × ChangeRecord)) → find key_cmp e.0 (e ∷ es) ≡ Some e.1
 find_first e es = ap (λ r. cond (is_eq r) (Some e.1) (find key_cmp e.0 es)) (tied_itself keys_total e.0)
 
--- a key that is found behind the first isn't the first's
+-- A key that is found after the first isn't the first's.
 found_behind : (x q : Key) (v : ChangeRecord) (es : List (Key × ChangeRecord)) → T (below_all key_cmp x es) → find key_cmp q es ≡ Some v → eq_by_cmp key_cmp q x ≡ false
 found_behind x q v [] b h = absurd (cc)
 found_behind x q v (e ∷ es) b h =
@@ -63,7 +63,7 @@ module _ (h : Holding) (sound : IsSound h) where
   pub held_missing : (key : Key) (i : ℕ) → IsPlace (held_changes h) key (Err i) → held_for h key ≡ None
   held_missing key i p = ap (λ (m : FinMap key_cmp ChangeRecord). get m key) (sym changes_held) ∙ change_none (held_changes h) key i p
 
-  -- where nothing stands at a key's place, nothing is held for the key
+  -- If a key's place has no element, nothing is held for the key.
   pub gap_missing : (key : Key) (place : Result ℕ ℕ) → IsPlace (held_changes h) key place → IsGap place → held_for h key ≡ None
   gap_missing key (Ok i) p gap = absurd gap
   gap_missing key (Err i) p gap = held_missing key i p
@@ -95,11 +95,12 @@ module _ {M : Type 0} where
     pub own_mark : (i : ℕ) (c : ChangeRecord) → slice_get (held_changes h) i ≡ Some c → slice_get ms i ≡ get (marks_beside (held_changes h) ms) c.key
     own_mark i c e = sym (mark_found c.key i (place_from_get key_cmp keys_total exact_keys keyed (held_changes h) i c e))
 
-    -- and a change and a mark at one index stand beside each other
+    -- And a change and a mark at one index belong together.
     mark_at : (i : ℕ) (c : ChangeRecord) (m : M) → slice_get (held_changes h) i ≡ Some c → slice_get ms i ≡ Some m → get (marks_beside (held_changes h) ms) c.key ≡ Some m
     mark_at i c m e f = sym (own_mark i c e) ∙ f
 
-    pub beside_at : {P : Type 0} (r : Option P) (c : P → ChangeRecord) (m : P → M) (i : ℕ) → option_map c r ≡ slice_get (held_changes h) i → option_map m r ≡ slice_get ms i → IfSome r (λ p. get (marks_beside (held_changes h) ms) (c p).key ≡ Some (m p))
+    pub beside_at : {P : Type 0} (r : Option P) (c : P → ChangeRecord) (m : P → M) (i : ℕ) → option_map c r ≡ slice_get (held_changes h) i → option_map m r ≡ slice_get ms i →
+        IfSome r (λ p. get (marks_beside (held_changes h) ms) (c p).key ≡ Some (m p))
     beside_at None c m i e f = tt
     beside_at (Some p) c m i e f = mark_at i (c p) (m p) (sym e) (sym f)
 

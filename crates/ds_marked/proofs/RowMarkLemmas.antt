@@ -1,4 +1,4 @@
--- A list of marks beside a list whose keys rise: what is found under a key, and what a write at a place does.
+-- A list of marks beside a list in key order: what is found under a key, and what a write at a place does.
 use Rattle.std.proofs.Common.{◌≡◌, ℕ, zero, suc, ◌<◌, ◌≤◌, List, [], ◌∷◌, length, set, map, cond, true, false, Some, None, is_some, Result, Ok, Err, refl, sym, ap, ◌∙◌, subst, arith, length-set}
 use Rattle.std.proofs.lemmas.Option.{same_Some, get_or_from_slice_get}
 use Rattle.std.proofs.lemmas.List.Edits.{length-insert}
@@ -16,7 +16,7 @@ use Rattle.ds_held.proofs.PlaceLemmas.{later, rest_place, rest_gap, before_gap, 
 use Rattle.ds_marked.specs.Beside.{marked_rows}
 use Rattle.ds_names.proofs.Tests.{both}
 
--- ---- what stands at an index
+-- ---- the element at an index
 pub within_from : {X : Type 0} (xs : List X) (i : ℕ) (x : X) → slice_get xs i ≡ Some x → i < length xs
 within_from [] i x e = absurd (cc)
 within_from (y ∷ ys) zero x e = omega arith
@@ -37,7 +37,7 @@ set_past [] i x w = refl
 set_past (y ∷ ys) zero x w = absurd (omega (arith, w))
 set_past (y ∷ ys) (suc i) x w = ap (λ l. y ∷ l) (set_past ys i x (omega (arith, w)))
 
--- each element stands in a row under its key, and may have a mark
+-- Each element is in a row under its key, and may have a mark.
 module _ {K V X : Type 0} (R : K → K → Ordering) (total : IsTotalOrder R) (exact : (a b : K) → R a b ≡ Equal → a ≡ b) (row : X → K × V) where
   abbrev rows : List X → List (K × V)
   rows xs = map {B = K × V} row xs
@@ -48,7 +48,7 @@ module _ {K V X : Type 0} (R : K → K → Ordering) (total : IsTotalOrder R) (e
   abbrev Place : List X → K → Result ℕ ℕ → Type 0
   Place xs sought place = IsPlaceOf R (λ (x : X). (row x).0) xs sought place
 
-  -- an element stands at the place of its key
+  -- An element is at the place of its key.
   pub place_from_get : (xs : List X) (i : ℕ) (x : X) → slice_get xs i ≡ Some x → Place xs (row x).0 (Ok i)
   place_from_get xs i x e = (within_from xs i x e, λ d. subst (λ (y : X). R (row y).0 (row x).0 ≡ Equal) (sym (get_or_from_slice_get xs i x d e)) (tied_itself total (row x).0))
 
@@ -99,7 +99,8 @@ module _ {K V X : Type 0} (R : K → K → Ordering) (total : IsTotalOrder R) (e
         ∙ sym (get-insert total (from_entries es) k m q ∙ ap (cond (eq_by_cmp R q k) (Some m)) (get-from_entries total es q)))
 
     -- to write an element and a mark at one place is to put the mark under the element's key
-    pub marks_put : (xs : List X) (ms : List M) (c : X) (m : M) (place : Result ℕ ℕ) → Rising xs → length ms ≡ length xs → Place xs (row c).0 place → from_entries {R = R} (marked (put_at xs place c) (put_at ms place m)) ≡ finite.insert (from_entries (marked xs ms)) (row c).0 m
+    pub marks_put : (xs : List X) (ms : List M) (c : X) (m : M) (place : Result ℕ ℕ) → Rising xs → length ms ≡ length xs → Place xs (row c).0 place →
+        from_entries {R = R} (marked (put_at xs place c) (put_at ms place m)) ≡ finite.insert (from_entries (marked xs ms)) (row c).0 m
     marks_put xs ms c m place s e p = ap (λ es. from_entries {R = R} es) (marked_put xs ms c m place s e p) ∙ from_put (marked xs ms) (row c).0 m
 
     pub each_put : (xs : List X) (ms : List M) (c : X) (m : M) (place : Result ℕ ℕ) → length ms ≡ length xs → Place xs (row c).0 place → length (put_at ms place m) ≡ length (put_at xs place c)

@@ -1,4 +1,4 @@
--- The code of what is held with marks, by which a proof tells one from another.
+-- The code of what is held with marks, by which a proof distinguishes holdings.
 use Rattle.std.specs.Prelude.{refl}
 use Rattle.std.specs.FinMap as map
 use Rattle.std.specs.Coded.{Coded, code_by, coded×}
@@ -9,7 +9,7 @@ use Rattle.ds_held.specs.Held.{Holding}
 use Rattle.ds_held.specs.Coded.{holding_code}
 use Rattle.ds_marked.specs.Marked.{MarkedHolding}
 
--- it is stored as what is held, the marks of keys, and those of owners
+-- The code of a holding with marks: what is held, the marks of keys, and those of owners.
 abbrev pub marked_code : {M : Type 0} → Coded M → Coded (MarkedHolding M)
 marked_code {M} mark_code =
     code_by (Holding × (map.FinMap key_cmp M × map.FinMap name_cmp M))

@@ -9,13 +9,14 @@ use Rattle.ds_held.specs.Raise.{after_raise, at_kept_keys}
 use Rattle.ds_marked.specs.Marked.{MarkedHolding}
 
 module _ {M : Type 0} where
-  -- the change stands at its key with the mark beside it, and all else is as before
+  -- The state after a put: the change is at its key, with the mark beside it, and all else is unchanged.
   pub record IsPutMarked (old : MarkedHolding M) (c : ChangeRecord) (mark : M) (new : MarkedHolding M) : Type 0 where
     pub held : new.held ≡ after_merge old.held c (Ok Taken)
     pub marks : new.marks ≡ insert old.marks c.key mark
     pub floor_marks : new.floor_marks ≡ old.floor_marks
 
-  -- the floor stands at its owner with the mark beside it, what it makes void is gone with its marks, and all else is as before
+  -- The state after a raised floor: the floor is its owner's, with the mark beside it; what it voids is dropped with
+  -- its marks; and all else is unchanged.
   pub record IsRaisedMarked (old : MarkedHolding M) (f : Floor) (mark : M) (new : MarkedHolding M) : Type 0 where
     pub held : new.held ≡ after_raise old.held f (Ok Taken)
     pub marks : new.marks ≡ at_kept_keys f old.held.changes old.marks

@@ -22,9 +22,9 @@ use std::marker::Model;
 mod pairs;
 mod putting;
 
-/// What a [`Held`] holds, and beside each change and each floor a mark of the caller's.
+/// What a [`Held`] holds, with a mark of the caller's beside each change and each floor.
 ///
-/// The marks stand in the order of the keys, and of the owners' names, so that one search finds a change and its mark.
+/// Marks are in the order of the keys, and of the owners' names, so one search finds a change and its mark.
 #[derive(Drop)]
 pub struct Marked<M> {
     held: Held,
@@ -48,7 +48,7 @@ impl<M> Model for Marked<M> {
 }
 
 impl<M: Drop> Marked<M> {
-    /// A holder of nothing, with these limits. It takes no memory.
+    /// Returns an empty holder with these limits. It allocates nothing.
     pub fn bounded(alloc: Global, limits: Limits) -> Marked<M>
         ensures { result ≡ nothing_marked limits }
     {
@@ -59,7 +59,7 @@ impl<M: Drop> Marked<M> {
         }
     }
 
-    /// What is held, without the marks.
+    /// Returns what is held, without the marks.
     pub fn held(&self) -> &Held
         ensures value { result.now ≡ self.now.held }
         ensures sound { IsSound self.now.held }
@@ -70,7 +70,7 @@ impl<M: Drop> Marked<M> {
         &self.held
     }
 
-    /// The change that is held for the key whose place this is, and its mark.
+    /// Returns the change at a place, and its mark, if a change is held there.
     pub fn get_at(&self, place: Result<usize, usize>) -> Option<(&Change, &M)>
         ensures change { IsHeldAt self.now.held place (option_map (λ p. p.0.now) result) }
         ensures mark { IsMarkAt self.now place (option_map (λ p. p.1.now) result) }
@@ -83,24 +83,24 @@ impl<M: Drop> Marked<M> {
         }
     }
 
-    /// The marks of all changes, in the order of their keys.
+    /// Returns the marks of all changes, in the order of their keys.
     pub fn marks(&self) -> &[M]
         ensures { AreMarks self.now result.now }
     {
         self.marks.as_slice()
     }
 
-    /// The marks of all floors, in the order of the owners' names.
+    /// Returns the marks of all floors, in the order of the owners' names.
     pub fn floor_marks(&self) -> &[M]
         ensures { AreFloorMarks self.now result.now }
     {
         self.floor_marks.as_slice()
     }
 
-    /// Puts a change that is to be taken, and its mark, at their place, as [`Held::put`] does. The mark comes in place of the one
-    /// that stood there.
+    /// Puts a change that is to be taken, and its mark, at their place, as [`Held::put`] does. The mark replaces that
+    /// of a held change.
     ///
-    /// It takes memory only for a key that isn't held; want of it changes nothing.
+    /// It allocates only for a key that isn't held. If memory runs out, nothing changes.
     #[inline(always)]
     pub fn put_at(
         &mut self,
@@ -119,10 +119,11 @@ impl<M: Drop> Marked<M> {
         put_marked(&mut self.held, &mut self.marks, place, change, mark)
     }
 
-    /// Puts a floor that is to be taken, and its mark, at their place, as [`Held::raise_at`] does, and drops what it makes void, with
-    /// its marks. It tells how many puts it dropped. The mark comes in place of the one that stood beside the owner's floor before.
+    /// Puts a floor that is to be taken, and its mark, at their place, as [`Held::raise_at`] does. It drops what the
+    /// floor voids, with the marks, and returns how many puts it dropped. The mark replaces that of the owner's last
+    /// floor.
     ///
-    /// It takes memory only for an owner who has no floor; want of it changes nothing.
+    /// It allocates only for an owner without a floor. If memory runs out, nothing changes.
     pub fn raise_at(
         &mut self,
         place: Result<usize, usize>,
@@ -147,8 +148,8 @@ impl<M: Drop> Marked<M> {
         )
     }
 
-    /// Another mark for the change at an index, in the order of the keys. It takes no memory, and changes nothing behind the
-    /// last one.
+    /// Replaces the mark of the change at an index, in the order of the keys. It allocates nothing, and does nothing
+    /// past the end.
     pub fn set_mark(&mut self, index: usize, mark: M)
         ensures held { self.new.held ≡ self.old.held }
         ensures marks { self.new.marks ≡ remarked_at self.old index mark }
@@ -157,8 +158,8 @@ impl<M: Drop> Marked<M> {
         set_at(&mut self.marks, index, mark);
     }
 
-    /// Another mark for the floor at an index, in the order of the owners' names. It takes no memory, and changes nothing
-    /// behind the last one.
+    /// Replaces the mark of the floor at an index, in the order of the owners' names. It allocates nothing, and does
+    /// nothing past the end.
     pub fn set_floor_mark(&mut self, index: usize, mark: M)
         ensures held { self.new.held ≡ self.old.held }
         ensures marks { self.new.marks ≡ self.old.marks }

@@ -1,4 +1,4 @@
-//! What a reply with items says beside them.
+//! What a reply with items has besides its items.
 
 ghost use Rattle.std.specs.Prelude.{◌≡◌, IfSome};
 ghost use Rattle.std.specs.Option.{option_copied};
@@ -9,7 +9,7 @@ use ds_entry::Items;
 use ds_feed::{Cursor, Page, Since, Snapshot};
 use ds_machine::Reply;
 
-/// What a reply with items says beside them.
+/// What a reply with items has besides its items.
 #[derive(Clone, Copy)]
 pub(crate) enum Head {
     Checked { before: u64, after: u64 },
@@ -19,7 +19,7 @@ pub(crate) enum Head {
 }
 
 impl Head {
-    // What a reply says beside its items, `None` where it has none.
+    // Returns what a reply has besides its items, or `None` if it has none.
     pub(crate) fn of(reply: &Reply) -> Option<Head>
         ensures { IfSome result (λ head. IsHead head reply.now) }
     {
@@ -42,7 +42,7 @@ impl Head {
         }
     }
 
-    // The reply with these items.
+    // Returns the reply with these items.
     pub(crate) fn reply(self, items: Items) -> Reply
         ensures { result ≡ reply_with self items }
     {
@@ -63,7 +63,7 @@ impl Head {
     }
 }
 
-// The items of a reply, `None` where it has none.
+// Returns the items of a reply, or `None` if it has none.
 pub(crate) fn items_of(reply: &Reply) -> Option<&Items>
     ensures { option_copied result ≡ items_given reply.now }
 {

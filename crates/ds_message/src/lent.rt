@@ -1,4 +1,4 @@
-//! Items that are lent.
+//! Borrowed items of a message.
 
 ghost use Rattle.std.specs.Prelude.{◌<◌, length, IfNone, IfSome};
 ghost use Rattle.ds_replica.specs.Happens.{count_of};
@@ -7,7 +7,7 @@ ghost use Rattle.ds_message.specs.Lent.{items_lent, AreFirstLent};
 use ds_entry::Item;
 use ds_packed::Unpacking;
 
-/// The items of a message, or the first of them: a slice, or as they are packed.
+/// The items of a message, or the first of them: a slice, or packed.
 #[derive(Drop)]
 pub enum Lent<'a> {
     Whole(&'a [Item]),
@@ -15,7 +15,7 @@ pub enum Lent<'a> {
 }
 
 impl<'a> Lent<'a> {
-    /// So many of the first, or all. `None` where there are fewer.
+    /// Returns the first `count` items, or all, or `None` if there are fewer than `count`.
     pub fn first(self, count: Option<usize>) -> Option<Lent<'a>>
         ensures some { IfSome result (AreFirstLent count self.entry) }
         ensures few { IfNone result (length (items_lent self.entry) < count_of count (items_lent self.entry)) }

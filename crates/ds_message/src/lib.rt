@@ -1,5 +1,5 @@
-//! Messages, of this project: the replies with items that a world keeps, since they may be delivered at any later time. A message is
-//! first kept as the reply that it is, and its items may then be packed: it stays the same message.
+//! Messages, of this project: the replies with items that a world keeps, since they may be delivered at any later time.
+//! A message's items may be packed to save memory; its value doesn't change.
 #![tactic(auto)]
 
 mod head;

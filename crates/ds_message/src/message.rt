@@ -20,7 +20,7 @@ pub(crate) enum Kept {
     Packed(Head, Packed),
 }
 
-/// A reply that a store gave.
+/// A reply of a store, kept for later deliveries.
 #[derive(Drop)]
 pub struct Message {
     kept: Kept,
@@ -38,7 +38,8 @@ impl Model for Message {
 impl Kept {
     ghost use Rattle.ds_message.specs.Kept.{reply_kept};
 
-    // A reply whose items are packed. `None` where it has none, or one of them is a text or memory, or there is no room.
+    // Returns the reply with its items packed, or `None` if it has no items, if one of them has a text or a blob, or if
+    // memory runs out.
     fn packed(alloc: Global, reply: &Reply) -> Option<Kept>
         ensures { IfSome result (λ kept. reply_kept kept ≡ reply.now) }
     {
@@ -50,7 +51,7 @@ impl Kept {
 }
 
 impl Message {
-    /// The message that a reply is. It takes no memory.
+    /// Returns the message of a reply. Takes no memory.
     pub fn of(reply: Reply) -> Message
         ensures { result ≡ reply }
     {
@@ -59,7 +60,8 @@ impl Message {
         }
     }
 
-    /// Packs its items, so that they take less room, unless one of them is a text or memory, or there is no room to do so.
+    /// Packs the items, so that they take less memory. Does nothing if one of them has a text or a blob, or if memory
+    /// runs out.
     pub fn pack(&mut self, alloc: Global)
         ensures { self.new ≡ self.old }
     {
@@ -72,7 +74,7 @@ impl Message {
         }
     }
 
-    /// The reply itself, `None` where its items are packed.
+    /// Returns the reply itself, or `None` if its items are packed.
     pub fn reply(&self) -> Option<&Reply>
         ensures { IfSome result (λ reply. reply.now ≡ self.now) }
     {
@@ -82,7 +84,7 @@ impl Message {
         }
     }
 
-    /// The reply again.
+    /// Returns a copy of the reply.
     pub fn copy(&self, alloc: Global) -> Result<Reply, NoRoom>
         ensures { IfOk result (λ reply. reply ≡ self.now) }
     {
@@ -92,7 +94,7 @@ impl Message {
         }
     }
 
-    /// Its items, `None` where the reply has none.
+    /// Returns the items, or `None` if the reply has none.
     pub fn items(&self) -> Option<Lent<'_>>
         ensures some { IfSome result (λ lent. items_given self.now ≡ Some (items_lent lent)) }
         ensures none { IfNone result (items_given self.now ≡ None) }
@@ -104,7 +106,7 @@ impl Message {
     }
 }
 
-// The items that are packed.
+// Returns the packed items.
 fn unpacked(alloc: Global, packed: &Packed) -> Result<Items, NoRoom>
     ensures { IfOk result (λ items. items ≡ packed.now) }
 {

@@ -36,7 +36,7 @@ step run b bs true is h e =
     rw (n, is, h) (refl, e)
 step run b bs false is h e = (refl, is)
 
--- the run at the front, and what comes after it
+-- The run at the front, and the rest after it.
 pub run_parts : (run : ℕ → Bool) (bs : List ℕ) → (list_all run (take (prefix_len run bs) bs) ≡ true) × Ends run (drop (prefix_len run bs) bs)
 run_parts run [] = (refl, tt)
 run_parts run (b ∷ bs) =
@@ -56,14 +56,14 @@ value_more ds i lt h =
     let digit = digit_at (get_or ds i 0) (AllPass-from_list_all is_ascii_digit ds h i 0 lt) in
     (digit.0, digit.1, digits_value_more 10 ds i lt ∙ ap (λ (d : ℕ). digits_value 10 (take i ds) * 10 + d) digit.2)
 
--- The digits at the front, of which so many were read, go on with this byte.
+-- The first `i` of the leading digits were read, and the next byte is a digit too.
 pub record GoesOn (bytes : List ℕ) (i : ℕ) : Type 0 where
   pub digits : list_all is_ascii_digit (take (prefix_len is_ascii_digit bytes) bytes) ≡ true
   pub within : i < length (take (prefix_len is_ascii_digit bytes) bytes)
   pub byte : get_or (take (prefix_len is_ascii_digit bytes) bytes) i 0 ≡ get_or bytes i 0
   pub run : i + 1 + prefix_len is_ascii_digit (drop (i + 1) bytes) ≡ prefix_len is_ascii_digit bytes
 
--- they do where it is a digit
+-- The digits continue where the next byte is a digit.
 pub goes_on : (bytes : List ℕ) (i : ℕ) → i < length bytes → i + prefix_len is_ascii_digit (drop i bytes) ≡ prefix_len is_ascii_digit bytes → is_ascii_digit (get_or bytes i 0) ≡ true → GoesOn bytes i
 goes_on bytes i lt run is =
     let more : prefix_len is_ascii_digit (drop i bytes) ≡ 1 + prefix_len is_ascii_digit (drop (i + 1) bytes) = prefix_len-drop_yes is_ascii_digit bytes i 0 lt is in
@@ -83,14 +83,14 @@ too_large ds i lt h big = λ small.
     let more : digits_value 10 (take (i + 1) ds) ≡ digits_value 10 (take i ds) * 10 + (get_or ds i 0 - 48) = (value_more ds i lt h).2 in
     omega arith
 
--- a place in the first bytes is one of them all
+-- An index in the first bytes is an index in all of them.
 pub front_at : (n : ℕ) (bytes : List ℕ) (i : ℕ) → i < length (take n bytes) → (i < n) × (i < length bytes) × (get_or (take n bytes) i 0 ≡ get_or bytes i 0)
 front_at n bytes i lt =
     let len = length-take n bytes in
     let first : i < n = omega arith in
     (first, omega arith, get_or-take n bytes i 0 first)
 
--- one more digit than fewer than 19 makes no number that is too large
+-- A digit after fewer than 19 others doesn't overflow.
 pub short_more : (number at digit : ℕ) → number < 10 ^ at → at < 19 → digit < 10 → (number * 10 + digit < 10 ^ (at + 1)) × (number * 10 + digit < 2 ^ 64)
 short_more number at digit lt short small =
     let more = pow_more 10 at in
@@ -106,7 +106,7 @@ decimal_front bytes n rest lt h =
     let len : prefix_len is_ascii_digit bytes ≡ length (decimal n) = ap (prefix_len is_ascii_digit) h.parts ∙ run_is is_ascii_digit (decimal n) rest digits h.ends in
     ap (λ (k : ℕ). take k bytes) len ∙ ap (take (length (decimal n))) h.parts ∙ take_at (decimal n) rest (length (decimal n)) refl
 
--- the digits of a number, and no others
+-- The digits of a number are its decimal.
 pub is_decimal : (ds : List ℕ) → list_all is_ascii_digit ds ≡ true → 0 < length ds → (get_or ds 0 0 ≡ 48 → length ds ≡ 1) → digits_value 10 ds < 2 ^ 64 → decimal (digits_value 10 ds) ≡ ds
 is_decimal ds h some lead lt = decimal-digits_value own ds h some lead lt
 
@@ -114,7 +114,7 @@ is_decimal ds h some lead lt = decimal-digits_value own ds h some lead lt
 pub decimal_lead : (n : ℕ) → n < 2 ^ 64 → (0 < length (decimal n)) × (get_or (decimal n) 0 0 ≡ 48 → length (decimal n) ≡ 1)
 decimal_lead n lt = (decimal_nonempty n lt, λ h. elim (cases_lt 0 n) [ inl more ↦ absurd (omega (arith, first_decimal n more lt)) | inr none ↦ (let one : n < 10 = omega arith in ap length (decimal_digit n one)) ])
 
--- the digits at the front, where a decimal is there
+-- Where a decimal is at the front, the leading digits are one.
 pub none_there : (bytes ds : List ℕ) (n : ℕ) (rest : List ℕ) → ds ≡ take (prefix_len is_ascii_digit bytes) bytes → n < 2 ^ 64 → Begins is_ascii_digit bytes (decimal n) rest
     → (0 < length ds) × (get_or ds 0 0 ≡ 48 → length ds ≡ 1) × (digits_value 10 ds < 2 ^ 64)
 none_there bytes ds n rest is lt h =
@@ -122,7 +122,7 @@ none_there bytes ds n rest is lt h =
     let value : digits_value 10 (decimal n) ≡ n = digits_value-decimal own n lt in
     rw (is, decimal_front bytes n rest lt h) (lead.0, lead.1, omega arith)
 
--- digits that are a decimal are there
+-- Leading digits that are a decimal are the one at the front.
 pub there : (bytes ds : List ℕ) (n : ℕ) (rest : List ℕ) → ds ≡ take (prefix_len is_ascii_digit bytes) bytes → rest ≡ drop (prefix_len is_ascii_digit bytes) bytes
     → 0 < length ds → (get_or ds 0 0 ≡ 48 → length ds ≡ 1) → digits_value 10 ds < 2 ^ 64 → n ≡ digits_value 10 ds → Begins is_ascii_digit bytes (decimal n) rest
 there bytes ds n rest is behind some lead lt value =
@@ -132,7 +132,7 @@ there bytes ds n rest is behind some lead lt value =
     let whole : bytes ≡ ds ++ rest = rw (is, behind) (sym (take-append-drop (prefix_len is_ascii_digit bytes) bytes)) in
     record { parts = whole ∙ ap (λ (t : List ℕ). t ++ rest) (sym same); ends = rw behind parts.1 }
 
--- two decimals at the front are one
+-- Two decimals at the front are equal.
 pub decimal_one : (bytes : List ℕ) (m n : ℕ) (r s : List ℕ) → m < 2 ^ 64 → n < 2 ^ 64 → Begins is_ascii_digit bytes (decimal m) r → Begins is_ascii_digit bytes (decimal n) s → (m ≡ n) × (r ≡ s)
 decimal_one bytes m n r s lm ln hm hn =
     let same : decimal m ≡ decimal n = sym (decimal_front bytes m r lm hm) ∙ decimal_front bytes n s ln hn in
@@ -145,7 +145,7 @@ pub endpoint_parts : (bytes : List ℕ) (a : EndpointRecord) (rest : List ℕ) �
 endpoint_parts bytes a rest h =
     (record { parts = h.parts ∙ append_assoc (decimal a.generation) (47 ∷ decimal a.slot) rest; ends = refl }, record { parts = refl; ends = h.ends })
 
--- endpoints at the front are one
+-- Two endpoints at the front are equal.
 pub endpoint_one : (bytes : List ℕ) (a b : EndpointRecord) (r s : List ℕ) → IsEndpoint a → IsEndpoint b → Begins is_ascii_digit bytes (endpoint_text a) r → Begins is_ascii_digit bytes (endpoint_text b) s → (a ≡ b) × (r ≡ s)
 endpoint_one bytes a b r s va vb ha hb =
     let pa = endpoint_parts bytes a r ha in
@@ -155,14 +155,14 @@ endpoint_one bytes a b r s va vb ha hb =
     let second = decimal_one (decimal b.slot ++ s) a.slot b.slot r s (omega (arith, va.slot)) (omega (arith, vb.slot)) (record { parts = sym behind; ends = ha.ends }) pb.1 in
     (ap (λ (p : ℕ × ℕ). record { generation = p.0; slot = p.1 }) (let e : (a.generation, a.slot) ≡ (b.generation, b.slot) = rw (first.0, second.0) refl in e), second.1)
 
--- endpoints with one text are one
+-- Two endpoints with one text are equal.
 pub endpoint_text_one : (a b : EndpointRecord) → IsEndpoint a → IsEndpoint b → endpoint_text a ≡ endpoint_text b → a ≡ b
 endpoint_text_one a b va vb same =
     let begins : Begins is_ascii_digit (endpoint_text a) (endpoint_text a) [] = record { parts = sym (append-nil (endpoint_text a)); ends = tt } in
     let other : Begins is_ascii_digit (endpoint_text a) (endpoint_text b) [] = record { parts = same ∙ sym (append-nil (endpoint_text b)); ends = tt } in
     (endpoint_one (endpoint_text a) a b [] [] va vb begins other).0
 
--- where the number is read, what has to follow it
+-- What follows the generation that was read.
 pub endpoint_after : (bytes : List ℕ) (n : ℕ) (after : List ℕ) (a : EndpointRecord) (rest : List ℕ) → n ≤ 2097151 → Begins is_ascii_digit bytes (decimal n) after → IsEndpoint a → Begins is_ascii_digit bytes (endpoint_text a) rest
     → (n ≡ a.generation) × (after ≡ 47 ∷ (decimal a.slot ++ rest))
 endpoint_after bytes n after a rest lt h va ha =

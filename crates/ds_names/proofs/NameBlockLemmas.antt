@@ -33,14 +33,14 @@ run_kept bytes block len run some most is =
     let long : length block ≡ 64 = ap length is ∙ length-append (take len bytes) (replicate (64 - len) 0) ∙ ap (λ (n : ℕ). length (take len bytes) + n) (length-replicate (64 - len) 0) ∙ omega (arith, within, most) in
     (front, name, record { whole = long; fits = most; name = rw front name; zeros = behind })
 
--- the run at the front stands there, and ends where it ends
+-- The bytes begin with their leading run.
 pub run_begins : (bytes name : List ℕ) → name ≡ take (prefix_len is_name_byte bytes) bytes → Begins is_name_byte bytes name (drop (length name) bytes)
 run_begins bytes name is =
     let n : ℕ = prefix_len is_name_byte bytes in
     let len : length name ≡ n = ap length is ∙ length-prefix_len is_name_byte bytes in
     record { parts = rw (is, length-prefix_len is_name_byte bytes) (sym (take-append-drop n bytes)); ends = rw len (run_parts is_name_byte bytes).1 }
 
--- a name at the front is the run there
+-- A name at the front is the leading run.
 pub name_is_run : (bytes name rest : List ℕ) → IsName name → Begins is_name_byte bytes name rest → prefix_len is_name_byte bytes ≡ length name
 name_is_run bytes name rest is begins = ap (prefix_len is_name_byte) begins.parts ∙ run_is is_name_byte name rest is.allowed begins.ends
 

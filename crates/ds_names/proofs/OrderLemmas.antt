@@ -1,4 +1,4 @@
--- The orders of keys and versions are total, and what compares alike is one.
+-- The orders of keys and versions are total, and what compares equal is equal.
 use Rattle.std.proofs.Common.{◌≡◌, ℕ, zero, suc, List, refl, ap, sym, ◌∙◌}
 use Rattle.std.specs.Ordering.{nat_cmp}
 use Rattle.std.specs.Cmp.{IsTotalOrder}
@@ -26,7 +26,7 @@ kind_at-kind_place U32 = refl
 kind_at-kind_place Str = refl
 kind_at-kind_place Mem = refl
 
--- keys that compare alike are one
+-- Keys that compare equal are equal.
 pub exact_keys : CmpEqualImpliesEq key_cmp
 exact_keys a b h =
     let parts = exact_pairs name_cmp nat_cmp exact_bytes exact_unsigned (a.name, kind_place a.kind) (b.name, kind_place b.kind) h in

@@ -1,4 +1,4 @@
--- Facts of tests that std has not.
+-- Facts about tests that std doesn't have.
 use Rattle.std.proofs.Common.{◌≡◌, Bool, true, false, ◌&&◌, Option, Some, None, is_some, refl, sym, ◌∙◌}
 use Rattle.std.specs.declared.cmp.Ordering.{Ordering}
 use Rattle.std.specs.declared.cmp.Ordering.TheVariants.{Less, Equal, Greater}
@@ -38,7 +38,7 @@ not_both Less e l = absurd (cc)
 not_both Equal e l = l
 not_both Greater e l = l
 
--- what isn't before, and isn't at one place, is behind
+-- What is neither before nor equal is after.
 pub turned : (o : Ordering) → is_lt o ≡ false → (o ≡ Equal → ⊥) → ordering_reverse o ≡ Less
 turned Less e n = absurd (cc)
 turned Equal e n = absurd (n refl)

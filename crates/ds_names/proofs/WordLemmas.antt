@@ -27,7 +27,7 @@ more x y lt = sym (nat_cmp_is x y Greater lt)
 
 -- ---- the number that bytes spell
 
--- the bytes behind a number, the highest first
+-- The number that a number and the bytes after it spell, big endian.
 abbrev pub spelled : ℕ → List ℕ → ℕ
 spelled n [] = n
 spelled n (b ∷ bs) = spelled (n * 256 + b) bs
@@ -43,7 +43,7 @@ rises a b (u ∷ us) (v ∷ vs) e small lt =
     let first : u < 256 = small 0 in
     rises (a * 256 + u) (b * 256 + v) us vs (omega (arith, e)) (λ i. small (suc i)) (omega (arith, lt, first))
 
--- bytes stand to one another as the numbers that they spell
+-- Byte strings of one length compare as the numbers that they spell.
 pub as_numbers : (a : ℕ) (us vs : List ℕ) → length us ≡ length vs → AreBytes us → AreBytes vs → slice_cmp nat_cmp us vs ≡ nat_cmp (spelled a us) (spelled a vs)
 as_numbers a [] [] e small_u small_v = sym (same a)
 as_numbers a [] (v ∷ vs) e small_u small_v = absurd (omega (arith, e))
@@ -63,7 +63,7 @@ as_numbers a (u ∷ us) (v ∷ vs) e small_u small_v =
       ]
     ]
 
--- eight bytes spell the number that they are read as
+-- Eight bytes spell the number that they are read as.
 pub eight_spell : (us : List ℕ) → length us ≡ 8 → from_be_bytes w64 us ≡ spelled 0 us
 eight_spell [] e = absurd (omega (arith, e))
 eight_spell (a ∷ []) e = absurd (omega (arith, e))
@@ -120,9 +120,10 @@ apart x y o ne =
 pub level : (x y : ℕ) (o : Ordering) → x ≡ y → ordering_then (nat_cmp x y) o ≡ o
 level x y o e = ap (λ (z : ℕ). ordering_then (nat_cmp x z) o) (sym e) ∙ ap (λ (p : Ordering). ordering_then p o) (same x)
 
--- the eight bytes from a place on decide, or those behind them
+-- Eight bytes decide, or else those after them.
 pub word_more : (xs ys : List ℕ) (n : ℕ) → n < 8 → length xs ≡ 64 → length ys ≡ 64 → AreBytes xs → AreBytes ys
-    → slice_cmp nat_cmp (drop (8 * n) xs) (drop (8 * n) ys) ≡ ordering_then (nat_cmp (from_be_bytes w64 (take 8 (drop (8 * n) xs))) (from_be_bytes w64 (take 8 (drop (8 * n) ys)))) (slice_cmp nat_cmp (drop (8 * (n + 1)) xs) (drop (8 * (n + 1)) ys))
+    → slice_cmp nat_cmp (drop (8 * n) xs) (drop (8 * n) ys) ≡ ordering_then (nat_cmp (from_be_bytes w64 (take 8 (drop (8 * n) xs))) (from_be_bytes w64 (take 8 (drop (8 * n) ys))))
+    (slice_cmp nat_cmp (drop (8 * (n + 1)) xs) (drop (8 * (n + 1)) ys))
 word_more xs ys n lt len_x len_y small_x small_y =
     let left_x : length (drop (8 * n) xs) ≡ 64 - 8 * n = length-drop (8 * n) xs ∙ omega (arith, len_x) in
     let left_y : length (drop (8 * n) ys) ≡ 64 - 8 * n = length-drop (8 * n) ys ∙ omega (arith, len_y) in
@@ -136,7 +137,7 @@ word_more xs ys n lt len_x len_y small_x small_y =
     ∙ ap (λ (r : List ℕ). ordering_then (nat_cmp (from_be_bytes w64 (take 8 (drop (8 * n) xs))) (from_be_bytes w64 (take 8 (drop (8 * n) ys)))) (slice_cmp nat_cmp r (drop 8 (drop (8 * n) ys)))) (sym (behind xs))
     ∙ ap (λ (s : List ℕ). ordering_then (nat_cmp (from_be_bytes w64 (take 8 (drop (8 * n) xs))) (from_be_bytes w64 (take 8 (drop (8 * n) ys)))) (slice_cmp nat_cmp (drop (8 * (n + 1)) xs) s)) (sym (behind ys))
 
--- ---- zeros behind names
+-- ---- zeros after names
 
 zeros_same : (n : ℕ) → slice_cmp nat_cmp (replicate n 0) (replicate n 0) ≡ Equal
 zeros_same zero = refl
@@ -146,7 +147,7 @@ above_zero : (b : ℕ) → is_name_byte b ≡ true → 0 < b
 unfolding is_name_byte
 above_zero b h = grind (arith, nat_tests)
 
--- zeros behind two names change nothing
+-- The padding of two names doesn't change their order.
 pub padded : (x y : List ℕ) (k m : ℕ) → list_all is_name_byte x ≡ true → list_all is_name_byte y ≡ true → length x + k ≡ length y + m
     → slice_cmp nat_cmp (x ++ replicate k 0) (y ++ replicate m 0) ≡ slice_cmp nat_cmp x y
 padded [] [] k m all_x all_y e = ap (λ (n : ℕ). slice_cmp nat_cmp (replicate k 0) (replicate n 0)) (let n : m ≡ k = omega (arith, e) in n) ∙ zeros_same k
@@ -164,7 +165,7 @@ padded (u ∷ x) (v ∷ y) k m all_x all_y e =
 whole_of : (b : Inside) → KeepsName b → b.block ≡ name_in_block b ++ replicate (64 - b.len) 0
 whole_of b kept = sym (take-append-drop b.len b.block) ∙ ap (λ (z : List ℕ). take b.len b.block ++ z) kept.zeros
 
--- blocks stand to one another as the names that they keep
+-- Blocks compare as the names that they keep.
 pub names_order : (b c : Inside) → KeepsName b → KeepsName c → slice_cmp nat_cmp b.block c.block ≡ slice_cmp nat_cmp (name_in_block b) (name_in_block c)
 names_order b c kept_b kept_c =
     let len_b = length-take-le b.len b.block (omega (arith, kept_b.whole, kept_b.fits)) in

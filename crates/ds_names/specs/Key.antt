@@ -7,14 +7,14 @@ use Rattle.ds_names.specs.Kind.{kind_place}
 use Rattle.ds_names.specs.declared.key.Key.{Key}
 use Rattle.ds_names.specs.declared.kind.Kind.TheVariants.{Label}
 
--- byte by byte, and a name before each longer one that it begins
+-- The order of names: byte by byte, and a prefix before what it begins.
 abbrev pub name_cmp : List ℕ → List ℕ → Ordering
 name_cmp = slice_cmp nat_cmp
 
--- by name, then by kind
+-- The order of keys: by name, then by kind.
 abbrev pub key_cmp : Key → Key → Ordering
 key_cmp a b = ordering_then (name_cmp a.name b.name) (nat_cmp (kind_place a.kind) (kind_place b.kind))
 
--- the key of the label of a name
+-- The key of a name's label.
 abbrev pub label_key : List ℕ → Key
 label_key name = record { name = name; kind = Label }

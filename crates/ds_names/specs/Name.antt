@@ -1,22 +1,23 @@
--- What a name is: 1 to 64 bytes, each an ASCII letter or digit, a dot, an underscore or a dash.
+-- Names: 1 to 64 bytes, each an ASCII letter or digit, a dot, an underscore or a dash.
 use Rattle.std.specs.Prelude.{ℕ, ◌<◌, ◌≤◌, Bool, ◌||◌, ◌&&◌, ◌==◌, nat_le, IsTrue, List, [], ◌∷◌, length}
 use Rattle.std.specs.List.{list_all}
 use Rattle.std.specs.Cmp.Lexicographic.{pointwise}
 
--- the byte is an ASCII letter or digit, `.`, `_` or `-`
+-- Whether the byte is an ASCII letter or digit, `.`, `_` or `-`.
 unfoldable pub is_name_byte : ℕ → Bool
-is_name_byte b = (nat_le 48 b && nat_le b 57) || (nat_le 65 b && nat_le b 90) || (nat_le 97 b && nat_le b 122) || b == 46 || b == 95 || b == 45
+is_name_byte b =
+    (nat_le 48 b && nat_le b 57) || (nat_le 65 b && nat_le b 90) || (nat_le 97 b && nat_le b 122) || b == 46 || b == 95 || b == 45
 
--- the bytes are a name
+-- Whether the bytes are a name.
 pub record IsName (bytes : List ℕ) : Type 0 where
   pub some : 0 < length bytes
   pub limit : length bytes ≤ 64
   pub allowed : IsTrue (list_all is_name_byte bytes)
 
--- the names are one, byte by byte
+-- Whether two names are equal, byte by byte.
 abbrev pub is_same_name : List ℕ → List ℕ → Bool
 is_same_name = pointwise ◌==◌
 
--- `rs`, the label of the reincarnation server
+-- `rs`, the label of the reincarnation server.
 abbrev pub rs_name : List ℕ
 rs_name = 114 ∷ 115 ∷ []

@@ -2,12 +2,12 @@
 use Rattle.std.specs.Bool.{IsFalse}
 use Rattle.std.specs.Prelude.{◌≡◌, ℕ, Bool, List, [], ◌∷◌, ◌++◌}
 
--- the bytes don't begin with one of the sort, so a run before them ends there
+-- Whether a run of the sort ends before these bytes: they are empty, or begin with a byte of another sort.
 abbrev pub Ends : (ℕ → Bool) → List ℕ → Type 0
 Ends sort [] = Unit {0}
 Ends sort (b ∷ bytes) = IsFalse (sort b)
 
--- the text stands at the front of the bytes, the rest comes behind it, and a run of the sort ends between them
+-- Whether the bytes are the text and then the rest, and a run of the sort ends between the two.
 pub record Begins (sort : ℕ → Bool) (bytes text rest : List ℕ) : Type 0 where
   pub parts : bytes ≡ text ++ rest
   pub ends : Ends sort rest

@@ -3,6 +3,6 @@ use Rattle.std.specs.declared.cmp.Ordering.{Ordering}
 use Rattle.std.specs.Ordering.{nat_cmp, ordering_then}
 use Rattle.ds_names.specs.declared.version.Version.{Version}
 
--- by epoch, then by sequence number
+-- By epoch, then by sequence number.
 abbrev pub version_cmp : Version → Version → Ordering
 version_cmp v w = ordering_then (nat_cmp v.epoch w.epoch) (nat_cmp v.seq w.seq)

@@ -8,11 +8,11 @@ ghost use Rattle.std.specs.Fmt.{decimal};
 ghost use Rattle.ds_names.specs.Decimal.{leading_number};
 ghost use Rattle.ds_names.specs.Run.{Begins};
 
-// The number that the digits at the front write, and how many they are. `None` where it is 2^64 or more.
+// Returns the number that the leading digits write, and their count. `None` if it is 2^64 or more.
 fn number_of(bytes: &[u8]) -> Option<(u64, usize)>
     ensures { SomeIff result (leading_number bytes.now < 2 ^ 64) (leading_number bytes.now, prefix_len is_ascii_digit bytes.now) }
 {
-    // 10^19 < 2^64, so no 19 digits write a number that is too large.
+    // 10^19 < 2^64, so no 19 digits overflow.
     let front = &bytes[..bytes.len().min(19)];
     let mut number: u64 = 0;
     for (at, b) in front.iter().enumerate() {
@@ -28,7 +28,7 @@ fn number_of(bytes: &[u8]) -> Option<(u64, usize)>
     }
 }
 
-// The same, where the digits may be more than 19: each is added with a test.
+// Like `number_of`, for any count of digits: each step is checked for overflow.
 fn long_number_of(bytes: &[u8]) -> Option<(u64, usize)>
     ensures { SomeIff result (leading_number bytes.now < 2 ^ 64) (leading_number bytes.now, prefix_len is_ascii_digit bytes.now) }
 {
@@ -42,7 +42,7 @@ fn long_number_of(bytes: &[u8]) -> Option<(u64, usize)>
     Some((number, bytes.len()))
 }
 
-// The number below 2^64 at the front, written without leading zeros, and what comes behind its digits.
+// Returns the number below 2^64 at the front, written without leading zeros, and the rest after its digits.
 fn any_decimal(bytes: &[u8]) -> Option<(u64, &[u8])>
     ensures found { IfSome result (λ r. Begins is_ascii_digit bytes.now (decimal r.0) r.1.now) }
     ensures limit { IfSome result (λ r. r.0 < 2 ^ 64) }
@@ -56,10 +56,10 @@ fn any_decimal(bytes: &[u8]) -> Option<(u64, &[u8])>
     Some((number, rest))
 }
 
-/// Reads the decimal number at the front, and gives it with what comes behind its digits.
+/// Reads the decimal number at the front, and returns it with the rest after its digits.
 ///
-/// A number is the longest run of digits at the front, written without leading zeros. `None` where there
-/// is no such number of at most `most`.
+/// The number is the longest run of digits, without leading zeros. `None` if there is no such number of at most
+/// `most`.
 pub fn read_decimal(bytes: &[u8], most: u64) -> Option<(u64, &[u8])>
     ensures found { IfSome result (λ r. Begins is_ascii_digit bytes.now (decimal r.0) r.1.now) }
     ensures limit { IfSome result (λ r. r.0 ≤ most) }
@@ -72,8 +72,7 @@ pub fn read_decimal(bytes: &[u8], most: u64) -> Option<(u64, &[u8])>
     Some((number, rest))
 }
 
-/// Reads one given byte at the front, and gives what comes behind it. `None` where another byte or none
-/// stands there.
+/// Reads the given byte at the front, and returns the rest. `None` if the bytes don't begin with it.
 pub fn read_byte(bytes: &[u8], byte: u8) -> Option<&[u8]>
     ensures found { IfSome result (λ rest. bytes.now ≡ byte ∷ rest.now) }
     ensures none { IfNone result ((rest : List ℕ) → bytes.now ≢ byte ∷ rest) }

@@ -13,10 +13,10 @@ use std::alloc::Global;
 use std::marker::Model;
 use thiserror::Error;
 
-/// How many processes a slot had before this one, 0 to 2097151.
+/// The number of a process among all that RS started, 0 to 2097151.
 ///
-/// MINIX 3 puts the generation of a slot into its endpoint, so that the endpoint of a dead process is
-/// never taken for the one of its successor. The range is of this project.
+/// In MINIX 3 an endpoint has a generation, so the endpoint of a dead process is never taken for its successor's. The
+/// range is this project's.
 #[derive(Clone, Copy, Debug, PartialEq, Eq, PartialOrd, Ord)]
 pub struct Generation {
     number: u32,
@@ -35,7 +35,7 @@ impl Model for Generation {
 }
 
 impl Generation {
-    /// The generation of a number, 0 to 2097151. `None` above.
+    /// Returns the generation with this number, 0 to 2097151. `None` if it is greater.
     pub fn of(number: u32) -> Option<Generation>
         ensures { SomeIff result (number ≤ 2097151) number }
     {
@@ -46,7 +46,7 @@ impl Generation {
         }
     }
 
-    /// Its number, 0 to 2097151.
+    /// Returns its number, 0 to 2097151.
     pub fn number(self) -> u32
         ensures value { result ≡ self }
         ensures limit { result ≤ 2097151 }
@@ -55,12 +55,12 @@ impl Generation {
     }
 }
 
-/// Why bytes are no endpoint: they aren't the text of one.
+/// Why bytes aren't an endpoint: they aren't `generation/slot`.
 #[derive(Clone, Copy, Debug, PartialEq, Eq, Error)]
 #[error("an endpoint is written as generation/slot")]
 pub struct BadEndpoint;
 
-/// A process: its slot and the slot's generation, as MINIX 3's endpoints are.
+/// A process: a generation and a slot, as in MINIX 3's endpoints.
 #[derive(Clone, Copy, Debug, PartialEq, Eq)]
 pub struct Endpoint {
     generation: Generation,
@@ -81,7 +81,7 @@ impl Model for Endpoint {
 }
 
 impl Endpoint {
-    /// The endpoint of a generation and a slot, 0 to 1023. `None` for a greater slot.
+    /// Returns the endpoint of a generation and a slot, 0 to 1023. `None` for a greater slot.
     pub fn of(generation: Generation, slot: u16) -> Option<Endpoint>
         ensures { SomeIff result (slot ≤ 1023) (endpoint_of generation slot) }
     {
@@ -93,7 +93,7 @@ impl Endpoint {
         }
     }
 
-    /// The endpoint of RS, the reincarnation server: `0/2`.
+    /// Returns the endpoint of RS, the reincarnation server: `0/2`.
     pub fn rs() -> Endpoint
         ensures { result ≡ endpoint_of 0 2 }
     {
@@ -103,14 +103,14 @@ impl Endpoint {
         }
     }
 
-    /// Whether it is that of RS.
+    /// Whether it is the endpoint of RS.
     pub fn is_rs(self) -> bool
         ensures { result ≡ is_rs self }
     {
         self == Endpoint::rs()
     }
 
-    /// Its generation.
+    /// Returns its generation.
     pub fn generation(self) -> Generation
         ensures value { result ≡ self.generation }
         ensures valid { IsEndpoint self }
@@ -118,7 +118,7 @@ impl Endpoint {
         self.generation
     }
 
-    /// Its slot, 0 to 1023.
+    /// Returns its slot, 0 to 1023.
     pub fn slot(self) -> u16
         ensures value { result ≡ self.slot }
         ensures valid { IsEndpoint self }
@@ -126,7 +126,7 @@ impl Endpoint {
         self.slot
     }
 
-    /// Reads the text `generation/slot` of an endpoint. BadEndpoint unless the bytes are just that.
+    /// Reads the text `generation/slot` of an endpoint. Refuses any other bytes as BadEndpoint.
     pub fn read(bytes: &[u8]) -> Result<Endpoint, BadEndpoint>
         ensures found { IfOk result (λ e. IsEndpoint e × (bytes.now ≡ endpoint_text e)) }
         ensures none { OnErr result ((e : EndpointRecord) → IsEndpoint e → bytes.now ≢ endpoint_text e) }
@@ -141,7 +141,7 @@ impl Endpoint {
         Ok(Endpoint { generation, slot })
     }
 
-    /// Its text, `generation/slot` in decimals without leading zeros, which `Endpoint::read` reads back.
+    /// Prints `generation/slot`, in decimals without leading zeros. `Endpoint::read` reads it back.
     pub fn print(self, alloc: Global) -> Result<String, NoRoom>
         ensures { IfOk result (λ text. string_bytes text ≡ endpoint_text self) }
     {
@@ -151,9 +151,9 @@ impl Endpoint {
     }
 }
 
-/// Reads the text of an endpoint at the front, and gives its generation, its slot and what comes behind it.
+/// Reads the text of an endpoint at the front, and returns its generation, its slot and the rest.
 ///
-/// `None` where no text of an endpoint stands there, its slot the longest run of digits.
+/// The slot is the longest run of digits. `None` if the bytes don't begin with an endpoint.
 pub fn read_endpoint(bytes: &[u8]) -> Option<(u32, u16, &[u8])>
     ensures found { IfSome result (λ r. Begins is_ascii_digit bytes.now (endpoint_text (endpoint_of r.0 r.1)) r.2.now) }
     ensures valid { IfSome result (λ r. IsEndpoint (endpoint_of r.0 r.1)) }
@@ -165,7 +165,7 @@ pub fn read_endpoint(bytes: &[u8]) -> Option<(u32, u16, &[u8])>
     Some((generation as u32, slot as u16, rest))
 }
 
-/// The law of endpoints' texts: no two endpoints have the same one.
+/// A law: no two endpoints have the same text.
 pub fn endpoints_have_one_text()
     ensures { (a b : EndpointRecord) → IsEndpoint a → IsEndpoint b → endpoint_text a ≡ endpoint_text b → a ≡ b }
 {}

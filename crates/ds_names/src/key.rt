@@ -9,10 +9,10 @@ use crate::kind::Kind;
 use crate::name::Name;
 use std::cmp::Ordering;
 
-/// What an entry is found by: its name and its kind together.
+/// The key of an entry: its name and its kind.
 ///
-/// MINIX 3's DS finds an entry by name and type; the order, by the bytes of the name and then by kind, is
-/// of this project.
+/// MINIX 3's DS finds an entry by name and type. The order, by the bytes of the name and then by kind, is this
+/// project's.
 #[derive(Clone, Copy, Debug, PartialEq, Eq, PartialOrd, Ord)]
 pub struct Key {
     pub name: Name,
@@ -20,7 +20,7 @@ pub struct Key {
 }
 
 impl Key {
-    /// How this key stands to another: name bytes first, then kind.
+    /// Compares two keys: first the bytes of the names, then the kinds.
     pub fn compare(&self, other: &Key) -> Ordering
         ensures { result ≡ key_cmp self.now other.now }
     {
@@ -28,7 +28,7 @@ impl Key {
     }
 }
 
-/// The law of keys: they have a total order, and two that compare alike are one key.
+/// A law: keys have a total order, and two keys that compare equal are equal.
 pub fn keys_are_ordered()
     ensures total { IsTotalOrder key_cmp }
     ensures exact { (a b : Key) → key_cmp a b ≡ Equal → a ≡ b }

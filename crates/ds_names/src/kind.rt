@@ -1,4 +1,4 @@
-//! Kinds of entries, and sets of them.
+//! Kinds of entries, and sets of kinds.
 
 ghost use Rattle.std.specs.Prelude.{◌≡◌, ℕ, ◌<◌, ◌≤◌, ◌↔◌, IsTrue, length};
 ghost use Rattle.std.specs.Bool.{◌==◌};
@@ -14,9 +14,9 @@ ghost use Rattle.ds_names.specs.declared.kind.Kind.{Kind};
 use std::cmp::Ordering;
 use std::marker::Model;
 
-/// The type of an entry's value, in the order of the variants.
+/// The type of an entry's value. Kinds are ordered as their variants are.
 ///
-/// MINIX 3's DS has labels, 32-bit unsigned numbers, strings and memory among its types.
+/// MINIX 3's DS has labels, unsigned 32-bit numbers, strings and memory among its types.
 #[derive(Clone, Copy, Debug)]
 pub enum Kind {
     Label,
@@ -26,7 +26,7 @@ pub enum Kind {
 }
 
 impl Kind {
-    /// Whether it is that of labels.
+    /// Whether it is the kind of labels.
     pub fn is_label(self) -> bool
         ensures value { result ≡ is_label self }
         ensures label { IsTrue result ↔ (self ≡ Kind.Label) }
@@ -37,7 +37,7 @@ impl Kind {
         }
     }
 
-    // Its place in the order of kinds.
+    // Returns its index in the order of kinds.
     fn place(self) -> u8
         ensures { result ≡ kind_place self }
     {
@@ -88,7 +88,7 @@ impl PartialOrd for Kind {
     }
 }
 
-/// At least one kind, as a mask (of this project): the sum of 1, 2, 4 and 8 for label, u32, str and mem.
+/// A set of at least one kind, as a mask (of this project): the sum of 1, 2, 4 and 8 for label, u32, str and mem.
 #[derive(Clone, Copy, Debug, PartialEq, Eq)]
 pub struct Kinds {
     mask: u8,
@@ -107,7 +107,7 @@ impl Model for Kinds {
 }
 
 impl Kinds {
-    /// The kinds that a mask of 1 to 15 names. `None` for another number.
+    /// Returns the kinds of a mask, 1 to 15. `None` for any other number.
     pub fn of(mask: u8) -> Option<Kinds>
         ensures { SomeIff result ((0 < mask) × (mask ≤ 15)) mask }
     {
@@ -118,7 +118,7 @@ impl Kinds {
         }
     }
 
-    /// Whether a kind is one of them.
+    /// Whether the kind is in the set.
     pub fn has(self, kind: Kind) -> bool
         ensures { result ≡ names_kind self kind }
     {

@@ -1,18 +1,18 @@
-//! The numbers that bound what a store does, whatever its limits are (of this project).
+//! The numbers that bound every store, whatever its own limits are (of this project).
 
 /// The greatest generation.
 pub const LAST_GENERATION: u32 = 2097151;
 
-/// The most items of one Merge, and of one Check, Since or Page.
+/// The most items of a Merge, a Check, a Since or a Page.
 pub const MOST_ITEMS: usize = 256;
 
 /// The most floors that are held.
 pub const MOST_FLOORS: usize = 64;
 
-/// The sequence number that no caller uses.
+/// The last sequence number, which no caller uses.
 pub const LAST_SEQ: u32 = u32::MAX;
 
-/// The most that positions and stamps reach.
+/// The greatest position, and the greatest stamp.
 pub const LAST_PLACE: u64 = 1 << 62;
 
 /// The most items that the ring of a journal keeps.

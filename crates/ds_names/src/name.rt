@@ -20,7 +20,7 @@ use std::cmp::Ordering;
 use std::marker::Model;
 use thiserror::Error;
 
-/// Why bytes are no name.
+/// Why bytes aren't a name.
 #[derive(Clone, Copy, Debug, PartialEq, Eq, Error)]
 pub enum NameFault {
     /// They aren't 1 to 64 bytes, each an ASCII letter or digit, `.`, `_` or `-`.
@@ -30,8 +30,8 @@ pub enum NameFault {
 
 /// The name of an entry or of its owner: 1 to 64 bytes, each an ASCII letter or digit, `.`, `_` or `-`.
 ///
-/// MINIX 3's DS keeps entries under such names, and RS calls each service by its label; the alphabet and
-/// the length are of this project. A name is held in place and takes no memory.
+/// MINIX 3's DS keeps entries under names, and RS calls each service by its label. The alphabet and the length are
+/// this project's. A name is kept in place and allocates nothing.
 #[derive(Clone, Copy, Debug)]
 pub struct Name {
     block: [u8; 64],
@@ -54,7 +54,7 @@ impl Model for Name {
     ghost inverse_ok = { λ a h. block_of-name_of a h };
 }
 
-// Each byte that a name may hold stands at its own place, and a comma at every other place.
+// Each byte that a name may hold is at its own index; a comma fills the rest.
 static NAME_BYTES: [u8; 256] = *b"\
     ,,,,,,,,,,,,,,,,,,,,,,,,,,,,,,,,\
     ,,,,,,,,,,,,,-.,0123456789,,,,,,\
@@ -74,7 +74,7 @@ pub fn is_name_byte(b: u8) -> bool
 }
 
 impl Name {
-    /// Reads the name that the bytes are. BadName unless they are one.
+    /// Reads bytes that are a name. Refuses others as BadName.
     pub fn read(bytes: &[u8]) -> Result<Name, NameFault>
         ensures { OkIff result (IsName bytes.now) bytes.now }
     {
@@ -84,7 +84,7 @@ impl Name {
         }
     }
 
-    /// Reads the name at the front, which is the longest run of name bytes. `None` where that run is no name.
+    /// Reads the name at the front, which is the longest run of name bytes. `None` if that run is empty or too long.
     pub fn front(bytes: &[u8]) -> Option<Name>
         ensures found { IfSome result (λ name. Begins is_name_byte bytes.now name (drop (length name) bytes.now)) }
         ensures name { IfSome result IsName }
@@ -101,8 +101,9 @@ impl Name {
         })
     }
 
-    /// Reads the name at the front into this place, which is written once, and gives what comes behind the name. `None` where
-    /// `front` finds none; this is some other name then.
+    /// Reads the name at the front into `self`, and returns the rest after it. The name is written once.
+    ///
+    /// `None` where `front` returns none; `self` is some other name then.
     #[inline(always)]
     pub fn read_front<'a>(&mut self, bytes: &'a [u8]) -> Option<&'a [u8]>
         ensures found { IfSome result (λ rest. Begins is_name_byte bytes.now self.new rest.now) }
@@ -124,7 +125,7 @@ impl Name {
         }
     }
 
-    /// `rs`, the label of RS, the reincarnation server.
+    /// Returns `rs`, the label of RS, the reincarnation server.
     pub fn rs() -> Name
         ensures { result ≡ rs_name }
     {
@@ -134,7 +135,7 @@ impl Name {
         }
     }
 
-    /// Whether it is RS's.
+    /// Whether it is RS's label.
     pub fn is_rs(&self) -> bool
         ensures value { result ≡ is_same_name self.now rs_name }
         ensures same { IsTrue result ↔ (self.now ≡ rs_name) }
@@ -143,7 +144,7 @@ impl Name {
         self.bytes() == b"rs".as_slice()
     }
 
-    /// The bytes of the name, 1 to 64 of them.
+    /// Returns its bytes, 1 to 64 of them.
     pub fn bytes(&self) -> &[u8]
         ensures value { result.now ≡ self.now }
         ensures name { IsName self.now }
@@ -152,8 +153,7 @@ impl Name {
     }
 }
 
-// Writes the name bytes at the front into a block of zeros, and gives how many they are. `None` where they are more than
-// the block takes.
+// Copies the leading name bytes into a block of zeros, and returns their count. `None` if they don't fit.
 #[inline(always)]
 fn fill(block: &mut [u8; 64], bytes: &[u8]) -> Option<usize>
     requires { block.old ≡ replicate 64 0 }
@@ -172,8 +172,8 @@ fn fill(block: &mut [u8; 64], bytes: &[u8]) -> Option<usize>
     Some(bytes.len())
 }
 
-// How the blocks of two names stand to each other, byte by byte. Eight bytes are compared at a time, as a number. No name
-// has a zero byte, so the zeros behind it change nothing.
+// Compares the blocks of two names, eight bytes at a time, as numbers. No name has a zero byte, so the padding
+// doesn't change the order.
 #[inline]
 fn block_order(mine: &[u8; 64], theirs: &[u8; 64]) -> Ordering
     ensures { result ≡ slice_cmp nat_cmp mine.now theirs.now }
@@ -187,7 +187,7 @@ fn block_order(mine: &[u8; 64], theirs: &[u8; 64]) -> Ordering
     Ordering::Equal
 }
 
-// The number that the eight bytes of this place spell, the highest first.
+// Returns eight bytes of the block as a number, big endian: those from `8 * at` on.
 #[inline(always)]
 fn word_at(block: &[u8; 64], at: usize) -> u64
     requires { at < 8 }

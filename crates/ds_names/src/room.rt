@@ -1,9 +1,9 @@
-//! Want of memory.
+//! The error of a failed allocation.
 
 use std::alloc::{AllocError, AllocFailed};
 use thiserror::Error;
 
-/// Want of memory: a growth was refused. Every crate of this project answers it by this one type.
+/// Out of memory: an allocation was refused. All crates of this project use this one type.
 #[derive(Clone, Copy, Debug, PartialEq, Eq, Error)]
 #[error("out of memory")]
 pub struct NoRoom;

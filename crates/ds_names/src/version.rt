@@ -8,10 +8,10 @@ ghost use Rattle.ds_names.specs.Version.{version_cmp};
 use crate::endpoint::Generation;
 use std::cmp::Ordering;
 
-/// The version of a change (of this project): the greater one of two stands.
+/// The version of a change (of this project): of two changes of one key, the greater version wins.
 ///
-/// Versions are compared by epoch, which is the generation of the process that publishes, and within an
-/// epoch by sequence number, 0 to 4294967295.
+/// Versions are compared by epoch, the generation of the process that made the change, and within an epoch by
+/// sequence number, 0 to 4294967295.
 #[derive(Clone, Copy, Debug, PartialEq, Eq, PartialOrd, Ord)]
 pub struct Version {
     pub epoch: Generation,
@@ -19,7 +19,7 @@ pub struct Version {
 }
 
 impl Version {
-    /// How this version stands to another: epoch first, then sequence number.
+    /// Compares two versions: first the epochs, then the sequence numbers.
     pub fn compare(&self, other: &Version) -> Ordering
         ensures { result ≡ version_cmp self.now other.now }
     {
@@ -27,7 +27,7 @@ impl Version {
     }
 }
 
-/// The law of versions: they have a total order, and two that compare alike are one version.
+/// A law: versions have a total order, and two versions that compare equal are equal.
 pub fn versions_are_ordered()
     ensures total { IsTotalOrder version_cmp }
     ensures exact { (v w : Version) → version_cmp v w ≡ Equal → v ≡ w }

@@ -1,4 +1,4 @@
--- The names of a change, put behind bytes.
+-- The names of a change, appended to bytes.
 use Rattle.std.proofs.Common.{◌≡◌, ℕ, ◌+◌, ◌≤◌, ◌==◌, true, List, [], ◌++◌, length, take, drop, refl, sym, ap, ◌∙◌, arith, append_assoc, append-nil}
 use Rattle.std.specs.List.{starts_with}
 use Rattle.std.proofs.Math.Nat.{max-eq_left, max-eq_right}
@@ -26,7 +26,7 @@ module _ (change : ChangeRecord) (old new : List ℕ) (n o : ℕ) (n_is : n ≡ 
         owner_is = ap (take o) front ∙ take_at change.owner (drop (length change.owner) name) o (sym o_is);
       }
 
-  -- the owner's name stands behind the key's
+  -- The owner's name comes after the key's.
   pub behind : new ≡ (old ++ name) ++ change.owner → AddsNames change (record { name = n; owner_from = n; owner = o }) old new
   behind e =
       let more : n ≤ n + o = omega arith in

@@ -1,4 +1,4 @@
--- What holds of the items of rows.
+-- Facts about the items of rows.
 use Rattle.std.proofs.Common.{◌≡◌, length, ℕ, ◌+◌, ◌≤◌, List, [], ◌∷◌, ◌++◌, take, drop, refl, sym, ap, ◌∙◌, subst, arith, zero, suc}
 use Rattle.std.proofs.Math.Nat.{le-max_left, le-max_right}
 use Rattle.std.proofs.lemmas.List.{take-append-le, drop-append-le, length-drop, length-append, nil_from_length}
@@ -36,7 +36,7 @@ first_rows zero names rs h = tt
 first_rows (suc n) names [] h = tt
 first_rows (suc n) names (r ∷ rs) h = (h.0, h.1, first_rows n (drop (row_length r) names) rs h.2)
 
--- those behind the first
+-- The rows after the first.
 rows_behind : (names : List ℕ) (r : Row) (rs : List Row) → AreRows names (r ∷ rs) → AreRows (drop (row_length r) names) rs
 rows_behind names r rs h = record {
   there = h.there.2;
@@ -44,7 +44,7 @@ rows_behind names r rs h = record {
 }
 
 -- ---- one row more
--- what stands behind a change's names isn't looked at
+-- Bytes after a change's names aren't looked at.
 named_front : (names more : List ℕ) (place : Names) (kind : Kind) (version : Version) (body : Body) → names_length place ≤ length names → named (names ++ more) place kind version body ≡ named names place kind version body
 named_front names more place kind version body l =
     let at : place.owner_from + place.owner ≤ length names = omega (arith, l, le-max_right place.name (place.owner_from + place.owner)) in
@@ -53,7 +53,7 @@ named_front names more place kind version body l =
     ∙ ap (λ o. change_of (record { name = key_name_in names place; kind = kind }) o version body)
     (ap (take place.owner) (drop-append-le place.owner_from names more (omega (arith, at))) ∙ take-append-le place.owner (drop place.owner_from names) more (omega (arith, at, length-drop place.owner_from names)))
 
--- nor behind a row's
+-- Nor are those after a row's.
 row_item_front : (names more : List ℕ) (r : Row) → row_length r ≤ length names → row_item (names ++ more) r ≡ row_item names r
 row_item_front names more (rows.Label name slot generation) l = ap (λ n. Changed (labelled n (endpoint_of generation slot))) (take-append-le name names more l)
 row_item_front names more (rows.U32 place version number) l = ap Changed (named_front names more place kinds.U32 version _ l)

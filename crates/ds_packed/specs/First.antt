@@ -1,7 +1,7 @@
--- The first of some items.
+-- The first items of a list.
 use Rattle.std.specs.Prelude.{◌≡◌, ℕ, ◌≤◌, List, length, take}
 use Rattle.ds_entry.specs.declared.item.Item.{Item}
 
--- so many of the items, from the first on, and there are as many
+-- Whether these are the first `count` of the items, of which there are at least `count`.
 abbrev pub AreFirstItems : ℕ → List Item → List Item → Type 0
 AreFirstItems count items first = (first ≡ take count items) × (count ≤ length items)

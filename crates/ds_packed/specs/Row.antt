@@ -1,4 +1,4 @@
--- What a row stands for, with the bytes of its names.
+-- The item that a row stands for, with the bytes of its names.
 use Rattle.std.specs.Prelude.{◌≡◌, ℕ, List, ◌++◌, length, take}
 use Rattle.ds_names.specs.Endpoint.{EndpointRecord, endpoint_of}
 use Rattle.ds_names.specs.Key.{label_key}
@@ -18,29 +18,29 @@ use Rattle.ds_packed.specs.declared.names.Names.{Names}
 use Rattle.ds_packed.specs.declared.row.Row.{Row}
 use Rattle.ds_packed.specs.declared.row.Row.TheVariants as rows
 
--- the change whose names stand at the front of the bytes
+-- The change whose names are at the front of the bytes.
 abbrev pub named : List ℕ → Names → Kind → Version → Body → ChangeRecord
 named bytes place kind version body = change_of (record { name = key_name_in bytes place; kind = kind }) (owner_in bytes place) version body
 
--- the label of the name that stands for the endpoint: `rs` owns it, and put it in the endpoint's generation
+-- The label of a name and an endpoint: owned by `rs`, with number 0 in the endpoint's generation.
 abbrev pub labelled : List ℕ → EndpointRecord → ChangeRecord
 labelled name e = change_of (label_key name) rs_name (record { epoch = e.generation; seq = 0 }) (bodies.Put (values.Label e))
 
--- how many bytes are kept of its names
+-- The count of bytes that are kept of its names.
 abbrev pub row_length : Row → ℕ
 row_length (rows.Label name slot generation) = name
 row_length (rows.U32 place version number) = names_length place
 row_length (rows.Gone place version kind) = names_length place
 row_length (rows.Floor owner generation) = owner
 
--- the item whose names stand at the front of the bytes
+-- The item whose names are at the front of the bytes.
 abbrev pub row_item : List ℕ → Row → Item
 row_item names (rows.Label name slot generation) = Changed (labelled (take name names) (endpoint_of generation slot))
 row_item names (rows.U32 place version number) = Changed (named names place kinds.U32 version (bodies.Put (values.U32 number)))
 row_item names (rows.Gone place version kind) = Changed (named names place kind version bodies.Gone)
 row_item names (rows.Floor owner generation) = Floored (floor_of (take owner names) generation)
 
--- the row is the item's, and its names were put behind the bytes
+-- Whether the row is the item's, and its names are appended to the bytes.
 pub record AddsRow (item : Item) (row : Row) (old new : List ℕ) : Type 0 where
   pub names : List ℕ
   pub added : new ≡ old ++ names

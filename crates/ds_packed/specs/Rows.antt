@@ -6,18 +6,18 @@ use Rattle.ds_entry.specs.declared.item.Item.{Item}
 use Rattle.ds_packed.specs.declared.row.Row.{Row}
 use Rattle.ds_packed.specs.Row.{row_item, row_length}
 
--- the items of rows, whose names stand one behind the other
+-- The items of rows whose names follow each other.
 abbrev pub unpacked : List ℕ → List Row → List Item
 unpacked names [] = []
 unpacked names (row ∷ rows) = row_item names row ∷ unpacked (drop (row_length row) names) rows
 
--- each row has its names among the bytes, and is an item's
+-- Whether each row has its names among the bytes, and is an item's.
 abbrev pub HasRows : List ℕ → List Row → Type 0
 HasRows names [] = Unit {0}
 HasRows names (row ∷ rows) =
     (row_length row ≤ length names) × IsItem (row_item names row) × HasRows (drop (row_length row) names) rows
 
--- and there are no other bytes
+-- Whether the bytes are exactly the names of the rows.
 pub record AreRows (names : List ℕ) (rows : List Row) : Type 0 where
   pub there : HasRows names rows
   pub whole : length names ≡ sum_by row_length rows

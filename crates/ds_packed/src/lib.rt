@@ -1,5 +1,6 @@
-//! Lists of items in little room, of this project: those of which none is a text or memory. An item takes the bytes of its names and
-//! a row of numbers, where one of its own has room for the longest names.
+//! Lists of items without texts and memory, packed (of this project).
+//!
+//! An item takes the bytes of its names and a row of numbers; an `Item` itself has room for the longest names.
 #![tactic(auto)]
 
 mod names;

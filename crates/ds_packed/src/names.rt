@@ -1,4 +1,4 @@
-//! Where the names of a change stand, among the bytes of names.
+//! Where the names of a change are, among the bytes of names.
 
 ghost use Rattle.std.specs.Prelude.{◌≡◌, ◌≤◌, length, IfSome};
 ghost use Rattle.ds_entry.specs.Change.{IsChange};
@@ -8,8 +8,8 @@ ghost use Rattle.ds_packed.specs.Names.{names_length, key_name_in, owner_in, Add
 use ds_entry::Change;
 use ds_names::Name;
 
-/// How many of the bytes at the front are the name of a change's key, and from where on how many are its owner's. Mostly a key's name
-/// begins with its owner's, which then isn't kept a second time; else it stands behind the key's.
+/// Where a change's names are: the key's at the front, and the owner's from an index on. A key's name mostly begins
+/// with its owner's, which then isn't kept twice; otherwise the owner's comes after it.
 #[derive(Clone, Copy)]
 pub(crate) struct Names {
     name: u8,
@@ -18,14 +18,14 @@ pub(crate) struct Names {
 }
 
 impl Names {
-    // How many bytes are kept.
+    // Returns how many bytes are kept.
     pub(crate) fn length(self) -> usize
         ensures { result ≡ names_length self }
     {
         usize::from(self.name).max(usize::from(self.owner_from) + usize::from(self.owner))
     }
 
-    // The name of the key.
+    // Returns the name of the key.
     pub(crate) fn key_name_in(self, names: &[u8]) -> &[u8]
         requires { names_length self ≤ length names.now }
         ensures { result.now ≡ key_name_in names.now self }
@@ -33,7 +33,7 @@ impl Names {
         &names[..usize::from(self.name)]
     }
 
-    // The name of the owner.
+    // Returns the name of the owner.
     pub(crate) fn owner_in(self, names: &[u8]) -> &[u8]
         requires { names_length self ≤ length names.now }
         ensures { result.now ≡ owner_in names.now self }
@@ -42,7 +42,7 @@ impl Names {
     }
 }
 
-// Puts the names of a change behind the bytes. `None` where there is no room.
+// Appends the names of a change to the bytes. `None` if memory runs out.
 #[inline(always)]
 pub(crate) fn add_names(change: &Change, names: &mut Vec<u8>) -> Option<Names>
     ensures added { IfSome result (λ place. AddsNames change.now place names.old.items names.new.items) }
@@ -66,7 +66,7 @@ pub(crate) fn add_names(change: &Change, names: &mut Vec<u8>) -> Option<Names>
     })
 }
 
-// The name that the bytes are.
+// Returns the name that the bytes are.
 pub(crate) fn name_of(bytes: &[u8]) -> Name
     requires { IsName bytes.now }
     ensures { result ≡ bytes.now }

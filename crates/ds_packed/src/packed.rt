@@ -1,4 +1,4 @@
-//! Lists.
+//! Packed lists.
 
 ghost use Rattle.std.specs.Prelude.{◌≡◌, ◌++◌, ◌∷◌, [], IfSome};
 
@@ -27,7 +27,7 @@ impl Model for Packed {
     ghost invariant = { λ p. AreRows p.names.items p.rows.items };
 }
 
-// How many bytes the names of the items have: as many as are kept of them, or more.
+// Returns the total length of the items' names: at least what is kept of them.
 fn names_length(items: &[Item]) -> usize {
     let mut length: usize = 0;
     for item in items {
@@ -43,7 +43,7 @@ fn names_length(items: &[Item]) -> usize {
 }
 
 impl Packed {
-    // No items, with room for so many, and for so many bytes of their names.
+    // Returns an empty list with capacity for `items` items and `names` bytes of their names.
     fn with_room(alloc: Global, items: usize, names: usize) -> Option<Packed>
         ensures { IfSome result (λ packed. packed ≡ []) }
     {
@@ -53,7 +53,7 @@ impl Packed {
         })
     }
 
-    /// The items. `None` where one of them is a text or memory, and where there is no room for them.
+    /// Packs the items. `None` if one of them is a text or memory, or if memory runs out.
     pub fn of(alloc: Global, items: &[Item]) -> Option<Packed>
         ensures { IfSome result (λ packed. packed ≡ items.now) }
     {
@@ -65,7 +65,7 @@ impl Packed {
         Some(packed)
     }
 
-    // The items, and one more behind them. `None` where it is a text or memory, and where there is no room for it.
+    // Appends an item. `None` if it is a text or memory, or if memory runs out.
     #[tactic(auto, using(crate::proofs::RowsLemmas::rows_push))]
     fn with(self, item: &Item) -> Option<Packed>
         ensures { IfSome result (λ packed. packed ≡ self ++ item.now ∷ []) }
@@ -79,7 +79,7 @@ impl Packed {
         Some(Packed { rows, names })
     }
 
-    /// The items from the first one on.
+    /// Returns the items, from the first one on.
     pub fn items(&self) -> Unpacking<'_>
         ensures { result ≡ self.now }
     {

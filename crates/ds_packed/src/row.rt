@@ -1,4 +1,4 @@
-//! Rows, of what an item says beside its names.
+//! Rows: what an item holds besides its names.
 
 ghost use Rattle.std.specs.Prelude.{◌≡◌, ◌≤◌, length, IfSome};
 ghost use Rattle.ds_entry.specs.Change.{IsChange};
@@ -13,10 +13,11 @@ use crate::names::{Names, add_names, name_of};
 use ds_entry::{Body, Change, Floor, Item, Value};
 use ds_names::{Endpoint, Generation, Key, Kind, Name, Version};
 
-/// What an item says beside its names, and where they stand. A change is a label, a number, or the tombstone of any kind.
+/// What an item holds besides its names, and where they are. A change is a label, a number, or a tombstone of any
+/// kind.
 #[derive(Clone, Copy)]
 pub(crate) enum Row {
-    /// A label is owned by `rs`, whose name isn't kept, and its version is numbered 0, in the generation of its endpoint.
+    /// A label. Its owner is always `rs`, which isn't kept, and its version is number 0 in its endpoint's generation.
     Label {
         name: u8,
         slot: u16,
@@ -39,7 +40,8 @@ pub(crate) enum Row {
 }
 
 impl Row {
-    // The row of an item, whose names are put behind the bytes. `None` where it is a text or memory, or there is no room.
+    // Returns the row of an item, and appends its names to the bytes. `None` if it is a text or memory, or if memory
+    // runs out.
     #[inline(always)]
     pub(crate) fn of(item: &Item, names: &mut Vec<u8>) -> Option<Row>
         ensures row { IfSome result (λ row. AddsRow item.now row names.old.items names.new.items) }
@@ -60,7 +62,7 @@ impl Row {
         }
     }
 
-    // The row of a change.
+    // Returns the row of a change.
     #[inline(always)]
     fn of_change(change: &Change, names: &mut Vec<u8>) -> Option<Row>
         ensures row { IfSome result (λ row. AddsRow (Changed change.now) row names.old.items names.new.items) }
@@ -91,7 +93,7 @@ impl Row {
         }
     }
 
-    // The item of a row whose names stand at the front of the bytes.
+    // Returns the item of a row whose names are at the front of the bytes.
     pub(crate) fn item(self, names: &[u8]) -> Item
         requires within { row_length self ≤ length names.now }
         requires item { IsItem (row_item names.now self) }
@@ -126,7 +128,7 @@ impl Row {
         }
     }
 
-    // How many bytes are kept of its names.
+    // Returns how many bytes of its names are kept.
     pub(crate) fn length(self) -> usize
         ensures { result ≡ row_length self }
     {
@@ -138,7 +140,7 @@ impl Row {
     }
 }
 
-// The label of the name that stands for the endpoint.
+// Builds the label of a name and an endpoint.
 fn label_of(name: Name, endpoint: Endpoint) -> Item
     requires { IsChange (labelled name endpoint) }
     ensures { result ≡ Changed (labelled name endpoint) }
@@ -155,7 +157,7 @@ fn label_of(name: Name, endpoint: Endpoint) -> Item
     Item::Change(Change::from_parts(key, Name::rs(), version, body))
 }
 
-// The change whose names stand at the front of the bytes.
+// Builds the change whose names are at the front of the bytes.
 fn change_of(names: &[u8], place: Names, kind: Kind, version: Version, body: Body) -> Item
     requires within { names_length place ≤ length names.now }
     requires change { IsChange (named names.now place kind version body) }
@@ -169,7 +171,7 @@ fn change_of(names: &[u8], place: Names, kind: Kind, version: Version, body: Bod
     Item::Change(Change::from_parts(key, owner, version, body))
 }
 
-// The endpoint of a generation and a slot.
+// Returns the endpoint of a generation and a slot.
 fn endpoint_of(generation: Generation, slot: u16) -> Endpoint
     requires { slot ≤ 1023 }
     ensures { result ≡ endpoint_of generation slot }

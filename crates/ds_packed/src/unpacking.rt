@@ -1,4 +1,4 @@
-//! Lists, item by item.
+//! Reading a packed list item by item.
 
 ghost use Rattle.std.specs.Prelude.{◌≡◌, ◌<◌, ◌∷◌, [], length, IfNone, IfSome};
 ghost use Rattle.ds_entry.specs.Item.{IsItem};
@@ -9,7 +9,7 @@ use crate::row::Row;
 use ds_entry::Item;
 use std::marker::Model;
 
-/// Items of a list that are left to be given. That takes no memory.
+/// The items of a list that are left to read. Reading allocates nothing.
 #[derive(Drop)]
 pub struct Unpacking<'a> {
     rows: &'a [Row],
@@ -29,7 +29,7 @@ impl<'a> Model for Unpacking<'a> {
 }
 
 impl<'a> Unpacking<'a> {
-    // The items of rows.
+    // Returns the items of rows.
     pub(crate) fn new(rows: &'a [Row], names: &'a [u8]) -> Unpacking<'a>
         requires { HasRows names.now rows.now }
         ensures { result ≡ unpacked names.now rows.now }
@@ -37,7 +37,7 @@ impl<'a> Unpacking<'a> {
         Unpacking { rows, names }
     }
 
-    /// How many they are.
+    /// Returns how many items are left.
     #[tactic(auto, using(crate::proofs::RowsLemmas::unpacked_length))]
     pub fn len(&self) -> usize
         ensures { result ≡ length self.now }
@@ -45,7 +45,7 @@ impl<'a> Unpacking<'a> {
         self.rows.len()
     }
 
-    /// So many of the first. `None` where there are fewer.
+    /// Returns the first `count` items. `None` if fewer are left.
     #[tactic(auto, using(crate::proofs::RowsLemmas::unpacked_first, crate::proofs::RowsLemmas::first_rows, crate::proofs::RowsLemmas::unpacked_length))]
     pub fn first(&self, count: usize) -> Option<Unpacking<'a>>
         ensures some { IfSome result (AreFirstItems count self.now) }
@@ -58,7 +58,7 @@ impl<'a> Unpacking<'a> {
         })
     }
 
-    /// The next item, `None` where none is left.
+    /// Returns the next item; `None` past the last one.
     pub fn next(&mut self) -> Option<Item>
         ensures some { IfSome result (λ item. self.old ≡ item ∷ self.new) }
         ensures item { IfSome result IsItem }

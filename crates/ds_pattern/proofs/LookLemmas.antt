@@ -1,4 +1,5 @@
--- At each place of a text of ASCII an assertion about words of Unicode holds where the same about words of ASCII does.
+-- At each place of a text of ASCII, an assertion about words of Unicode holds exactly if the same one about words of
+-- ASCII does.
 use Rattle.std.proofs.Common.{◌≡◌, ◌⊎◌, ℕ, zero, suc, ◌+◌, ◌-◌, ◌<◌, ◌≤◌, Bool, true, false, ◌&&◌, ◌||◌, not, List, length, get_or, Option, None, Some, is_some, if◌then◌else◌, refl, ◌∙◌, inl, inr, arith}
 use Rattle.std.specs.Prelude.{nat_le, ◌==◌, slice_get}
 use Rattle.std.specs.Char.{len_utf8}
@@ -38,8 +39,8 @@ none_before text i past =
     let none : (n : ℕ) → char_of_len_before text n i ≡ None = λ n. kept_out _ n i (length text) (λ c e. char_at_fits text (i - n) c e) past in
     rw (none 1, none 2, none 3, none 4) refl
 
--- What an assertion sees on one side, the byte and the character there: a word of Unicode where it is one of ASCII, and
--- never a part of a character.
+-- What an assertion looks at on one side, the byte and the character there: a word of Unicode exactly if one of
+-- ASCII, and never a part of a character.
 record AgreesInAscii (byte char : Option ℕ) : Type 0 where
   word : is_some_and char is_word_char ≡ is_some_and byte is_word_byte
   whole : (not (is_some byte) || is_some char) ≡ true

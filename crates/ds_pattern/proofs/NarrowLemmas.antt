@@ -1,4 +1,4 @@
--- In a text of ASCII a pattern whose classes and assertions were cut down, and whose groups were taken out, matches where it did.
+-- In a text of ASCII, a pattern with reduced classes and assertions and without groups matches where the pattern did.
 use Rattle.std.proofs.Common.{Vec, Box, Global, Result, Ok, Err, IfOk, ◌≡◌, ℕ, zero, suc, ◌+◌, ◌-◌, ◌*◌, ◌<◌, ◌≤◌, min, Bool, true, false, ◌&&◌, ◌||◌, List, [], ◌∷◌, ◌++◌, map, take, drop, length, get_or, Option, None, Some, is_some, if◌then◌else◌, nat_lt, ⊎_elim, refl, sym, ap, ◌∙◌, arith}
 use Rattle.std.specs.Prelude.{nat_le, slice_index, slice_get, option_and_then, encode_utf8}
 use Rattle.std.specs.Option.{option_or}
@@ -23,7 +23,7 @@ use Rattle.regex_hir.specs.declared.hir.Hir.TheVariants as hir
 use Rattle.regex_hir.proofs.MeaningLemmas.{meaning-Empty, meaning-Literal, meaning-Bytes, meaning-Chars, meaning-Look, meaning-Repetition, meaning-Capture, meaning-Concat, meaning-Alternation}
 use Rattle.ds_pattern.specs.Narrow.{SameAscii, SameInAscii, EachSame, HoldsInAscii}
 
--- what follows is found after the one xs after the other
+-- What follows `xs` is tried after them.
 abbrev Alike : Rest → Rest → Type 0
 Alike k l = (i : ℕ) → is_some (k i) ≡ is_some (l i)
 
@@ -70,7 +70,7 @@ same_alt : (a b c d : Re) → SameInAscii a b → SameInAscii c d → SameInAsci
 unfolding attempt
 same_alt a b c d one two text ascii k l alike i = either_alike _ _ _ _ (one text ascii k l alike i) (two text ascii k l alike i)
 
--- a group is what stands in it
+-- A group matches as its content does.
 same_group : (n : ℕ) (a b : Re) → SameInAscii a b → SameInAscii a (group n b)
 unfolding attempt
 same_group n a b one text ascii k l alike i =
@@ -145,14 +145,14 @@ same_chars rs ss members text ascii k l alike i =
     let c = slice_index (chars (drop i text)) 0 in
     char_alike (is_scalar c && has_bytes_at text i (encode_utf8 c)) c rs ss k l i (members c (char_of_ascii text i ascii)) alike
 
--- one more
+-- One more.
 each_more : (xs ys : List Re) (a b : Re) → EachSame xs ys → SameInAscii a b → EachSame (xs ++ a ∷ []) (ys ++ b ∷ [])
 each_more [] [] a b each one = (one, tt)
 each_more [] (c ∷ ys) a b each one = absurd each
 each_more (c ∷ xs) [] a b each one = absurd each
 each_more (c ∷ xs) (d ∷ ys) a b each one = (each.0, each_more xs ys a b each.1 one)
 
--- the same node by node
+-- The same for each node.
 pub narrow_empty : SameInAscii (meaning hir.Empty) (meaning hir.Empty)
 narrow_empty = rw meaning-Empty same_empty
 
@@ -185,7 +185,7 @@ narrow_alternation new old each = rw (meaning-Alternation new, meaning-Alternati
 take_next : {T : Type 0} (l : List T) (i : ℕ) (x : T) → i < length l → get_or l i x ≡ x → take (i + 1) l ≡ take i l ++ x ∷ []
 take_next l i x inside read = simp unary_clauses (take-suc l i x inside ∙ ap (λ y. take i l ++ y ∷ []) read)
 
--- one more tree
+-- One more tree.
 pub each_next : (new old : List Hir) (tree : Hir) (i : ℕ) (next : Hir) → i < length old → get_or old i next ≡ next → EachSame (map meaning new) (map meaning (take i old)) → SameInAscii (meaning tree) (meaning next) →
     EachSame (map meaning (new ++ tree ∷ [])) (map meaning (take (i + 1) old))
 each_next new old tree i next inside read each same =
@@ -209,7 +209,7 @@ unfolding in_ranges
 in_more [] ss c = refl
 in_more (r ∷ rs) ss c = rw (in_more rs ss c) (or_in_turn (in_range r c) (in_ranges rs c) (in_ranges ss c))
 
--- what is cut off a range isn't ASCII
+-- The part that a range loses isn't ASCII.
 cut : (r : Range) (last c : ℕ) → last ≡ min r.1 0x7F → c ≤ 0x7F → in_ranges ((r.0, last) ∷ []) c ≡ in_ranges (r ∷ []) c
 unfolding in_ranges in_range
 cut r last c is small = rw (below r.1 last c is small) refl where
@@ -219,18 +219,18 @@ cut r last c is small = rw (below r.1 last c is small) refl where
       (λ (within : c ≤ end). le-leb _ _ (omega (arith, is, within, small)) ∙ sym (le-leb _ _ within))
       (cases_lt end c)
 
--- a range more, cut down to ASCII, and one that has no member below 128 fewer
+-- A further range, cut to ASCII, or left out if it has no member below 128.
 pub range_taken : (new old : List Range) (i : ℕ) (r : Range) (last : ℕ) → i < length old → get_or old i r ≡ r → last ≡ min r.1 0x7F → SameAscii new (take i old) → SameAscii (new ++ (r.0, last) ∷ []) (take (i + 1) old)
 range_taken new old i r last inside read is same c small = rw (take_next old i r inside read, in_more (take i old) (r ∷ []) c, in_more new ((r.0, last) ∷ []) c, same c small, cut r last c is small) refl
 
 pub range_left : (new old : List Range) (i : ℕ) (r : Range) → i < length old → get_or old i r ≡ r → 0x7F < r.0 → SameAscii new (take i old) → SameAscii new (take (i + 1) old)
 range_left new old i r inside read high same c small = rw (take_next old i r inside read, in_more (take i old) (r ∷ []) c, outside r c small high) (same c small ∙ sym (or_false _))
 
--- all ranges were gone through
+-- All ranges were visited.
 pub all_taken : (new old : List Range) (i : ℕ) → length old ≤ i → SameAscii new (take i old) → SameAscii new old
 all_taken new old i past same c small = same c small ∙ ap (λ rs. in_ranges rs c) (take_all i old past)
 
--- all members are those of ranges from which all of Unicode can be told
+-- A class of exactly these ranges has the same members of ASCII.
 pub ascii_of_all : (r : Result Class AllocError) (taken old : List Range) → SameAscii taken old → IfOk r (λ new. HasExactly new.ranges.items (in_ranges taken)) → IfOk r (λ new. SameAscii new.ranges.items old)
 ascii_of_all (Ok new) taken old same h = λ c small. h c (omega (arith, small)) ∙ same c small
 ascii_of_all (Err e) taken old same h = tt

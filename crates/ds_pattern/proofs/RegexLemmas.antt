@@ -1,4 +1,4 @@
--- What `regex` reads, refuses and finds is what the definitions say.
+-- What `regex` reads, refuses and finds is what the definitions state.
 use Rattle.std.proofs.Common.{◌≡◌, ◌≢◌, ◌⊎◌, ℕ, zero, suc, ◌+◌, ◌-◌, ◌<◌, ◌≤◌, true, false, not, All, List, length, get_or, Option, None, Some, IsSomeAnd, IfSome, is_some, option_map, if◌then◌else◌, refl, sym, ap, ◌∙◌, inl, inr, arith}
 use Rattle.std.specs.Prelude.{nat_le, slice_get}
 use Rattle.std.specs.Int.{is_in_range}
@@ -29,7 +29,7 @@ use Rattle.ds_pattern.specs.Under.{anchored, is_printable, is_read_as, is_regex,
 use Rattle.ds_pattern.specs.Patterns.{is_pattern, IsRegexFault, IsPatternFault, IsReadAs, IsSyntaxFault}
 use Rattle.ds_pattern.proofs.PrintableLemmas.{ascii_of_printable, chars_of_printable, printable_anchored, printable_of_name}
 
--- what a tree says of the text that it was read from
+-- What a tree tells of the text that it was read from.
 abbrev IsFound : Re → Names → ℕ → Nested Re × Names → Type 0
 IsFound re names limit found =
     (found.0.depth ≤ limit) × SameCaptures re found.0.value × (names ≡ found.1) × (group_count re ≤ length names)
@@ -43,7 +43,7 @@ pub regex_of_read : (text : List ℕ) (tree : Hir) → IsReadAs text tree → is
 unfolding is_regex Reads
 regex_of_read text tree h printable = within _ _ _ _ (rw (chars_of_printable text printable) at h.reads)
 
--- what is seen of a match tells whether there is one
+-- What a match returns says whether there is one.
 seen_of : (o : Option Trace) → is_some (outcome o) ≡ is_some o
 unfolding outcome
 seen_of None = refl
@@ -63,7 +63,7 @@ first_alike f g alike (suc n) i = front (f i) (g i) (alike i) _ _ _ _ (first_ali
   front None (Some t) same at there q r rest = absurd cc
   front (Some s) None same at there q r rest = absurd cc
 
--- no byte of a text of ASCII goes on with a character
+-- No byte of a text of ASCII continues a character.
 boundary_of_ascii : (text : List ℕ) (i : ℕ) → IsAscii text → is_boundary text i ≡ true
 unfolding is_boundary
 boundary_of_ascii text i ascii = at (slice_get_cases text i).1 where
@@ -76,7 +76,7 @@ boundary_of_ascii text i ascii = at (slice_get_cases text i).1 where
       rw h.2 (small h.0 (rw (get_or_from_slice_get text i h.0 0 h.2) at low))
   at (inr h) = rw h.1 refl
 
--- an automaton of the narrow tree finds a match in just the names that P matches whole
+-- An automaton of the reduced tree finds a match in exactly the names that P matches whole.
 pub finds_of_compiled : (nfa : Nfa) (narrow tree : Hir) (p : List ℕ) → Implements nfa (meaning narrow) → SameInAscii (meaning narrow) (meaning tree) → IsReadAs (anchored p) tree → is_printable p ≡ true → FindsWhole nfa p
 unfolding FindsWhole matches_whole Reads find_str
 finds_of_compiled nfa narrow tree p implements same read printable name is_name =
@@ -89,7 +89,9 @@ finds_of_compiled nfa narrow tree p implements same read printable name is_name 
       step i re captures ascii =
           ap is_some (implements name i) ∙ same name ascii accept accept (λ j. refl) i ∙ seen _ _ (captures.at name (bytes ascii) accept i) ∙ rw (boundary_of_ascii name i ascii) refl
 
-      alike : (o : Option (Nested Re × Names)) (limit : ℕ) (re : Re) (names : Names) → ((other : Re) → SameCaptures re other → is_some (first_from (run nfa name (length name) nfa.start) (length name + 1 - 0) 0) ≡ is_some (find_str other name 0)) → IsSomeAnd o (IsFound re names limit) →
+      alike : (o : Option (Nested Re × Names)) (limit : ℕ) (re : Re) (names : Names) →
+          ((other : Re) → SameCaptures re other → is_some (first_from (run nfa name (length name) nfa.start) (length name + 1 - 0) 0) ≡ is_some (find_str other name 0)) →
+          IsSomeAnd o (IsFound re names limit) →
           is_some (first_from (run nfa name (length name) nfa.start) (length name + 1 - 0) 0) ≡ is_read_as o (λ found. is_some (find_str found.value name 0))
       alike None limit re names found h = absurd h
       alike (Some x) limit re names found h = found x.0.value h.1
@@ -101,17 +103,17 @@ refused_by None limit k other (inr h) = refl
 refused_by (Some x) limit k other (inr (inl e)) = absurd cc
 refused_by (Some x) limit k other (inr (inr h)) = lt-leb _ _ h.1
 
--- a text with an error of syntax is no pattern
+-- A text with an error of syntax isn't a pattern.
 pub no_regex_of_refused : (text : List ℕ) (k : ErrorKind) → Refuses default_config text k → k ≢ kind.OutOfMemory → is_printable text ≡ true → is_regex text ≡ false
 unfolding is_regex Refuses
 no_regex_of_refused text k refused other printable = refused_by _ _ k other (rw (chars_of_printable text printable) at refused)
 
--- what an error of `regex` is told as, it is as a fault of the text
+-- The fault of an error of `regex` is a fault of the text.
 pub syntax_fault : (text : List ℕ) (k : ErrorKind) (f : PatternFault) → IsRegexFault k f → Refuses default_config text k → is_printable text ≡ true → IsSyntaxFault f text
 syntax_fault text k f (inl h) refused printable = rw h.1 tt
 syntax_fault text k f (inr h) refused printable = rw h.1 (no_regex_of_refused text k refused h.0 printable)
 
--- a text that passes each test is a pattern, and each text that is one does
+-- A text that passes each test is a pattern, and each pattern does.
 pub accepted_of_parts : (p : List ℕ) → is_printable p ≡ true → is_regex p ≡ true → is_regex (anchored p) ≡ true → is_pattern p ≡ true
 unfolding is_pattern
 accepted_of_parts p printable alone whole = rw (printable, alone, whole) refl
@@ -124,19 +126,19 @@ pub whole_of_accepted : (p : List ℕ) → is_pattern p ≡ true → is_regex (a
 unfolding is_pattern
 whole_of_accepted p h = (and_parts _ _ h).1
 
--- a byte that isn't printable makes a text none
+-- A text with a byte that isn't printable isn't a pattern.
 pub refused_unprintable : (p : List ℕ) → is_printable p ≡ false → is_pattern p ≡ false
 unfolding is_pattern
 refused_unprintable p h = rw h refl
 
--- a fault that `regex` finds in the text itself is one of the pattern
+-- A fault that `regex` finds in the text itself is the pattern's.
 pub fault_alone : (p : List ℕ) (f : PatternFault) → length p ≤ 128 → is_printable p ≡ true → IsSyntaxFault f p → IsPatternFault f p
 unfolding is_pattern
 fault_alone p fault.TooLong short printable h = absurd h
 fault_alone p fault.BadPattern short printable h = (short, rw (printable, h) refl)
 fault_alone p fault.NoRoom short printable h = (short, printable)
 
--- and so is one that it finds in `^(?:P)$`
+-- And so is a fault that it finds in `^(?:P)$`.
 pub fault_whole : (p : List ℕ) (f : PatternFault) → length p ≤ 128 → is_printable p ≡ true → is_regex p ≡ true → IsSyntaxFault f (anchored p) → IsPatternFault f p
 unfolding is_pattern
 fault_whole p fault.TooLong short printable alone h = absurd h

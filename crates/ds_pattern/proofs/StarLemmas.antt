@@ -1,4 +1,4 @@
--- That `.*` is a pattern: the grammar is computed.
+-- `.*` is a pattern: the grammar is computed.
 use Rattle.std.proofs.Common.{◌≡◌, true, refl, codes}
 use Rattle.regex_syntax.specs.Grammar.{read}
 use Rattle.regex_syntax.proofs.Written.{grammar}

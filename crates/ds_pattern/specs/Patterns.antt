@@ -1,4 +1,4 @@
--- What a pattern is, and why a text is none.
+-- Patterns, and why a text isn't one.
 use Rattle.std.specs.Prelude.{Bool, ℕ, ◌<◌, ◌≤◌, ◌&&◌, ◌≡◌, ◌≢◌, ◌⊎◌, IsTrue, IsFalse, List, length, ⊤}
 use Rattle.regex_hir.specs.declared.hir.Hir.{Hir}
 use Rattle.regex_syntax.specs.Grammar.{Names}
@@ -9,32 +9,32 @@ use Rattle.ds_pattern.specs.declared.pattern.PatternFault.{PatternFault}
 use Rattle.ds_pattern.specs.declared.pattern.PatternFault.TheVariants.{TooLong, BadPattern, NoRoom}
 use Rattle.ds_pattern.specs.Under.{anchored, is_printable, is_regex}
 
--- printable ASCII that `regex` reads, both by itself and within `^(?:` and `)$`
+-- Whether the text is printable ASCII that `regex` accepts, alone and within `^(?:` and `)$`.
 unfoldable pub is_pattern : List ℕ → Bool
 is_pattern p = is_printable p && is_regex p && is_regex (anchored p)
 
--- at most 128 bytes of it
+-- Whether the text is a pattern of at most 128 bytes.
 pub record IsPattern (p : List ℕ) : Type 0 where
   pub limit : length p ≤ 128
   pub accepted : IsTrue (is_pattern p)
 
--- The fault is the first that the text has. Want of room says nothing of how `regex` reads the text.
+-- Whether the fault is the first that applies to the text. Out of memory implies nothing about what `regex` accepts.
 abbrev pub IsPatternFault : PatternFault → List ℕ → Type 0
 IsPatternFault TooLong p = 128 < length p
 IsPatternFault BadPattern p = (length p ≤ 128) × IsFalse (is_pattern p)
 IsPatternFault NoRoom p = (length p ≤ 128) × IsTrue (is_printable p)
 
--- the fault of an error of `regex`: want of memory is NoRoom, all else says that the text is no pattern
+-- The fault of an error of `regex`: out of memory is NoRoom, any other error means that the text isn't a pattern.
 abbrev pub IsRegexFault : ErrorKind → PatternFault → Type 0
 IsRegexFault kind fault = ((kind ≡ OutOfMemory) × (fault ≡ NoRoom)) ⊎ ((kind ≢ OutOfMemory) × (fault ≡ BadPattern))
 
--- the same, of what `regex` reads in a text
+-- The fault of what `regex` reads in a text.
 abbrev pub IsSyntaxFault : PatternFault → List ℕ → Type 0
 IsSyntaxFault TooLong text = ⊥
 IsSyntaxFault BadPattern text = IsFalse (is_regex text)
 IsSyntaxFault NoRoom text = ⊤
 
--- `regex` reads the text as this tree, by its default options
+-- Whether `regex` reads the text as this tree, with its default options.
 pub record IsReadAs (text : List ℕ) (tree : Hir) : Type 0 where
   pub names : Names
   pub reads : Reads default_config text tree names

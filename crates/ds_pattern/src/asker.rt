@@ -1,4 +1,4 @@
-//! What asks a query about many keys.
+//! Testing many keys against a query.
 
 ghost use Rattle.std.specs.Prelude.{◌≡◌, IfOk};
 ghost use Rattle.ds_pattern.specs.Under.{is_under, query_of};
@@ -10,7 +10,7 @@ use regex_vm::PikeVm;
 use std::alloc::Global;
 use std::marker::Model;
 
-/// What asks a query about many keys. It takes memory where it is made, and no question takes any.
+/// A query with the buffers to test many keys. They are allocated when it is built; a test allocates nothing.
 #[derive(Drop)]
 pub struct Asker<'f> {
     pattern: &'f Pattern,
@@ -32,7 +32,7 @@ impl<'f> Model for Asker<'f> {
 }
 
 impl<'f> Asker<'f> {
-    // What asks the query of this pattern and these kinds.
+    // Builds the tester of a pattern and kinds.
     pub(crate) fn new(
         alloc: Global,
         pattern: &'f Pattern,
@@ -49,8 +49,8 @@ impl<'f> Asker<'f> {
         })
     }
 
-    /// Whether a key is under the query: it is of a kind that the query names, and the pattern matches its
-    /// name whole. For a key of another kind no pattern is asked.
+    /// Whether a key is under the query: the query names its kind, and the pattern matches its name whole. For a key
+    /// of another kind, the pattern isn't run.
     pub fn admits(&mut self, key: &Key) -> bool
         ensures under { result ≡ is_under self.old key.now }
         ensures same { self.new ≡ self.old }

@@ -1,4 +1,4 @@
-//! Queries whose pattern was read.
+//! Queries whose pattern was compiled.
 
 ghost use Rattle.std.specs.Prelude.{◌≡◌, Ok, false, IsFalse, IfOk, IfErr};
 ghost use Rattle.ds_names.specs.Kind.{names_kind};
@@ -12,7 +12,7 @@ use ds_names::{Key, Kind, Kinds, NoRoom};
 use std::alloc::Global;
 use std::marker::Model;
 
-/// A query that was taken up: it tells which keys are under it.
+/// A query with its compiled pattern, which decides which keys are under it.
 #[derive(Drop)]
 pub struct Filter {
     pattern: Pattern,
@@ -29,7 +29,7 @@ impl Model for Filter {
 }
 
 impl Filter {
-    /// Takes up a query. It is refused as its pattern is.
+    /// Compiles a query. It is refused as its pattern is.
     pub fn read(alloc: Global, query: &Query) -> Result<Filter, PatternFault>
         ensures read { IfOk result (λ filter. filter ≡ query.now) }
         ensures pattern { IfOk result (λ filter. IsPattern filter.text) }
@@ -41,22 +41,22 @@ impl Filter {
         })
     }
 
-    /// Whether the query names the kind. For a key of another kind no pattern need be asked.
+    /// Whether the query names the kind. For a key of another kind, the pattern needn't be run.
     pub fn names(&self, kind: Kind) -> bool
         ensures { result ≡ names_kind self.now.kinds kind }
     {
         self.kinds.has(kind)
     }
 
-    /// What asks the query about many keys.
+    /// Returns a tester for many keys.
     pub fn asker(&self, alloc: Global) -> Result<Asker<'_>, NoRoom>
         ensures { IfOk result (λ asker. asker ≡ self.now) }
     {
         Asker::new(alloc, &self.pattern, self.kinds)
     }
 
-    /// Whether a key is under the query: it is of a kind that the query names, and the pattern matches its
-    /// name whole. For a key of another kind no pattern is asked, and no memory taken.
+    /// Whether a key is under the query: the query names its kind, and the pattern matches its name whole. For a key
+    /// of another kind, the pattern isn't run and nothing is allocated.
     pub fn admits(&self, alloc: Global, key: &Key) -> Result<bool, NoRoom>
         ensures under { IfOk result (λ yes. yes ≡ is_under self.now key.now) }
         ensures other_kind { IsFalse (names_kind self.now.kinds key.now.kind) → result ≡ Ok false }

@@ -1,9 +1,8 @@
-//! Patterns over the names of entries, and queries made of them.
+//! Patterns over the names of entries, and queries.
 //!
-//! A subscription of MINIX 3's data store (DS) names the entries that it is about by a regular expression over
-//! their names (the DS interface of MINIX 3; Herder and others, DSN 2007). That a pattern matches the whole
-//! name, that it has the syntax of the crate `regex`, that a query also names kinds, and the limits, are of
-//! this project.
+//! A subscription of MINIX 3's data store (DS) is a regular expression over the names of entries (the DS interface of
+//! MINIX 3; Herder and others, DSN 2007). The whole match, the syntax, which is that of the crate `regex`, the kinds
+//! and the limits are of this project.
 #![tactic(auto)]
 
 mod asker;

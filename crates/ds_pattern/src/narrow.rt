@@ -1,8 +1,8 @@
-//! Patterns cut down to what a name can meet.
+//! Patterns reduced to what a name can match.
 //!
-//! A name is ASCII, and nobody asks where a group matched. So a class of characters needs its members below 128 alone, an
-//! assertion about words needs to know those of ASCII alone, and a capture group is what stands in it. `\w` is then four
-//! ranges in place of 700, and `\b` looks at two bytes in place of two characters.
+//! A name is ASCII, and no caller needs the position of a group. So a class keeps only its characters below 128, an
+//! assertion about words considers only ASCII, and a capture group becomes its content. `\w` is then four ranges
+//! instead of 700, and `\b` looks at two bytes instead of two characters.
 
 ghost use Rattle.std.specs.Prelude.{map, IfOk, IsFalse};
 ghost use Rattle.regex_hir.specs.Meaning.{meaning};
@@ -16,7 +16,7 @@ use std::alloc::{AllocError, Global};
 /// The last character of ASCII.
 const LAST_ASCII: u32 = 0x7f;
 
-/// The tree that matches the same names: its classes and its assertions are of ASCII, and it has no groups.
+/// Returns the tree that matches the same names, with classes and assertions of ASCII and without groups.
 #[cycle(narrowed)]
 pub(crate) fn narrowed(alloc: Global, tree: &Hir) -> Result<Hir, AllocError>
     ensures { IfOk result (λ new. SameInAscii (meaning new) (meaning tree.now)) }
@@ -44,7 +44,7 @@ pub(crate) fn narrowed(alloc: Global, tree: &Hir) -> Result<Hir, AllocError>
     }
 }
 
-// The same of each of the trees.
+// Applies `narrowed` to each of the trees.
 #[cycle(narrowed)]
 fn all_narrowed(alloc: Global, trees: &[Hir]) -> Result<Vec<Hir>, AllocError>
     ensures { IfOk result (λ new. EachSame (map meaning new.items) (map meaning trees.now)) }
@@ -56,7 +56,7 @@ fn all_narrowed(alloc: Global, trees: &[Hir]) -> Result<Vec<Hir>, AllocError>
     Ok(all)
 }
 
-// The assertion that asks of words of ASCII what this one asks of words. It looks at bytes alone.
+// Returns the assertion that holds for words of ASCII when this one holds for words. It looks at bytes only.
 fn look_of_ascii(look: Look) -> Look
     ensures holds { HoldsInAscii result look }
     ensures bytes { IsFalse (is_unicode_look result) }
@@ -72,7 +72,7 @@ fn look_of_ascii(look: Look) -> Look
     }
 }
 
-// The members below 128.
+// Returns the ranges of characters below 128.
 fn of_ascii(alloc: Global, class: &Class) -> Result<Class, AllocError>
     ensures { IfOk result (λ new. SameAscii new.ranges.items class.now.ranges.items) }
 {

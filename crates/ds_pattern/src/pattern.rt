@@ -1,4 +1,4 @@
-//! Patterns that were read, and what they match.
+//! Compiled patterns, and what they match.
 
 ghost use Rattle.std.specs.Prelude.{◌≡◌, ◌≤◌, IsTrue, IfOk, OnOk, IfErr, is_some, length, string_bytes, vec_len};
 ghost use Rattle.regex_vm.specs.Found.{first_match};
@@ -20,18 +20,17 @@ use std::fmt;
 use std::marker::Model;
 use thiserror::Error;
 
-/// Why a text is no pattern, in the order in which the causes are judged.
+/// Why a text isn't a pattern. Causes are judged in this order.
 #[derive(Clone, Copy, Debug, PartialEq, Eq, Error)]
 pub enum PatternFault {
     /// It has more than 128 bytes.
     #[error("a pattern has at most 128 bytes")]
     TooLong,
-    /// A byte isn't printable ASCII, or `regex` finds the text P, or `^(?:P)$`, to be no pattern or nested too
-    /// deep.
+    /// A byte isn't printable ASCII, or `regex` refuses the text P, or `^(?:P)$`, as a pattern or as nested too deep.
     #[error("not a pattern over names")]
     BadPattern,
-    /// A growth was refused, or the compiled table of the pattern would take more than `SIZE_LIMIT` bytes. It may be
-    /// answered in the place of BadPattern.
+    /// An allocation was refused, or the compiled table of the pattern would exceed `SIZE_LIMIT` bytes. It may be
+    /// reported in place of BadPattern.
     #[error("out of memory")]
     NoRoom,
 }
@@ -74,13 +73,12 @@ impl From<regex_syntax::Error> for PatternFault {
 /// The most bytes of a pattern.
 pub const LONGEST_PATTERN: usize = 128;
 
-/// How many bytes the table of a compiled pattern may take: 12 for each state of its automaton and 8 for each
-/// range of bytes that leads from one to another. It takes at most 24 bytes more. `bench/README.md` has what is
-/// measured beside it.
+/// The most bytes of a compiled pattern's table: 12 for each state of its automaton, and 8 for each range of bytes
+/// that leads from one state to another. A table exceeds it by at most 24 bytes. `bench/README.md` has measurements.
 pub const SIZE_LIMIT: usize = 12 << 10;
 
-/// A pattern over names: a text of at most 128 bytes of printable ASCII that `regex` reads, by itself and
-/// within `^(?:` and `)$`, and the automaton that is compiled of it, whose table keeps within the limit.
+/// A pattern over names: at most 128 bytes of printable ASCII that `regex` accepts, alone and within `^(?:` and `)$`.
+/// It keeps the compiled automaton, whose table is within the limit.
 #[derive(Drop)]
 pub struct Pattern {
     text: String,
@@ -101,7 +99,7 @@ impl Model for Pattern {
 }
 
 impl Pattern {
-    /// Reads the pattern that the text is, or gives the first fault that it has, and compiles it.
+    /// Checks and compiles the text of a pattern, or returns its first fault.
     #[tactic(auto, using(crate::proofs::RegexLemmas::accepted_of_parts, crate::proofs::RegexLemmas::refused_unprintable))]
     pub fn read(alloc: Global, text: &PatternText) -> Result<Pattern, PatternFault>
         ensures read { IfOk result (λ pattern. pattern ≡ text.now) }
@@ -124,7 +122,7 @@ impl Pattern {
         })
     }
 
-    /// Whether the pattern that `regex` reads in `^(?:P)$`, by its default options, matches the name.
+    /// Whether the pattern that `regex` reads in `^(?:P)$`, with its default options, matches the name.
     pub fn matches(&self, alloc: Global, name: &Name) -> Result<bool, NoRoom>
         ensures { IfOk result (λ yes. yes ≡ matches_whole self.now name.now) }
     {
@@ -132,7 +130,7 @@ impl Pattern {
         Ok(finds(&self.whole, &mut machine, name))
     }
 
-    // Its automaton, which finds a match in just the names that it matches whole.
+    // Returns its automaton, which finds a match in exactly the names that the pattern matches whole.
     pub(crate) fn whole(&self) -> &Nfa
         ensures { FindsWhole result.now self.now }
     {
@@ -146,7 +144,7 @@ impl fmt::Debug for Pattern {
     }
 }
 
-// Whether the automaton finds a match in the name. The machine has room for it.
+// Whether the automaton finds a match in the name. The machine's buffers suffice.
 pub(crate) fn finds(whole: &Nfa, machine: &mut PikeVm, name: &Name) -> bool
     requires { machine.old.states ≡ vec_len whole.now.states }
     ensures found { result ≡ is_some (first_match whole.now name.now (length name.now) 0 (length name.now)) }
@@ -164,7 +162,7 @@ fn is_printable(bytes: &[u8]) -> bool
     bytes.iter().all(|b| 0x20 <= *b && *b <= 0x7e)
 }
 
-// The text of printable bytes.
+// Returns printable bytes as a text.
 #[tactic(auto, using(crate::proofs::PrintableLemmas::utf8_of_printable))]
 fn text_of(bytes: &[u8]) -> &str
     requires { IsTrue (is_printable bytes.now) }
@@ -173,7 +171,7 @@ fn text_of(bytes: &[u8]) -> &str
     str::from_utf8(bytes).unwrap()
 }
 
-// `^(?:P)$`, for the pattern P.
+// Returns `^(?:P)$`, for the pattern P.
 fn anchored(alloc: Global, text: &str) -> Result<String, AllocError>
     ensures { IfOk result (λ whole. string_bytes whole ≡ anchored text.now) }
 {
@@ -183,7 +181,7 @@ fn anchored(alloc: Global, text: &str) -> Result<String, AllocError>
     Ok(whole)
 }
 
-// Reads the text as a pattern.
+// Parses the text as a pattern.
 fn tree_of(alloc: Global, text: &str) -> Result<Hir, PatternFault>
     requires { IsTrue (is_printable text.now) }
     ensures read { IfOk result (IsReadAs text.now) }
@@ -193,7 +191,7 @@ fn tree_of(alloc: Global, text: &str) -> Result<Hir, PatternFault>
     Ok(parsed.hir)
 }
 
-// Asks whether the text is a pattern.
+// Checks whether the text is a pattern.
 fn judge(alloc: Global, text: &str) -> Result<(), PatternFault>
     requires { IsTrue (is_printable text.now) }
     ensures ok { OnOk result (IsTrue (is_regex text.now)) }

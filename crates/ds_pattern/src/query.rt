@@ -1,4 +1,4 @@
-//! Queries: what a subscriber asks for, before its pattern is read.
+//! Queries of subscribers, before the pattern is compiled.
 
 ghost use Rattle.std.specs.Prelude.{◌≡◌, ℕ, IfOk};
 ghost use Rattle.std.specs.Bool.{◌==◌};
@@ -10,7 +10,7 @@ use ds_names::{Kinds, NoRoom};
 use std::alloc::Global;
 use std::marker::Model;
 
-/// Bytes that are offered as a pattern: any bytes, and any number of them.
+/// The text of a pattern, unchecked: any bytes, of any length.
 #[derive(Debug, Drop)]
 pub struct PatternText {
     bytes: Vec<u8>,
@@ -25,7 +25,7 @@ impl Model for PatternText {
 }
 
 impl PatternText {
-    /// A copy of the bytes.
+    /// Copies the bytes.
     pub fn of(alloc: Global, bytes: &[u8]) -> Result<PatternText, NoRoom>
         ensures { IfOk result (λ text. text ≡ bytes.now) }
     {
@@ -34,14 +34,14 @@ impl PatternText {
         })
     }
 
-    /// Its bytes.
+    /// Returns its bytes.
     pub fn bytes(&self) -> &[u8]
         ensures { result.now ≡ self.now }
     {
         &self.bytes
     }
 
-    /// The same bytes again.
+    /// Copies the text.
     pub fn copy(&self, alloc: Global) -> Result<PatternText, NoRoom>
         ensures { IfOk result (λ text. text ≡ self.now) }
     {
@@ -63,9 +63,9 @@ impl Eq for PatternText {
     ghost laws = { nat_list_eq_equiv };
 }
 
-/// What a subscriber asks for: the entries whose names a pattern matches whole, of some kinds.
+/// A subscriber's query: the entries whose names a pattern matches whole, of some kinds.
 ///
-/// Whether the text is a pattern is judged where the query is taken up.
+/// Whether the text is a pattern is checked when the query is compiled.
 #[derive(Debug, PartialEq, Eq, Drop)]
 pub struct Query {
     pub text: PatternText,
@@ -73,7 +73,7 @@ pub struct Query {
 }
 
 impl Query {
-    /// The same query again.
+    /// Copies the query.
     pub fn copy(&self, alloc: Global) -> Result<Query, NoRoom>
         ensures { IfOk result (λ query. query ≡ self.now) }
     {

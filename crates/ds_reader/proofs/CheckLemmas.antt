@@ -30,8 +30,8 @@ use Rattle.ds_reader.specs.declared.reading.Reading.{Reading}
 use Rattle.ds_reader.proofs.StateLemmas.{asked_on, went_on, went_reached}
 use Rattle.ds_reader.proofs.UnderLemmas.{checks_passed, part_under}
 
--- how far a reader has come: the store has gone on, so many checks gave these items, each as many as it asked for, and the
--- subscription was left with this stamp
+-- a reader's progress: the store has grown, `count` checks showed these items, each as many as it asked for, and left
+-- the subscription with this stamp
 pub record Checking (stood : State → Type 0) (s : State) (sub max : ℕ) (query : Query) (items : List Item) (stamp count : ℕ) : Type 0 where
   pub now : State
   pub goes : GoesOn s now
@@ -62,7 +62,7 @@ begun laws stood s t sub max query stamp owed a stands =
       stands = stands;
     }
 
--- the subscription was shown what the checks gave
+-- the subscription was shown what the checks showed
 pub shows_checked : (stood : State → Type 0) (s : State) (sub max stamp count : ℕ) (query : Query) (items : List Item)
     (k : Checking stood s sub max query items stamp count) → Shows k.now sub query (gathered.checked k.turns)
 shows_checked stood s sub max stamp count query items k = record {
@@ -86,7 +86,7 @@ all_full stood s sub stamp count reading items k =
       };
     }
 
--- and so they are behind what others did
+-- and so they are after the steps of others
 pub still_full : ReaderLaws → (stood : State → Type 0) (s : State) (sub stamp count : ℕ) (reading : Reading) (items : List Item)
     (k : Checking stood s sub reading.max reading.query items stamp count) (mid : State) → Went k.now mid →
     AreAllFull s mid sub reading k.turns
@@ -100,7 +100,7 @@ still_full laws stood s sub stamp count reading items k mid went =
       was_left = record { left = k.now; shows = a.was_left.shows; goes = went.goes };
     }
 
--- one more check, behind what others did, that told another stamp than the reader's
+-- one more check, after the steps of others, with another stamp than the reader's
 pub overtaken : ReaderLaws → (stood : State → Type 0) (s : State) (sub stamp count : ℕ) (reading : Reading) (items more : List Item)
     (k : Checking stood s sub reading.max reading.query items stamp count) (t : State) (before after : ℕ) →
     Asked k.now (commands.Check sub reading.max) (replies.Checked more before after) t → before ≢ stamp →
@@ -120,7 +120,7 @@ overtaken laws stood s sub stamp count reading items more k t before after a oth
       },
     )
 
--- one that told any stamp
+-- one with any stamp
 module _ (laws : ReaderLaws) (stood : State → Type 0) (s : State) (sub : ℕ) (query : Query) (items more : List Item) (max stamp count : ℕ)
     (k : Checking stood s sub max query items stamp count)
     (t : State) (before after : ℕ) (a : Asked k.now (commands.Check sub max) (replies.Checked more before after) t) where
@@ -152,7 +152,7 @@ module _ (laws : ReaderLaws) (stood : State → Type 0) (s : State) (sub : ℕ) 
   are : AreChecks s.feed t.feed (is_under query) [] k.turns
   are = laws.checks.later s.feed k.now.feed t.feed (is_under query) [] k.turns (laws.front k.now t (laws.later k.now mid t on goes)) k.are
 
-  -- that told the reader's own stamp
+  -- with the reader's own stamp
   module _ (own : before ≡ stamp) where
     seer : Subscription
     seer = k.shows.seer
@@ -214,7 +214,7 @@ module _ (laws : ReaderLaws) (stood : State → Type 0) (s : State) (sub : ℕ) 
     pub read_each : AreChecked s t query (items ++ more)
     read_each = (k.turns ++ turn ∷ [], all, sym all_items)
 
-    -- the last one gave fewer than it asked for
+    -- the last one showed fewer than it asked for
     pub read_whole : length more < max → IsReadWhole t query (items ++ more)
     unfolding turn
     read_whole few =
@@ -232,7 +232,7 @@ module _ (laws : ReaderLaws) (stood : State → Type 0) (s : State) (sub : ℕ) 
               k.items_are law);
         }
 
--- one more that told the reader's own stamp, and gave items
+-- one more with the reader's own stamp that showed items
 pub checked_more : (laws : ReaderLaws) → (stood : State → Type 0) (s : State) (sub stamp count : ℕ) (reading : Reading) (items more : List Item)
     (k : Checking stood s sub reading.max reading.query items stamp count) (t : State) (before after : ℕ) →
     Asked k.now (commands.Check sub reading.max) (replies.Checked more before after) t → before ≡ stamp → more ≢ [] →

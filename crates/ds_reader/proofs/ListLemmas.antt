@@ -18,7 +18,7 @@ past_end [] i e = omega arith
 past_end (x ∷ xs) zero e = absurd (cc)
 past_end (x ∷ xs) (suc i) e = let rest = past_end xs i e in omega (arith, rest)
 
--- behind the last item the first ones are all
+-- past the end, the first ones are all
 pub none_next : (xs : List Item) (i : ℕ) → slice_get xs i ≡ None → take (i + 1) xs ≡ take i xs
 none_next xs i e =
     let l : length xs ≤ i = past_end xs i e in

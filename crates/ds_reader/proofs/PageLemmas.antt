@@ -1,4 +1,4 @@
--- The pages of a reader are whole, with what the journal gives.
+-- The pages of a reader are whole, with the items of the journal.
 use Rattle.std.proofs.Common.{◌≡◌, ◌≢◌, ℕ, ◌+◌, ◌≤◌, Bool, true, false, List, [], ◌∷◌, ◌++◌, length, Option, Some, None, refl, ap, sym, ◌∙◌, subst, arith, append_assoc}
 use Rattle.std.specs.Option.{unwrap_or}
 use Rattle.std.proofs.lemmas.List.{length_push}
@@ -32,11 +32,11 @@ use Rattle.ds_reader.proofs.StateLemmas.{no_earlier, went_on, went_reached}
 use Rattle.ds_join.proofs.ItemTopLemmas.{part_union}
 use Rattle.ds_reader.proofs.UnderLemmas.{ArePassed, both_passed, page_passed, pages_passed, part_under, sinces_passed}
 
--- a page is of the size that was asked for
+-- a page is of the size asked for
 abbrev pub IsAsked : Reading → PageTurn → Type 0
 IsAsked reading page = page.max ≡ reading.max
 
--- pages behind a position are pages behind none
+-- pages after a position are pages after none
 from_none : (f : Feed) (scope : Key → Bool) (after : Option Key) (p : ℕ) (pages : List PageTurn) → AreOpenPages f scope after p pages →
     AreOpenPages f scope after 0 pages
 from_none f scope after p [] w = tt
@@ -46,7 +46,7 @@ none_earlier : (p r : ℕ) (pages : List PageTurn) → position_after p pages �
 none_earlier p r [] l = omega arith
 none_earlier p r (t ∷ ts) l = l
 
--- how far a reader has come: the store has gone on, and so many pages gave these items, none of them the last
+-- a reader's progress: the store has grown, and `count` pages had these items, none of them the last
 pub record Paging (stood : State → Type 0) (s : State) (reading : Reading) (items : List Item) (after : Option Key) (from : Option Cursor)
     (count : ℕ) : Type 0 where
   pub now : State
@@ -109,7 +109,7 @@ module _ (laws : ReaderLaws) (stood : State → Type 0) (s : State) (reading : R
         let n : position_after (next_position s) k.turns ≤ next_position t = omega (arith, l, m) in
         subst (λ (r : ℕ). position_after (next_position s) k.turns ≤ r) (sym place) n
 
-    -- that gave items
+    -- with items
     pub paged_more : page.items ≢ [] → IsPagedMore s t reading k.turns
     unfolding turn
     paged_more some = record { open_ones = still_open; turn = turn; is = is_turn; asked = refl; some = some }
@@ -158,7 +158,7 @@ module _ (laws : ReaderLaws) (stood : State → Type 0) (s : State) (reading : R
           from_is = ap (λ (o : Option Cursor). unwrap_or o page.cursor) (sym k.from_is);
         }
 
-    -- the last page, and what the journal gave behind it
+    -- the last page, and the journal after it
     pub read_whole : page.last ≡ true → (u : State) (all : List Item) → GoesOn t u →
         IsCaughtUp u reading.query (unwrap_or from page.cursor) (items ++ page.items) all → IsReadWhole u reading.query all
     unfolding turn all_paged

@@ -1,4 +1,4 @@
--- Questions one after the other.
+-- Commands in order.
 use Rattle.std.proofs.Common.{◌≡◌, ℕ, ◌+◌, ◌≤◌, [], ◌∷◌, ◌++◌, Option, refl, ap, subst, arith, inr}
 use Rattle.std.proofs.lemmas.List.{length_push}
 use Rattle.std.proofs.lemmas.List.Elements.{All-nil, All-push}
@@ -33,7 +33,7 @@ module _ {A : Type 0} (asks_once : A → Command → A → Type 0) where
       AsksFew asks_once is_one most old new
   fewer is_one count most old new small few = record { commands = few.commands; asked = few.asked; all = few.all; few = omega (arith, few.few, small) }
 
-  -- ---- a reader by checks, which made so many
+  -- ---- a reader by checks, after `count` of them
   module _ (sub : ℕ) (reading : Reading) where
     abbrev IsCheck : Command → Type 0
     IsCheck command = command ≡ Check sub reading.max

@@ -1,4 +1,4 @@
--- What the journal gives a reader, reply by reply.
+-- What a reader gets from the journal, reply by reply.
 use Rattle.std.proofs.Common.{◌≡◌, ◌≢◌, ℕ, ◌+◌, ◌<◌, ◌≤◌, List, [], ◌∷◌, ◌++◌, length, ap, sym, ◌∙◌, subst, append_assoc, append-nil, refl}
 use Rattle.std.proofs.lemmas.List.{length_push}
 use Rattle.std.proofs.lemmas.List.Elements.{All-nil, All-push}
@@ -20,7 +20,7 @@ use Rattle.ds_reader.specs.CaughtUp.{IsCaughtUp}
 use Rattle.ds_reader.specs.declared.reading.Reading.{Reading}
 use Rattle.ds_reader.proofs.StateLemmas.{went_on}
 
--- how far a reader has come: the store has gone on, and so many replies added these items, each as many as it asked for
+-- a reader's progress: the store has grown, and `count` replies added these items, each as many as it asked for
 pub record Catching (stood : State → Type 0) (s : State) (reading : Reading) (from at : Cursor) (items more : List Item) (count : ℕ) : Type
     0 where
   pub now : State
@@ -77,12 +77,12 @@ module _ (laws : ReaderLaws) (stood : State → Type 0) (s : State) (reading : R
     all_items = ap (λ (l : List Item). l ++ since.items) k.items_are ∙ append_assoc items (journaled k.turns) since.items ∙
         ap (λ (l : List Item). items ++ l) (sym (laws.sinces.items_more k.turns turn))
 
-    -- that gave items
+    -- with items
     pub journaled_more : since.items ≢ [] → IsJournaledMore t reading from k.turns
     unfolding turn
     journaled_more some = record { turn = turn; are = are; full = k.all.full; asked = refl; some = some }
 
-    -- that gave as many items as it was asked for
+    -- with as many items as it asked for
     pub caught_on : (next : State → Type 0) → next t → reading.max ≤ length since.items →
         Catching next s reading from since.cursor items (more ++ since.items) (count + 1)
     unfolding turn
@@ -101,7 +101,7 @@ module _ (laws : ReaderLaws) (stood : State → Type 0) (s : State) (reading : R
           stands = stands;
         }
 
-    -- that gave fewer
+    -- with fewer
     pub caught_up : length since.items < reading.max → IsCaughtUp t reading.query from items (more ++ since.items)
     unfolding turn
     caught_up few =

@@ -1,4 +1,4 @@
--- How a store goes on under a reader.
+-- How a store grows under a reader.
 use Rattle.std.proofs.Common.{◌≡◌, ℕ, ◌+◌, ◌≤◌, List, length, length-append, Option, ap, sym, ◌∙◌, subst, arith}
 use Rattle.ds_names.specs.declared.key.Key.{Key}
 use Rattle.ds_entry.specs.declared.item.Item.{Item}
@@ -31,7 +31,7 @@ no_earlier s t g =
     omega arith
 
 module _ (laws : ReaderLaws) where
-  -- others may have asked
+  -- others may have used the store
   module _ (s t : State) (w : Went s t) where
     pub went_on : GoesOn s t
     went_on = laws.run s t w.goes.commands w.goes.replies w.reached w.goes.run
@@ -44,7 +44,7 @@ module _ (laws : ReaderLaws) where
   asked_on s t command reply a = laws.later s a.mid t (went_on s a.mid a.went)
       (laws.step a.mid t command reply (went_reached s a.mid a.went) a.answered.step)
 
-  -- where the answer left the store as it was, only others asked
+  -- if the answer left the store unchanged, only others used it
   pub only_went : (s t : State) (command : Command) (reply : Reply) (a : Asked s command reply t) → t ≡ a.mid → Went s t
   only_went s t command reply a same = subst (Went s) (sym same) a.went
 
@@ -60,7 +60,7 @@ module _ (laws : ReaderLaws) where
         only_went s t command (Refused refusal) a same,
       )
 
-  -- and so did a page, and what the journal gave
+  -- and so did a page, and a reply of the journal
   pub paged_there : (s t : State) (scope : Scope) (after : Option Key) (max : ℕ) (page : Page) →
       Asked s (commands.Page scope after max) (Paged page) t → (page ≡ page_of (is_kept scope) after max (held t) (cursor t)) × Went s t
   paged_there s t scope after max page a =

@@ -1,4 +1,4 @@
--- Where a question isn't answered, the reader gives up.
+-- If a command isn't answered, the reader gives up.
 use Rattle.std.proofs.Common.{◌≡◌, ℕ, true, List, Option, Result, Ok, Err, IfOk, IsErrAnd, sym, subst, inl, inr}
 use Rattle.ds_names.specs.declared.key.Key.{Key}
 use Rattle.ds_entry.specs.declared.item.Item.{Item}
@@ -117,7 +117,7 @@ pub nothing_read : {T E : Type 0} (r : Result T E) (P : T → Type 0) (Q : E →
 nothing_read (Ok x) P Q h = absurd h
 nothing_read (Err y) P Q h = tt
 
--- for want of memory it doesn't say that it can ask no more
+-- out of memory doesn't mean that it can send no more commands
 pub has_room : {T X : Type 0} (r : Result T ReadFault) → IsErrAnd r (λ y. y ≡ NoRoom) → r ≡ Err Worn → X
 has_room (Ok x) h e = absurd h
 has_room (Err y) h e = absurd (cc)

@@ -1,4 +1,4 @@
--- What a reader is given is under its query.
+-- What a reader gets is under its query.
 use Rattle.std.proofs.Common.{◌≡◌, ℕ, Bool, true, List, [], ◌∷◌, ◌++◌, Option, take, ap, sym, subst, inl, inr}
 use Rattle.std.specs.List.{Contains}
 use Rattle.std.proofs.lemmas.Bool.{and_parts}
@@ -36,7 +36,7 @@ both_passed query xs ys f g i h = elim (Contains-append_cases xs ys i h) [ inl k
 pub part_under : (query : Key → Bool) (items all : List Item) → IsPartOf items all → ArePassed query items → IsPartOf items (under query all)
 part_under query items all part passed i h = Contains-under query all i (part i h) (passed i h)
 
--- ---- what Checks gave
+-- ---- the items of Checks
 check_passed : (early f : Feed) (query : Key → Bool) (shown : List Item) (t : CheckTurn) → IsCheckTurn early f query shown t → ArePassed query t.items
 check_passed early f query shown t h i k =
     let u : Contains (take t.max (unseen_by query shown t.held)) i = subst (λ (l : List Item). Contains l i) h.given k in
@@ -48,7 +48,7 @@ checks_passed early f query shown [] h = none_passed query
 checks_passed early f query shown (t ∷ ts) h =
     both_passed query t.items (checked ts) (check_passed early f query shown t h.0) (checks_passed early f query (shown ++ t.items) ts h.1)
 
--- ---- what the journal gave
+-- ---- the items of the journal
 since_passed : (f : Feed) (query : Key → Bool) (at : Cursor) (t : SinceTurn) → IsSinceTurn f query at t → ArePassed query t.since.items
 since_passed f query at t h i k =
     (Contains-from_filter (passes query) (piece t.feed (passes query) at t.max) i
@@ -59,7 +59,7 @@ sinces_passed f query at [] h = none_passed query
 sinces_passed f query at (t ∷ ts) h =
     both_passed query t.since.items (journaled ts) (since_passed f query at t h.0) (sinces_passed f query t.since.cursor ts h.1)
 
--- ---- what pages gave
+-- ---- the items of pages
 pub page_passed : (f : Feed) (query : Key → Bool) (after : Option Key) (t : PageTurn) → IsPageTurn f query after t → ArePassed query t.page.items
 page_passed f query after t h =
     let left = still_to_come (passes query) after t.held in

@@ -1,4 +1,4 @@
--- What the journal added to items.
+-- What the journal added to the items.
 use Rattle.std.specs.Prelude.{◌≡◌, List, ◌++◌}
 use Rattle.ds_entry.specs.declared.item.Item.{Item}
 use Rattle.ds_feed.specs.declared.cursor.Cursor.{Cursor}
@@ -8,7 +8,8 @@ use Rattle.ds_convergence.specs.Journaled.{SinceTurn, AreSince, cursor_after}
 use Rattle.ds_convergence.specs.Gathered.{journaled}
 use Rattle.ds_machine.specs.State.{State, next_position}
 
--- replies of the journal from the cursor on, each asked from the cursor that the one before gave, up to the store's cursor
+-- The items grew by replies of the journal up to the store's cursor. The first was read from this cursor, each later
+-- one from the cursor of the reply before it.
 pub record IsCaughtUp (t : State) (query : Query) (from : Cursor) (items more : List Item) : Type 0 where
   pub turns : List SinceTurn
   pub are : AreSince t.feed (is_under query) from turns

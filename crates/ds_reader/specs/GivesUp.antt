@@ -1,5 +1,5 @@
--- When a reader gives up: where memory is wanting for what it was given, where the store refuses its question, and where as many
--- questions as may be weren't enough.
+-- When a reader gives up: memory for the items ran out, the store refused a command, or the allowed number of commands
+-- wasn't enough.
 use Rattle.std.specs.Prelude.{◌≡◌, ◌≢◌, ◌⊎◌, ℕ, ◌<◌, ◌≤◌, true, List, [], ◌∷◌, ◌++◌, length, None, Some, All}
 use Rattle.std.specs.Option.{unwrap_or}
 use Rattle.ds_entry.specs.declared.item.Item.{Item}
@@ -26,39 +26,39 @@ use Rattle.ds_reader.specs.declared.fault.ReadFault.{ReadFault}
 use Rattle.ds_reader.specs.declared.fault.ReadFault.TheVariants.{Refused, NoRoom, Unfinished, Overtaken}
 use Rattle.ds_reader.specs.declared.reading.Reading.{Reading}
 
--- in this state the store refuses the command for this cause, and want of memory comes last
+-- In this state the store refuses the command for this cause, and lack of memory comes last.
 pub record IsCommandRefused (t : State) (command : Command) (refusal : Refusal) : Type 0 where
   pub step : Step t command (replies.Refused refusal) t
   pub last : IsLast t command (replies.Refused refusal)
 
 -- ---- a reader by checks
 
--- the place has a subscription to the query that was shown these items
+-- The place has a subscription with this query, and these items were shown to it.
 pub record Shows (s : State) (sub : ℕ) (query : Query) (shown : List Item) : Type 0 where
   pub seer : Subscription
   pub here : subscription_at s sub ≡ Some seer
   pub query_is : seer.query ≡ query
   pub shown_is : seer.shown ≡ shown
 
--- a Check that gave as many items as it was asked for
+-- A Check that showed as many items as it asked for.
 pub record IsFull (max : ℕ) (t : CheckTurn) : Type 0 where
   pub asked : t.max ≡ max
   pub full : max ≤ length t.items
 
--- a run of the machine leads here from where the subscription had been shown these items, and no others
+-- A run of the machine leads here from a state in which exactly these items had been shown to the subscription.
 pub record WasLeft (t : State) (sub : ℕ) (query : Query) (shown : List Item) : Type 0 where
   pub left : State
   pub shows : Shows left sub query shown
   pub goes : Goes left t
 
--- the Checks so far, since the Subscribe, all of them full, which left the subscription with what they gave
+-- The Checks so far, since the Subscribe, were all full, and left the subscription with what they showed.
 pub record AreAllFull (s t : State) (sub : ℕ) (reading : Reading) (turns : List CheckTurn) : Type 0 where
   pub are : AreChecks s.feed t.feed (is_under reading.query) [] turns
   pub full : All (IsFull reading.max) turns
   pub was_left : WasLeft t sub reading.query (gathered.checked turns)
 
--- behind the Checks so far one more, before which the subscription was `found`, told another stamp than that with which the reader
--- had left it
+-- After the Checks so far, one more found the subscription (in state `found`) with another stamp than the one that the
+-- reader had left.
 pub record IsOvertaken (s t : State) (sub : ℕ) (reading : Reading) (turns : List CheckTurn) : Type 0 where
   pub found : State
   pub all : AreAllFull s found sub reading turns
@@ -67,7 +67,7 @@ pub record IsOvertaken (s t : State) (sub : ℕ) (reading : Reading) (turns : Li
   pub differs : seer.stamp ≢ all.was_left.shows.seer.stamp
   pub goes : GoesOn found t
 
--- behind the Checks so far, all of them full, one more gave the reader items, for which it had no memory
+-- After the Checks so far, all full, one more showed items for which the reader had no memory.
 pub record IsCheckedMore (s t : State) (reading : Reading) (turns : List CheckTurn) : Type 0 where
   pub turn : CheckTurn
   pub are : AreChecks s.feed t.feed (is_under reading.query) [] (turns ++ turn ∷ [])
@@ -76,9 +76,9 @@ pub record IsCheckedMore (s t : State) (reading : Reading) (turns : List CheckTu
   pub some : turn.items ≢ []
   pub few : length turns < reading.questions
 
--- the store, which is `t` now, refused the Subscribe, with which the reader begins, or the next Check, or another took the
--- subscription over, or there were as many Checks as may be; memory was wanting before the reader asked anything, or for what a
--- Check of its own subscription gave
+-- Why a reader by checks stopped, with the store in state `t`: the store refused its Subscribe or its next Check, the
+-- allowed Checks weren't enough, another took the subscription over, or memory ran out before its first command or for
+-- the items of a Check.
 abbrev pub StopsChecks : State → State → ℕ → Reading → ReadFault → Type 0
 StopsChecks s t sub reading (Refused refusal) =
     IsCommandRefused t (subscribe_anew sub reading.query) refusal ⊎
@@ -90,17 +90,17 @@ StopsChecks s t sub reading _ = Unit {0}
 
 -- ---- a reader by the journal
 
--- a reply of the journal that gave as many items as it was asked for
+-- A reply of the journal with as many items as the Since asked for.
 pub record IsFullSince (max : ℕ) (t : SinceTurn) : Type 0 where
   pub asked : t.max ≡ max
   pub full : max ≤ length t.since.items
 
--- the journal's replies so far, from the cursor on, all of them full
+-- The journal's replies so far, from the cursor on, were all full.
 pub record AreFullSinces (t : State) (reading : Reading) (from : Cursor) (turns : List SinceTurn) : Type 0 where
   pub are : AreSince t.feed (is_under reading.query) from turns
   pub full : All (IsFullSince reading.max) turns
 
--- behind the replies so far, all of them full, one more gave items
+-- After the replies so far, all full, one more had items.
 pub record IsJournaledMore (t : State) (reading : Reading) (from : Cursor) (turns : List SinceTurn) : Type 0 where
   pub turn : SinceTurn
   pub are : AreSince t.feed (is_under reading.query) from (turns ++ turn ∷ [])
@@ -108,25 +108,26 @@ pub record IsJournaledMore (t : State) (reading : Reading) (from : Cursor) (turn
   pub asked : turn.max ≡ reading.max
   pub some : turn.since.items ≢ []
 
--- the next question to the journal was refused, or there were as many as may be; memory was wanting for the next question, or for
--- what it gave
+-- Why reading the journal stopped: the next Since was refused, the allowed number of them weren't enough, or memory ran
+-- out for the next one or for its items.
 abbrev pub StopsSinces : State → Reading → Cursor → ReadFault → Type 0
 StopsSinces t reading from (Refused refusal) =
     (turns : List SinceTurn) × AreFullSinces t reading from turns ×
     IsCommandRefused t (Since (Under reading.query) (cursor_after from turns) reading.max) refusal
 StopsSinces t reading from Unfinished = (turns : List SinceTurn) × AreFullSinces t reading from turns × (length turns ≡ reading.questions)
 StopsSinces t reading from NoRoom =
-    (turns : List SinceTurn) × (length turns < reading.questions) × (AreFullSinces t reading from turns ⊎ IsJournaledMore t reading from turns)
+    (turns : List SinceTurn) × (length turns < reading.questions) ×
+    (AreFullSinces t reading from turns ⊎ IsJournaledMore t reading from turns)
 StopsSinces t reading from _ = Unit {0}
 
 -- ---- a reader by pages
 
--- the pages so far, since the reader began, none of which was the last
+-- The pages so far, since the reader began. None of them was the last.
 pub record AreAllOpen (s t : State) (reading : Reading) (pages : List PageTurn) : Type 0 where
   pub are : AreOpenPages t.feed (is_under reading.query) None (next_position s) pages
   pub asked : All (λ page. page.max ≡ reading.max) pages
 
--- all pages were read, and this is the cursor of the first one
+-- All pages were read, and this is the cursor of the first one.
 pub record ArePaged (s t : State) (reading : Reading) (from : Cursor) : Type 0 where
   pub pages : List PageTurn
   pub open_ones : AreAllOpen s t reading pages
@@ -137,7 +138,7 @@ pub record ArePaged (s t : State) (reading : Reading) (from : Cursor) : Type 0 w
   pub ends : last.page.last ≡ true
   pub from_is : from ≡ unwrap_or (first_cursor pages) last.page.cursor
 
--- behind the pages so far, none of them the last, one more gave items
+-- After the pages so far, none of them the last, one more had items.
 pub record IsPagedMore (s t : State) (reading : Reading) (pages : List PageTurn) : Type 0 where
   pub open_ones : AreAllOpen s t reading pages
   pub turn : PageTurn
@@ -145,7 +146,8 @@ pub record IsPagedMore (s t : State) (reading : Reading) (pages : List PageTurn)
   pub asked : turn.max ≡ reading.max
   pub some : turn.page.items ≢ []
 
--- the next page was refused, or there were as many as may be; memory was wanting for the next question, or for what it gave
+-- Why reading pages stopped: the next Page was refused, the allowed number of them weren't enough, or memory ran out
+-- for the next one or for its items.
 abbrev pub StopsOpen : State → State → Reading → ReadFault → Type 0
 StopsOpen s t reading (Refused refusal) =
     (pages : List PageTurn) × AreAllOpen s t reading pages ×
@@ -155,7 +157,7 @@ StopsOpen s t reading NoRoom =
     (pages : List PageTurn) × (length pages < reading.questions) × (AreAllOpen s t reading pages ⊎ IsPagedMore s t reading pages)
 StopsOpen s t reading _ = Unit {0}
 
--- it stopped before the last page, or behind it at the journal
+-- Why a reader by pages stopped: before the last page, or after it, in the journal.
 abbrev pub StopsPages : State → State → Reading → ReadFault → Type 0
 StopsPages s t reading fault =
     StopsOpen s t reading fault ⊎ ((from : Cursor) × ArePaged s t reading from × StopsSinces t reading from fault)

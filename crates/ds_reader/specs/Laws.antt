@@ -1,4 +1,4 @@
--- The laws from which a reader tells that nothing is left out.
+-- The laws that let a reader conclude that nothing is left out.
 use Rattle.ds_convergence.specs.WholeLaws.{FeedsGrow}
 use Rattle.ds_convergence.specs.TurnLaws.{ChecksGrow, SincesGrow, PagesGrow, FewerReachTheEnd, CheckedIsWhole, PagedIsWhole}
 use Rattle.ds_machine.specs.Effect.{StepsGoOn, RunsGoOn, RunsStayReached, GoesOnSame, GoesOnLater, HeldIsTop}
@@ -6,7 +6,7 @@ use Rattle.ds_machine.specs.SubscriptionLaws.{StampTells, SubscribedLeaves, Chec
 use Rattle.ds_machine.specs.Says.{RefusedSays, CheckedSays, JournaledSays, PagedSays}
 use Rattle.ds_replica.specs.Growth.{NewsAreNew, LaterIsFront}
 
--- how turns grow, and what is whole; how a store goes on, and what it holds; what its answers say
+-- The laws of turns and of what is whole, of how a store grows and what it holds, and of what its replies say.
 pub record ReaderLaws : Type 0 where
   pub feeds : FeedsGrow
   pub checks : ChecksGrow

@@ -1,4 +1,4 @@
--- What a service has that read a store whole.
+-- What a service has after it read a store whole.
 use Rattle.std.specs.Prelude.{◌≡◌, List, [], ◌++◌}
 use Rattle.ds_entry.specs.declared.item.Item.{Item}
 use Rattle.ds_entry.specs.Under.{under}
@@ -15,17 +15,17 @@ use Rattle.ds_machine.specs.State.{State, next_position}
 use Rattle.ds_reader.specs.GivesUp.{ArePaged}
 use Rattle.ds_reader.specs.declared.reading.Reading.{Reading}
 
--- the items were all accepted and are under the query, and they are whole under it up to the store's cursor: all that is under it
--- and took effect by then is covered by one of them
+-- The items were all accepted and are under the query, and they are whole under it up to the store's cursor: everything
+-- under it that took effect by then is covered by one of them.
 pub record IsReadWhole (t : State) (query : Query) (items : List Item) : Type 0 where
   pub among : IsPartOf items (under (is_under query) t.feed.accepted)
   pub whole : IsWhole t.feed (is_under query) (given t.feed.accepted items) (next_position t)
 
--- the items are just what the Checks since the Subscribe gave, each time the first that hadn't been shown, in their order
+-- The items are exactly what the Checks since the Subscribe showed, in order: each time the first ones not shown yet.
 abbrev pub AreChecked : State → State → Query → List Item → Type 0
 AreChecked s t query items = (turns : List CheckTurn) × AreChecks s.feed t.feed (is_under query) [] turns × (items ≡ checked turns)
 
--- the items are just what the pages gave, in their order, and behind them what the journal did from the first page's cursor on
+-- The items are exactly those of the pages, in order, and then those of the journal from the first page's cursor on.
 pub record AreRead (s t : State) (reading : Reading) (items : List Item) : Type 0 where
   pub from : Cursor
   pub pages : ArePaged s t reading from

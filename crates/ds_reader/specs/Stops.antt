@@ -1,4 +1,4 @@
--- A question that isn't answered.
+-- Commands that aren't answered.
 use Rattle.ds_machine.specs.State.{State}
 use Rattle.ds_machine.specs.declared.command.Command.{Command}
 use Rattle.ds_machine.specs.declared.reply.Reply.TheVariants as replies
@@ -6,7 +6,7 @@ use Rattle.ds_reader.specs.Asked.{GetsReply, OthersAsked}
 use Rattle.ds_reader.specs.declared.fault.ReadFault.{ReadFault}
 use Rattle.ds_reader.specs.declared.fault.ReadFault.TheVariants.{Refused, Worn}
 
--- the command was refused for this cause, or nothing can be asked any more, and only others have asked
+-- The command was refused for this cause, or no command can be sent any more and only others used the store.
 abbrev pub StopsThere : {A : Type 0} → (A → State → Type 0) → (A → Type 0) → A → Command → ReadFault → A → Type 0
 StopsThere stands worn old command (Refused refusal) new = GetsReply stands old command (replies.Refused refusal) new
 StopsThere stands worn old command Worn new = worn new × OthersAsked stands old new

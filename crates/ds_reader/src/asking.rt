@@ -1,4 +1,4 @@
-//! Questions to a store, and what its answers say of its states.
+//! Commands to a store, and what its replies say about its states.
 
 ghost use Rattle.std.specs.Prelude.{◌≡◌, IfOk, IfErr};
 ghost use Rattle.ds_machine.specs.declared.command.Command.TheVariants as commands;
@@ -14,16 +14,16 @@ use ds_machine::{Command, Reply, Scope};
 use ds_names::Key;
 use ds_pattern::Query;
 
-/// What a Check gave.
+/// What a Check showed.
 #[derive(Drop)]
 pub(crate) struct Shown {
     pub items: Items,
-    /// The stamp that the subscription had, and the one that it has from then on.
+    /// The subscription's stamp before the Check, and after it.
     pub before: u64,
     pub after: u64,
 }
 
-/// Subscribes with INITIAL, over whatever the subscription was before. Its stamp.
+/// Subscribes with INITIAL, over any earlier subscription of this number. Returns its stamp.
 pub(crate) fn subscribe<A: Asks>(asked: &mut A, sub: u32, query: Query) -> Result<u64, ReadFault>
     ensures made { IfOk result (λ stamp. GetsStamp A.stands asked.old sub query stamp asked.new) }
     ensures refused { IfErr result (λ fault. StopsThere A.stands A.is_worn asked.old (subscribe_anew sub query) fault asked.new) }
@@ -70,7 +70,7 @@ pub(crate) fn check<A: Asks>(asked: &mut A, sub: u32, max: u32) -> Result<Shown,
     }
 }
 
-/// Asks for a page behind the key.
+/// Reads a page after the key.
 pub(crate) fn page<A: Asks>(
     asked: &mut A,
     scope: Scope,
@@ -92,7 +92,7 @@ pub(crate) fn page<A: Asks>(
     }
 }
 
-/// Asks the journal from the cursor on.
+/// Reads the journal from the cursor on.
 pub(crate) fn since<A: Asks>(
     asked: &mut A,
     scope: Scope,

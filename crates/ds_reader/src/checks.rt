@@ -1,4 +1,4 @@
-//! A store read by checks.
+//! Reading a store by checks.
 
 ghost use Rattle.std.specs.Prelude.{◌≡◌, Err, IfOk, IfErr};
 ghost use Rattle.ds_reader.specs.Asked.{ComesTo};
@@ -14,15 +14,15 @@ use crate::reading::Reading;
 use ds_entry::Items;
 use std::alloc::Global;
 
-/// Reads a store by a subscription, which is made with INITIAL, over whatever it was before: it checks until a Check gives
-/// fewer items than it asked for, while others go on. The items are all under the query, and leave out nothing of what took
-/// effect under it up to the store's cursor then. By the stamps it tells whether another took the subscription over. It asks the
-/// store this Subscribe and Checks, and nothing else.
+/// Reads a store by a subscription while others use the store. It subscribes with INITIAL, over any earlier
+/// subscription of this number, and checks until a Check shows fewer items than it asked for. The items are all under
+/// the query, and leave out nothing that took effect under it up to the store's cursor at the end. Stamps reveal
+/// whether another took the subscription over. The store gets this Subscribe and these Checks, and nothing else.
 ///
-/// Where it gives up, the store has gone on, by its own questions and by what others asked. It is `Refused` just where the
-/// store refused the Subscribe, with which it begins, or the next Check, by this cause, and `Unfinished` just where there were
-/// as many Checks as may be. The Checks so far each gave as many items as they asked for. `Overtaken`: a Check told another
-/// stamp than that with which the reader had left its subscription. `Worn`: nothing can be asked any more.
+/// Errors: `Refused` if the store refused the Subscribe or the next Check, by this cause; `Unfinished` if the allowed
+/// number of Checks, each full, wasn't enough; `Overtaken` if a Check reported another stamp than the one that the
+/// reader had left; `NoRoom` if memory ran out, before the first command or for the items; `Worn` if no command can be
+/// sent any more. After an error, the store has still advanced by the reader's commands and those of others.
 pub fn read_by_checks<A: Asks>(
     alloc: Global,
     asked: &mut A,

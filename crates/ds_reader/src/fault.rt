@@ -7,19 +7,19 @@ use thiserror::Error;
 /// Why a reader gives up.
 #[derive(Clone, Copy, Debug, PartialEq, Eq, Error)]
 pub enum ReadFault {
-    /// The store refused a question, as Behind where its journal doesn't reach back to the first page any more.
+    /// The store refused a command; as Behind if its journal no longer reaches back to the first page.
     #[error("the store refused a question")]
     Refused(Refusal),
-    /// The reader wants memory for what it was given.
+    /// The reader is out of memory.
     #[error("out of memory")]
     NoRoom,
-    /// As many questions as may be weren't enough.
+    /// The allowed number of commands wasn't enough.
     #[error("as many questions as may be weren't enough")]
     Unfinished,
-    /// Another took the subscription over.
+    /// Another client took the subscription over.
     #[error("another took the subscription over")]
     Overtaken,
-    /// Nothing can be asked any more.
+    /// No command can be sent any more.
     #[error("nothing can be asked any more")]
     Worn,
 }

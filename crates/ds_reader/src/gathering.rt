@@ -1,4 +1,4 @@
-//! Items that are put together, reply by reply.
+//! Collecting items reply by reply.
 
 ghost use Rattle.std.specs.Prelude.{◌≡◌, ◌∷◌, [], IfOk};
 ghost use Rattle.ds_machine.specs.declared.command.Scope.TheVariants.{Under};
@@ -10,7 +10,7 @@ use ds_names::{Key, NoRoom};
 use ds_pattern::Query;
 use std::alloc::Global;
 
-// Goes on to the key of a change.
+// Moves on to the key of a change.
 fn go_behind_item(key: &mut Option<Key>, item: &Item)
     ensures { key.new ≡ last_key key.old (item.now ∷ []) }
 {
@@ -20,7 +20,7 @@ fn go_behind_item(key: &mut Option<Key>, item: &Item)
     }
 }
 
-/// Goes on to the key of the last change among the items, if there is one.
+/// Moves on to the key of the last change among the items, if there is one.
 pub fn go_behind(key: &mut Option<Key>, items: &Items)
     ensures { key.new ≡ last_key key.old items.now }
 {
@@ -31,7 +31,7 @@ pub fn go_behind(key: &mut Option<Key>, items: &Items)
     }
 }
 
-/// All that is under the query.
+/// Returns the scope of a query.
 pub(crate) fn scope_of(alloc: Global, query: &Query) -> Result<Scope, NoRoom>
     ensures { IfOk result (λ scope. scope ≡ Under query.now) }
 {

@@ -1,4 +1,4 @@
-//! What a reader knows of a store.
+//! What a reader knows about a store.
 
 ghost use Rattle.ds_reader.specs.Laws.{ReaderLaws};
 
@@ -6,7 +6,7 @@ use ds_convergence::{turn_laws, whole_laws};
 use ds_machine::{answers_say, states_are_reached, steps_have_effects, subscriptions_are_kept};
 use ds_replica::stores_grow;
 
-/// The laws from which a reader tells that nothing is left out.
+/// Cites the laws that let a reader conclude that nothing is left out.
 pub(crate) fn laws()
     ensures { ReaderLaws }
 {

@@ -1,8 +1,8 @@
-//! How a service reads a store whole: by the checks of a subscription, or by pages and the journal, while others go on asking
-//! the store. It knows no more of the store than the contract of `apply` and the laws say.
+//! How a service reads a store whole while others use it: by the checks of a subscription, or by pages and the journal.
+//! It relies only on the contract of `apply` and on laws.
 //!
-//! A subscriber of MINIX 3's data store is told that something changed, and checks (the DS interface of MINIX 3; Herder and
-//! others, DSN 2007). Pages, the journal, and that nothing is left out are of this project.
+//! A subscriber of MINIX 3's data store is notified that something changed, and checks (Herder and others, DSN 2007).
+//! Pages, the journal, and the proof that nothing is left out are of this project.
 #![tactic(auto)]
 
 mod asking;

@@ -1,4 +1,4 @@
-//! Who else asks a store.
+//! The other users of a store.
 
 ghost use Rattle.ds_store.specs.Steps.{ContentSteps};
 ghost use Rattle.ds_reader.specs.Asked.{Goes};
@@ -7,22 +7,22 @@ use crate::asks::Asks;
 use ds_machine::{Command, Reply};
 use ds_store::Store;
 
-/// Those who ask a store between two questions of a reader.
+/// The other users of a store, between two commands of a reader.
 pub trait Others {
     ghost use Rattle.ds_store.specs.Steps.{ContentSteps};
     ghost use Rattle.ds_reader.specs.Asked.{Goes};
 
-    /// They ask, each command one step of the store's machine.
+    /// Sends any commands, each one step of the store's machine.
     fn ask(&mut self, store: &mut Store)
         ensures { ContentSteps store.old Goes store.new };
 }
 
-/// A store among others, who ask it before each question.
+/// A store with other users, who use it before each command of the reader.
 #[derive(Drop)]
 pub struct Among<O> {
     /// The store.
     pub store: Store,
-    /// The others.
+    /// The other users.
     pub others: O,
 }
 

@@ -1,4 +1,4 @@
-//! A store read by pages.
+//! Reading a store by pages.
 
 ghost use Rattle.std.specs.Prelude.{◌≡◌, Err, IfOk, OnOk, IfErr};
 ghost use Rattle.ds_reader.specs.Asked.{ComesTo};
@@ -17,8 +17,8 @@ use ds_entry::Items;
 use ds_feed::Cursor;
 use std::alloc::Global;
 
-// Adds to the items what took effect from the cursor on, while others go on, up to the store's cursor: it asks until a reply gives
-// fewer items than it asked for.
+// Appends what took effect from the cursor on up to the store's cursor, while others use the store. It reads the
+// journal until a reply has fewer items than it asked for.
 fn catch_up<A: Asks>(
     alloc: Global,
     asked: &mut A,
@@ -46,14 +46,14 @@ fn catch_up<A: Asks>(
     Err(ReadFault::Unfinished)
 }
 
-/// Reads a store by pages, while others go on, and then by the journal from the first page's cursor on. The items are all under
-/// the query, and leave out nothing of what took effect under it up to the store's cursor then. It asks the store for pages and
-/// then its journal, and nothing else.
+/// Reads a store by pages, and then by the journal from the first page's cursor on, while others use the store. The
+/// items are all under the query, and leave out nothing that took effect under it up to the store's cursor at the end.
+/// The store gets these Pages and Sinces, and nothing else.
 ///
-/// Where it gives up, the store has gone on by what others asked. It is `Refused` just where the store refused the next page, or
-/// the next question to the journal, by this cause, and `Unfinished` just where as many questions of one kind as may be were
-/// asked: none of the pages was the last one, or each of the journal's replies gave as many items as it was asked for. No page
-/// is of a time before it began. `Worn`: nothing can be asked any more.
+/// Errors: `Refused` if the store refused the next Page or Since, by this cause; `Unfinished` if the allowed number of
+/// Pages had no last one, or that of Sinces were all full; `NoRoom` if memory ran out, for the next command or for the
+/// items; `Worn` if no command can be sent any more. After an error, the store has still advanced by the commands of
+/// others. No page is older than the call.
 pub fn read_by_pages<A: Asks>(
     alloc: Global,
     asked: &mut A,

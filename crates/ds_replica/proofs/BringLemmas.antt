@@ -105,7 +105,7 @@ unfolding is_name_byte
 rs_is_name = record { some = omega arith; limit = omega arith; allowed = refl }
 
 -- ---- a change that a caller asks for
--- the causes that stand by the command and its caller don't
+-- the causes that need only the command and its caller don't apply
 abbrev pub IsJudged : State → AskedChange → Body → Type 0
 IsJudged s a body = (r : Refusal) → Contains by_command r → against_asked (standing_of s (asked_in s a body)) (name_of (held s) a.caller) a body (causes.Refused r) ≡ false
 
@@ -145,7 +145,8 @@ module _ (s : State) (a : AskedChange) (body : Body) (items : AreItems (held s))
       let epoch = not_equal a.version.epoch 0 (left_of (not (a.version.epoch == 0)) (is_label_body a.version body) rest) in
       record {
         owner = owner_of_rs (where_label (is_rs a.caller) (subst (λ (x : Kind). is_label x && not (is_rs a.caller) ≡ false) k allowed));
-        name = λ e. (let q : false ≡ true = sym (ap not (subst (λ (x : List ℕ). is_same_name a.key.name x ≡ true) e (text_is a.key.name))) ∙ left_of (not (is_same_name a.key.name rs_name)) (not (a.version.epoch == 0) && is_label_body a.version body) test in cc);
+        name = λ e. (let q : false ≡ true = sym (ap not (subst (λ (x : List ℕ). is_same_name a.key.name x ≡ true) e (text_is a.key.name))) ∙
+            left_of (not (is_same_name a.key.name rs_name)) (not (a.version.epoch == 0) && is_label_body a.version body) test in cc);
         epoch = positive a.version.epoch epoch;
         body = label_body a.version body (right_true (not (a.version.epoch == 0)) (is_label_body a.version body) rest);
       }
@@ -195,7 +196,8 @@ judged_free s a body e r h =
 judged_known : (s : State) (a : AskedChange) (body : Body) → cause_against s a body ≡ Some causes.Known → IsJudged s a body
 unfolding is_known
 judged_known s a body e r h =
-    passed (against_asked (standing_of s (asked_in s a body)) (name_of (held s) a.caller) a body) is_known (map causes.Refused by_command) (by_version (Some a.version) ++ map causes.Refused by_room) (causes.Refused r) causes.Known e refl refl
+    passed (against_asked (standing_of s (asked_in s a body)) (name_of (held s) a.caller) a body) is_known (map causes.Refused by_command)
+    (by_version (Some a.version) ++ map causes.Refused by_room) (causes.Refused r) causes.Known e refl refl
     (Contains-map causes.Refused by_command r h)
 
 pub one_item : (i : Item) → IsItem i → AreItems (i ∷ [])
@@ -205,7 +207,9 @@ no_items : AreItems []
 no_items i h = absurd (Contains-nil i h)
 
 asking_items : (s : State) (a : AskedChange) (body : Body) (reply : Reply) → AreItems (held s) → AreParts a.key a.version body → (o : Option Cause) → cause_against s a body ≡ o
-    → reply ≡ (option_map_or {U = Reply × State} (λ (cause : Cause). (answer_for cause, s)) o (Accepted (owed s (Changed (asked_in s a body) ∷ [])), takes_effect s (Changed (asked_in s a body) ∷ []))).0 → AreItems (known_after reply (Changed (asked_in s a body) ∷ []))
+    → reply ≡ (option_map_or {U = Reply × State} (λ (cause : Cause). (answer_for cause, s)) o
+    (Accepted (owed s (Changed (asked_in s a body) ∷ [])), takes_effect s (Changed (asked_in s a body) ∷ []))).0 → AreItems (known_after reply
+    (Changed (asked_in s a body) ∷ []))
 asking_items s a body reply items parts None q e =
     subst (λ (x : Reply). AreItems (known_after x (Changed (asked_in s a body) ∷ []))) (sym e) (one_item (Changed (asked_in s a body)) (asked_change s a body items parts (judged_free s a body q)))
 asking_items s a body reply items parts (Some causes.Known) q e =
@@ -225,7 +229,8 @@ refused_items : (reply : Reply) (refusal : Refusal) (items : List Item) → repl
 refused_items reply refusal items e = subst (λ (x : Reply). AreItems (known_after x items)) (sym e) no_items
 
 pub learnt_items : (s t : State) (command : Command) (reply : Reply) → AreItems (held s) → IsProper command → Step s command reply t → AreItems (learnt_by s command reply)
-learnt_items s t (Publish caller key version value overwrite) reply items p (inl (inl is)) = let a : AskedChange = published caller key version overwrite in asking_items s a (Put value) reply items p (cause_against s a (Put value)) refl is.reply_is
+learnt_items s t (Publish caller key version value overwrite) reply items p (inl (inl is)) = let a : AskedChange = published caller key version overwrite in
+    asking_items s a (Put value) reply items p (cause_against s a (Put value)) refl is.reply_is
 learnt_items s t (Publish caller key version value overwrite) reply items p (inl (inr w)) = refused_items reply refusals.NoRoom _ w.reply_is
 learnt_items s t (Publish caller key version value overwrite) reply items p (inr w) = absurd w
 learnt_items s t (Delete caller key version) reply items p (inl (inl is)) = let a : AskedChange = deleted caller key version in asking_items s a Gone reply items p (cause_against s a Gone) refl is.reply_is

@@ -45,8 +45,8 @@ use Rattle.ds_replica.proofs.SeerLemmas.{Shows, same_seer, begins_shown, side_it
 use Rattle.ds_replica.proofs.ShowLemmas.{check_none, event_shows}
 use Rattle.std.proofs.lemmas.Bool.{or_parts, and_from}
 
--- ---- checks, one after the other
--- the event is a Check of the subscription that made a message, or gave it nothing
+-- ---- checks, in order
+-- the event is a Check of the subscription that made a message, or showed it nothing
 is_check : (side : Side) (sub : ℕ) (account : Account) (event : Event) (out : Outcome) → (check_sent side sub account event out ≡ []) ⊎ ((max : ℕ) × (k : ℕ) × (event ≡ Ask side (Check sub max)) × (out ≡ Made k))
 is_check side sub account (Ask s (Check n max)) (Made k) = by_test (is_side s side) refl (eqb_tells n sub)
   where
@@ -89,7 +89,14 @@ turn_at account w late side sub query max k events early f shown asked h earlier
     let each : one.items ≡ l = sym d.2 ∙ ap (λ (x : Subscription). take max (unseen a.state x)) other in
     let t : CheckTurn = record { feed = a.state.feed; known = a.known; held = held a.state; max = max; items = l } in
     let test = and_from (is_side side side) (sub == sub) (side_itself side) (itself sub) in
-    let turn : IsCheckTurn early f (is_under h.seer.query) h.seer.shown t = record { later = earlier; front = front_later a.state.feed (feed_of (extended_all account ((Ask side (Check sub max), Made k) ∷ events)) side) f (front account w late side (Check sub max) k events asked) later; knows = own.accepted; top = held_is_top a.state own.reached; given = refl } in (
+    let turn : IsCheckTurn early f (is_under h.seer.query) h.seer.shown t = record {
+      later = earlier;
+      front = front_later a.state.feed (feed_of (extended_all account ((Ask side (Check sub max), Made k) ∷ events)) side) f
+          (front account w late side (Check sub max) k events asked) later;
+      knows = own.accepted;
+      top = held_is_top a.state own.reached;
+      given = refl;
+    } in (
       t,
       subst (λ (x : List Item). IsCheckTurn early f (is_under query) x t) h.shown_is (subst (λ (x : Query). IsCheckTurn early f (is_under x) h.seer.shown t) h.query_is turn),
       refl,
@@ -104,51 +111,59 @@ or_none false e = refl
 
 module _ (side : Side) (sub : ℕ) (query : Query) (early f : Feed) where
   -- one more event, before rounds
-  module _ (account : Account) (w mid late : World) (shown : List Item) (es : List (Event × Outcome)) (fits : Fits account w) (h : Shows (store_of account side).state sub query shown) (earlier : IsFront early (feed_of account side)) (happen : HappenAll mid es late) (stays : Stays (Store side) es) where
-    longer : (cs rs : List Sent) → (shown ++ items_of cs) ++ items_of rs ≡ shown ++ items_of (cs ++ rs)
-    longer cs rs = append_assoc shown (items_of cs) (items_of rs) ∙ ap (λ (l : List Item). shown ++ l) (sym (items_append cs rs))
+  module _ (account : Account) (w mid late : World) (shown : List Item) (es : List (Event × Outcome)) (fits : Fits account w)
+      (h : Shows (store_of account side).state sub query shown) (earlier : IsFront early (feed_of account side)) (happen : HappenAll mid es late) (stays : Stays (Store side) es)
+    where
+      longer : (cs rs : List Sent) → (shown ++ items_of cs) ++ items_of rs ≡ shown ++ items_of (cs ++ rs)
+      longer cs rs = append_assoc shown (items_of cs) (items_of rs) ∙ ap (λ (l : List Item). shown ++ l) (sym (items_append cs rs))
 
-    -- it gave the subscription nothing
-    by_other : (event : Event) (out : Outcome) → check_sent side sub account event out ≡ [] → Rounds (extended account event out) side sub query early f (shown ++ items_of (check_sent side sub account event out)) es → Rounds account side sub query early f shown ((event, out) ∷ es)
-    by_other event out e r =
-        let cs = check_sent side sub account event out in
-        let rs = checks_sent side sub (extended account event out) es in
-        let same : shown ++ items_of cs ≡ shown = ap (λ (l : List Sent). shown ++ items_of l) e ∙ append-nil shown in
-        record {
-          turns = r.turns;
-          are = subst (λ (x : List Item). AreChecks early f (is_under query) x r.turns) same r.are;
-          sent_are = r.sent_are ∙ sym (ap (λ (l : List Sent). l ++ rs) e);
-          last = λ t c. subst (λ (x : List Item). AreChecks early f (is_under query) x (r.turns ++ t ∷ [])) same (r.last t (subst (λ (x : List Item). IsCheckTurn early f (is_under query) x t) (sym (longer cs rs)) c));
-          shows = subst (Shows (store_of (extended_all account ((event, out) ∷ es)) side).state sub query) (longer cs rs) r.shows;
-        }
+      -- it showed the subscription nothing
+      by_other : (event : Event) (out : Outcome) → check_sent side sub account event out ≡ [] →
+          Rounds (extended account event out) side sub query early f (shown ++ items_of (check_sent side sub account event out)) es →
+          Rounds account side sub query early f shown ((event, out) ∷ es)
+      by_other event out e r =
+          let cs = check_sent side sub account event out in
+          let rs = checks_sent side sub (extended account event out) es in
+          let same : shown ++ items_of cs ≡ shown = ap (λ (l : List Sent). shown ++ items_of l) e ∙ append-nil shown in
+          record {
+            turns = r.turns;
+            are = subst (λ (x : List Item). AreChecks early f (is_under query) x r.turns) same r.are;
+            sent_are = r.sent_are ∙ sym (ap (λ (l : List Sent). l ++ rs) e);
+            last = λ t c. subst (λ (x : List Item). AreChecks early f (is_under query) x (r.turns ++ t ∷ [])) same (r.last t (subst (λ (x : List Item). IsCheckTurn early f (is_under query) x t) (sym (longer cs rs)) c));
+            shows = subst (Shows (store_of (extended_all account ((event, out) ∷ es)) side).state sub query) (longer cs rs) r.shows;
+          }
 
-    -- it was a Check of the subscription
-    by_check : (max k : ℕ) → Happens w (Ask side (Check sub max)) (Made k) mid → IsFront (feed_of (extended_all account ((Ask side (Check sub max), Made k) ∷ es)) side) f
-        → Rounds (extended account (Ask side (Check sub max)) (Made k)) side sub query early f (shown ++ items_of (check_sent side sub account (Ask side (Check sub max)) (Made k))) es → Rounds account side sub query early f shown ((Ask side (Check sub max), Made k) ∷ es)
-    by_check max k a later r =
-        let cs = check_sent side sub account (Ask side (Check sub max)) (Made k) in
-        let rs = checks_sent side sub (extended account (Ask side (Check sub max)) (Made k)) es in
-        let t = turn_at account w late side sub query max k es early f shown (record { fits = fits; happen = (mid, a, happen); stays = stays }) h earlier later in
-        let same : items_of cs ≡ t.0.items = ap items_of t.4 ∙ items_given_back t.0.known t.0.items in
-        record {
-          turns = t.0 ∷ r.turns;
-          are = (t.1, subst (λ (x : List Item). AreChecks early f (is_under query) (shown ++ x) r.turns) same r.are);
-          sent_are = ap (λ (l : List Sent). l ++ check_items r.turns) (sym t.4) ∙ ap (λ (l : List Sent). cs ++ l) r.sent_are;
-          last = λ u c. (t.1, subst (λ (x : List Item). AreChecks early f (is_under query) (shown ++ x) (r.turns ++ u ∷ [])) same (r.last u (subst (λ (x : List Item). IsCheckTurn early f (is_under query) x u) (sym (longer cs rs)) c)));
-          shows = subst (Shows (store_of (extended_all account ((Ask side (Check sub max), Made k) ∷ es)) side).state sub query) (longer cs rs) r.shows;
-        }
+      -- it was a Check of the subscription
+      by_check : (max k : ℕ) → Happens w (Ask side (Check sub max)) (Made k) mid → IsFront (feed_of (extended_all account ((Ask side (Check sub max), Made k) ∷ es)) side) f
+          → Rounds (extended account (Ask side (Check sub max)) (Made k)) side sub query early f (shown ++ items_of (check_sent side sub account (Ask side (Check sub max)) (Made k)))
+          es → Rounds account side sub query early f shown ((Ask side (Check sub max), Made k) ∷ es)
+      by_check max k a later r =
+          let cs = check_sent side sub account (Ask side (Check sub max)) (Made k) in
+          let rs = checks_sent side sub (extended account (Ask side (Check sub max)) (Made k)) es in
+          let t = turn_at account w late side sub query max k es early f shown (record { fits = fits; happen = (mid, a, happen); stays = stays }) h earlier later in
+          let same : items_of cs ≡ t.0.items = ap items_of t.4 ∙ items_given_back t.0.known t.0.items in
+          record {
+            turns = t.0 ∷ r.turns;
+            are = (t.1, subst (λ (x : List Item). AreChecks early f (is_under query) (shown ++ x) r.turns) same r.are);
+            sent_are = ap (λ (l : List Sent). l ++ check_items r.turns) (sym t.4) ∙ ap (λ (l : List Sent). cs ++ l) r.sent_are;
+            last = λ u c. (t.1, subst (λ (x : List Item). AreChecks early f (is_under query) (shown ++ x) (r.turns ++ u ∷ [])) same (r.last u (subst (λ (x : List Item). IsCheckTurn early f (is_under query) x u) (sym (longer cs rs)) c)));
+            shows = subst (Shows (store_of (extended_all account ((Ask side (Check sub max), Made k) ∷ es)) side).state sub query) (longer cs rs) r.shows;
+          }
 
-    by_event : (event : Event) (out : Outcome) → (check_sent side sub account event out ≡ []) ⊎ ((max : ℕ) × (k : ℕ) × (event ≡ Ask side (Check sub max)) × (out ≡ Made k))
-        → Happens w event out mid → IsFront (feed_of (extended_all account ((event, out) ∷ es)) side) f → Rounds (extended account event out) side sub query early f (shown ++ items_of (check_sent side sub account event out)) es
-        → Rounds account side sub query early f shown ((event, out) ∷ es)
-    by_event event out (inl e) a later r = by_other event out e r
-    by_event event out (inr c) a later r =
-        subst (λ (x : Event). Happens w x out mid → IsFront (feed_of (extended_all account ((x, out) ∷ es)) side) f → Rounds (extended account x out) side sub query early f (shown ++ items_of (check_sent side sub account x out)) es → Rounds account side sub query early f shown ((x, out) ∷ es))
-        (sym c.2)
-        (subst (λ (o : Outcome). Happens w (Ask side (Check sub c.0)) o mid → IsFront (feed_of (extended_all account ((Ask side (Check sub c.0), o) ∷ es)) side) f
-        → Rounds (extended account (Ask side (Check sub c.0)) o) side sub query early f (shown ++ items_of (check_sent side sub account (Ask side (Check sub c.0)) o)) es → Rounds account side sub query early f shown ((Ask side (Check sub c.0), o) ∷ es))
-        (sym c.3) (λ x y z. by_check c.0 c.1 x y z))
-        a later r
+      by_event : (event : Event) (out : Outcome) → (check_sent side sub account event out ≡ []) ⊎ ((max : ℕ) × (k : ℕ) × (event ≡ Ask side (Check sub max)) × (out ≡ Made k))
+          → Happens w event out mid → IsFront (feed_of (extended_all account ((event, out) ∷ es)) side) f → Rounds (extended account event out) side sub query early f (shown ++ items_of (check_sent side sub account event out)) es
+          → Rounds account side sub query early f shown ((event, out) ∷ es)
+      by_event event out (inl e) a later r = by_other event out e r
+      by_event event out (inr c) a later r =
+          subst (λ (x : Event). Happens w x out mid → IsFront (feed_of (extended_all account ((x, out) ∷ es)) side) f →
+          Rounds (extended account x out) side sub query early f (shown ++ items_of (check_sent side sub account x out)) es →
+          Rounds account side sub query early f shown ((x, out) ∷ es))
+          (sym c.2)
+          (subst (λ (o : Outcome). Happens w (Ask side (Check sub c.0)) o mid → IsFront (feed_of (extended_all account ((Ask side (Check sub c.0), o) ∷ es)) side) f
+          → Rounds (extended account (Ask side (Check sub c.0)) o) side sub query early f (shown ++ items_of (check_sent side sub account (Ask side (Check sub c.0)) o)) es →
+          Rounds account side sub query early f shown ((Ask side (Check sub c.0), o) ∷ es))
+          (sym c.3) (λ x y z. by_check c.0 c.1 x y z))
+          a later r
 
   rounds : (events : List (Event × Outcome)) (account : Account) (w late : World) (shown : List Item) → Fits account w → HappenAll w events late → Stays (Store side) events → list_any (is_subscribing side sub) events ≡ false
       → Shows (store_of account side).state sub query shown → IsFront early (feed_of account side) → IsFront (feed_of (extended_all account events) side) f → Rounds account side sub query early f shown events
@@ -218,7 +233,8 @@ checks_are_whole account w begun before late side sub query overwrite stamp owed
     let at : store_at begun side ≡ a.after = ap (λ (x : World). store_at x side) a.world_is ∙ (items_store (with_state w side a.after) (items_given a.reply) side ∙ store_put w side a.after) in
     let shows = subst (λ (s : State). Shows s sub query []) (sym (store_fits first begun side fits1).state_is) (subst (λ (s : State). Shows s sub query []) (sym at) begins) in
     let goes = subst (λ (x : Account). GoesOn (store_of first side).state (store_of x side).state) (extended_last events first (Ask side (Check sub max)) (Made k))
-    (goes_on first begun late side (events ++ (Ask side (Check sub max), Made k) ∷ []) fits1 (happen_last events begun before late (Ask side (Check sub max)) (Made k) h e) (stays_last (Store side) events (Ask side (Check sub max)) (Made k) stays refl)) in
+    (goes_on first begun late side (events ++ (Ask side (Check sub max), Made k) ∷ []) fits1 (happen_last events begun before late (Ask side (Check sub max)) (Made k) h e)
+    (stays_last (Store side) events (Ask side (Check sub max)) (Made k) stays refl)) in
     let early = feed_of first side in
     let f = feed_of now side in
     let last = front_of (store_of mid side).state (store_of now side).state (goes_on mid before late side ((Ask side (Check sub max), Made k) ∷ []) fits2 (late, e, refl) refl) in
@@ -229,5 +245,6 @@ checks_are_whole account w begun before late side sub query overwrite stamp owed
     let long : length (sent_in now k) ≡ length t.0.items = ap length sent ∙ given_long t.0.known t.0.items in
     let less : length t.0.items < t.0.max = omega (arith, long, few, t.2) in
     let whole = wholes.checks_are_whole early f (is_under query) goes.grown.0 r.turns t.0 goes.grown.2 (news_new early.accepted goes.grown.0 goes.grown.1) (r.last t.0 t.1) less in
-    subst (λ (l : List Sent). IsWhole f (is_under query) l (position (feed_of mid side))) (checks_last r.turns t.0 ∙ (ap (λ (l : List Sent). l ++ given t.0.known t.0.items) r.sent_are ∙ ap (λ (l : List Sent). checks_sent side sub first events ++ l) (sym sent)))
+    subst (λ (l : List Sent). IsWhole f (is_under query) l (position (feed_of mid side)))
+    (checks_last r.turns t.0 ∙ (ap (λ (l : List Sent). l ++ given t.0.known t.0.items) r.sent_are ∙ ap (λ (l : List Sent). checks_sent side sub first events ++ l) (sym sent)))
     (subst (λ (x : Feed). IsWhole f (is_under query) (check_items (r.turns ++ t.0 ∷ [])) (position x)) t.3 whole)

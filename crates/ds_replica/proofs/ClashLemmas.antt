@@ -125,13 +125,16 @@ module _ (brought : List Item) (n : AreSingleNumbered brought) where
         k : Course
         k = course s group
 
-        by_stop : (o : Option Refusal) → (course s group).stop ≡ o → MergeStopped done fault owes ≡ option_map_or {U = Reply} (λ f. MergeStopped (course s group).done f (owed s (course s group).taken)) o (Merged (course s group).done (length (course s group).taken) (course s group).stale (owed s (course s group).taken))
+        by_stop : (o : Option Refusal) → (course s group).stop ≡ o →
+            MergeStopped done fault owes ≡ option_map_or {U = Reply} (λ f. MergeStopped (course s group).done f (owed s (course s group).taken)) o
+            (Merged (course s group).done (length (course s group).taken) (course s group).stale (owed s (course s group).taken))
             → mid ≡ (course s group).state → ⊥
         by_stop None q e f = cc
         by_stop (Some stop) q e f =
             let same : fault ≡ stop = cc in
             let next = (took group (begun s) refl).stopped stop q in
-            judged_not mid (held_on (MergeStopped done fault owes) (inl (inl is)) (λ i h. b i (Contains-from_take done group i h))) next.0 (b next.0 next.1) stop (subst (λ (x : State). cause_of x next.0 ≡ Some (causes.Refused stop)) (sym f) next.2) (subst IsContradiction same t)
+            judged_not mid (held_on (MergeStopped done fault owes) (inl (inl is)) (λ i h. b i (Contains-from_take done group i h))) next.0 (b next.0 next.1) stop
+            (subst (λ (x : State). cause_of x next.0 ≡ Some (causes.Refused stop)) (sym f) next.2) (subst IsContradiction same t)
 
         by_refusal : (o : Option Refusal) → MergeStopped done fault owes ≡ (merging s group o).0 → mid ≡ (merging s group o).1 → ⊥
         by_refusal (Some f) e q = cc
@@ -150,7 +153,8 @@ module _ (brought : List Item) (n : AreSingleNumbered brought) where
         against_not (refusals.Clash v) e t = not_false e
         against_not _ e t = t
 
-        by_stop : (o : Option Refusal) → Refusing fault ≡ option_map_or {U = Reply} (λ f. MergeStopped (course s group).done f (owed s (course s group).taken)) o (Merged (course s group).done (length (course s group).taken) (course s group).stale (owed s (course s group).taken)) → ⊥
+        by_stop : (o : Option Refusal) → Refusing fault ≡ option_map_or {U = Reply} (λ f. MergeStopped (course s group).done f (owed s (course s group).taken)) o
+            (Merged (course s group).done (length (course s group).taken) (course s group).stale (owed s (course s group).taken)) → ⊥
         by_stop None e = cc
         by_stop (Some stop) e = cc
 
@@ -181,7 +185,8 @@ module _ (brought : List Item) (n : AreSingleNumbered brought) where
     follows_not new Others _ tally fault others step f e t = f
 
   -- ---- a delivery
-  merges_not : (groups : List (List Item)) (s new : State) (tally : Tally) (fault : Refusal) → IsReached s → IsPartOf s.feed.accepted brought → IsPartOf (flat_map (λ group. group) groups) brought → GroupsAreMerged s groups tally new → tally.stop ≡ Some fault → IsContradiction fault → ⊥
+  merges_not : (groups : List (List Item)) (s new : State) (tally : Tally) (fault : Refusal) → IsReached s → IsPartOf s.feed.accepted brought →
+      IsPartOf (flat_map (λ group. group) groups) brought → GroupsAreMerged s groups tally new → tally.stop ≡ Some fault → IsContradiction fault → ⊥
   merges_not [] s new tally fault r a b m e t = let q : None ≡ Some fault = sym (ap (λ (x : Tally). x.stop) m.0) ∙ e in cc
   merges_not (group ∷ groups) s new tally fault r a b m e t =
       follows_not s m.1 group r a (λ i h. b i (Contains-append_left group (flat_map (λ g. g) groups) i h)) new (λ x y. GroupsAreMerged m.1 groups x y) m.0 tally fault

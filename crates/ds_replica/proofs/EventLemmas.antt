@@ -39,7 +39,7 @@ use Rattle.ds_entry.specs.Under.{under}
 use Rattle.ds_machine.proofs.ReachedLemmas.{opening_is_reached}
 
 module _ (account : Account) (w new : World) (f : Fits account w) where
-  -- ---- a store was asked
+  -- ---- a store gets a command
   ask_fits : (side : Side) (command : Command) (out : Outcome) → Asks w side command out new → Fits (extended account (Ask side command) out) new
   ask_fits side command out h =
       subst (λ (z : World). Fits (extended account (Ask side command) out) z) (sym h.world_is)

@@ -1,4 +1,4 @@
--- How what fits goes on.
+-- What fits still fits later.
 use Rattle.std.proofs.Common.{◌≡◌, ℕ, zero, suc, ◌≤◌, Bool, true, false, cond, List, [], ◌∷◌, ◌++◌, length, take, Option, Some, None, refl, ap, sym, ◌∙◌, subst, inl, inr, arith, Contains}
 use Rattle.std.specs.List.{AllZip, take-map}
 use Rattle.std.proofs.lemmas.List.{take-take}
@@ -66,7 +66,7 @@ module _ (account : Account) (w : World) (x : StoreAccount) (t : State) (learnt 
   messages_still : AllZip (FitsMessage (account.brought ++ learnt)) account.messages w.messages
   messages_still = AllZip-weaker (FitsMessage account.brought) (FitsMessage (account.brought ++ learnt)) (message_wider account.brought (account.brought ++ learnt) more) account.messages w.messages f.messages
 
-  -- a store that learnt something, and what it gave
+  -- a store that learnt something, and what it replied
   pub asked_fits : (side : Side) (o : Option (List Item)) → FitsStore (account.brought ++ learnt) x t → ((items : List Item) → o ≡ Some items → FitsMessage (account.brought ++ learnt) (given known items) items)
       → Fits (record (with_account account side x) { messages = with_sent account.messages known o; brought = account.brought ++ learnt }) (with_items (with_state w side t) o)
   asked_fits A None g m = record { a = g; b = store_wider account.brought (account.brought ++ learnt) more account.b w.b f.b; maps = maps_still; messages = messages_still }
@@ -89,7 +89,7 @@ pub items_given_back : (known items : List Item) → items_of (given known items
 items_given_back known [] = refl
 items_given_back known (i ∷ items) = ap (λ (l : List Item). i ∷ l) (items_given_back known items)
 
--- what a store gives of what it knows
+-- what a store sends of what it knows
 pub message_given : (brought known items : List Item) → IsPartOf items known → IsPartOf known brought → FitsMessage brought (given known items) items
 message_given brought known items part within = record {
   items_are = items_given_back known items;
@@ -99,8 +99,9 @@ message_given brought known items part within = record {
       within i (Contains-from_filter (covers m.0) known i (subst (λ (z : Sent). Contains z.stands_for i) (sym m.2) k)).0;
 }
 
--- ---- a store that was asked
-pub asked_store : (brought : List Item) (a : StoreAccount) (t : State) (command : Command) (reply : Reply) → FitsStore brought a a.state → Step a.state command reply t → FitsStore (brought ++ learnt_by a.state command reply) (store_asked a command reply) t
+-- ---- a store after a command
+pub asked_store : (brought : List Item) (a : StoreAccount) (t : State) (command : Command) (reply : Reply) → FitsStore brought a a.state → Step a.state command reply t →
+    FitsStore (brought ++ learnt_by a.state command reply) (store_asked a command reply) t
 asked_store brought a t command reply f step =
     let learnt = learnt_by a.state command reply in
     record {
@@ -152,6 +153,8 @@ module _ (brought : List Item) (more : List Sent) (sent : (s : Sent) → Contain
   took_map a m after f e top =
       record {
         query_is = f.query_is ∙ sym e;
-        map = map_takes (is_under a.query) a.taken more m.held after.held sent f.map (subst (λ l. IsTop after.held (m.held ++ l)) (under_items (is_under a.query) more) (subst (λ (q : Query). IsTop after.held (m.held ++ under (is_under q) (items_of more))) (sym f.query_is) top));
+        map = map_takes (is_under a.query) a.taken more m.held after.held sent f.map
+            (subst (λ l. IsTop after.held (m.held ++ l)) (under_items (is_under a.query) more)
+            (subst (λ (q : Query). IsTop after.held (m.held ++ under (is_under q) (items_of more))) (sym f.query_is) top));
         within = λ s h. elim (Contains-append_cases a.taken more s h) [ inl k ↦ f.within s k | inr k ↦ within s k ];
       }

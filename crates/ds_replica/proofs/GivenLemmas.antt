@@ -1,4 +1,4 @@
--- What a store gives is what the machine gives, and has taken effect.
+-- What a store sends is what the machine replies, and has taken effect.
 use Rattle.std.proofs.Common.{◌≡◌, ℕ, zero, suc, ◌-◌, not, Bool, cond, List, [], ◌∷◌, ◌++◌, take, Option, Some, None, refl, ap, sym, ◌∙◌, subst, inl, inr, Contains}
 use Rattle.std.specs.List.{filter}
 use Rattle.std.specs.Option.{option_map_or}
@@ -48,7 +48,7 @@ given_reply s t command reply items (inr w) e = absurd (elim (plain_or_merge com
       cc)
 ])
 
--- a command that isn't asked for items gets none
+-- a command whose reply has no items gets none
 not_given : (P : Reply → Type 0) → ((items : List Item) (before after : ℕ) → P (Checked items before after) → ⊥) → ((x : readings.Since) → P (Journaled x) → ⊥) → ((x : Snap) → P (Snapped x) → ⊥) → ((x : Leaf) → P (Paged x) → ⊥)
     → (reply : Reply) (items : List Item) → P reply → items_given reply ≡ Some items → ⊥
 not_given P c j n p (Checked items before after) more h e = c items before after h
@@ -57,12 +57,12 @@ not_given P c j n p (Snapped x) more h e = n x h
 not_given P c j n p (Paged x) more h e = p x h
 not_given P c j n p _ more h e = cc
 
--- ---- what is given took effect
+-- ---- what is sent took effect
 module _ (s : State) (r : IsReached s) where
   held_accepted : IsPartOf (held s) s.feed.accepted
   held_accepted = (held_is_top s r).among
 
-  -- a check that gave items was asked for a subscription, and gave the first that are unseen
+  -- a check that showed items was one of a subscription, and showed its first unseen ones
   pub check_given : (sub max : ℕ) (items : List Item) → items_given (checking s sub max).0 ≡ Some items → (seer : Subscription) × (subscription_at s sub ≡ Some seer) × (take max (unseen s seer) ≡ items)
   check_given sub max items e = by_case (subscription_at s sub) refl (first_refusal (against_check (check_case s sub max (subscription_at s sub)))) e
     where
@@ -91,7 +91,7 @@ module _ (s : State) (r : IsReached s) where
     | inr k ↦ Contains-tail i items x (prefix_part test (cond (test i) max (suc max)) items x k)
   ]
 
-  -- a reader of some items, unless something stands against it
+  -- a reader of some items, unless something applies to it
   pub given_unless : (o : Option Refusal) (reply : Reply) (l items : List Item) → items_given reply ≡ Some l → items_given (option_map_or {U = Reply × State} (λ f. (Refused f, s)) o (reply, s)).0 ≡ Some items → l ≡ items
   given_unless (Some f) reply l items g q = absurd (let n : None ≡ Some items = q in cc)
   given_unless None reply l items g q = same_items l items (sym g ∙ q)
@@ -124,15 +124,19 @@ module _ (s : State) (r : IsReached s) where
   out_part (Since scope at max) items f e = since_part scope at max items e
   out_part (Snapshot scope) items f e = snap_part scope items e
   out_part (Page scope after max) items f e = page_part scope after max items e
-  out_part (Publish caller key version value overwrite) items f e = absurd (not_given (IsReplyTo (Publish caller key version value overwrite)) (λ l b a h. h) (λ x h. h) (λ x h. h) (λ x h. h) (outcome s (Publish caller key version value overwrite)).0 items f e)
+  out_part (Publish caller key version value overwrite) items f e = absurd
+      (not_given (IsReplyTo (Publish caller key version value overwrite)) (λ l b a h. h) (λ x h. h) (λ x h. h) (λ x h. h) (outcome s (Publish caller key version value overwrite)).0
+      items f e)
   out_part (Delete caller key version) items f e = absurd (not_given (IsReplyTo (Delete caller key version)) (λ l b a h. h) (λ x h. h) (λ x h. h) (λ x h. h) (outcome s (Delete caller key version)).0 items f e)
   out_part (Sweep caller owner generation) items f e = absurd (not_given (IsReplyTo (Sweep caller owner generation)) (λ l b a h. h) (λ x h. h) (λ x h. h) (λ x h. h) (outcome s (Sweep caller owner generation)).0 items f e)
   out_part (Retrieve key) items f e = absurd (not_given (IsReplyTo (Retrieve key)) (λ l b a h. h) (λ x h. h) (λ x h. h) (λ x h. h) (outcome s (Retrieve key)).0 items f e)
   out_part (NameOf endpoint) items f e = absurd (not_given (IsReplyTo (NameOf endpoint)) (λ l b a h. h) (λ x h. h) (λ x h. h) (λ x h. h) (outcome s (NameOf endpoint)).0 items f e)
-  out_part (Subscribe sub query initial overwrite) items f e = absurd (not_given (IsReplyTo (Subscribe sub query initial overwrite)) (λ l b a h. h) (λ x h. h) (λ x h. h) (λ x h. h) (outcome s (Subscribe sub query initial overwrite)).0 items f e)
+  out_part (Subscribe sub query initial overwrite) items f e = absurd
+      (not_given (IsReplyTo (Subscribe sub query initial overwrite)) (λ l b a h. h) (λ x h. h) (λ x h. h) (λ x h. h) (outcome s (Subscribe sub query initial overwrite)).0 items f
+      e)
   out_part (Merge group) items f e = absurd (not_given (IsReplyTo (Merge group)) (λ l b a h. h) (λ x h. h) (λ x h. h) (λ x h. h) (outcome s (Merge group)).0 items f e)
 
--- all that a store gives had taken effect
+-- everything that a store sends had taken effect
 pub given_part : (s t : State) (command : Command) (reply : Reply) (items : List Item) → IsReached s → Step s command reply t → items_given reply ≡ Some items → IsPartOf items s.feed.accepted
 given_part s t command reply items r step e =
     let is = given_reply s t command reply items step e in

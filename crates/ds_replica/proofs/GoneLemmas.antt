@@ -1,4 +1,4 @@
--- What a store has become that took items, by Merges one after the other.
+-- The state of a store that took items by Merges, in order.
 use Rattle.std.proofs.Common.{◌≡◌, ℕ, ◌+◌, ◌<◌, ◌≤◌, List, [], ◌∷◌, ◌++◌, length, take, refl, ap, sym, ◌∙◌, subst, inl, inr, ◌⊎◌, arith, Contains, append_assoc, length-append}
 use Rattle.std.specs.List.{flat_map}
 use Rattle.std.proofs.lemmas.List.{append-nil, take-append-le}
@@ -25,7 +25,7 @@ use Rattle.ds_replica.proofs.LeftLemmas.{step_left}
 pub step_accepts : (s t : State) (command : Command) (reply : Reply) → IsReached s → Step s command reply t → (x : Item) → Contains t.feed.accepted x → Contains s.feed.accepted x ⊎ Contains (learnt_by s command reply) x
 step_accepts s t command reply r step = accepted_cases s t command reply (step_has_effect s t command reply r step)
 
--- the store `t` is the store `s` after these items came one by one
+-- the store `t` is the store `s` after these items, one by one
 pub record Gone (s : State) (items : List Item) (t : State) : Type 0 where
   pub reached : IsReached t
   pub state_is : t ≡ took_all s items
@@ -76,7 +76,7 @@ module _ (s t : State) (group : List Item) (r : IsReached s) where
 
 -- ---- Merges of groups
 
--- so many of the items went, and there are as many
+-- the items that the tally counts as done were merged, and there are at least that many
 pub record Went (s : State) (items : List Item) (tally : Tally) (new : State) : Type 0 where
   pub gone : Gone s (take tally.count.done items) new
   pub within : tally.count.done ≤ length items

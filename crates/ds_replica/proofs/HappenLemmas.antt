@@ -1,4 +1,4 @@
--- Events that happen one after the other, put together and taken apart.
+-- Events that happen in order, joined and split.
 use Rattle.std.proofs.Common.{List, [], ◌∷◌, ◌++◌, refl, subst}
 use Rattle.ds_replica.specs.declared.event.Event.{Event}
 use Rattle.ds_replica.specs.declared.outcome.Outcome.{Outcome}

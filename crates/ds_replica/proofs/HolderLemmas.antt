@@ -163,7 +163,7 @@ module _ (account : Account) (w : World) (j : ℕ) (m : MapAccount) (side : Side
   map_top : IsTop (held_by w (Map j)) (known_by m)
   map_top = subst (λ l. IsTop l (known_by m)) (sym map_is) at.2.map.top
 
-  -- if the map was told nothing else, it is a top of what the store knows under the query
+  -- if the map got nothing else, it is a top of what the store knows under the query
   top_of_known : IsPartOf (under query (known_by m)) known → IsTop (held_by w (Map j)) (under query known)
   top_of_known part = record {
     in_order = map_top.in_order;

@@ -1,4 +1,4 @@
--- The state that a step leaves is the one that its reply tells.
+-- The state that a step leaves is the one that its reply determines.
 use Rattle.std.proofs.Common.{◌≡◌, ℕ, suc, ◌+◌, List, [], ◌∷◌, length, take, fold, Option, Some, None, refl, ap, sym, ◌∙◌, subst, inl, inr, ◌⊎◌, arith, Contains}
 use Rattle.std.specs.Option.{option_map_or}
 use Rattle.ds_entry.specs.declared.item.Item.{Item}
@@ -26,8 +26,9 @@ use Rattle.ds_machine.proofs.SaysLemmas.{refused_says}
 use Rattle.ds_replica.specs.Known.{took_one, took_all, state_left_by}
 use Rattle.ds_machine.proofs.CourseLemmas.{fold_stopped}
 
--- ---- a merge goes one item at a time
--- from one point of a merge to a later one: so many items were done, and what stopped it stands against some item
+-- ---- a merge takes one item at a time
+-- from one point of a merge to a later one: `count` items were done, and the refusal that stopped it applies to some
+-- item
 pub record Took (k : Course) (items : List Item) (end : Course) : Type 0 where
   pub count : ℕ
   pub done : end.done ≡ k.done + count
@@ -94,7 +95,9 @@ module _ (s t : State) (items : List Item) (r : IsReached s) where
       k : Course
       k = course s items
 
-      by_stop : (o : Option Refusal) → k.stop ≡ o → reply ≡ option_map_or {U = Reply} (λ fault. MergeStopped k.done fault (owed s k.taken)) o (Merged k.done (length k.taken) k.stale (owed s k.taken)) → t ≡ state_left_by s (Merge items) reply
+      by_stop : (o : Option Refusal) → k.stop ≡ o →
+          reply ≡ option_map_or {U = Reply} (λ fault. MergeStopped k.done fault (owed s k.taken)) o (Merged k.done (length k.taken) k.stale (owed s k.taken)) →
+          t ≡ state_left_by s (Merge items) reply
       by_stop (Some fault) q g = f ∙ course_left s items k.done refl ∙ ap (state_left_by s (Merge items)) (sym g)
       by_stop None q g = f ∙ course_all s items r q ∙ ap (state_left_by s (Merge items)) (sym g)
 
@@ -102,7 +105,7 @@ module _ (s t : State) (items : List Item) (r : IsReached s) where
   room_left reply w = w.1.state_is ∙ course_all s (take w.0 items) r w.1.not_refused ∙ ap (state_left_by s (Merge items)) (sym w.1.reply_is)
 
 -- ---- every step
--- the command is no Merge: it gets none of a Merge's replies, and doesn't stop for want of memory
+-- the command isn't a Merge: it gets none of a Merge's replies, and doesn't stop for lack of memory
 pub record IsPlain (command : Command) : Type 0 where
   pub merged : (done taken stale owed : ℕ) → IsReplyTo command (Merged done taken stale owed) → ⊥
   pub stopped : (done : ℕ) (fault : Refusal) (owed : ℕ) → IsReplyTo command (MergeStopped done fault owed) → ⊥

@@ -1,4 +1,4 @@
--- What the messages are that a store gave.
+-- What a store's messages are.
 use Rattle.std.proofs.Common.{◌≡◌, ℕ, zero, suc, ◌+◌, nat_lt, min, Bool, cond, List, [], ◌∷◌, ◌++◌, length, take, Option, Some, None, refl, ap, sym, ◌∙◌, subst, arith}
 use Rattle.std.specs.List.{filter, slice_get}
 use Rattle.std.specs.Option.{option_map_or}
@@ -92,7 +92,7 @@ messages_stay : (account : Account) (k : ℕ) (sent : List Sent) (events : List 
 messages_stay account k sent [] e = e
 messages_stay account k sent (x ∷ events) e = messages_stay (extended account x.0 x.1) k sent events (message_stays account k sent e x.0 x.1)
 
--- ---- a message that a store gave
+-- ---- a message that a store made
 pub record GaveItems (account : Account) (side : Side) (command : Command) (k : ℕ) (events : List (Event × Outcome)) : Type 0 where
   pub items : List Item
   pub given_is : items_given (outcome (store_of account side).state command).0 ≡ Some items
@@ -139,7 +139,7 @@ snapshot_is_whole account w late side scope query k events h keep =
     )
 
 -- ---- the journal
--- where nothing stands against a Since, its cursor can be read from
+-- if no refusal applies to a Since, its cursor can be read from
 reached_at : (f : Feed) (scope : Scope) (at : Cursor) (max : ℕ) → first_refusal (against_since f scope at max) ≡ None → fault_at f at ≡ None
 reached_at f scope at max e =
     let old = missing (against_since f scope at max) (by_command ++ by_room) refusals.OldCursor e (11, omega arith, refl) in
@@ -163,7 +163,8 @@ since_is_turn account w late side scope at max k events h =
     let own = own_fits account w side h.fits in
     let g = gave account w late side (Since scope at max) k events h in
     let none = nothing_stands a.state (first_refusal (against_since a.state.feed scope at max)) (Journaled (since_of a.state.feed (is_kept scope) at max)) g.items g.given_is in
-    let same = given_unless a.state own.reached (first_refusal (against_since a.state.feed scope at max)) (Journaled (since_of a.state.feed (is_kept scope) at max)) (filter (is_kept scope) (piece a.state.feed (is_kept scope) at max)) g.items refl g.given_is in (
+    let same = given_unless a.state own.reached (first_refusal (against_since a.state.feed scope at max)) (Journaled (since_of a.state.feed (is_kept scope) at max))
+    (filter (is_kept scope) (piece a.state.feed (is_kept scope) at max)) g.items refl g.given_is in (
       since_turn account side scope at max,
       refl,
       record { front = front account w late side (Since scope at max) k events h; knows = own.accepted; given = record { reached = reached_at a.state.feed scope at max none; given = refl } },
@@ -198,7 +199,8 @@ page_is_turn account w late side scope behind max k events h =
     let own = own_fits account w side h.fits in
     let g = gave account w late side (Page scope behind max) k events h in
     let left = still_to_come (is_kept scope) behind (held a.state) in
-    let same = given_unless a.state own.reached (first_refusal (against_page scope max)) (Paged (page_of (is_kept scope) behind max (held a.state) (cursor a.state))) (floors_of left ++ take max (changes_of left)) g.items refl g.given_is in (
+    let same = given_unless a.state own.reached (first_refusal (against_page scope max)) (Paged (page_of (is_kept scope) behind max (held a.state) (cursor a.state)))
+    (floors_of left ++ take max (changes_of left)) g.items refl g.given_is in (
       page_turn account side scope behind max,
       refl,
       refl,

@@ -56,7 +56,7 @@ beside f c = record { one_change = λ d e h k q v. is d h ∙ sym (is e k); one_
     is : (d : ChangeRecord) → Contains (Floored f ∷ Changed c ∷ []) (Changed d) → d ≡ c
     is d h = elim (Contains-cons (Floored f) (Changed c ∷ []) (Changed d) h) [ inl e ↦ absurd (let q : Changed d ≡ Floored f = e in cc) | inr k ↦ changed_same d c (Contains-single (Changed c) (Changed d) k) ]
 
--- of so many items that were done, and of those that were taken
+-- of items that were done, and of those that were taken
 abbrev done : ℕ → ℕ → Tally
 done count taken = record { count = counting count taken 0; owed = 0; stop = None }
 
@@ -72,7 +72,7 @@ stored s i step = record {
   merged = (AllMerged 1 1 0 0, takes_effect s (i ∷ []), step, (done 0 0, (refl, refl), refl));
 }
 
--- a store that is asked makes a step
+-- a store that gets a command makes a step
 does : (w : World) (side : Side) (command : Command) →
     let out = outcome (store_at w side) command in
     Asks w side command (ask_outcome w out.0 (items_given out.0)) (with_items (with_state w side out.1) (items_given out.0))
@@ -114,7 +114,18 @@ replicas_converge = record {
         delivered,
         (
           refl,
-          record { items = driver_label ∷ []; there = refl; tally = done 1 1; taken = record { after = takes_effect (opening 2 0 4 larger) (driver_label ∷ []); takes = stored (opening 2 0 4 larger) driver_label (inl (inl (record { reply_is = refl; state_is = refl }))); world_is = refl }; outcome_is = refl },
+          record {
+            items = driver_label ∷ [];
+            there = refl;
+            tally = done 1 1;
+            taken = record {
+              after = takes_effect (opening 2 0 4 larger) (driver_label ∷ []);
+              takes = stored (opening 2 0 4 larger) driver_label
+                  (inl (inl (record { reply_is = refl; state_is = refl })));
+              world_is = refl;
+            };
+            outcome_is = refl;
+          },
         ),
         refl,
       ),
@@ -237,7 +248,17 @@ module _ (query : Query) (asks : AsksFor query (label_key (codes "eth0"))) where
             (refl, does _ _ _),
             (
               arrived (sends at_a),
-              (refl, record { items = floor ∷ driver_label ∷ []; there = refl; tally = done 2 2; taken = record { old = map_with []; there = refl; after = map_with (floor ∷ driver_label ∷ []); takes = takes; world_is = refl }; outcome_is = refl }),
+              (
+                refl,
+                record {
+                  items = floor ∷ driver_label ∷ [];
+                  there = refl;
+                  tally = done 2 2;
+                  taken = record
+                      { old = map_with []; there = refl; after = map_with (floor ∷ driver_label ∷ []); takes = takes; world_is = refl };
+                  outcome_is = refl;
+                },
+              ),
               refl,
             ),
           ),
@@ -247,7 +268,9 @@ module _ (query : Query) (asks : AsksFor query (label_key (codes "eth0"))) where
     numbers = beside _ _;
     items = both_are;
     all = record { there = refl; whole = λ i h. (Contains-from_under (is_under query) (floor ∷ driver_label ∷ []) i h).0 };
-    nothing_else = λ i h. stood_wider (filter (λ s. passes (is_under query) s.item) (with_both query).taken) (with_both query).taken (λ s k. (Contains-from_filter (λ s. passes (is_under query) s.item) (with_both query).taken s k).0) i (Contains-from_under (is_under query) (known_by (with_both query)) i h).0;
+    nothing_else = λ i h. stood_wider (filter (λ s. passes (is_under query) s.item) (with_both query).taken) (with_both query).taken
+        (λ s k. (Contains-from_filter (λ s. passes (is_under query) s.item) (with_both query).taken s k).0) i
+        (Contains-from_under (is_under query) (known_by (with_both query)) i h).0;
     held = refl;
     named = refl;
   }
@@ -270,7 +293,17 @@ module _ (query : Query) (asks : AsksFor query (label_key (codes "eth0"))) where
             (refl, does _ _ _),
             (
               arrived (sends at_b),
-              (refl, record { items = floor ∷ driver_label ∷ []; there = refl; tally = done 2 2; taken = record { old = map_with []; there = refl; after = map_with (floor ∷ driver_label ∷ []); takes = takes; world_is = refl }; outcome_is = refl }),
+              (
+                refl,
+                record {
+                  items = floor ∷ driver_label ∷ [];
+                  there = refl;
+                  tally = done 2 2;
+                  taken = record
+                      { old = map_with []; there = refl; after = map_with (floor ∷ driver_label ∷ []); takes = takes; world_is = refl };
+                  outcome_is = refl;
+                },
+              ),
               refl,
             ),
           ),
@@ -293,10 +326,14 @@ maps_lag query asks = lags query asks
 pub maps_lead : MapsLead
 maps_lead query asks = leads query asks
 
--- ---- two replicas that were told what contradicts itself
--- a list of two, the other way round
+-- ---- two replicas whose messages contradict each other
+-- a list of two, in the opposite order
 swapped : (x y i : Item) → Contains (x ∷ y ∷ []) i → Contains (y ∷ x ∷ []) i
-swapped x y i h = elim (Contains-cons x (y ∷ []) i h) [ inl e ↦ subst (Contains (y ∷ x ∷ [])) (sym e) (Contains-tail y (x ∷ []) x (Contains-head x [])) | inr k ↦ subst (Contains (y ∷ x ∷ [])) (sym (Contains-single y i k)) (Contains-head y (x ∷ [])) ]
+swapped x y i h = elim (Contains-cons x (y ∷ []) i h) [
+  | inl e ↦ subst (Contains (y ∷ x ∷ [])) (sym e) (Contains-tail y (x ∷ []) x (Contains-head x []))
+  | inr k ↦ subst (Contains (y ∷ x ∷ [])) (sym (Contains-single y i k))
+      (Contains-head y (x ∷ []))
+]
 
 -- what the two stores hold isn't the same
 apart : other ∷ [] ≡ one ∷ [] → ⊥
@@ -341,10 +378,37 @@ contradicted_happen = (
             (refl, record { outcome_is = refl; world_is = refl }),
             (
               record fresh_world { a = takes_effect (opening 3 0 4 larger) (one ∷ []); b = opening 4 0 4 larger; messages = (one ∷ []) ∷ (other ∷ []) ∷ [] },
-              (refl, record { items = one ∷ []; there = refl; tally = done 1 1; taken = record { after = takes_effect (opening 3 0 4 larger) (one ∷ []); takes = stored (opening 3 0 4 larger) one (inl (inl (record { reply_is = refl; state_is = refl }))); world_is = refl }; outcome_is = refl }),
+              (
+                refl,
+                record {
+                  items = one ∷ [];
+                  there = refl;
+                  tally = done 1 1;
+                  taken = record {
+                    after = takes_effect (opening 3 0 4 larger) (one ∷ []);
+                    takes = stored (opening 3 0 4 larger) one (inl (inl (record { reply_is = refl; state_is = refl })));
+                    world_is = refl;
+                  };
+                  outcome_is = refl;
+                },
+              ),
               (
                 record fresh_world { a = takes_effect (opening 3 0 4 larger) (one ∷ []); b = takes_effect (opening 4 0 4 larger) (other ∷ []); messages = (one ∷ []) ∷ (other ∷ []) ∷ [] },
-                (refl, record { items = other ∷ []; there = refl; tally = done 1 1; taken = record { after = takes_effect (opening 4 0 4 larger) (other ∷ []); takes = stored (opening 4 0 4 larger) other (inl (inl (record { reply_is = refl; state_is = refl }))); world_is = refl }; outcome_is = refl }),
+                (
+                  refl,
+                  record {
+                    items = other ∷ [];
+                    there = refl;
+                    tally = done 1 1;
+                    taken = record {
+                      after = takes_effect (opening 4 0 4 larger) (other ∷ []);
+                      takes = stored (opening 4 0 4 larger) other
+                          (inl (inl (record { reply_is = refl; state_is = refl })));
+                      world_is = refl;
+                    };
+                    outcome_is = refl;
+                  },
+                ),
                 refl,
               ),
             ),
@@ -361,7 +425,21 @@ replicas_clash = record {
   happen = contradicted_happen;
   same = record { there = swapped one other; here = swapped other one };
   differ = λ q. apart (sym q);
-  stops = (refl, record { items = other ∷ []; there = refl; tally = clashed; taken = record { after = takes_effect (opening 3 0 4 larger) (one ∷ []); takes = stopped (takes_effect (opening 3 0 4 larger) (one ∷ [])) other (inl (inl (record { reply_is = refl; state_is = refl }))); world_is = refl }; outcome_is = refl });
+  stops = (
+    refl,
+    record {
+      items = other ∷ [];
+      there = refl;
+      tally = clashed;
+      taken = record {
+        after = takes_effect (opening 3 0 4 larger) (one ∷ []);
+        takes = stopped (takes_effect (opening 3 0 4 larger) (one ∷ [])) other
+            (inl (inl (record { reply_is = refl; state_is = refl })));
+        world_is = refl;
+      };
+      outcome_is = refl;
+    },
+  );
 }
 
 module _ (query : Query) (asks : AsksFor query irq) where
@@ -386,19 +464,37 @@ module _ (query : Query) (asks : AsksFor query irq) where
       (asks.read, record { outcome_is = refl; world_is = refl }),
       (
         record clashing { maps = map_of (other ∷ []) ∷ [] },
-        (refl, record { items = other ∷ []; there = refl; tally = done 1 1; taken = record { old = map_of []; there = refl; after = map_of (other ∷ []); takes = record { query = refl; top = other_top; counted = omega arith; owed = refl; ends = refl }; world_is = refl }; outcome_is = refl }),
+        (
+          refl,
+          record {
+            items = other ∷ [];
+            there = refl;
+            tally = done 1 1;
+            taken = record {
+              old = map_of [];
+              there = refl;
+              after = map_of (other ∷ []);
+              takes = record { query = refl; top = other_top; counted = omega arith; owed = refl; ends = refl };
+              world_is = refl;
+            };
+            outcome_is = refl;
+          },
+        ),
         refl,
       ),
     );
     all = record { there = refl; whole = λ i h. Contains-tail other (one ∷ []) i (Contains-from_under (is_under query) (one ∷ []) i h).0 };
-    nothing_else = λ i h. swapped other one i (stood_wider (filter (λ s. passes (is_under query) s.item) (with_other query).taken) (with_other query).taken (λ s k. (Contains-from_filter (λ s. passes (is_under query) s.item) (with_other query).taken s k).0) i (Contains-from_under (is_under query) (known_by (with_other query)) i h).0);
+    nothing_else = λ i h. swapped other one i
+        (stood_wider (filter (λ s. passes (is_under query) s.item) (with_other query).taken) (with_other query).taken
+        (λ s k. (Contains-from_filter (λ s. passes (is_under query) s.item) (with_other query).taken s k).0) i
+        (Contains-from_under (is_under query) (known_by (with_other query)) i h).0);
     differ = λ q. apart (q ∙ under_one);
   }
 
 pub maps_clash : MapsClash
 maps_clash query asks = clashes query asks
 
--- ---- a key that comes back with another owner
+-- ---- a key that returns with another owner
 abbrev all_three : List Item
 all_three = one ∷ ended ∷ renewed ∷ []
 

@@ -86,7 +86,7 @@ module _ (s t : State) (sub : ℕ) (r : IsReached s) where
   begins_shown query overwrite stamp owed (inl (inr w)) = absurd (let n : Subscribed stamp owed ≡ Refused _ = w.reply_is in cc)
   begins_shown query overwrite stamp owed (inr w) = absurd w
 
-  -- a Check adds what it gave
+  -- a Check adds what it showed
   pub check_shows : (query : Query) (max : ℕ) (reply : Reply) (items shown : List Item) → Step s (Check sub max) reply t → items_given reply ≡ Some items → Shows s sub query shown → Shows t sub query (shown ++ items)
   check_shows query max reply items shown (inl (inl is)) e h = by_case (subscription_at s sub) refl (first_refusal (against_check (check_case s sub max (subscription_at s sub)))) refl is.reply_is is.state_is
     where
@@ -112,14 +112,15 @@ module _ (s t : State) (sub : ℕ) (r : IsReached s) where
             shown_is = ap (λ (k : List Item). k ++ i ∷ l) (ap (λ (y : Subscription). y.shown) seer ∙ h.shown_is);
           })
 
-      by_case : (o : Option Subscription) → subscription_at s sub ≡ o → (p : Option Refusal) → first_refusal (against_check (check_case s sub max (subscription_at s sub))) ≡ p → reply ≡ (out o p).0 → t ≡ (out o p).1 → Shows t sub query (shown ++ items)
+      by_case : (o : Option Subscription) → subscription_at s sub ≡ o → (p : Option Refusal) → first_refusal (against_check (check_case s sub max (subscription_at s sub))) ≡ p →
+          reply ≡ (out o p).0 → t ≡ (out o p).1 → Shows t sub query (shown ++ items)
       by_case o here (Some refusal) m q g = absurd (none refusal q)
       by_case None here None m q g = absurd (none refusals.NotFound q)
       by_case (Some f) here None m q g = by_items f here (missing (against_check (check_case s sub max (subscription_at s sub))) (by_command ++ by_room) refusals.BadSub m (0, omega arith, refl)) (take max (unseen s f)) q g
   check_shows query max reply items shown (inl (inr w)) e h = absurd (let n : None ≡ Some items = sym (ap items_given w.reply_is) ∙ e in cc)
   check_shows query max reply items shown (inr w) e h = absurd w
 
-  -- a Check that gave nothing was refused
+  -- a Check that showed nothing was refused
   pub unchecked : (max : ℕ) (reply : Reply) → Step s (Check sub max) reply t → items_given reply ≡ None → t ≡ s
   unchecked max (Refused refusal) step e = refused_says s t (Check sub max) refusal step
   unchecked max (Checked items before after) step e = absurd (let n : Some items ≡ None = e in cc)

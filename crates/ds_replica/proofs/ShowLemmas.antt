@@ -38,7 +38,7 @@ use Rattle.ds_replica.proofs.SeerLemmas.{Shows, still_shows, same_items, place_k
 use Rattle.std.proofs.lemmas.Bool.{and_from}
 
 -- ---- one event
--- what isn't asked of the subscription at this side gave it nothing
+-- a command that isn't for the subscription at this side showed it nothing
 pub check_none : (side : Side) (sub : ℕ) (account : Account) (s : Side) (command : Command) (out : Outcome) → is_side s side && uses sub command ≡ false → check_sent side sub account (Ask s command) out ≡ []
 check_none side sub account s (Check n max) (Made k) e = ap (λ (b : Bool). cond b (sent_in (extended account (Ask s (Check n max)) (Made k)) k) []) e
 check_none side sub account s (Check n max) out e = refl
@@ -81,7 +81,8 @@ module _ (account : Account) (w new : World) (side : Side) (sub : ℕ) (query : 
           let n : true ≡ false = sym yes ∙ (sym (ap (subscribes_by side sub (Ask side (Subscribe sub q initial overwrite))) told) ∙ e) in
           cc
 
-  pub ask_check : (max : ℕ) (out : Outcome) → event_fault w (Ask side (Check sub max)) ≡ None → (a : Asks w side (Check sub max) out new) → Shows (store_at new side) sub query (shown ++ items_of (check_sent side sub account (Ask side (Check sub max)) out))
+  pub ask_check : (max : ℕ) (out : Outcome) → event_fault w (Ask side (Check sub max)) ≡ None → (a : Asks w side (Check sub max) out new) →
+      Shows (store_at new side) sub query (shown ++ items_of (check_sent side sub account (Ask side (Check sub max)) out))
   ask_check max out none a = by_given (items_given a.reply) refl a.outcome_is
     where
       own : State
@@ -117,7 +118,8 @@ module _ (account : Account) (w new : World) (side : Side) (sub : ℕ) (query : 
     | inr d ↦ ask_unused (Check n max) out d.0 a
   ]
   ask_here (Subscribe n q initial overwrite) out none e a = elim (eqb_tells n sub) [
-    | inl y ↦ subst (λ (m : ℕ). subscribes_by side sub (Ask side (Subscribe m q initial overwrite)) out ≡ false → Asks w side (Subscribe m q initial overwrite) out new → Shows (store_at new side) sub query (shown ++ items_of (check_sent side sub account (Ask side (Subscribe m q initial overwrite)) out)))
+    | inl y ↦ subst (λ (m : ℕ). subscribes_by side sub (Ask side (Subscribe m q initial overwrite)) out ≡ false → Asks w side (Subscribe m q initial overwrite) out new →
+        Shows (store_at new side) sub query (shown ++ items_of (check_sent side sub account (Ask side (Subscribe m q initial overwrite)) out)))
         (sym y.1) (λ e a. ask_subscribe q initial overwrite out e a) e a
     | inr d ↦ ask_unused (Subscribe n q initial overwrite) out d.0 a
   ]
@@ -130,7 +132,8 @@ module _ (account : Account) (w new : World) (side : Side) (sub : ℕ) (query : 
       by_side : (b : Bool) → is_side s side ≡ b → Shows (store_at new side) sub query (shown ++ items_of (check_sent side sub account (Ask s command) out))
       by_side false q = ask_elsewhere s command out q a
       by_side true q =
-          subst (λ (x : Side). event_fault w (Ask x command) ≡ None → subscribes_by side sub (Ask x command) out ≡ false → Asks w x command out new → Shows (store_at new side) sub query (shown ++ items_of (check_sent side sub account (Ask x command) out)))
+          subst (λ (x : Side). event_fault w (Ask x command) ≡ None → subscribes_by side sub (Ask x command) out ≡ false → Asks w x command out new →
+          Shows (store_at new side) sub query (shown ++ items_of (check_sent side sub account (Ask x command) out)))
           (sym (one_side s side q)) (λ none e a. ask_here command out none e a) none e a
 
 -- ---- every event
@@ -172,9 +175,11 @@ module _ (account : Account) (w new : World) (side : Side) (sub : ℕ) (query : 
       by_side false q = unchanged (at_new ∙ store_other w s side t.after q)
       by_side true q =
           with_none account w new side sub query shown f h [] refl
-          (ap (λ (x : State). subscription_at x sub) (at_new ∙ (ap (λ (x : Side). store_at (with_state w x t.after) side) (one_side s side q) ∙ store_put w side t.after)) ∙ (kept ∙ ap (λ (x : Side). subscription_at (store_at w x) sub) (one_side s side q)))
+          (ap (λ (x : State). subscription_at x sub) (at_new ∙ (ap (λ (x : Side). store_at (with_state w x t.after) side) (one_side s side q) ∙ store_put w side t.after)) ∙
+          (kept ∙ ap (λ (x : Side). subscription_at (store_at w x) sub) (one_side s side q)))
 
-  pub event_shows : (event : Event) (out : Outcome) → Happens w event out new → empties_by (Store side) event out ≡ false → subscribes_by side sub event out ≡ false → Shows (store_at new side) sub query (shown ++ items_of (check_sent side sub account event out))
+  pub event_shows : (event : Event) (out : Outcome) → Happens w event out new → empties_by (Store side) event out ≡ false → subscribes_by side sub event out ≡ false →
+      Shows (store_at new side) sub query (shown ++ items_of (check_sent side sub account event out))
   event_shows (Ask s command) (Refusing fault) a e n =
       with_none account w new side sub query shown f h (check_sent side sub account (Ask s command) (Refusing fault)) (refused_none side sub account s command fault) (ap (λ (x : World). subscription_at (store_at x side) sub) a.1)
   event_shows (Ask s command) out a e n = ask_shows account w new side sub query shown f h s command out a.0 n a.1

@@ -97,7 +97,8 @@ module _ (account : Account) where
   delivered_known (Store B) items h = put_known B _ h (more_known _ account.b.known)
   delivered_known (Map j) items h = maps_known (map_took account.maps j items (slice_get account.maps j)) h (λ l. took_known account.maps j l items (slice_get account.maps j) refl)
 
-  restart_known : (side : Side) (incarnation : ℕ) (h : Holder) → empties_by h (RestartStore side incarnation) Restarted ≡ false → IsPartOf (known_at account h) (known_at (with_account account side (opened (reopened (store_of account side).state incarnation))) h)
+  restart_known : (side : Side) (incarnation : ℕ) (h : Holder) → empties_by h (RestartStore side incarnation) Restarted ≡ false →
+      IsPartOf (known_at account h) (known_at (with_account account side (opened (reopened (store_of account side).state incarnation))) h)
   restart_known A n (Store A) e = absurd (let x : true ≡ false = e in cc)
   restart_known A n (Store B) e = same_part account.b.known
   restart_known B n (Store A) e = same_part account.a.known

@@ -51,7 +51,8 @@ ran_on : (s m t : State) → Ran s m → Ran m t → Ran s t
 ran_on s m t h k = (h.0 ++ k.0, h.1 ++ k.1, run_append s m t h.0 h.1 k.0 k.1 h.2 k.2)
 
 -- ---- Merges of groups
-followed : (s mid new : State) (group : List Item) (Others : Tally → State → Type 0) (reply : Reply) (tally : Tally) → ((later : Tally) → Others later new → Ran mid new) → Step s (Merge group) reply mid → OthersFollow reply mid Others tally new → Ran s new
+followed : (s mid new : State) (group : List Item) (Others : Tally → State → Type 0) (reply : Reply) (tally : Tally) → ((later : Tally) → Others later new → Ran mid new) →
+    Step s (Merge group) reply mid → OthersFollow reply mid Others tally new → Ran s new
 followed s mid new group Others (Merged done taken stale owed) tally others step f = ran_on s mid new (ran_one s mid (Merge group) (Merged done taken stale owed) step) (others f.0 f.1)
 followed s mid new group Others (MergeStopped done fault owed) tally others step f = ran_on s mid new (ran_one s mid (Merge group) (MergeStopped done fault owed) step) (ran_same mid new f.1)
 followed s mid new group Others (Refusing fault) tally others step f = ran_on s mid new (ran_one s mid (Merge group) (Refusing fault) step) (ran_same mid new f.1)
@@ -125,8 +126,8 @@ turns_are_run old new side (x ∷ events) h e =
     let n = or_parts (empties (Store side) x) (list_any (empties (Store side)) events) e in
     ran_on (store_at old side) (store_at h.0 side) (store_at new side) (event_ran old h.0 side x.0 x.1 h.1 n.0) (turns_are_run h.0 new side events h.2 n.1)
 
--- ---- what stays
--- the store goes on, as the account has it
+-- ---- what lasts
+-- the store grows, as the account has it
 pub goes_on : (account : Account) (old new : World) (side : Side) (events : List (Event × Outcome)) → Fits account old → HappenAll old events new → Stays (Store side) events
     → GoesOn (store_of account side).state (store_of (extended_all account events) side).state
 goes_on account old new side events f h e =

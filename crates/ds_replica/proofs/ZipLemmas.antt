@@ -46,7 +46,7 @@ AllZip-weaker R S f [] (y ∷ ys) h = h
 AllZip-weaker R S f (x ∷ xs) [] h = h
 AllZip-weaker R S f (x ∷ xs) (y ∷ ys) h = (f x y h.0, AllZip-weaker R S f xs ys h.1)
 
--- where an element of a list stands
+-- the index of an element of a list
 pub Contains-at : {X : Type 0} (xs : List X) (x : X) → Contains xs x → (k : ℕ) × (slice_get xs k ≡ Some x)
 Contains-at [] x h = absurd (Contains-nil x h)
 Contains-at (y ∷ ys) x h = elim (Contains-cons y ys x h) [

@@ -1,4 +1,4 @@
--- All that Asks bring in keeps the rules of changes and of floors.
+-- Everything brought in keeps the rules of changes and floors.
 use Rattle.std.specs.Prelude.{◌<◌, ◌≤◌, ◌^◌, List, Contains}
 use Rattle.ds_names.specs.Name.{IsName}
 use Rattle.ds_names.specs.declared.key.Key.{Key}
@@ -18,14 +18,15 @@ use Rattle.ds_replica.specs.Known.{Account, extended_all}
 use Rattle.ds_replica.specs.Fits.{Fits}
 use Rattle.ds_replica.specs.CaughtUp.{AreItems}
 
--- what a caller names of a change is in its ranges, as its types have it
+-- The parts of a change that a caller names are in their ranges, as their types guarantee.
 pub record AreParts (key : Key) (version : Version) (content : Body) : Type 0 where
   pub name : IsName key.name
   pub epoch : version.epoch ≤ 2097151
   pub seq : version.seq < 2 ^ 32
   pub body : IsBody content
 
--- the parts of a command that brings something in are in their ranges; whether they fit together the store judges
+-- The parts of a command that brings something in are in their ranges. Whether they fit together is for the store to
+-- judge.
 abbrev pub IsProper : Command → Type 0
 IsProper (Publish caller key version value overwrite) = AreParts key version (Put value)
 IsProper (Delete caller key version) = AreParts key version Gone
@@ -37,8 +38,9 @@ abbrev pub IsProperEvent : Event → Type 0
 IsProperEvent (Ask side command) = IsProper command
 IsProperEvent _ = Unit {0}
 
--- over every list of such events all that was brought in are changes and floors
+-- A law: after any such events, everything brought in is a change or a floor that keeps its rules.
 abbrev pub EventsBringItems : Type 0
 EventsBringItems =
-    (account : Account) (old new : World) (events : List (Event × Outcome)) → Fits account old → HappenAll old events new → ((e : Event × Outcome) → Contains events e → IsProperEvent e.0) →
+    (account : Account) (old new : World) (events : List (Event × Outcome)) → Fits account old → HappenAll old events new →
+    ((e : Event × Outcome) → Contains events e → IsProperEvent e.0) →
     AreItems account.brought → AreItems (extended_all account events).brought

@@ -1,4 +1,4 @@
--- What a map holds that has taken all of a store, and which endpoints its labels name.
+-- What a map holds that has all of a store, and which endpoints its labels name.
 use Rattle.std.specs.Prelude.{◌≡◌, ℕ, ◌≤◌, true, List, Some, Contains}
 use Rattle.std.specs.List.{slice_get}
 use Rattle.ds_entry.specs.Item.{IsItem}
@@ -18,45 +18,51 @@ use Rattle.ds_replica.specs.Fits.{Fits}
 use Rattle.ds_names.specs.Key.{label_key}
 use Rattle.ds_entry.specs.Under.{under, entries_of}
 
--- this is the map's account, and what it was given is whole for the store up to the store's position now
+-- This is the map's account, and what it was given is whole for the store up to the store's present position.
 pub record HasAll (account : Account) (j : ℕ) (m : MapAccount) (side : Side) : Type 0 where
   pub there : slice_get account.maps j ≡ Some m
   pub whole : IsWhole (store_of account side).state.feed (is_under m.query) m.taken (position (store_of account side).state.feed)
 
--- a map has all that was given at least some items, in whatever order and however often, that are whole up to that position
+-- A law: a map has all if it was given, in any order and any number of times, at least some items that are whole up to
+-- that position.
 abbrev pub WholeIsAll : Type 0
 WholeIsAll =
-    (account : Account) (j : ℕ) (m : MapAccount) (side : Side) (items : List Sent) (r : ℕ) → slice_get account.maps j ≡ Some m → ((s : Sent) → Contains items s → Contains m.taken s) →
-    IsWhole (store_of account side).state.feed (is_under m.query) items r → position (store_of account side).state.feed ≤ r → HasAll account j m side
+    (account : Account) (j : ℕ) (m : MapAccount) (side : Side) (items : List Sent) (r : ℕ) → slice_get account.maps j ≡ Some m →
+    ((s : Sent) → Contains items s → Contains m.taken s) →
+    IsWhole (store_of account side).state.feed (is_under m.query) items r → position (store_of account side).state.feed ≤ r →
+    HasAll account j m side
 
--- it was told nothing under its query that the store doesn't know
+-- The map was given nothing under its query that the store doesn't know.
 abbrev pub HasNothingElse : Account → MapAccount → Side → Type 0
 HasNothingElse account m side = IsPartOf (under (is_under m.query) (known_by m)) (store_of account side).known
 
--- a map that has all, and nothing else, holds just what the store holds under its query, and so the store's entries, if all that
--- Asks brought in is exact
+-- A law: a map that has all, and nothing else, holds exactly what the store holds under its query, and so has its
+-- entries, if everything brought is exact.
 abbrev pub HoldsTheStoresInWorlds : Type 0
 HoldsTheStoresInWorlds =
     (account : Account) (w : World) (j : ℕ) (m : MapAccount) (side : Side) → Fits account w → AreExact account.brought →
     HasAll account j m side → HasNothingElse account m side →
-    (held_by w (Map j) ≡ under (is_under m.query) (held_by w (Store side))) × (entries_of (held_by w (Map j)) ≡ entries_of (under (is_under m.query) (held_by w (Store side))))
+    (held_by w (Map j) ≡ under (is_under m.query) (held_by w (Store side))) ×
+    (entries_of (held_by w (Map j)) ≡ entries_of (under (is_under m.query) (held_by w (Store side))))
 
--- told more, as by the other store, it holds for each key under its query at least the store's version
+-- A law: a map that was given more, say by the other store, holds at least the store's version of each key under its
+-- query.
 abbrev pub HoldsAtLeastInWorlds : Type 0
 HoldsAtLeastInWorlds =
-    (account : Account) (w : World) (j : ℕ) (m : MapAccount) (side : Side) → Fits account w → HasAll account j m side → CoversAll (held_by w (Map j)) (under (is_under m.query) (held_by w (Store side)))
+    (account : Account) (w : World) (j : ℕ) (m : MapAccount) (side : Side) → Fits account w → HasAll account j m side →
+    CoversAll (held_by w (Map j)) (under (is_under m.query) (held_by w (Store side)))
 
--- all of them keep the rules of changes and of floors
+-- All of them keep the rules of changes and floors.
 abbrev pub AreItems : List Item → Type 0
 AreItems items = (i : Item) → Contains items i → IsItem i
 
--- where the name's label is under the query of a map that has all, and nothing else, the map names the endpoint of the
--- greatest generation that the store knows for the name, or none where that one is gone or the store knows none
+-- For each label under the query of a map that has all and nothing else, the map names the endpoint of the greatest
+-- generation that the store knows for the name. It names none if that one has ended, or if the store knows none.
 abbrev pub MapsNameNewest : Account → World → Type 0
 MapsNameNewest account w =
     (j : ℕ) (m : MapAccount) (side : Side) (name : List ℕ) → HasAll account j m side → HasNothingElse account m side →
     is_under m.query (label_key name) ≡ true → IsNewest (store_of account side).known name (label_in (held_by w (Map j)) name)
 
--- so it is wherever what was brought in keeps the rules, exact or not
+-- A law: so it is if everything brought keeps the rules, exact or not.
 abbrev pub LabelsAreNewestInWorlds : Type 0
 LabelsAreNewestInWorlds = (account : Account) (w : World) → Fits account w → AreItems account.brought → MapsNameNewest account w

@@ -1,4 +1,4 @@
--- What comes of items that are delivered to a store or to a map.
+-- What becomes of items that are delivered to a store or a map.
 use Rattle.std.specs.Prelude.{◌≡◌, ◌≢◌, ◌⊎◌, ℕ, ◌+◌, ◌≤◌, true, List, [], ◌∷◌, ◌++◌, length, take, Option, Some, None, Contains}
 use Rattle.std.specs.List.{flat_map, slice_get}
 use Rattle.std.specs.Int.Bits.{bit_or}
@@ -20,7 +20,8 @@ use Rattle.ds_replica.specs.World.{MapState}
 use Rattle.ds_names.specs.Limits.{most_items}
 use Rattle.ds_entry.specs.Under.{under}
 
--- what became of the items of a delivery, to which subscriptions something is owed, and what stopped it
+-- The tally of a delivery: the count of its items, the mask of subscriptions to notify, and the refusal that stopped
+-- it.
 pub record Tally : Type 0 where
   pub count : Count
   pub owed : ℕ
@@ -29,11 +30,11 @@ pub record Tally : Type 0 where
 abbrev pub counting : ℕ → ℕ → ℕ → Count
 counting done taken stale = record { done = done; taken = taken; stale = stale }
 
--- of nothing, and of items that stop at the first one left
+-- The tally of `done` items, none of them taken or stale, with this mask and this end.
 abbrev pub ended : ℕ → ℕ → Option Refusal → Tally
 ended done owed stop = record { count = counting done 0 0; owed = owed; stop = stop }
 
--- of so many items that were done before the others; a mask of both has the bits of either
+-- The tally of a first group and of those after it. A mask of both has the bits of either.
 abbrev pub added : ℕ → ℕ → ℕ → ℕ → Tally → Tally
 added done taken stale owed later = record {
   count = counting (done + later.count.done) (taken + later.count.taken) (stale + later.count.stale);
@@ -41,41 +42,47 @@ added done taken stale owed later = record {
   stop = later.stop;
 }
 
--- after a Merge that wasn't stopped the others follow, and after one that was stopped or refused nothing more is asked
+-- After a Merge that did all its items the others follow. After one that stopped or was refused, none do.
 abbrev pub OthersFollow : Reply → State → (Tally → State → Type 0) → Tally → State → Type 0
-OthersFollow (Merged done taken stale owed) mid Others tally new = (later : Tally) × Others later new × (tally ≡ added done taken stale owed later)
+OthersFollow (Merged done taken stale owed) mid Others tally new =
+    (later : Tally) × Others later new × (tally ≡ added done taken stale owed later)
 OthersFollow (MergeStopped done fault owed) mid Others tally new = (tally ≡ ended done owed (Some fault)) × (new ≡ mid)
 OthersFollow (Refused fault) mid Others tally new = (tally ≡ ended 0 0 (Some fault)) × (new ≡ mid)
 OthersFollow _ mid Others tally new = ⊥
 
--- the groups of items go to a store as one Merge each, one after the other
+-- Each group goes to the store as one Merge, in order.
 abbrev pub GroupsAreMerged : State → List (List Item) → Tally → State → Type 0
 GroupsAreMerged s [] tally new = (tally ≡ ended 0 0 None) × (new ≡ s)
-GroupsAreMerged s (group ∷ groups) tally new = (reply : Reply) × (mid : State) × Step s (Merge group) reply mid × OthersFollow reply mid (λ t n. GroupsAreMerged mid groups t n) tally new
+GroupsAreMerged s (group ∷ groups) tally new =
+    (reply : Reply) × (mid : State) × Step s (Merge group) reply mid ×
+    OthersFollow reply mid (λ t n. GroupsAreMerged mid groups t n) tally new
 
--- the items go to a store, as Merges of at most 256
+-- The items go to a store in Merges of at most 256.
 pub record StoreTakes (s : State) (items : List Item) (tally : Tally) (new : State) : Type 0 where
   pub groups : List (List Item)
   pub all : flat_map (λ group. group) groups ≡ items
   pub few : (group : List Item) → Contains groups group → length group ≤ most_items
   pub merged : GroupsAreMerged s groups tally new
 
--- what is held stands against a change by this fault: another owner of its key, another body at its version, or no room;
--- against a floor only that there is no room
+-- What is held justifies the fault against the item. A change: another owner of its key, another body at its version,
+-- or a limit (of keys or memory). A floor: only a limit.
 abbrev pub StandsAgainst : List Item → Item → Refusal → Type 0
 StandsAgainst held (Changed c) NotOwner = (h : ChangeRecord) × Contains held (Changed h) × (h.key ≡ c.key) × (h.owner ≢ c.owner)
-StandsAgainst held (Changed c) (Clash v) = (h : ChangeRecord) × Contains held (Changed h) × (h.key ≡ c.key) × (h.version ≡ c.version) × (h.body ≢ c.body) × (v ≡ c.version)
+StandsAgainst held (Changed c) (Clash v) =
+    (h : ChangeRecord) × Contains held (Changed h) × (h.key ≡ c.key) × (h.version ≡ c.version) × (h.body ≢ c.body) × (v ≡ c.version)
 StandsAgainst held i Full = Unit {0}
 StandsAgainst held i NoRoom = Unit {0}
 StandsAgainst held i _ = ⊥
 
--- all items were done, or the next one is under the query, and something stands against it; memory may be wanting also to ask
--- whether it is
+-- All items were done, or the next one is under the query and the fault against it is justified. Matching the query may
+-- also run out of memory.
 abbrev pub DeliveryEnds : MapState → List Item → ℕ → Option Refusal → Type 0
 DeliveryEnds m items done None = done ≡ length items
-DeliveryEnds m items done (Some fault) = (next : Item) × (slice_get items done ≡ Some next) × ((passes (is_under m.query) next ≡ true) ⊎ (fault ≡ NoRoom)) × StandsAgainst m.held next fault
+DeliveryEnds m items done (Some fault) =
+    (next : Item) × (slice_get items done ≡ Some next) × ((passes (is_under m.query) next ≡ true) ⊎ (fault ≡ NoRoom)) ×
+    StandsAgainst m.held next fault
 
--- the items go to a map: it holds the top of what it held and of those that were done and are under its query
+-- The items go to a map, which then holds the top of what it held and of the items done under its query.
 pub record MapTakes (m : MapState) (items : List Item) (tally : Tally) (new : MapState) : Type 0 where
   pub query : new.query ≡ m.query
   pub top : IsTop new.held (m.held ++ under (is_under m.query) (take tally.count.done items))

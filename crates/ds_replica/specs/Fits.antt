@@ -12,12 +12,12 @@ use Rattle.ds_machine.specs.Reached.{IsReached}
 use Rattle.ds_replica.specs.World.{MapState, World}
 use Rattle.ds_replica.specs.Known.{StoreAccount, MapAccount, Account}
 
--- what each of the items stands for was brought in
+-- Everything that the items stand for was brought in.
 abbrev pub AreWithin : List Item → List Sent → Type 0
 AreWithin brought items = (s : Sent) → Contains items s → IsPartOf s.stands_for brought
 
--- the store's state is the account's, it holds the top of what it knows, which all that took effect is of, and all that it
--- knows was brought in
+-- The store's state is the account's, it holds the top of what it knows, it knows all that took effect, and all that it
+-- knows was brought in.
 pub record FitsStore (brought : List Item) (account : StoreAccount) (s : State) : Type 0 where
   pub state_is : account.state ≡ s
   pub reached : IsReached s
@@ -25,19 +25,19 @@ pub record FitsStore (brought : List Item) (account : StoreAccount) (s : State) 
   pub accepted : IsPartOf s.feed.accepted account.known
   pub within : IsPartOf account.known brought
 
--- the map has the account's query, and holds the top of what it knows
+-- The map has the account's query, and holds the top of what it knows.
 pub record FitsMap (brought : List Item) (account : MapAccount) (m : MapState) : Type 0 where
   pub query_is : account.query ≡ m.query
   pub map : MapHolds (is_under account.query) account.taken m.held
   pub within : AreWithin brought account.taken
 
--- the message has the account's items, each of which is the top of what it stands for
+-- The message has the account's items. Each is the top of what it stands for.
 pub record FitsMessage (brought : List Item) (account : List Sent) (items : List Item) : Type 0 where
   pub items_are : items_of account ≡ items
   pub sent : (s : Sent) → Contains account s → IsSent s
   pub within : AreWithin brought account
 
--- each holder holds the top of what it knows, each message has the account's items, and all lies within what was brought in
+-- Each holder holds the top of what it knows, each message has the account's items, and everything was brought in.
 pub record Fits (account : Account) (w : World) : Type 0 where
   pub a : FitsStore account.brought account.a w.a
   pub b : FitsStore account.brought account.b w.b

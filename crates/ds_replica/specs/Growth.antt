@@ -1,4 +1,4 @@
--- How a store goes on, for the laws of wholeness: what its machine lets take effect, and what it becomes.
+-- How a store grows, as the laws of wholeness need it.
 use Rattle.std.specs.Prelude.{List}
 use Rattle.ds_entry.specs.declared.item.Item.{Item}
 use Rattle.ds_convergence.specs.Accepting.{AreNew}
@@ -6,10 +6,10 @@ use Rattle.ds_convergence.specs.Front.{IsFront}
 use Rattle.ds_machine.specs.State.{State}
 use Rattle.ds_machine.specs.Effect.{AreNews, GoesOn}
 
--- items each of which is news when it comes are new
+-- A law: items that are each news at their turn are new.
 abbrev pub NewsAreNew : Type 0
 NewsAreNew = (accepted since : List Item) → AreNews accepted since → AreNew accepted since
 
--- where a store went on, its feed is the earlier one later
+-- A law: the feed of a later state is a later state of the earlier feed.
 abbrev pub LaterIsFront : Type 0
 LaterIsFront = (s t : State) → GoesOn s t → IsFront s.feed t.feed

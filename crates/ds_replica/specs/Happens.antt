@@ -1,4 +1,4 @@
--- What an event does to a world, and what comes of it.
+-- What an event does to a world, and its outcome.
 use Rattle.std.specs.Prelude.{◌≡◌, ◌⊎◌, ℕ, Bool, true, false, not, ◌&&◌, nat_le, nat_lt, cond, List, [], ◌∷◌, ◌++◌, length, Option, Some, None, is_some, slice_set, take}
 use Rattle.std.specs.List.{slice_get}
 use Rattle.std.specs.Option.{option_map_or, unwrap_or}
@@ -31,9 +31,9 @@ most_maps = 64
 abbrev pub most_messages : ℕ
 most_messages = 65536
 
--- ---- what stands against an event
+-- ---- the faults against an event
 
--- what a store gives to the command is kept as a message
+-- Whether the store's reply to the command is kept as a message.
 abbrev pub gives_items : Command → Bool
 gives_items (Check sub max) = true
 gives_items (Since scope at max) = true
@@ -45,46 +45,50 @@ abbrev pub ask_fault : World → Command → Option EventFault
 ask_fault w command = cond (gives_items command && nat_le most_messages (length w.messages)) (Some MessagesFull) None
 
 abbrev pub pattern_fault : Query → Option EventFault
-pattern_fault query = cond (against_query query refusals.TooLong) (Some TooLong) (cond (against_query query refusals.BadPattern) (Some BadPattern) None)
+pattern_fault query =
+    cond (against_query query refusals.TooLong) (Some TooLong) (cond (against_query query refusals.BadPattern) (Some BadPattern) None)
 
 abbrev pub map_fault : World → Query → Option EventFault
 map_fault w query = cond (nat_le most_maps (length w.maps)) (Some MapsFull) (pattern_fault query)
 
--- there is such a holder
+-- Whether there is such a holder.
 abbrev pub is_there : World → Holder → Bool
 is_there w (Store side) = true
 is_there w (Map j) = is_some (slice_get w.maps j)
 
--- so many of the items are to be delivered
+-- How many of the items are to be delivered.
 abbrev pub count_of : Option ℕ → List Item → ℕ
 count_of count items = unwrap_or count (length items)
 
 abbrev pub delivery_fault : World → Holder → Option ℕ → List Item → Option EventFault
-delivery_fault w holder count items = cond (not (is_there w holder)) (Some NoMap) (cond (nat_lt (length items) (count_of count items)) (Some TooMany) None)
+delivery_fault w holder count items =
+    cond (not (is_there w holder)) (Some NoMap) (cond (nat_lt (length items) (count_of count items)) (Some TooMany) None)
 
--- the first that stands against the event
+-- The first fault that applies to the event.
 abbrev pub event_fault : World → Event → Option EventFault
 event_fault w (Ask side command) = ask_fault w command
 event_fault w (NewMap query) = map_fault w query
-event_fault w (Deliver k holder count) = option_map_or (λ items. delivery_fault w holder count items) (slice_get w.messages k) (Some NoMessage)
+event_fault w (Deliver k holder count) =
+    option_map_or (λ items. delivery_fault w holder count items) (slice_get w.messages k) (Some NoMessage)
 event_fault w (ClearMap j) = cond (is_there w (Map j)) None (Some NoMap)
-event_fault w (RestartStore side incarnation) = cond (nat_lt w.a.feed.incarnation incarnation && nat_lt w.b.feed.incarnation incarnation) None (Some OldIncarnation)
+event_fault w (RestartStore side incarnation) =
+    cond (nat_lt w.a.feed.incarnation incarnation && nat_lt w.b.feed.incarnation incarnation) None (Some OldIncarnation)
 
--- the event takes memory before it does anything: room for a message, or a map
+-- Whether the event takes memory before it does anything: for a message, or a map.
 abbrev pub takes_room : Event → Bool
 takes_room (Ask side command) = gives_items command
 takes_room (NewMap query) = true
 takes_room _ = false
 
--- the event is refused by the first fault that stands, or for want of memory where none stands, or none but that the text
--- is no pattern, to read which takes memory
+-- The event is refused by its first fault, or for lack of memory: with no fault, or with BadPattern alone, since
+-- reading a pattern takes memory.
 abbrev pub IsEventRefused : World → Event → EventFault → Type 0
 IsEventRefused w event NoRoom = (takes_room event ≡ true) × ((event_fault w event ≡ None) ⊎ (event_fault w event ≡ Some BadPattern))
 IsEventRefused w event fault = event_fault w event ≡ Some fault
 
 -- ---- what an event does that isn't refused
 
--- the items of a reply, where it has any
+-- The items of a reply, if it has any.
 abbrev pub items_given : Reply → Option (List Item)
 items_given (Checked items before after) = Some items
 items_given (Journaled since) = Some since.items
@@ -92,12 +96,12 @@ items_given (Snapped snapshot) = Some snapshot.items
 items_given (Paged page) = Some page.items
 items_given _ = None
 
--- the outcome of an Ask: the reply, or where it has items, the number of the next message
+-- The outcome of an Ask: the reply, or the number of the next message if the reply has items.
 abbrev pub ask_outcome : World → Reply → Option (List Item) → Outcome
 ask_outcome w reply None = Replied reply
 ask_outcome w reply (Some items) = Made (length w.messages)
 
--- a store was asked, and made a step
+-- A store made a step on a command.
 pub record Asks (w : World) (side : Side) (command : Command) (outcome : Outcome) (new : World) : Type 0 where
   pub reply : Reply
   pub after : State
@@ -108,7 +112,7 @@ pub record Asks (w : World) (side : Side) (command : Command) (outcome : Outcome
 abbrev pub new_map : Query → MapState
 new_map query = record { query = query; held = [] }
 
--- a map was made, and has the next number
+-- A map was made, with the next number.
 pub record MakesMap (w : World) (query : Query) (outcome : Outcome) (new : World) : Type 0 where
   pub outcome_is : outcome ≡ MapMade (length w.maps)
   pub world_is : new ≡ record w { maps = w.maps ++ new_map query ∷ [] }
@@ -117,13 +121,13 @@ abbrev pub tally_outcome : Tally → Option Refusal → Outcome
 tally_outcome t None = Merged t.count t.owed
 tally_outcome t (Some fault) = Stopped t.count.done fault t.owed
 
--- a store took items
+-- A store took items.
 pub record TakenByStore (w : World) (side : Side) (items : List Item) (tally : Tally) (new : World) : Type 0 where
   pub after : State
   pub takes : StoreTakes (store_at w side) items tally after
   pub world_is : new ≡ with_state w side after
 
--- a map took items
+-- A map took items.
 pub record TakenByMap (w : World) (j : ℕ) (items : List Item) (tally : Tally) (new : World) : Type 0 where
   pub old : MapState
   pub there : slice_get w.maps j ≡ Some old
@@ -135,7 +139,7 @@ abbrev pub IsDelivered : World → Holder → List Item → Tally → World → 
 IsDelivered w (Store side) items tally new = TakenByStore w side items tally new
 IsDelivered w (Map j) items tally new = TakenByMap w j items tally new
 
--- the first items of a message went to a holder
+-- The first items of a message went to a holder.
 pub record Delivers (w : World) (k : ℕ) (holder : Holder) (count : Option ℕ) (outcome : Outcome) (new : World) : Type 0 where
   pub items : List Item
   pub there : slice_get w.messages k ≡ Some items
@@ -143,14 +147,14 @@ pub record Delivers (w : World) (k : ℕ) (holder : Holder) (count : Option ℕ)
   pub taken : IsDelivered w holder (take (count_of count items) items) tally new
   pub outcome_is : outcome ≡ tally_outcome tally tally.stop
 
--- a map holds nothing any more
+-- A map was emptied.
 pub record ClearsMap (w : World) (j : ℕ) (outcome : Outcome) (new : World) : Type 0 where
   pub old : MapState
   pub there : slice_get w.maps j ≡ Some old
   pub outcome_is : outcome ≡ Cleared
   pub world_is : new ≡ record w { maps = slice_set w.maps j (new_map old.query) }
 
--- the store as it is opened again: of its ring, limits and first position, and of another incarnation
+-- The state of a store that is opened again: the same ring, limits and first position, another incarnation.
 abbrev pub reopened : State → ℕ → State
 reopened s incarnation = opening incarnation s.feed.first s.feed.ring s.limits
 
@@ -167,12 +171,12 @@ Does w (RestartStore side incarnation) outcome new = Restarts w side incarnation
 
 -- ---- events
 
--- the event has this outcome: it is refused and changes nothing, or nothing stands against it
+-- The event has this outcome: a refused one changes nothing, and no fault applies to any other.
 abbrev pub Happens : World → Event → Outcome → World → Type 0
 Happens w event (Refused fault) new = IsEventRefused w event fault × (new ≡ w)
 Happens w event outcome new = (event_fault w event ≡ None) × Does w event outcome new
 
--- these events had these outcomes, one after the other
+-- The events had these outcomes, in order.
 abbrev pub HappenAll : World → List (Event × Outcome) → World → Type 0
 HappenAll w [] new = new ≡ w
 HappenAll w (e ∷ es) new = (mid : World) × Happens w e.0 e.1 mid × HappenAll mid es new

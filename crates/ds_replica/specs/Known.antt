@@ -26,17 +26,18 @@ use Rattle.ds_replica.specs.declared.outcome.Outcome.{Outcome}
 use Rattle.ds_replica.specs.declared.outcome.Outcome.TheVariants.{Replied, Made, MapMade, Merged, Stopped, Cleared, Restarted}
 use Rattle.ds_replica.specs.Happens.{items_given, reopened}
 
--- a store's state, with its accepted list, and what it knows since it was opened or restarted
+-- The account of a store: its state with the accepted list, and what it knows since it was opened or restarted.
 pub record StoreAccount : Type 0 where
   pub state : State
   pub known : List Item
 
--- a map's query, and the items that it was given and that were done, since it was made or cleared
+-- The account of a map: its query, and the items that it was given and that were done, since it was made or cleared.
 pub record MapAccount : Type 0 where
   pub query : Query
   pub taken : List Sent
 
--- what every holder knows, what each item of each message stands for, and all that Asks ever brought into a store
+-- The account of a world: what each holder knows, what each item of each message stands for, and everything that Asks
+-- brought into a store.
 pub record Account : Type 0 where
   pub a : StoreAccount
   pub b : StoreAccount
@@ -48,7 +49,7 @@ abbrev pub store_of : Account → Side → StoreAccount
 store_of account A = account.a
 store_of account B = account.b
 
--- a map knows what those items stand for that are under its query
+-- What a map knows: what its items stand for, under its query.
 abbrev pub known_by : MapAccount → List Item
 known_by m = learnt (is_under m.query) m.taken
 
@@ -56,36 +57,36 @@ abbrev pub map_known : Option MapAccount → List Item
 map_known None = []
 map_known (Some m) = known_by m
 
--- what a holder knows
+-- What a holder knows.
 abbrev pub known_at : Account → Holder → List Item
 known_at account (Store side) = (store_of account side).known
 known_at account (Map j) = map_known (slice_get account.maps j)
 
 -- ---- a store
 
--- the state after one more item came: it takes effect, unless something stands against it
+-- The state after one more item: it takes effect unless a cause applies to it.
 abbrev pub took_one : State → Item → State
 took_one s i = option_map_or (λ cause. s) (cause_of s i) (takes_effect s (i ∷ []))
 
 abbrev pub took_all : State → List Item → State
 took_all s items = fold took_one s items
 
--- the state that a step leaves, told by its reply
+-- The state that a step leaves, as its reply determines it.
 abbrev pub state_left_by : State → Command → Reply → State
 state_left_by s command (Refusing refusal) = s
 state_left_by s command (AllMerged done taken stale owed) = took_all s (brought_by s command)
 state_left_by s command (MergeStopped done fault owed) = took_all s (take done (brought_by s command))
 state_left_by s command _ = (outcome s command).1
 
--- a store that was asked learns what the command brought
+-- The store's account after a command: it knows what the command brought, too.
 abbrev pub store_asked : StoreAccount → Command → Reply → StoreAccount
 store_asked a command reply = record { state = state_left_by a.state command reply; known = a.known ++ learnt_by a.state command reply }
 
--- a store to which items were delivered learns all that they stand for
+-- The store's account after a delivery: it knows everything that the items stand for, too.
 abbrev pub took : StoreAccount → List Sent → StoreAccount
 took a items = record { state = took_all a.state (items_of items); known = a.known ++ stood_for items }
 
--- a store that was opened, or restarted, knows nothing
+-- The account of a store that was just opened or restarted: it knows nothing.
 abbrev pub opened : State → StoreAccount
 opened s = record { state = s; known = [] }
 
@@ -95,19 +96,20 @@ abbrev pub with_account : Account → Side → StoreAccount → Account
 with_account account A a = record account { a = a }
 with_account account B b = record account { b = b }
 
--- what a store gave is one more message, if it gave any: each item stands for all that the store knew and the item covers
+-- The messages after a reply: a reply with items becomes one more. Each item stands for everything that the store knew
+-- and that the item covers.
 abbrev pub with_sent : List (List Sent) → List Item → Option (List Item) → List (List Sent)
 with_sent messages known None = messages
 with_sent messages known (Some items) = messages ++ given known items ∷ []
 
--- a store was asked, and replied
+-- The account after a store replied to a command.
 abbrev pub with_reply : Account → Side → Command → Reply → Account
 with_reply account side command reply = record (with_account account side (store_asked (store_of account side) command reply)) {
   messages = with_sent account.messages (store_of account side).known (items_given reply);
   brought = account.brought ++ learnt_by (store_of account side).state command reply;
 }
 
--- the items of a message that may be missing
+-- The items of a message; none if there is no such message.
 abbrev pub message_items : Option (List Sent) → List Sent
 message_items None = []
 message_items (Some items) = items
@@ -120,16 +122,16 @@ abbrev pub map_cleared : List MapAccount → ℕ → Option MapAccount → List 
 map_cleared maps j None = maps
 map_cleared maps j (Some m) = slice_set maps j (record m { taken = [] })
 
--- these items were delivered to a holder, and done
+-- The account after these items were delivered to a holder, and done.
 abbrev pub delivered : Account → Holder → List Sent → Account
 delivered account (Store side) items = with_account account side (took (store_of account side) items)
 delivered account (Map j) items = record account { maps = map_took account.maps j items (slice_get account.maps j) }
 
--- the first items of a message, with what they stand for
+-- The first items of a message, with what they stand for.
 abbrev pub sent_first : Account → ℕ → ℕ → List Sent
 sent_first account k done = take done (message_items (slice_get account.messages k))
 
--- the account after the event had this outcome; a reply that is kept as a message is the one that the machine gives
+-- The account after an event with this outcome. A reply that is kept as a message is the machine's own.
 abbrev pub extended : Account → Event → Outcome → Account
 extended account (Ask side command) (Replied reply) = with_reply account side command reply
 extended account (Ask side command) (Made k) = with_reply account side command (outcome (store_of account side).state command).0
@@ -137,14 +139,15 @@ extended account (NewMap query) (MapMade j) = record account { maps = account.ma
 extended account (Deliver k holder count) (Merged counted owed) = delivered account holder (sent_first account k counted.done)
 extended account (Deliver k holder count) (Stopped done fault owed) = delivered account holder (sent_first account k done)
 extended account (ClearMap j) Cleared = record account { maps = map_cleared account.maps j (slice_get account.maps j) }
-extended account (RestartStore side incarnation) Restarted = with_account account side (opened (reopened (store_of account side).state incarnation))
+extended account (RestartStore side incarnation) Restarted =
+    with_account account side (opened (reopened (store_of account side).state incarnation))
 extended account _ _ = account
 
 abbrev pub extended_all : Account → List (Event × Outcome) → Account
 extended_all account [] = account
 extended_all account (e ∷ es) = extended_all (extended account e.0 e.1) es
 
--- nobody knows anything
+-- The account in which nobody knows anything.
 abbrev pub new_account : Seed → Seed → LimitsRecord → Account
 new_account a b limits = record {
   a = opened (opening a.incarnation a.first a.ring limits);

@@ -1,4 +1,4 @@
--- Worked rows: lists of events of a new world that meet what the statements ask for, and some that leave one thing out.
+-- Worked rows: events of a new world that meet what the statements require, and some that miss one condition.
 use Rattle.std.specs.Prelude.{◌≡◌, ◌≢◌, ℕ, ◌+◌, true, List, [], ◌∷◌, ◌++◌, Some, None, codes}
 use Rattle.ds_names.specs.declared.key.Key.{Key}
 use Rattle.ds_names.specs.declared.kind.Kind.TheVariants.{U32}
@@ -46,14 +46,14 @@ example_seed incarnation = record { incarnation = incarnation; first = 0; ring =
 abbrev pub fresh_world : World
 fresh_world = new_world (example_seed 1) (example_seed 2) larger
 
--- the account of a new world after these events
+-- The account of a new world after these events.
 abbrev pub account_of : List (Event × Outcome) → Account
 account_of events = extended_all (new_account (example_seed 1) (example_seed 2) larger) events
 
 abbrev first_version : Version
 first_version = record { epoch = 3; seq = 0 }
 
--- the label of a driver, and a floor under what an earlier generation of it published
+-- The label of a driver, and a floor of what an earlier generation of it published.
 abbrev pub driver_label : Item
 driver_label = Changed (change_of (label_key (codes "eth0")) rs_name first_version (Put (Label (endpoint_of 3 17))))
 
@@ -66,18 +66,18 @@ first_publish = Publish (endpoint_of 0 2) (label_key (codes "eth0")) first_versi
 abbrev swept : Command
 swept = Sweep (endpoint_of 0 2) (codes "eth0") 2
 
--- a store is asked for a snapshot, which is the first message
+-- A snapshot of a store, which becomes message 0.
 abbrev snapshot : Side → Event × Outcome
 snapshot side = (Ask side (Snapshot All), Made 0)
 
--- a label is published at one store, and a snapshot goes to the other
+-- A label is published at one store, and a snapshot goes to the other.
 abbrev pub only_published : List (Event × Outcome)
 only_published = (Ask A first_publish, Replied (Accepted 0)) ∷ []
 
 abbrev pub exchanged : List (Event × Outcome)
 exchanged = only_published ++ snapshot A ∷ (Deliver 0 (Store B) None, Merged (counting 1 1 0) 0) ∷ []
 
--- then both know the same, without contradictions, and hold it
+-- Then both know the same, without contradictions, and hold the same.
 pub record ReplicasConverge : Type 0 where
   pub world : World
   pub happen : HappenAll fresh_world exchanged world
@@ -85,26 +85,30 @@ pub record ReplicasConverge : Type 0 where
   pub same : KnowSame all_keys (known_at (account_of exchanged) (Store A)) (known_at (account_of exchanged) (Store B))
   pub held : held_by world (Store B) ≡ driver_label ∷ []
 
--- before the delivery they don't know the same, and don't hold the same
+-- Without the delivery, they neither know nor hold the same.
 pub record ReplicasDiffer : Type 0 where
   pub world : World
   pub happen : HappenAll fresh_world only_published world
   pub numbers : AreSingleNumbered (account_of only_published).brought
   pub differ : under all_keys (held_by world (Store A)) ≢ under all_keys (held_by world (Store B))
 
--- a map is made, and a store is told a floor and a label
+-- A map is made, and a store gets a floor and a label.
 abbrev pub only_told : Query → Side → List (Event × Outcome)
-only_told query side = (NewMap query, MapMade 0) ∷ (Ask side swept, Replied (Swept 0 0)) ∷ (Ask side first_publish, Replied (Accepted 0)) ∷ []
+only_told query side =
+    (NewMap query, MapMade 0) ∷ (Ask side swept, Replied (Swept 0 0)) ∷ (Ask side first_publish, Replied (Accepted 0)) ∷ []
 
--- and a snapshot of it goes to the map
+-- A snapshot of that store goes to the map.
 abbrev pub sent : Query → Side → List (Event × Outcome)
 sent query side = only_told query side ++ snapshot side ∷ (Deliver 0 (Map 0) None, Merged (counting 2 2 0) 0) ∷ []
 
--- what the map was given then
+-- What the map was then given.
 abbrev pub with_both : Query → MapAccount
-with_both query = record { query = query; taken = record { item = floor; stands_for = floor ∷ [] } ∷ record { item = driver_label; stands_for = driver_label ∷ [] } ∷ [] }
+with_both query = record {
+  query = query;
+  taken = record { item = floor; stands_for = floor ∷ [] } ∷ record { item = driver_label; stands_for = driver_label ∷ [] } ∷ [];
+}
 
--- then the map has all of that store, and nothing else, and holds it, the label too
+-- Then the map has all of that store and nothing else, and holds it, the label included.
 pub record MapCatchesUp (query : Query) : Type 0 where
   pub world : World
   pub happen : HappenAll fresh_world (sent query A) world
@@ -115,7 +119,7 @@ pub record MapCatchesUp (query : Query) : Type 0 where
   pub held : held_by world (Map 0) ≡ floor ∷ driver_label ∷ []
   pub named : label_in (held_by world (Map 0)) (codes "eth0") ≡ Some (endpoint_of 3 17)
 
--- before that it hasn't all, and doesn't hold what the store holds, nor name what the store knows as newest
+-- Without the snapshot, it hasn't all: it neither holds what the store holds nor names what the store knows as newest.
 pub record MapLags (query : Query) : Type 0 where
   pub world : World
   pub happen : HappenAll fresh_world (only_told query A) world
@@ -123,9 +127,11 @@ pub record MapLags (query : Query) : Type 0 where
   pub items : AreItems (account_of (only_told query A)).brought
   pub nothing_else : HasNothingElse (account_of (only_told query A)) (record { query = query; taken = [] }) A
   pub differ : held_by world (Map 0) ≢ under (is_under query) (held_by world (Store A))
-  pub older : ¬ IsNewest (store_of (account_of (only_told query A)) A).known (codes "eth0") (label_in (held_by world (Map 0)) (codes "eth0"))
+  pub older : ¬ IsNewest (store_of (account_of (only_told query A)) A).known (codes "eth0")
+      (label_in (held_by world (Map 0)) (codes "eth0"))
 
--- and where the other store told it, it has all of this one, but more, and holds and names what this one doesn't know
+-- If the other store gave the snapshot, the map has all of this store and more. It holds and names what this store
+-- doesn't know.
 pub record MapLeads (query : Query) : Type 0 where
   pub world : World
   pub happen : HappenAll fresh_world (sent query B) world
@@ -135,12 +141,12 @@ pub record MapLeads (query : Query) : Type 0 where
   pub differ : held_by world (Map 0) ≢ under (is_under query) (held_by world (Store A))
   pub older : ¬ IsNewest (store_of (account_of (sent query B)) A).known (codes "eth0") (label_in (held_by world (Map 0)) (codes "eth0"))
 
--- a map is made of the query, and the key is under it
+-- The query is accepted, and the key is under it.
 pub record AsksFor (query : Query) (key : Key) : Type 0 where
   pub read : pattern_fault query ≡ None
   pub asked : is_under query key ≡ true
 
--- each for every query that the label is under
+-- Each row, for every query that the label is under.
 abbrev pub MapsCatchUp : Type 0
 MapsCatchUp = (query : Query) → AsksFor query (label_key (codes "eth0")) → MapCatchesUp query
 
@@ -155,11 +161,11 @@ MapsLead = (query : Query) → AsksFor query (label_key (codes "eth0")) → MapL
 abbrev pub irq : Key
 irq = record { name = codes "irq"; kind = U32 }
 
--- an entry of the driver's at this sequence number
+-- An entry of the driver, with this sequence number.
 abbrev entry : ℕ → ℕ → Item
 entry seq n = Changed (change_of irq (codes "eth0") (record first_version { seq = seq }) (Put (Number n)))
 
--- two of one version, and a later one
+-- Two entries of one version, and a later one.
 abbrev pub one : Item
 one = entry 0 9
 
@@ -169,20 +175,20 @@ other = entry 0 11
 abbrev pub later : Item
 later = entry 1 9
 
--- a store is told one of the two, the later one and the other; it gives the first as a message, and is opened again
+-- A store gets one of the two, the later one and the other. It gives the first as a message, and is restarted.
 abbrev told_both : Side → ℕ → ℕ → Item → Item → List (Event × Outcome)
 told_both side incarnation k first second =
     (Ask side (Merge (first ∷ later ∷ second ∷ [])), Replied (AllMerged 3 2 1 0)) ∷
     (Ask side (Since All (record { incarnation = incarnation; position = 0 }) 1), Made k) ∷
     (RestartStore side (incarnation + 2), Restarted) ∷ []
 
--- both stores, each the other way round, and then each is given its message
+-- Both stores do so, with the two in opposite orders, and then each gets its own message back.
 abbrev pub contradicted : List (Event × Outcome)
 contradicted =
     told_both A 1 0 one other ++ told_both B 2 1 other one ++
     (Deliver 0 (Store A) None, Merged (counting 1 1 0) 0) ∷ (Deliver 1 (Store B) None, Merged (counting 1 1 0) 0) ∷ []
 
--- then both know the same, but don't hold the same, and the message of the one stops at the other by a clash
+-- Then both know the same but don't hold the same, and the message of one stops at the other by a clash.
 pub record ReplicasClash : Type 0 where
   pub world : World
   pub happen : HappenAll fresh_world contradicted world
@@ -190,15 +196,15 @@ pub record ReplicasClash : Type 0 where
   pub differ : under all_keys (held_by world (Store A)) ≢ under all_keys (held_by world (Store B))
   pub stops : Happens world (Deliver 1 (Store A) None) (Stopped 0 (Clash first_version) 0) world
 
--- and a map is made, and given the message of the other store
+-- A map is made, and gets the message of the other store.
 abbrev pub and_a_map : Query → List (Event × Outcome)
 and_a_map query = contradicted ++ (NewMap query, MapMade 0) ∷ (Deliver 1 (Map 0) None, Merged (counting 1 1 0) 0) ∷ []
 
--- what it was given then
+-- What the map was then given.
 abbrev pub with_other : Query → MapAccount
 with_other query = record { query = query; taken = record { item = other; stands_for = other ∷ one ∷ [] } ∷ [] }
 
--- then it has all of the first store, and nothing else, but doesn't hold what that one holds
+-- Then the map has all of the first store and nothing else, but doesn't hold what that store holds.
 pub record MapClashes (query : Query) : Type 0 where
   pub world : World
   pub happen : HappenAll fresh_world (and_a_map query) world
@@ -206,25 +212,26 @@ pub record MapClashes (query : Query) : Type 0 where
   pub nothing_else : HasNothingElse (account_of (and_a_map query)) (with_other query) A
   pub differ : held_by world (Map 0) ≢ under (is_under query) (held_by world (Store A))
 
--- for every query that their key is under
+-- The row, for every query that the key is under.
 abbrev pub MapsClash : Type 0
 MapsClash = (query : Query) → AsksFor query irq → MapClashes query
 
 -- ---- a key that comes back with another owner
 
--- a floor under all that the driver published, and an entry of another owner under the key
+-- A floor of everything that the driver published, and an entry of another owner under the key.
 abbrev pub ended : Item
 ended = Floored (floor_of (codes "eth0") 3)
 
 abbrev pub renewed : Item
 renewed = Changed (change_of irq (codes "eth1") first_version (Put (Number 11)))
 
--- a store is told the driver's entry, the floor, and the other owner's entry, and a snapshot of it goes to the other store
+-- A store gets the driver's entry, the floor and the other owner's entry, and a snapshot of it goes to the other store.
 abbrev pub renewal : List (Event × Outcome)
 renewal =
-    (Ask A (Merge (one ∷ ended ∷ renewed ∷ [])), Replied (AllMerged 3 3 0 0)) ∷ snapshot A ∷ (Deliver 0 (Store B) None, Merged (counting 2 2 0) 0) ∷ []
+    (Ask A (Merge (one ∷ ended ∷ renewed ∷ [])), Replied (AllMerged 3 3 0 0)) ∷ snapshot A ∷
+    (Deliver 0 (Store B) None, Merged (counting 2 2 0) 0) ∷ []
 
--- then what was brought in is exact, but not single-numbered, and both know the same, and hold it
+-- Then everything brought is exact but not single-numbered, and both stores know and hold the same.
 pub record OwnersChange : Type 0 where
   pub world : World
   pub happen : HappenAll fresh_world renewal world

@@ -1,4 +1,4 @@
--- What stays over a list of events: a store's turns in it, what is whole, what is known, and floors.
+-- What lasts over a list of events: a store's run, what is whole, what is known, and floors.
 use Rattle.std.specs.Prelude.{◌≡◌, ℕ, ◌≤◌, ◌==◌, Bool, true, false, List, Contains}
 use Rattle.std.specs.List.{list_any}
 use Rattle.ds_names.specs.declared.key.Key.{Key}
@@ -31,7 +31,7 @@ is_side A A = true
 is_side B B = true
 is_side _ _ = false
 
--- the event empties the holder: a store is restarted, a map is cleared
+-- Whether the event empties the holder: it restarts the store, or clears the map.
 abbrev pub empties_by : Holder → Event → Outcome → Bool
 empties_by (Store side) (RestartStore s incarnation) Restarted = is_side s side
 empties_by (Map j) (ClearMap k) Cleared = k == j
@@ -40,33 +40,40 @@ empties_by h _ _ = false
 abbrev pub empties : Holder → Event × Outcome → Bool
 empties h e = empties_by h e.0 e.1
 
--- nothing among the events empties the holder
+-- None of the events empties the holder.
 abbrev pub Stays : Holder → List (Event × Outcome) → Type 0
 Stays h events = list_any (empties h) events ≡ false
 
--- while a store isn't restarted, its turns in a list of events are a run of its machine
+-- A law: unless a store is restarted, its turns among the events are a run of its machine.
 abbrev pub TurnsAreRunInWorlds : Type 0
 TurnsAreRunInWorlds =
     (old new : World) (side : Side) (events : List (Event × Outcome)) → HappenAll old events new → Stays (Store side) events →
     (commands : List Command) × (replies : List Reply) × Run (store_at old side) commands replies (store_at new side)
 
--- what is whole for a store stays so over every list of events, until the store is restarted
+-- A law: what is whole for a store stays whole over any events, until the store is restarted.
 abbrev pub WholeStaysInWorlds : Type 0
 WholeStaysInWorlds =
-    (account : Account) (old new : World) (side : Side) (events : List (Event × Outcome)) (query : Key → Bool) (items : List Sent) (r : ℕ) → Fits account old → HappenAll old events new → Stays (Store side) events →
-    r ≤ position (store_of account side).state.feed → IsWhole (store_of account side).state.feed query items r → IsWhole (store_of (extended_all account events) side).state.feed query items r
+    (account : Account) (old new : World) (side : Side) (events : List (Event × Outcome)) (query : Key → Bool) (items : List Sent) (r : ℕ) →
+    Fits account old → HappenAll old events new → Stays (Store side) events →
+    r ≤ position (store_of account side).state.feed → IsWhole (store_of account side).state.feed query items r →
+    IsWhole (store_of (extended_all account events) side).state.feed query items r
 
--- what a holder knows it keeps over every list of events, until it is emptied
+-- A law: a holder knows what it knows over any events, until it is emptied.
 abbrev pub KnownStays : Type 0
-KnownStays = (account : Account) (h : Holder) (events : List (Event × Outcome)) → Stays h events → IsPartOf (known_at account h) (known_at (extended_all account events) h)
+KnownStays =
+    (account : Account) (h : Holder) (events : List (Event × Outcome)) → Stays h events →
+    IsPartOf (known_at account h) (known_at (extended_all account events) h)
 
--- where a holder knows a floor, it holds nothing that the floor makes void: no change of the owner, of another kind than
--- label, with an epoch up to the floor's generation
+-- A law: a holder that knows a floor holds nothing that the floor makes void: no change of the owner, labels aside, of
+-- an epoch up to the floor's generation.
 abbrev pub NothingBelowFloorsInWorlds : Type 0
-NothingBelowFloorsInWorlds = (account : Account) (w : World) (h : Holder) (f : Floor) (c : ChangeRecord) → Fits account w → Contains (known_at account h) (Floored f) → Contains (held_by w h) (Changed c) → voids f c ≡ false
+NothingBelowFloorsInWorlds =
+    (account : Account) (w : World) (h : Holder) (f : Floor) (c : ChangeRecord) → Fits account w →
+    Contains (known_at account h) (Floored f) → Contains (held_by w h) (Changed c) → voids f c ≡ false
 
--- and no event brings such a change, until the holder is emptied
+-- A law: no event brings such a change, until the holder is emptied.
 abbrev pub FloorsStandInWorlds : Type 0
 FloorsStandInWorlds =
-    (account : Account) (old new : World) (h : Holder) (events : List (Event × Outcome)) (f : Floor) (c : ChangeRecord) → Fits account old → HappenAll old events new → Stays h events →
+    (account : Account) (old new : World) (h : Holder) (events : List (Event × Outcome)) (f : Floor) (c : ChangeRecord) → Fits account old →
+    HappenAll old events new → Stays h events →
     Contains (known_at account h) (Floored f) → Contains (held_by new h) (Changed c) → voids f c ≡ false

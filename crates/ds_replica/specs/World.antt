@@ -11,12 +11,12 @@ use Rattle.ds_replica.specs.declared.event.Side.TheVariants.{A, B}
 use Rattle.ds_replica.specs.declared.event.Holder.{Holder}
 use Rattle.ds_replica.specs.declared.event.Holder.TheVariants.{Store, Map}
 
--- a subscriber's map: its query, and what it holds
+-- A subscriber's map: its query, and what it holds.
 pub record MapState : Type 0 where
   pub query : Query
   pub held : List Item
 
--- the states of the stores and of the maps, and the items of each message
+-- A world: the states of its stores and maps, and the items of each message.
 pub record World : Type 0 where
   pub a : State
   pub b : State
@@ -27,27 +27,27 @@ abbrev pub store_at : World → Side → State
 store_at w A = w.a
 store_at w B = w.b
 
--- what a map that may be missing holds
+-- What a map holds; nothing if there is no such map.
 abbrev pub map_held : Option MapState → List Item
 map_held None = []
 map_held (Some m) = m.held
 
--- what a holder holds
+-- What a holder holds.
 abbrev pub held_by : World → Holder → List Item
 held_by w (Store side) = held (store_at w side)
 held_by w (Map j) = map_held (slice_get w.maps j)
 
--- the world with another state of a store
+-- The world with another state of one store.
 abbrev pub with_state : World → Side → State → World
 with_state w A s = record w { a = s }
 with_state w B s = record w { b = s }
 
--- the world with one more message, if there is one
+-- The world with one more message, if there is one.
 abbrev pub with_items : World → Option (List Item) → World
 with_items w None = w
 with_items w (Some items) = record w { messages = w.messages ++ items ∷ [] }
 
--- a world that was just made: its stores are empty, and it has no maps and no messages
+-- A world that was just made: empty stores, no maps, no messages.
 abbrev pub new_world : Seed → Seed → LimitsRecord → World
 new_world a b limits = record {
   a = opening a.incarnation a.first a.ring limits;

@@ -1,4 +1,4 @@
-//! What can happen in a world, one event at a time.
+//! The events of a world.
 
 use ds_machine::Command;
 use ds_pattern::Query;
@@ -10,37 +10,38 @@ pub enum Side {
     B,
 }
 
-/// Who holds items: a store, or the map of this number, counted from 0.
+/// A holder of items: a store, or the map of this number, counted from 0.
 #[derive(Clone, Copy, Debug, PartialEq, Eq)]
 pub enum Holder {
     Store(Side),
     Map(usize),
 }
 
-/// An event of a world. Maps and messages have numbers, counted from 0 in the order in which they were made. Of this
-/// project.
+/// An event of a world. Maps and messages are numbered from 0 in the order of their making. Of this project.
 #[derive(Drop)]
 pub enum Event {
-    /// A store is asked. What it gives to a Check, Since, Snapshot or Page is kept as the next message.
+    /// Sends a command to a store. A reply with items (to a Check, Since, Snapshot or Page) is kept as the next
+    /// message.
     Ask {
         side: Side,
         command: Command,
     },
-    /// A subscriber's map is made, at most 64 of them.
+    /// Makes a subscriber's map. A world has at most 64.
     NewMap {
         query: Query,
     },
-    /// The first `count` items of a message, or all, go to a holder: at any time, and any number of times.
+    /// Delivers the first `count` items of a message, or all, to a holder. It may happen at any time, any number of
+    /// times.
     Deliver {
         message: usize,
         holder: Holder,
         count: Option<usize>,
     },
-    /// A map drops all that it holds.
+    /// Empties a map.
     ClearMap {
         map: usize,
     },
-    /// A store is opened again, empty, as another incarnation.
+    /// Opens a store again, empty, as another incarnation.
     RestartStore {
         side: Side,
         incarnation: u64,

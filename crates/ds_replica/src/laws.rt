@@ -1,4 +1,4 @@
-//! Laws over every list of events of a world, over definitions alone.
+//! Laws over every list of events of a world. They cite only definitions.
 
 ghost use Rattle.ds_replica.specs.Bringing.{EventsBringItems};
 ghost use Rattle.ds_replica.specs.CaughtUp.{WholeIsAll, HoldsTheStoresInWorlds, HoldsAtLeastInWorlds, LabelsAreNewestInWorlds};
@@ -12,17 +12,16 @@ ghost use Rattle.ds_replica.specs.Rows.{MapsLead, ReplicasClash, MapsClash, Owne
 ghost use Rattle.ds_replica.specs.Turns.{TurnsAreRunInWorlds, WholeStaysInWorlds, KnownStays};
 ghost use Rattle.ds_replica.specs.Turns.{NothingBelowFloorsInWorlds, FloorsStandInWorlds};
 
-/// Of a world that was just made the empty account fits, and over every list of events the account that is extended by
-/// them.
+/// A law: the empty account fits a world that was just made, and after any events the account that they extend fits.
 pub fn accounts_fit()
     ensures start { AccountFitsAtStart }
     ensures events { EventsFit }
 {}
 
-/// Over every list of events, replicas and maps that know the same under a query hold the same under it, if all that Asks
-/// brought in is exact: no two of its changes have one key, one owner and one version, but two bodies. If it is single-numbered
-/// (each key has one owner, too), nothing that is held or on its way contradicts anything else, so that no delivery stops by a
-/// clash or by another owner.
+/// A law: after any events, replicas and maps that know the same under a query hold the same under it, if everything
+/// brought is exact: no two changes of one key, owner and version have two bodies. If it is single-numbered (each key
+/// also has one owner), nothing held or on its way contradicts anything else, and no delivery stops by a clash or
+/// another owner.
 pub fn holders_agree()
     ensures equal { EqualWhereKnown }
     ensures over_events { EqualOverEvents }
@@ -30,9 +29,9 @@ pub fn holders_agree()
     ensures stops { NothingStopsInWorlds }
 {}
 
-/// A map that was given all that a store accepted under its query, and nothing that the store doesn't know, holds just the
-/// store's entries under its query, if all that Asks brought in is exact, and its labels name no older generation; told more,
-/// it holds at least that.
+/// A law: a map that was given everything a store accepted under its query, and nothing that the store doesn't know,
+/// holds exactly what the store holds under that query, if everything brought is exact, and its labels name no older
+/// generation. A map that was given more holds at least that.
 pub fn maps_catch_up()
     ensures all { WholeIsAll }
     ensures exact { HoldsTheStoresInWorlds }
@@ -40,15 +39,15 @@ pub fn maps_catch_up()
     ensures labels { LabelsAreNewestInWorlds }
 {}
 
-/// All that Asks bring in over a list of events are changes and floors that keep their rules, where what the commands name
-/// is in its ranges.
+/// A law: everything that Asks bring in keeps the rules of changes and floors, if the commands' parts are in their
+/// ranges.
 pub fn items_are_brought()
     ensures events { EventsBringItems }
 {}
 
-/// In a list of events a store's turns are a run of its machine, what is whole for it stays so, and each message that it
-/// gave leaves out nothing: snapshots and the journal are whole, and pages and checks are what
-/// the laws of pages and of checks ask for.
+/// A law: a store's turns among the events are a run of its machine, and what is whole for it stays whole. Each of its
+/// messages leaves out nothing: snapshots and the journal are whole, and pages and checks meet what the laws of pages
+/// and checks ask for.
 pub fn messages_are_whole()
     ensures turns { TurnsAreRunInWorlds }
     ensures stays { WholeStaysInWorlds }
@@ -60,25 +59,25 @@ pub fn messages_are_whole()
     ensures checks { ChecksAreWholeInWorlds }
 {}
 
-/// What a store's machine lets take effect is new, as the laws of checks ask for, and where it went on, its feed is the earlier
-/// one later, as all laws of wholeness do.
+/// A law: what a store's machine lets take effect is new, as the laws of checks require, and a later state's feed is a
+/// later state of the earlier feed, as all laws of wholeness require.
 pub fn stores_grow()
     ensures news { NewsAreNew }
     ensures front { LaterIsFront }
 {}
 
-/// What a holder knows it keeps until it is emptied; where it knows a floor, it holds nothing that the floor makes void,
-/// and no event brings such a change.
+/// A law: a holder knows what it knows until it is emptied. If it knows a floor, it holds nothing that the floor makes
+/// void, and no event brings such a change.
 pub fn floors_stand()
     ensures known { KnownStays }
     ensures below { NothingBelowFloorsInWorlds }
     ensures events { FloorsStandInWorlds }
 {}
 
-/// Worked rows: events after which two replicas know and hold the same, and a map has all of a store and names its label;
-/// and some in which one thing that the laws ask for is missing, and the rest isn't enough: two replicas don't know the same,
-/// a map wasn't told all, or was told more, and two replicas, or a map, were told what contradicts itself; and some in which a key
-/// comes back with another owner, so that what was brought in is exact and not single-numbered.
+/// A law: worked rows. In some, two replicas end up knowing and holding the same, and a map has all of a store and
+/// names its label. In others, one condition of the laws is missing and the conclusion fails: the replicas don't know
+/// the same, the map wasn't given everything or was given more, or what a replica or map was given contradicts itself.
+/// In the last, a key returns with another owner, so that everything brought is exact but not single-numbered.
 pub fn rows_happen()
     ensures converge { ReplicasConverge }
     ensures differ { ReplicasDiffer }

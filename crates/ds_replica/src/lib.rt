@@ -1,9 +1,8 @@
-//! Two stores that can exchange what they know, subscribers' maps, and the messages between them: what can happen in such
-//! a world, what each holder knows, and laws over every list of events, by definitions alone. `ds_world` runs by them.
+//! Two stores that exchange what they know, subscribers' maps, and the messages between them: the events of such a
+//! world, what each holder knows, and laws over every list of events. `ds_world` implements it.
 //!
-//! Replicas, messages and the join of what holders know are of this project; MINIX 3's data store is one server (the DS
-//! interface of MINIX 3; Tanenbaum and Woodhull, third edition), and its subscribers ask it again (Herder and others, DSN
-//! 2007).
+//! Replicas, messages and the join of knowledge are of this project. MINIX 3's data store is one server (Tanenbaum and
+//! Woodhull, third edition), which its subscribers query again (Herder and others, DSN 2007).
 #![tactic(auto)]
 
 mod event;

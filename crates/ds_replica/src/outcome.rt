@@ -1,4 +1,4 @@
-//! What comes of an event.
+//! The outcomes of events.
 
 ghost use Rattle.std.specs.Prelude.{◌≡◌, IfOk};
 
@@ -8,73 +8,72 @@ use ds_names::NoRoom;
 use std::alloc::Global;
 use thiserror::Error;
 
-/// What came of an event. Of this project.
+/// The outcome of an event. Of this project.
 #[derive(Drop)]
 pub enum Outcome {
-    /// The store replied.
+    /// The store's reply.
     Replied(Reply),
-    /// What the store gave is kept as this message.
+    /// The reply's items are kept as this message.
     Made {
         message: usize,
     },
-    /// The map was made, and has this number.
+    /// The map was made, with this number.
     MapMade {
         map: usize,
     },
-    /// All items that were delivered were done, and so counted. `owed` is the mask of the store's subscriptions to which
-    /// something is owed, 0 for a map.
+    /// All delivered items were done. `owed` is the mask of the store's subscriptions to notify, 0 for a map.
     Merged {
         count: Count,
         owed: u128,
     },
-    /// The first items were done, and the next one was refused.
+    /// The first `done` items were done, and the next one was refused.
     Stopped {
         done: usize,
         fault: Refusal,
         owed: u128,
     },
-    /// The map holds nothing.
+    /// The map is empty.
     Cleared,
-    /// The store is empty, and of the new incarnation.
+    /// The store is empty, in its new incarnation.
     Restarted,
     /// The event was refused, and nothing changed.
     Refused(EventFault),
 }
 
-/// Why a world refuses an event, beside what a store or a map refuses. Nothing changed.
+/// Why a world refuses an event, apart from what a store or a map refuses. Nothing changes.
 #[derive(Clone, Copy, Debug, PartialEq, Eq, Error)]
 pub enum EventFault {
-    /// There are 65536 messages.
+    /// The world has 65536 messages.
     #[error("there are 65536 messages")]
     MessagesFull,
-    /// There are 64 maps.
+    /// The world has 64 maps.
     #[error("there are 64 maps")]
     MapsFull,
-    /// The pattern has more than 128 bytes.
+    /// The pattern is longer than 128 bytes.
     #[error("a pattern has at most 128 bytes")]
     TooLong,
-    /// The text is no pattern.
+    /// The text isn't a pattern.
     #[error("not a pattern over names")]
     BadPattern,
-    /// There is no such message.
+    /// No such message exists.
     #[error("there is no such message")]
     NoMessage,
-    /// There is no such map.
+    /// No such map exists.
     #[error("there is no such map")]
     NoMap,
-    /// The message has fewer items.
+    /// The message has fewer items than `count`.
     #[error("the message has fewer items")]
     TooMany,
     /// The incarnation isn't above all that were used.
     #[error("the incarnation isn't above all that were used")]
     OldIncarnation,
-    /// Memory is wanting.
+    /// The world is out of memory.
     #[error("out of memory")]
     NoRoom,
 }
 
 impl Outcome {
-    /// The same outcome again.
+    /// Returns a copy. Fails only if memory runs out.
     pub fn copy(&self, alloc: Global) -> Result<Outcome, NoRoom>
         ensures { IfOk result (λ copy. copy ≡ self.now) }
     {

@@ -1,9 +1,9 @@
-//! How a world's stores are opened.
+//! What a world's stores are opened with.
 
-/// With what a store is opened. Of this project.
+/// What a store is opened with. Of this project.
 #[derive(Clone, Copy, Debug, PartialEq, Eq)]
 pub struct Seed {
-    /// Which run of the store it is.
+    /// The number of this run of the store.
     pub incarnation: u64,
     /// The position of the first item that takes effect, 0 to 2^62.
     pub first: u64,

@@ -14,14 +14,14 @@ turn_cause r w ReadFault old new writer h = absurd h
 turn_cause r w WriteFault old new writer h = h
 turn_cause r w NoRoom old new writer h = tt
 
--- that of a turn ends the script, behind the reads before it
+-- The fault of a turn ends the script, after the reads before it.
 pub run_cause : {R W : Type 0} (r : Reader R) (w : Writer W) (fault : ReplayFault) (n : ℕ) (old mid new : R) (writer : W) → CallsLead r.reads n old mid → HasTurnCause r w fault mid new writer → HasCause r w fault old new writer
 run_cause r w (BadLine number place expected) n old mid new writer led h = tt
 run_cause r w ReadFault n old mid new writer led h = (n, inl (mid, led, h))
 run_cause r w WriteFault n old mid new writer led h = h
 run_cause r w NoRoom n old mid new writer led h = tt
 
--- either that is the fault behind the writing of what waited, or a write failed there
+-- After the waiting answers are written, it is still the fault, or a write failed there.
 pub either_cause : {R W : Type 0} (r : Reader R) (w : Writer W) (given fault : ReplayFault) (old new : R) (last : W) → HasCause r w fault old new last → (given ≡ fault) ⊎ ((given ≡ WriteFault) × HasFailedWrite w.writes w.fails last)
     → HasCause r w given old new last
 either_cause {R} {W} r w given fault old new last c s =

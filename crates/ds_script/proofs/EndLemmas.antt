@@ -227,9 +227,9 @@ come_stop fault from mid to had is has policy old pending waiting p whole s =
 pub come_over : (from to had has : Option (List ℕ)) (policy : BadLines) (now : Reached) (pending : List ℕ) → Come from to had has policy now pending → IsUnbroken pending → Stopped policy ReadFault from to had has now.waiting
 come_over from to had has policy now pending p whole = text_stopped ReadFault from to had has p.first policy p.bytes now.waiting p.opened p.read (now, pending, p.text, (refl, whole))
 
--- ---- behind a fault
+-- ---- after a fault
 
--- what the caller is told
+-- what the caller learns
 abbrev pub Told : BadLines → ReplayFault → (from to had has : Option (List ℕ)) → Type 0
 Told policy fault from to had has = (input output : List ℕ) × Consumes from to input × Appends had has output × StopsWith policy fault to input output
 

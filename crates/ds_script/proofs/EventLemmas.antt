@@ -1,4 +1,4 @@
--- Commands, and what they are answered.
+-- Commands and their answers.
 use Rattle.std.proofs.Common.{◌≡◌, ◌≢◌, ℕ, ◌⊎◌, inl, inr, Option, Some, None, MatchOption, List, refl, sym, ap, subst, ◌∙◌}
 use Rattle.std.specs.List.{slice_get}
 use Rattle.ds_names.specs.Endpoint.{EndpointRecord}
@@ -58,7 +58,7 @@ is_event side (Submit server id unit map) no_show no_all no_entries no_ring no_s
 is_event side (Reply server endpoint id) no_show no_all no_entries no_ring no_side no_settings no_service no_death no_beat no_tick no_assign no_follow no_submit no_reply = absurd (no_reply server endpoint id refl)
 is_event side command no_show no_all no_entries no_ring no_side no_settings no_service no_death no_beat no_tick no_assign no_follow no_submit no_reply = λ none. some_is_not_none _ none
 
--- what is told of the command's event is its answer
+-- the lines of the event's outcome are the command's answer
 pub as_event : (command : ScriptCommand) (worded : Wording) (side : OneSide) (event : Event) (outcome : Outcome) (old new : SessionContent)
     → worded ≡ wording command → side ≡ old.side → Some event ≡ event_of side command → IsHappening event outcome old new
     → AnswersAsEvent command old (told_lines worded outcome new.world.messages) new
@@ -66,7 +66,7 @@ as_event command worded side event outcome old new same at is happens =
     subst (λ (o : Option Event). MatchOption o ⊥ (λ e. AnswersEvent (wording command) e old (told_lines worded outcome new.world.messages) new)) (is ∙ ap (λ (s : OneSide). event_of s command) at)
     (record { outcome = outcome; happens = happens; told = ap (λ (w : Wording). told_lines w outcome new.world.messages) same })
 
--- what a command that is an event is answered, it is answered
+-- an event's answer is the command's answer
 answers_it : (command : ScriptCommand) (old : SessionContent) (out : List ℕ) (new : SessionContent) → AnswersAsEvent command old out new → AnswersCommand command old out new
 answers_it Show old out new a = absurd a
 answers_it All old out new a = absurd a

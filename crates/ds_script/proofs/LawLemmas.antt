@@ -1,4 +1,4 @@
--- What a script drives came of events, and what follows from that.
+-- A script's world is the result of events, and what follows from that.
 use Rattle.std.proofs.Common.{◌≡◌, ℕ, suc, ◌≤◌, true, false, inl, inr, Option, None, Some, MatchOption, List, [], ◌∷◌, ◌++◌, refl, sym, ap, subst, ◌∙◌, arith, Contains}
 use Rattle.std.proofs.lemmas.List.Elements.{Contains-push_cases, Contains-append_cases}
 use Rattle.ds_names.specs.declared.key.Key.{Key}
@@ -42,9 +42,9 @@ use Rattle.ds_script.specs.Laws.{Past, past_of, no_past, with_events, CameOf, Ma
 use Rattle.ds_script.proofs.LineLemmas.{may_command}
 use Rattle.ds_entry.specs.Under.{under}
 
--- ---- what a session came of
+-- ---- the past of a session
 
--- the session came of this past
+-- the session has this past
 abbrev Came : SessionContent → Past → Type 0
 Came session past = (ring : ℕ) × (world : World) × CameOf past ring world session
 
@@ -52,7 +52,7 @@ came_opened : (ring : ℕ) (session : SessionContent) → 1 ≤ ring → ring �
 came_opened ring session least most opened =
     (ring, made ring, record { least = least; most = most; happened = refl; stands = opened.world; servers = opened.servers })
 
--- behind these events, and with these servers
+-- after these events, and with these servers
 came_further : (old new : SessionContent) (past : Past) (events : List (Event × Outcome)) (servers : Servers)
     → EventsGoOn events old.world new.world → ServersStand new.servers servers → Came old past → Came new (past_of (past.events ++ events) servers)
 came_further old new past events servers leads stands came =
@@ -91,7 +91,7 @@ came_served old new past servers same stands came =
       record { least = c.least; most = c.most; happened = c.happened; stands = subst (λ (v : WorldRecord). WorldStands v came.1) (sym same) c.stands; servers = stands },
     )
 
--- what a command, a line and lines make of the past before them, of which the session came that they leave
+-- what a command, a line and lines make of the past, for the session that they leave
 abbrev Makes : (Past → Type 0) → SessionContent → Type 0
 Makes How new = (past : Past) × How past × Came new past
 

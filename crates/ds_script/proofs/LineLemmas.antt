@@ -1,4 +1,4 @@
--- Lines, and the commands that may stand on them.
+-- Lines, and the commands that are allowed on them.
 use Rattle.std.proofs.Common.{◌≡◌, ◌≢◌, ℕ, zero, suc, ◌≤◌, ◌⊎◌, inl, inr, false, List, [], ◌∷◌, ◌++◌, length, Option, Some, Result, Ok, Err, refl, sym, ap, subst, ◌∙◌, length-append, arith}
 use Rattle.ds_entry.specs.declared.item.Item.{Item}
 use Rattle.ds_line.specs.Part.{texts}
@@ -17,7 +17,7 @@ use Rattle.ds_script.specs.Progress.{IsUnendedFault, KeepsSession}
 use Rattle.ds_script.specs.Session.{SessionContent}
 use Rattle.ds_script.proofs.EventLemmas.{event_answers}
 
--- a command that may stand on some line is a command
+-- a command that is allowed on some line is a command
 pub may_command : (before : ℕ) (command : ScriptCommand) → MayStand before command → IsCommand command
 may_command zero command may = may
 may_command (suc before) command may = may.0
@@ -33,19 +33,19 @@ memory_room (Ring ring) session takes = absurd takes
 memory_room (Settings text) session takes = tt
 memory_room command session takes = takes
 
--- a line without the word of an offer is no offer
+-- a line without the word of an offer isn't an offer
 pub offer_line : (before : ℕ) (bytes : List ℕ) (command : ScriptCommand) → ReadsAs (MayStand before) bytes (Ok command) → ¬ IsOffer bytes
     → is_offer command ≡ false
 offer_line before bytes (Offer i) read none = absurd (none (texts (item_parts i), read.1))
 offer_line before bytes command read none = refl
 
--- ---- the first line, and those behind it
+-- ---- the first line, and those after it
 
 pub line_behind : (before : ℕ) (bytes : List ℕ) (result : Result ScriptCommand CommandFault) → (before ≡ 0 → ReadsAs IsCommand bytes result) → (before ≢ 0 → ReadsAs IsLater bytes result) → ReadsAs (MayStand before) bytes result
 line_behind zero bytes result first later = first refl
 line_behind (suc before) bytes result first later = later (λ none. omega (arith, none))
 
--- what is read so as a first line and as one behind it, is read so behind however many others
+-- what is read alike as a first and as a later line is read so after any number of lines
 pub read_behind : (before : ℕ) (bytes : List ℕ) (result : Result ScriptCommand CommandFault) → ReadsAs IsCommand bytes result → ReadsAs IsLater bytes result → ReadsAs (MayStand before) bytes result
 read_behind zero bytes result first later = first
 read_behind (suc before) bytes result first later = later
@@ -66,21 +66,21 @@ pub answered_behind : (before : ℕ) (bytes out : List ℕ) (command : ScriptCom
 answered_behind before bytes out command old new short read answers text is =
     (command, record { written = read.0; text = sym is ∙ read.1; short = short_text bytes text short is }, answers)
 
--- where there is no room for what it has, it is refused
+-- if memory runs out, it is refused
 pub refused_behind : (before : ℕ) (bytes : List ℕ) (session : SessionContent) → length bytes ≤ 4097
     → ReadsAs (MayStand before) bytes (Err NoRoom)
     → (text : List ℕ) → bytes ≡ with_newline text → AnswersLine before session text refused_noroom session
 refused_behind before bytes session short read text is =
     (read.0, record { written = read.1; text = sym is ∙ read.2; short = short_text bytes text short is }, inl (memory_room read.0 session read.3, (refl, refl)))
 
--- and no command's line is bad
+-- a line that isn't a command is bad
 pub bad_behind : (before : ℕ) (bad : CommandFault) (bytes text : List ℕ) → length bytes ≤ 4097 → bytes ≡ with_newline text
     → ReadsAs (MayStand before) bytes (Err bad) → IsUnendedFault before bad text
 bad_behind before (BadLine place expected) bytes text short is fault =
     inr (short_text bytes text short is, subst (λ (b : List ℕ). IsFaultAmong (MayStand before) b place) is fault)
 bad_behind before NoRoom bytes text short is fault = tt
 
--- a line of which no command was read is refused where there is no room for what it has
+-- a line of which no command was read is refused if memory ran out
 pub unread_behind : (before : ℕ) (bytes had has : List ℕ) (fault : CommandFault) (session : SessionContent) → length bytes ≤ 4097
     → ReadsAs (MayStand before) bytes (Err fault) → (fault ≡ NoRoom) × (has ≡ had ++ refused_noroom) → AppendsLine before bytes had has session session
 unread_behind before bytes had has fault session short read answered = (
@@ -89,12 +89,12 @@ unread_behind before bytes had has fault session short read answered = (
   refused_behind before bytes session short (subst (λ (f : CommandFault). ReadsAs (MayStand before) bytes (Err f)) answered.0 read),
 )
 
--- or its fault is told
+-- or its fault is returned
 pub unread_fault : (before : ℕ) (fault told : CommandFault) (bytes : List ℕ) → length bytes ≤ 4097 → ReadsAs (MayStand before) bytes (Err fault) → told ≡ fault
     → (text : List ℕ) → bytes ≡ with_newline text → IsUnendedFault before told text
 unread_fault before fault told bytes short read same text is = subst (λ (f : CommandFault). IsUnendedFault before f text) (sym same) (bad_behind before fault bytes text short is read)
 
--- and what is as it was is kept
+-- a session is kept by itself
 pub keeps : (fault : CommandFault) (session : SessionContent) → KeepsSession fault session session
 keeps (BadLine place expected) session = refl
 keeps NoRoom session = tt

@@ -1,4 +1,4 @@
--- Lines that are answered, one after the other, bad ones too.
+-- Answers to lines in order, bad ones too.
 use Rattle.std.proofs.Common.{◌≡◌, ℕ, suc, ◌+◌, List, [], ◌∷◌, ◌++◌, length, Option, Result, Ok, Err, MatchResult, IfErr, refl, sym, ap, subst, ◌∙◌, inl, inr, arith, append_assoc, append-nil, length-append}
 use Rattle.std.specs.Io.KnownBytes.{Appends}
 use Rattle.std.proofs.KnownBytes.{Appends-nil, Appends-trans}
@@ -13,7 +13,7 @@ use Rattle.ds_script.specs.Progress.{Reached, TakesLines, EndsAtBad, TellsBad, L
 
 -- ---- results
 
--- what is so of both follows from what is so of both
+-- each case of a result implies its weaker form
 pub where_both : {T E : Type 0} {P P2 : T → Type 0} {Q Q2 : E → Type 0} (r : Result T E) → ((t : T) → P t → P2 t) → ((e : E) → Q e → Q2 e) → MatchResult r P Q → MatchResult r P2 Q2
 where_both (Ok t) f g p = f t p
 where_both (Err e) f g p = g e p
@@ -111,7 +111,7 @@ takes_bad had has old new number place sent text goes bad numbered split written
       policy = policy;
     }
 
--- lines behind lines
+-- lines after lines
 pub takes_then : (a b c : Option (List ℕ)) (old mid new : Reached) (ls ms : List (List ℕ)) → TakesLines a b old ls mid → TakesLines b c mid ms new → TakesLines a c old (ls ++ ms) new
 takes_then a b c old mid new ls ms p q =
     record {
@@ -130,7 +130,7 @@ takes_then a b c old mid new ls ms p q =
 pub takes_behind : (a b c : Option (List ℕ)) (old mid new : Reached) (ls : List (List ℕ)) → TakesLines a b old ls mid → TakesLines b c mid [] new → TakesLines a c old ls new
 takes_behind a b c old mid new ls p q = subst (λ (ms : List (List ℕ)). TakesLines a c old ms new) (append-nil ls) (takes_then a b c old mid new ls [] p q)
 
--- no line was answered, so the count is what it was
+-- no line is answered, so the count is the same
 pub same_count : (had has : Option (List ℕ)) (old new : Reached) → TakesLines had has old [] new → new.lines ≡ old.lines
 same_count had has old new p = none_more new.lines old.lines p.counted
 

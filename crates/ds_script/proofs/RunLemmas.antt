@@ -1,4 +1,4 @@
--- The lines of a text, and turn after turn.
+-- The lines of a text, and one turn after another.
 use Rattle.std.proofs.Common.{◌≡◌, ◌≢◌, ℕ, suc, ◌<◌, Bool, true, false, List, [], ◌∷◌, ◌++◌, length, Option, refl, sym, ap, subst, ◌∙◌, ◌⊎◌, inl, inr, append_assoc, append-nil}
 use Rattle.std.specs.Io.KnownBytes.{Appends, Consumes, IsAtEnd}
 use Rattle.std.proofs.KnownBytes.{Consumes-nil}
@@ -43,7 +43,7 @@ text_more a b c old mid new text rest line more l p split is unbroken one =
 pub text_sent : (a b c : Option (List ℕ)) (old mid new : Reached) (text rest : List ℕ) → TakesText a b old text mid rest → TakesLines b c mid [] new → TakesText a c old text new rest
 text_sent a b c old mid new text rest p sent = record { lines = p.lines; split = p.split; unbroken = p.unbroken; takes = takes_behind a b c old mid new p.lines p.takes sent }
 
--- behind the lines of one text come those of its rest and of what was read behind it
+-- the lines of a text, and then those of its rest with what was read after it
 pub texts_then : (a b c : Option (List ℕ)) (old mid new : Reached) (text rest bytes more whole last : List ℕ) → TakesText a b old text mid rest → rest ++ bytes ≡ more → text ++ bytes ≡ whole → TakesText b c mid more new last → TakesText a c old whole new last
 texts_then a b c old mid new text rest bytes more whole last p left all q =
     record {
@@ -96,7 +96,7 @@ line_stops WriteFault to a b c old mid text rest line more l output p split is u
     ]
 line_stops NoRoom to a b c old mid text rest line more l output p split is unbroken s = (s.0, rest, text_sent a b c old mid s.0 text rest p s.1, s.2)
 
--- its rest isn't, with what was read behind it
+-- nor is its rest, with what was read after it
 pub stops_then : (fault : ReplayFault) (to a b c : Option (List ℕ)) (old mid : Reached) (text rest bytes more whole output : List ℕ) → TakesText a b old text mid rest → rest ++ bytes ≡ more → text ++ bytes ≡ whole → TextStops fault to b c mid more output → TextStops fault to a c old whole output
 stops_then fault to a b c old mid text rest bytes more whole output p left all s = (s.0, s.1, texts_then a b c old mid s.0 text rest bytes more whole s.1 p left all s.2, s.3)
 
@@ -136,7 +136,7 @@ last_stops ReadFault to had has old pending output s one unbroken end = absurd s
 last_stops WriteFault to had has old pending output s one unbroken end = inr (refl, (s.0, s.1, subst (λ (whole : List (List ℕ)). (s.0 ≡ []) ⊎ (s.0 ≡ whole)) (sym one) s.2, s.3))
 last_stops NoRoom to had has old pending output s one unbroken end = inl (s.0, pending, text_none had has old s.0 pending s.1, s.2)
 
--- the writer failed before it, or behind it
+-- the writer failed before or after it
 pub last_unsent : (to a b c : Option (List ℕ)) (old mid : Reached) (pending sent left output : List ℕ) (ls : List (List ℕ)) → TakesLines a b old ls mid → (ls ≡ []) ⊎ (ls ≡ unended pending) → mid.waiting ≡ sent ++ left → Appends b c sent → LastStops WriteFault to a c old pending output
 last_unsent to a b c old mid pending sent left output ls p which split written = inr (refl, (ls, waits mid left, which, takes_behind a b c old mid (waits mid left) ls p (takes_sent b c mid sent left split written)))
 
@@ -176,7 +176,7 @@ pub turn_unread : (from to had : Option (List ℕ)) (old : Reached) (pending : L
 turn_unread from to had old pending read unbroken =
     turn_stops ReadFault from to had had old pending [] pending old.waiting read (sym (append-nil pending)) (old, pending, text_none had had old old pending (takes_none had old), (refl, unbroken))
 
--- there was no room for what was read
+-- out of memory for what was read
 pub turn_unkept : (from to had : Option (List ℕ)) (old : Reached) (pending bytes : List ℕ) → Consumes from to bytes → TurnStops NoRoom from to had had old pending old.waiting
 turn_unkept from to had old pending bytes read = inl (bytes, read, (old, pending ++ bytes, text_none had had old old (pending ++ bytes) (takes_none had old), refl))
 

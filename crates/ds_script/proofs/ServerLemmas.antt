@@ -1,4 +1,4 @@
--- What RS and the tables of a session are answered, the session is.
+-- The answers of RS and the tables are answers of their session.
 use Rattle.std.proofs.Common.{ℕ, List, inl, inr, refl, ap}
 use Rattle.rs_core.specs.declared.event.Event as services
 use Rattle.ds_replica.specs.declared.event.Side.{Side}

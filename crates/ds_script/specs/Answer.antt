@@ -1,4 +1,4 @@
--- What the lines of a script are answered. It is a relation, since memory may be refused at any line.
+-- The answers to the lines of a script. They are a relation, since memory may run out at any line.
 use Rattle.std.specs.Prelude.{◌≡◌, ◌≢◌, ℕ, zero, suc, Bool, true, false, ◌⊎◌, List, [], ◌++◌, length, Option, None, MatchOption, codes}
 use Rattle.std.specs.List.{flat_map, slice_get}
 use Rattle.std.specs.Fmt.{decimal}
@@ -32,69 +32,70 @@ use Rattle.script_services.specs.Tables.{map_items, AnswersAssign, AnswersFollow
 use Rattle.ds_script.specs.Session.{SessionContent, IsOpened, IsHappening, turned, held_of}
 use Rattle.ds_entry.specs.Under.{entries_of}
 
--- ---- what is held
+-- ---- what `show`, `all` and `entries` print
 
--- the lines of the items, and then `shown` and their number
+-- The text of the answer: a line for each item, then `shown` and their count.
 abbrev pub shown : List Item → List ℕ
 shown items = flat_map item_spelling items ++ with_newline (codes "shown " ++ decimal (length items))
 
--- all of the items, or the puts alone
+-- All of the items, or the puts alone.
 abbrev pub picked : Bool → List Item → List Item
 picked true items = items
 picked false items = entries_of items
 
--- the line of a refusal by its word
+-- The line of a refusal with this word.
 abbrev pub refused_by : List ℕ → List ℕ
 refused_by word = with_newline (codes "refused " ++ word)
 
--- the lines of the map's puts, or the refusal where there is no such map
+-- The lines of the map's puts, or the refusal if there is no such map.
 abbrev pub entries_text : Option SubMapRecord → List ℕ
 entries_text m = option_map_or (λ it. shown (entries_of (held_items it.held))) m (refused_by (codes "nomap"))
 
 -- ---- events
 
--- What is told of an outcome: its lines; of a message, which is the reply that the store gave, those of the reply. (A message that
--- was made is there, in a session that stands for a world.)
+-- The lines of an outcome. Those of Made are the lines of the reply that the message is; a session that stands for a
+-- world has every message that was made.
 abbrev pub told_lines : Wording → Outcome → List Reply → List ℕ
 told_lines wording (Made message) messages = option_map_or (λ reply. reply_lines wording reply larger) (slice_get messages message) []
 told_lines wording outcome messages = outcome_lines wording outcome larger
 
--- the event happens, and what is told of it is the answer
+-- Whether the event happens and the answer is its outcome's lines.
 pub record AnswersEvent (wording : Wording) (event : Event) (old : SessionContent) (out : List ℕ) (new : SessionContent) : Type 0 where
   pub outcome : Outcome
   pub happens : IsHappening event outcome old new
   pub told : out ≡ told_lines wording outcome new.world.messages
 
--- the command is an event, which happens
+-- Whether the command is an event and is answered as that event.
 abbrev pub AnswersAsEvent : ScriptCommand → SessionContent → List ℕ → SessionContent → Type 0
 AnswersAsEvent command old out new = MatchOption (event_of old.side command) ⊥ (λ event. AnswersEvent (wording command) event old out new)
 
 -- ---- RS and the driver tables
 
--- from all RS and tables for which the session stands this leads to ones for which it then does, by this answer; the world stays
+-- Whether all states of RS and tables that the session stands for take this step, with this answer, to states that it
+-- stands for afterwards. The world and the side are unchanged.
 abbrev pub AnswersByServers : (Servers → List ℕ → Servers → Type 0) → SessionContent → List ℕ → SessionContent → Type 0
 AnswersByServers R old out new = ServersLead (λ s t. R s out t) old.servers new.servers × (new.world ≡ old.world) × (new.side ≡ old.side)
 
--- RS is told an event at a tick, and what it does is given to the store that is asked
+-- Whether RS takes an event at a tick and its actions become commands to the session's current store.
 abbrev pub AnswersByServices : services.Event → ℕ → SessionContent → List ℕ → SessionContent → Type 0
 AnswersByServices event tick old out new =
     AnswersService event tick old.side old.servers old.world out new.servers new.world × (new.side ≡ old.side)
 
--- what the map of a number holds, if there is one
+-- The items that map number `map` holds, if there is such a map.
 abbrev pub items_of_map : SessionContent → ℕ → Option (List Item)
 items_of_map session map = map_items (slice_get session.world.maps map)
 
 -- ---- commands
 
--- the session is opened again, with journals that keep so many items
+-- Whether the session is opened anew, with journals that keep `ring` items.
 abbrev pub AnswersRing : ℕ → SessionContent → List ℕ → SessionContent → Type 0
 AnswersRing ring old out new = IsOpened ring new × (out ≡ ring_line ring)
 
--- from now on the store of this side is asked
+-- Whether this side's store is the current one from now on.
 abbrev pub AnswersSide : Side → SessionContent → List ℕ → SessionContent → Type 0
 AnswersSide side old out new = (new ≡ turned old side) × (out ≡ side_line side)
 
--- what is answered to a command, and the state after it
+-- The answer to a command, and the session after it.
 abbrev pub AnswersCommand : ScriptCommand → SessionContent → List ℕ → SessionContent → Type 0
 AnswersCommand lines.Show old out new = (new ≡ old) × (out ≡ shown (picked false (held_of old)))
 AnswersCommand lines.All old out new = (new ≡ old) × (out ≡ shown (picked true (held_of old)))
@@ -108,16 +109,18 @@ AnswersCommand (lines.Beat endpoint tick) old out new = AnswersByServices (Beat 
 AnswersCommand (lines.Tick tick) old out new = AnswersByServices Tick tick old out new
 AnswersCommand (lines.Assign device label) old out new = AnswersByServers (AnswersAssign device label) old out new
 AnswersCommand (lines.Follow map) old out new = AnswersByServers (AnswersFollow (items_of_map old map)) old out new
-AnswersCommand (lines.Submit server id unit map) old out new = AnswersByServers (AnswersSubmit server id unit (items_of_map old map)) old out new
+AnswersCommand (lines.Submit server id unit map) old out new =
+    AnswersByServers (AnswersSubmit server id unit (items_of_map old map)) old out new
 AnswersCommand (lines.Reply server endpoint id) old out new = AnswersByServers (AnswersReply server endpoint id) old out new
 AnswersCommand command old out new = AnswersAsEvent command old out new
 
--- for want of memory a command is refused, and nothing changes
+-- The refusal of a line when memory runs out: nothing changes.
 abbrev pub IsLineRefused : SessionContent → List ℕ → SessionContent → Type 0
 IsLineRefused old out new = (new ≡ old) × (out ≡ refused_noroom)
 
--- The script itself takes memory for the command: to show items, those of a map that exists too, for the stores' rings, for
--- settings, or for a text, a blob or a pattern of the line. Other commands are refused NoRoom by the world, RS or a table.
+-- Whether the script itself allocates for the command: to show items (of a map, only if it exists), for the stores'
+-- rings, for settings, or for a text, a blob or a pattern of the line. Other commands are refused NoRoom by the world,
+-- RS or a table.
 abbrev pub AnswerTakesRoom : ScriptCommand → SessionContent → Type 0
 AnswerTakesRoom lines.Show old = Unit {0}
 AnswerTakesRoom lines.All old = Unit {0}
@@ -126,64 +129,65 @@ AnswerTakesRoom (lines.Ring ring) old = Unit {0}
 AnswerTakesRoom (lines.Settings text) old = Unit {0}
 AnswerTakesRoom command old = CommandTakesMemory command
 
--- what a command is answered, memory or not
+-- The answer to a command, whether or not memory lasts.
 abbrev pub AnswersOrRefuses : ScriptCommand → SessionContent → List ℕ → SessionContent → Type 0
 AnswersOrRefuses command old out new = (AnswerTakesRoom command old × IsLineRefused old out new) ⊎ AnswersCommand command old out new
 
 -- ---- lines
 
--- the commands that may stand behind so many lines: `ring` stands on the first line alone
+-- The commands that are allowed after `before` lines: `ring` is allowed on the first line alone.
 abbrev pub MayStand : ℕ → ScriptCommand → Type 0
 MayStand zero command = IsCommand command
 MayStand (suc before) command = IsLater command
 
--- what is answered to a line behind so many others, which has to be a command's, and the state after it
+-- The answer to a command's line after `before` others, and the session after it.
 abbrev pub AnswersLine : ℕ → SessionContent → List ℕ → List ℕ → SessionContent → Type 0
-AnswersLine before old line out new = (command : ScriptCommand) × IsLineAs (MayStand before) command line × AnswersOrRefuses command old out new
+AnswersLine before old line out new =
+    (command : ScriptCommand) × IsLineAs (MayStand before) command line × AnswersOrRefuses command old out new
 
--- ---- behind the answers that waited
+-- ---- appended to the output
 
--- what a command is answered is put behind them
+-- The output with the command's answer appended.
 abbrev pub AppendsCommand : ScriptCommand → (before after : List ℕ) → (old new : SessionContent) → Type 0
 AppendsCommand command before after old new = (out : List ℕ) × (after ≡ before ++ out) × AnswersOrRefuses command old out new
 
--- so is what `ring` is answered, or that it is refused
+-- Likewise for `ring`, or its refusal.
 abbrev pub AppendsRing : ℕ → (before after : List ℕ) → (old new : SessionContent) → Type 0
 AppendsRing ring before after old new =
     (out : List ℕ) × (after ≡ before ++ out) × (AnswersRing ring old out new ⊎ IsLineRefused old out new)
 
--- so is what `side` is answered, and that side is asked from now on
+-- Likewise for `side`, whose store is the current one from now on.
 abbrev pub AppendsSide : Side → (before after : List ℕ) → (old new : SessionContent) → Type 0
 AppendsSide side before after old new = (after ≡ before ++ side_line side) × (new ≡ turned old side)
 
--- so is what a command is answered that is an event
+-- Likewise for a command that is an event, or its refusal.
 abbrev pub AppendsEvent : ScriptCommand → (before after : List ℕ) → (old new : SessionContent) → Type 0
 AppendsEvent command before after old new =
     (out : List ℕ) × (after ≡ before ++ out)
     × (AnswersAsEvent command old out new ⊎ (AnswerTakesRoom command old × IsLineRefused old out new))
 
--- so is what RS and the tables answer a command
+-- Likewise for a step of RS and the tables.
 abbrev pub AppendsByServers : (Servers → List ℕ → Servers → Type 0) → (before after : List ℕ) → (old new : SessionContent) → Type 0
 AppendsByServers R before after old new = (out : List ℕ) × (after ≡ before ++ out) × AnswersByServers R old out new
 
--- so is what is answered to settings, or that they are refused
+-- Likewise for settings, or their refusal.
 abbrev pub AppendsSettings : List ℕ → (before after : List ℕ) → (old new : SessionContent) → Type 0
 AppendsSettings text before after old new =
     (out : List ℕ) × (after ≡ before ++ out) × (AnswersByServers (AnswersSettings text) old out new ⊎ IsLineRefused old out new)
 
--- so is what RS answers an event
+-- Likewise for an event of RS.
 abbrev pub AppendsByServices : services.Event → ℕ → (before after : List ℕ) → (old new : SessionContent) → Type 0
 AppendsByServices event tick before after old new = (out : List ℕ) × (after ≡ before ++ out) × AnswersByServices event tick old out new
 
--- so is this text, or that there is no memory for it
+-- The output with this text appended, or `refused noroom`.
 abbrev pub AppendsOrRefuses : List ℕ → (before after : List ℕ) → Type 0
 AppendsOrRefuses text before after = (after ≡ before ++ refused_noroom) ⊎ (after ≡ before ++ text)
 
--- so is what `entries` is answered of a map, if there is one: only then memory may be wanting
+-- The output with the answer to `entries` appended. Only for a map that exists can memory run out.
 abbrev pub AppendsEntries : Option SubMapRecord → (before after : List ℕ) → Type 0
 AppendsEntries m before after = ((m ≢ None) × (after ≡ before ++ refused_noroom)) ⊎ (after ≡ before ++ entries_text m)
 
--- so is what the line, behind so many others, is answered
+-- The output with the answer to the line, after `count` others, appended.
 abbrev pub AppendsLine : ℕ → List ℕ → (before after : List ℕ) → (old new : SessionContent) → Type 0
 AppendsLine count line before after old new =
     (out : List ℕ) × (after ≡ before ++ out)

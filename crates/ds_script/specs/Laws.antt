@@ -1,5 +1,5 @@
--- What holds of every script: its world came of events, so that the laws over events are laws over scripts; and RS and the driver
--- tables came of what its lines do to them.
+-- Laws of every script: its world is the result of events, so laws over events are laws over scripts, and its RS and
+-- driver tables are the result of its lines.
 use Rattle.std.specs.Prelude.{◌≡◌, ℕ, suc, ◌+◌, ◌≤◌, ◌⊎◌, Bool, true, List, [], ◌∷◌, ◌++◌, MatchOption}
 use Rattle.ds_names.specs.declared.key.Key.{Key}
 use Rattle.ds_held.specs.Limits.{larger}
@@ -33,9 +33,10 @@ use Rattle.ds_script.specs.Session.{SessionContent, IsOpened, seed, made, turned
 use Rattle.ds_script.specs.Answer.{AnswersEvent, AnswersByServices, AnswersCommand, IsLineRefused, AnswerTakesRoom, MayStand, items_of_map}
 use Rattle.ds_script.specs.Replay.{TellsBadLine, AnswersLines}
 
--- ---- a script and what came of it
+-- ---- a script and its past
 
--- what came of lines: the events of the world since it was made, with their outcomes, and RS and the driver tables
+-- The past of a session: the events of its world, with their outcomes, and the RS and driver tables that its lines led
+-- to.
 pub record Past : Type 0 where
   pub events : List (Event × Outcome)
   pub servers : Servers
@@ -43,16 +44,16 @@ pub record Past : Type 0 where
 abbrev pub past_of : List (Event × Outcome) → Servers → Past
 past_of events servers = record { events = events; servers = servers }
 
--- nothing came yet
+-- The past of a session that was just opened.
 abbrev pub no_past : Past
 no_past = past_of [] no_servers
 
--- these events came behind those before
+-- The past with these events appended.
 abbrev pub with_events : Past → List (Event × Outcome) → Past
 with_events past events = record past { events = past.events ++ events }
 
--- The session stands for a world that came of the events, from one that was just made, whose journals keep so many items, and for
--- the past's RS and tables.
+-- Whether the session stands for the world that the past's events lead to, from a new one whose journals keep `ring`
+-- items, and for the past's RS and tables.
 pub record CameOf (past : Past) (ring : ℕ) (world : World) (session : SessionContent) : Type 0 where
   pub least : 1 ≤ ring
   pub most : ring ≤ 4096
@@ -60,83 +61,93 @@ pub record CameOf (past : Past) (ring : ℕ) (world : World) (session : SessionC
   pub stands : WorldStands session.world world
   pub servers : ServersStand session.servers past.servers
 
--- An event of RS that was answered so is RS's step, and makes events of the world: what its actions ask of the store that is asked,
--- with the replies, and no others.
+-- The step of an event of RS with this answer: RS steps, and the only new events are its actions as commands to the
+-- current store, with their replies.
 abbrev pub MakesService : services.Event → ℕ → SessionContent → List ℕ → SessionContent → Past → Past → Type 0
 MakesService event tick old out new was now =
     (answer : AnswersByServices event tick old out new)
     × ServicesAnswer was.servers.services event tick answer.0.answer now.servers.services
     × (now ≡ past_of (was.events ++ answer.0.events) (with_rs was.servers now.servers.services))
 
--- another line of RS or the tables does to them what it is answered, and makes no events
+-- The step of another line of RS or the tables: they step by its answer, and there are no new events.
 abbrev pub MakesServers : (Servers → List ℕ → Servers → Type 0) → List ℕ → Past → Past → Type 0
 MakesServers R out was now = R was.servers out now.servers × (now.events ≡ was.events)
 
--- A command that was answered so makes this of what came before it: one that is an event comes behind the events, with its outcome;
--- those of RS and the tables do as above; `ring` makes all anew, of which nothing came yet; others let nothing happen.
+-- The step of a command with this answer. A command that is an event is appended to the events with its outcome, those
+-- of RS and the tables step as above, `ring` empties the past, and the others leave it as it is.
 abbrev pub MakesEvents : ScriptCommand → SessionContent → List ℕ → SessionContent → Past → Past → Type 0
 MakesEvents (lines.Ring ring) old out new was now = AnswersCommand (lines.Ring ring) old out new × (now ≡ no_past)
-MakesEvents (lines.Settings text) old out new was now = AnswersCommand (lines.Settings text) old out new × MakesServers (AnswersSettings text) out was now
+MakesEvents (lines.Settings text) old out new was now =
+    AnswersCommand (lines.Settings text) old out new × MakesServers (AnswersSettings text) out was now
 MakesEvents (lines.Service request label tick) old out new was now = MakesService (request_event request label) tick old out new was now
 MakesEvents (lines.Death endpoint cause tick) old out new was now = MakesService (Death endpoint cause) tick old out new was now
 MakesEvents (lines.Beat endpoint tick) old out new was now = MakesService (Beat endpoint) tick old out new was now
 MakesEvents (lines.Tick tick) old out new was now = MakesService Tick tick old out new was now
 MakesEvents (lines.Assign device label) old out new was now =
     AnswersCommand (lines.Assign device label) old out new × MakesServers (AnswersAssign device label) out was now
-MakesEvents (lines.Follow map) old out new was now = AnswersCommand (lines.Follow map) old out new × MakesServers (AnswersFollow (items_of_map old map)) out was now
+MakesEvents (lines.Follow map) old out new was now =
+    AnswersCommand (lines.Follow map) old out new × MakesServers (AnswersFollow (items_of_map old map)) out was now
 MakesEvents (lines.Submit server id unit map) old out new was now =
-    AnswersCommand (lines.Submit server id unit map) old out new × MakesServers (AnswersSubmit server id unit (items_of_map old map)) out was now
+    AnswersCommand (lines.Submit server id unit map) old out new ×
+    MakesServers (AnswersSubmit server id unit (items_of_map old map)) out was now
 MakesEvents (lines.Reply server endpoint id) old out new was now =
     AnswersCommand (lines.Reply server endpoint id) old out new × MakesServers (AnswersReply server endpoint id) out was now
 MakesEvents command old out new was now =
     MatchOption (event_of old.side command) (AnswersCommand command old out new × (now ≡ was))
     (λ event. (answer : AnswersEvent (wording command) event old out new) × (now ≡ with_events was ((event, answer.outcome) ∷ [])))
 
--- and so does a line; one that is refused for want of memory, or is bad, lets nothing happen
+-- The step of a line. A line that is refused for lack of memory, or is bad, leaves the past as it is.
 abbrev pub LineMakesEvents : BadLines → ℕ → SessionContent → List ℕ → List ℕ → ℕ → SessionContent → Past → Past → Type 0
 LineMakesEvents policy before old line out bad new was now =
-    ((command : ScriptCommand) × IsLineAs (MayStand before) command line × (bad ≡ 0) × ((AnswerTakesRoom command old × IsLineRefused old out new × (now ≡ was)) ⊎ MakesEvents command old out new was now))
+    ((command : ScriptCommand) × IsLineAs (MayStand before) command line × (bad ≡ 0) ×
+    ((AnswerTakesRoom command old × IsLineRefused old out new × (now ≡ was)) ⊎ MakesEvents command old out new was now))
     ⊎ (TellsBadLine policy before old line out bad new × (now ≡ was))
 
--- and lines, one after the other
+-- The steps of lines, in order.
 abbrev pub LinesMakeEvents : BadLines → ℕ → SessionContent → List (List ℕ) → List ℕ → ℕ → SessionContent → Past → Past → Type 0
 LinesMakeEvents policy before old [] out bad new was now = (out ≡ []) × (bad ≡ 0) × (new ≡ old) × (now ≡ was)
 LinesMakeEvents policy before old (line ∷ lines) out bad new was now =
-    (mid : SessionContent) × (first rest : List ℕ) × (one more : ℕ) × (next : Past) × LineMakesEvents policy before old line first one mid was next × LinesMakeEvents policy (suc before) mid lines rest more new next now
+    (mid : SessionContent) × (first rest : List ℕ) × (one more : ℕ) × (next : Past) ×
+    LineMakesEvents policy before old line first one mid was next × LinesMakeEvents policy (suc before) mid lines rest more new next now
     × (out ≡ first ++ rest) × (bad ≡ one + more)
 
--- whatever the lines of a script are answered, the session behind them came of the events of these lines, and of what they did to RS
--- and the tables
+-- Whatever the answers to a script's lines are, the session after them is the result of these lines' events and of
+-- their steps of RS and the tables.
 abbrev pub ScriptsAreEvents : Type 0
 ScriptsAreEvents =
-    (policy : BadLines) (lines : List (List ℕ)) (out : List ℕ) (bad : ℕ) (start end : SessionContent) → IsOpened 256 start → AnswersLines policy 0 start lines out bad end →
-    (past : Past) × LinesMakeEvents policy 0 start lines out bad end no_past past × (ring : ℕ) × (world : World) × CameOf past ring world end
+    (policy : BadLines) (lines : List (List ℕ)) (out : List ℕ) (bad : ℕ) (start end : SessionContent) → IsOpened 256 start →
+    AnswersLines policy 0 start lines out bad end →
+    (past : Past) × LinesMakeEvents policy 0 start lines out bad end no_past past × (ring : ℕ) × (world : World) ×
+    CameOf past ring world end
 
 -- ---- what follows
 
--- So holders that know the same under a query hold the same under it, if all that was brought in is exact: no two of its changes
--- have one key, one owner and one version, but two bodies.
+-- Holders that know the same under a query hold the same under it, if all that was brought in is exact: no two changes
+-- of one key, owner and version have two bodies.
 abbrev pub ScriptHoldersAgree : Type 0
 ScriptHoldersAgree =
-    (past : Past) (ring : ℕ) (world : World) (session : SessionContent) (query : Key → Bool) (h i : Holder) → CameOf past ring world session →
+    (past : Past) (ring : ℕ) (world : World) (session : SessionContent) (query : Key → Bool) (h i : Holder) →
+    CameOf past ring world session →
     let account = extended_all (new_account (seed 1 ring) (seed 2 ring) larger) past.events in
     AreExact account.brought → KnowSame query (known_at account h) (known_at account i) → HoldSame world query h i
 
--- No label of a map that has all of a store, and nothing else, names an older generation, whatever the lines are: each asks to bring
--- in changes and floors alone.
+-- In a map that has all of a store, and nothing else, no label names an older generation. This holds for all lines,
+-- since a line brings in nothing but valid changes and floors.
 abbrev pub ScriptLabelsAreNewest : Type 0
 ScriptLabelsAreNewest =
     (policy : BadLines) (lines : List (List ℕ)) (out : List ℕ) (bad : ℕ) (start session : SessionContent) (past : Past)
     (ring : ℕ) (world : World) → LinesMakeEvents policy 0 start lines out bad session no_past past → CameOf past ring world session →
     MapsNameNewest (extended_all (new_account (seed 1 ring) (seed 2 ring) larger) past.events) world
 
--- Where both stores hold the same under the query of all keys, `show` answers the same at both sides.
+-- If both stores hold the same under the query of all keys, `show` has the same answer at both sides.
 abbrev pub ShowsAgree : Type 0
 ShowsAgree =
-    (world : World) (session after : SessionContent) (out : List ℕ) → WorldStands session.world world → HoldSame world (λ key. true) (Store A) (Store B) →
+    (world : World) (session after : SessionContent) (out : List ℕ) → WorldStands session.world world →
+    HoldSame world (λ key. true) (Store A) (Store B) →
     AnswersCommand lines.Show (turned session A) out after → AnswersCommand lines.Show (turned session B) out (turned session B)
 
 -- No line is bad where a bad line ends the script.
 abbrev pub NoneIsBadWhereOneEnds : Type 0
 NoneIsBadWhereOneEnds =
-    (before : ℕ) (old new : SessionContent) (lines : List (List ℕ)) (out : List ℕ) (bad : ℕ) → AnswersLines End before old lines out bad new → bad ≡ 0
+    (before : ℕ) (old new : SessionContent) (lines : List (List ℕ)) (out : List ℕ) (bad : ℕ) →
+    AnswersLines End before old lines out bad new → bad ≡ 0

@@ -1,4 +1,4 @@
--- What is written where a line is bad.
+-- Writing at a bad line.
 use Rattle.std.specs.Prelude.{◌≡◌, ℕ, List, [], ◌++◌, Result, MatchResult}
 use Rattle.std.specs.Io.KnownBytes.{Appends}
 use Rattle.ds_script.specs.declared.fault.ReplayFault.{ReplayFault}
@@ -9,17 +9,17 @@ use Rattle.ds_script.specs.Replay.{badline}
 use Rattle.ds_script.specs.Progress.{EndsAtBad, TellsBad}
 use Rattle.ds_script.specs.Causes.{HasWriteCause}
 
--- The line ends the script: the answers that waited are written, from `old` to `new`, and this is the fault.
+-- Whether the line ends the script with this fault, after the waiting answers, `old`, are written.
 abbrev pub EndsFor : {W : Type 0} → Writer W → ReplayFault → (number place : ℕ) → (from to : W) → (old new : List ℕ) → Type 0
 EndsFor w fault number place from to old new =
     HasWriteCause w fault to × EndsAtBad fault number place (w.contents from) (w.contents to) old new
 
--- a bad line's fault tells the part that was expected
+-- Whether a bad line's fault names the part that was expected.
 abbrev pub TellsExpected : ReplayFault → Expected → Type 0
 TellsExpected (BadLine number place told) expected = told ≡ expected
 TellsExpected _ expected = Unit {0}
 
--- The line is passed over: its answer is written behind those that waited; or why it isn't.
+-- Whether the script continues after the line: its answer is written after the waiting ones; or why not.
 abbrev pub PassesOver : {W T : Type 0} → Writer W → (number place : ℕ) → (from to : W) → (old new : List ℕ) → Result T ReplayFault → Type 0
 PassesOver w number place from to old new result =
     MatchResult result (λ _. Appends (w.contents from) (w.contents to) (old ++ badline number place) × (new ≡ []))

@@ -1,6 +1,5 @@
--- How far a replay has come, as its private functions tell each other: of the reader, whose bytes to come are `from` before
--- and `to` after, and of the writer, whose bytes are `had` before and `has` after, where these are known; and of the replay
--- itself, before and after.
+-- The progress of a replay, in the words of its private functions. `from` and `to` are the reader's remaining bytes
+-- before and after, `had` and `has` the writer's bytes, where these are known, `old` and `new` the replay itself.
 use Rattle.std.specs.Prelude.{◌≡◌, ℕ, suc, ◌+◌, ◌⊎◌, Bool, true, false, List, [], ◌∷◌, ◌++◌, length, Option}
 use Rattle.std.specs.List.{All}
 use Rattle.std.specs.Io.KnownBytes.{Appends, Consumes, IsAtEnd}
@@ -15,8 +14,8 @@ use Rattle.ds_script.specs.Session.{SessionContent}
 use Rattle.line_io.specs.Transfer.{WritesPart}
 use Rattle.ds_script.specs.Replay.{AnswersLines, IsBadBehind, BeginsBadLine, badline, StopsWith}
 
--- What a replay has reached: what it drives, the answers that wait, the counts of lines and of bad ones, and what becomes of
--- bad lines.
+-- The state of a replay: its session, the answers that wait to be written, the count of lines and of bad ones, and what
+-- it does at bad lines.
 pub record Reached : Type 0 where
   pub session : SessionContent
   pub waiting : List ℕ
@@ -26,23 +25,24 @@ pub record Reached : Type 0 where
 
 -- ---- one line
 
--- why a line behind so many others, without its newline, isn't answered
+-- Why a line after `before` others, without its newline, isn't answered.
 abbrev pub IsUnendedFault : ℕ → CommandFault → List ℕ → Type 0
 IsUnendedFault before (lines.BadLine place expected) text = IsBadBehind before text place
 IsUnendedFault before lines.NoRoom text = Unit {0}
 
--- a line that is bad changes nothing
+-- A bad line leaves the session unchanged.
 abbrev pub KeepsSession : CommandFault → SessionContent → SessionContent → Type 0
 KeepsSession (lines.BadLine place expected) old new = new ≡ old
 KeepsSession lines.NoRoom old new = Unit {0}
 
--- the answers that wait were written, and the bad line is the fault; or the writer failed
+-- Whether the waiting answers are written and the fault is the bad line's, or the writer failed.
 abbrev pub EndsAtBad : ReplayFault → (number place : ℕ) → Option (List ℕ) → Option (List ℕ) → (old new : List ℕ) → Type 0
 EndsAtBad (BadLine n p expected) number place had has old new = (n ≡ number) × (p ≡ place) × Appends had has old × (new ≡ [])
 EndsAtBad WriteFault number place had has old new = WritesPart had has old
 EndsAtBad _ number place had has old new = ⊥
 
--- why a bad line wasn't passed over: there was no room for its answer, and nothing was written, or the writer failed
+-- Why the script doesn't continue after a bad line: out of memory for its answer, and nothing is written; or the writer
+-- failed.
 abbrev pub TellsBad : ReplayFault → (number place : ℕ) → Option (List ℕ) → Option (List ℕ) → (old new : List ℕ) → Type 0
 TellsBad NoRoom number place had has old new = Appends had has [] × (new ≡ old)
 TellsBad WriteFault number place had has old new = WritesPart had has (old ++ badline number place)
@@ -50,7 +50,7 @@ TellsBad _ number place had has old new = ⊥
 
 -- ---- lines
 
--- The lines were answered: some of the answers were written, behind those that waited before.
+-- Whether the lines are answered. A front of the answers, after those that waited before, is written.
 pub record TakesLines (had has : Option (List ℕ)) (old : Reached) (lines : List (List ℕ)) (new : Reached) : Type 0 where
   pub output : List ℕ
   pub sent : List ℕ
@@ -62,63 +62,71 @@ pub record TakesLines (had has : Option (List ℕ)) (old : Reached) (lines : Lis
   pub told : new.bad ≡ old.bad + bad
   pub policy : new.policy ≡ old.policy
 
--- The lines of a text were answered. Behind them the rest stands.
+-- Whether the first lines of a text are answered, and `rest` is left.
 pub record TakesText (had has : Option (List ℕ)) (old : Reached) (text : List ℕ) (new : Reached) (rest : List ℕ) : Type 0 where
   pub lines : List (List ℕ)
   pub split : text ≡ joined lines ++ rest
   pub unbroken : All IsUnbroken lines
   pub takes : TakesLines had has old lines new
 
--- ---- why no more lines are answered
+-- ---- why lines aren't answered
 
--- What is so at a fault: by the answers `output` that wait then, where `mid` is the replay behind the last line that was
--- answered, and `rest` wasn't.
+-- What a fault leaves: `output` is the answers that still wait, `mid` the replay after the last line that was answered,
+-- `rest` what wasn't answered.
 abbrev pub Leaves : ReplayFault → (to : Option (List ℕ)) → (output : List ℕ) → (mid : Reached) → (rest : List ℕ) → Type 0
-Leaves (BadLine number place expected) to output mid rest = (mid.policy ≡ End) × (mid.waiting ≡ output) × BeginsBadLine mid.lines to rest place × (number ≡ suc mid.lines)
+Leaves (BadLine number place expected) to output mid rest =
+    (mid.policy ≡ End) × (mid.waiting ≡ output) × BeginsBadLine mid.lines to rest place × (number ≡ suc mid.lines)
 Leaves ReadFault to output mid rest = (mid.waiting ≡ output) × IsUnbroken rest
 Leaves WriteFault to output mid rest = Unit {0}
 Leaves NoRoom to output mid rest = mid.waiting ≡ output
 
--- none of the lines was answered, or all were
+-- Whether none of the lines is answered, or all are.
 abbrev pub TakesNoneOrAll : (had has : Option (List ℕ)) → Reached → List (List ℕ) → Type 0
-TakesNoneOrAll had has old whole = (lines : List (List ℕ)) × (mid : Reached) × ((lines ≡ []) ⊎ (lines ≡ whole)) × TakesLines had has old lines mid
+TakesNoneOrAll had has old whole =
+    (lines : List (List ℕ)) × (mid : Reached) × ((lines ≡ []) ⊎ (lines ≡ whole)) × TakesLines had has old lines mid
 
--- a line, without its newline, wasn't answered, or the writer failed behind it
+-- Whether a line, without its newline, isn't answered, or the writer failed after it.
 abbrev pub LineStops : ReplayFault → (had has : Option (List ℕ)) → Reached → List ℕ → (output : List ℕ) → Type 0
-LineStops (BadLine number place expected) had has old line output = (mid : Reached) × TakesLines had has old [] mid × (mid.policy ≡ End) × (mid.waiting ≡ output) × IsBadBehind old.lines line place × (number ≡ suc old.lines)
+LineStops (BadLine number place expected) had has old line output =
+    (mid : Reached) × TakesLines had has old [] mid × (mid.policy ≡ End) × (mid.waiting ≡ output) × IsBadBehind old.lines line place ×
+    (number ≡ suc old.lines)
 LineStops ReadFault had has old line output = ⊥
 LineStops WriteFault had has old line output = TakesNoneOrAll had has old (line ∷ [])
 LineStops NoRoom had has old line output = (mid : Reached) × TakesLines had has old [] mid × (mid.waiting ≡ output)
 
--- some lines of a text were answered, and then the fault came
+-- Whether some lines of a text are answered before the fault.
 abbrev pub TextStops : ReplayFault → (to had has : Option (List ℕ)) → Reached → (text output : List ℕ) → Type 0
-TextStops fault to had has old text output = (mid : Reached) × (rest : List ℕ) × TakesText had has old text mid rest × Leaves fault to output mid rest
+TextStops fault to had has old text output =
+    (mid : Reached) × (rest : List ℕ) × TakesText had has old text mid rest × Leaves fault to output mid rest
 
--- the last line, whose newline is missing, wasn't answered, or the writer failed behind it
+-- Whether the last line, whose newline is missing, isn't answered, or the writer failed after it.
 abbrev pub LastStops : ReplayFault → (to had has : Option (List ℕ)) → Reached → (pending output : List ℕ) → Type 0
-LastStops fault to had has old pending output = TextStops fault to had has old pending output ⊎ ((fault ≡ WriteFault) × TakesNoneOrAll had has old (unended pending))
+LastStops fault to had has old pending output =
+    TextStops fault to had has old pending output ⊎ ((fault ≡ WriteFault) × TakesNoneOrAll had has old (unended pending))
 
 -- ---- turns
 
--- What a turn does: more was read behind what was pending, and lines of it were answered; or there was no more to read, and
--- what was pending was the last line, if it is one.
+-- The result of a turn: bytes are read after the pending ones, and their whole lines are answered; or there is no more
+-- to read, and the pending bytes, if any, are answered as the last line.
 abbrev pub Turns : Bool → (from to had has : Option (List ℕ)) → Reached → (pending : List ℕ) → Reached → (rest : List ℕ) → Type 0
-Turns true from to had has old pending new rest = (bytes : List ℕ) × Consumes from to bytes × TakesText had has old (pending ++ bytes) new rest × IsUnbroken rest
-Turns false from to had has old pending new rest = Consumes from to [] × IsAtEnd to × TakesLines had has old (unended pending) new × (new.waiting ≡ [])
+Turns true from to had has old pending new rest =
+    (bytes : List ℕ) × Consumes from to bytes × TakesText had has old (pending ++ bytes) new rest × IsUnbroken rest
+Turns false from to had has old pending new rest =
+    Consumes from to [] × IsAtEnd to × TakesLines had has old (unended pending) new × (new.waiting ≡ [])
 
--- what a turn has done that stopped
+-- What a turn that stopped has done.
 abbrev pub TurnStops : ReplayFault → (from to had has : Option (List ℕ)) → Reached → (pending output : List ℕ) → Type 0
 TurnStops fault from to had has old pending output =
     ((bytes : List ℕ) × Consumes from to bytes × TextStops fault to had has old (pending ++ bytes) output)
     ⊎ (Consumes from to [] × IsAtEnd to × LastStops fault to had has old pending output)
 
--- How the input was answered by what was written and the answers that wait, which is what the fault promises once these are
--- written too; of a writer that failed it is so already.
+-- How the written and the waiting answers answer the input. This is what the fault promises once the waiting answers
+-- are written too; for a writer that failed, it holds already.
 abbrev pub Stops : BadLines → ReplayFault → (to : Option (List ℕ)) → (input output waiting : List ℕ) → Type 0
 Stops policy WriteFault to input output waiting = StopsWith policy WriteFault to input output
 Stops policy fault to input output waiting = StopsWith policy fault to input (output ++ waiting)
 
--- what the fault of a whole replay is, behind the writing of the answers that waited
+-- The fault of a whole replay, after the waiting answers are written.
 abbrev pub Settles : ReplayFault → ReplayFault → (had has : Option (List ℕ)) → List ℕ → Type 0
 Settles given WriteFault had has output = (given ≡ WriteFault) × (has ≡ had)
 Settles given fault had has output = ((given ≡ fault) × Appends had has output) ⊎ ((given ≡ WriteFault) × WritesPart had has output)

@@ -1,4 +1,4 @@
-//! Carrying commands out, and their answers.
+//! Runs commands, and appends their answers.
 
 ghost use Rattle.std.specs.Prelude.{◌≡◌, ◌≤◌, ◌++◌, false, IfErr, OnOk, OnErr};
 ghost use Rattle.store_answers.specs.Outcome.{ring_line};
@@ -20,11 +20,11 @@ use std::alloc::Global;
 use std::mem::swap;
 use store_answers::{append_noroom, append_ring, append_side};
 
-/// Carries out any command but an offer, and appends its answer to the output. Not inlined: its locals would be cleared
-/// for every line.
+/// Runs any command but an offer, and appends its answer to the output. Not inlined: its locals would be cleared for
+/// every line.
 ///
-/// A command that memory runs out for is refused by name, and changes nothing. `Err`: out of memory for the answer itself,
-/// of which nothing is appended.
+/// A command for which memory runs out is refused by name, and changes nothing. `Err`: out of memory for the answer
+/// itself, of which nothing is appended.
 #[inline(never)]
 pub(crate) fn answer_command(
     alloc: Global,
@@ -75,7 +75,8 @@ pub(crate) fn answer_command(
     }
 }
 
-// Opens the session again, with journals that keep so many items. It stays a call: two worlds would be in each answer's frame.
+// Opens the session anew, with journals that keep `ring` items. Not inlined: every answer's frame would hold two
+// worlds.
 #[inline(never)]
 fn answer_ring(
     alloc: Global,
@@ -93,7 +94,7 @@ fn answer_ring(
     }
 }
 
-// Says that the journals keep so many items, and changes the session for the one that was opened.
+// Appends the answer to `ring`, and swaps in the new session.
 fn answer_opened(
     session: &mut Session,
     opened: &mut Session,
@@ -108,7 +109,7 @@ fn answer_opened(
     Ok(())
 }
 
-// What RS is asked for the service of a label.
+// Returns RS's event for a request about a label.
 fn requested(request: Request, label: Name) -> Event
     ensures { result ≡ request_event request label }
 {
@@ -120,7 +121,7 @@ fn requested(request: Request, label: Name) -> Event
     }
 }
 
-// Turns to the store of a side.
+// Makes the store of a side the current one.
 fn answer_side(session: &mut Session, output: &mut Vec<u8>, side: Side) -> Result<(), NoRoom>
     ensures answered { OnOk result (AppendsSide side output.old.items output.new.items session.old session.new) }
     ensures unanswered { OnErr result (output.new.items ≡ output.old.items) }
@@ -130,7 +131,7 @@ fn answer_side(session: &mut Session, output: &mut Vec<u8>, side: Side) -> Resul
     Ok(())
 }
 
-/// Answers a line that wasn't read as a command: `refused noroom` if memory ran out, nothing if the line is bad.
+/// Answers a line that couldn't be read as a command: `refused noroom` if memory ran out, nothing if the line is bad.
 pub(crate) fn answer_unread(output: &mut Vec<u8>, fault: CommandFault) -> Result<(), CommandFault>
     ensures answered { OnOk result ((fault ≡ faults.NoRoom) × (output.new.items ≡ output.old.items ++ refused_noroom)) }
     ensures unanswered { OnErr result (output.new.items ≡ output.old.items) }

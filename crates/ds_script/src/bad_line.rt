@@ -10,7 +10,8 @@ use ds_line::append_numbers;
 use ds_names::NoRoom;
 use line_io::{Sink, send};
 
-/// Writes the answers that wait, reports the line, and gives the fault that it is; or WriteFault, and nobody is told.
+/// Writes the waiting answers, reports the line, and returns its fault. If the writer fails, returns WriteFault and
+/// reports nothing.
 pub(crate) fn end_at<W: Sink, B: Report>(
     writer: &mut W,
     report: &mut B,
@@ -31,7 +32,7 @@ pub(crate) fn end_at<W: Sink, B: Report>(
     }
 }
 
-/// Answers a line that can't be read, and writes the answer behind those that wait, and reports the line.
+/// Writes the waiting answers and `badline` for this line, and reports the line.
 pub(crate) fn pass_over<W: Sink, B: Report>(
     writer: &mut W,
     report: &mut B,

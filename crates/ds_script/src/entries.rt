@@ -11,7 +11,7 @@ use ds_submap::SubMap;
 use std::alloc::Global;
 use store_answers::append_noroom;
 
-/// Appends the puts of a map, or the refusal for want of one, or of memory.
+/// Appends the puts of a map, or the refusal: no such map, or out of memory.
 pub(crate) fn append_entries(
     alloc: Global,
     map: Option<&SubMap>,

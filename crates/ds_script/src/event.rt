@@ -1,4 +1,4 @@
-//! Commands that are events of a world, and what is told of them.
+//! Commands that are events of a world, and the lines of their outcomes.
 
 ghost use Rattle.std.specs.Prelude.{◌≡◌, ◌≢◌, ◌++◌, false, None, OnOk, OnErr};
 ghost use Rattle.script_commands.specs.Command.{is_offer};
@@ -28,14 +28,15 @@ pub(crate) fn answer_event(
     let wording = command.wording();
     let event = match command.into_event(alloc, session.side()) {
         Ok(Some(event)) => event,
-        // Only the event of an offer takes memory.
+        // Only an offer's event allocates.
         Ok(None) | Err(NoRoom) => unreachable!(),
     };
     let outcome = session.happen(event);
     append_told(alloc, output, wording, &outcome, session)
 }
 
-// Appends the lines of what came of an event, of a message those of the reply that it is, or nothing.
+// Appends the lines of an outcome; for a message that was made, those of the reply that it is. Appends nothing if
+// memory runs out.
 fn append_told(
     alloc: Global,
     output: &mut Vec<u8>,

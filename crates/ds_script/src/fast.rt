@@ -1,8 +1,8 @@
-//! Fast answers, to the lines that most scripts consist of: an offer's, a publication's and a retrieval's.
+//! Fast answers to the lines that most scripts consist of: offers, publications and retrievals.
 //!
-//! Each promises what `answer_line` promises, of the lines of one word, after any number of lines. It reads the line by a fast
-//! reader of `script_commands` and takes the store's reply itself, so it clears no room for another command's parts, and builds no event
-//! and no outcome. docs/design/fast-ways.md says what that saves.
+//! Each promises what `answer_line` promises, for the lines of one word, after any number of lines. It parses the line
+//! by a fast reader of `script_commands` and takes the store's reply itself, so it clears no space for other commands'
+//! parts and builds neither event nor outcome. docs/design/fast-ways.md says what that saves.
 
 ghost use Rattle.std.specs.Prelude.{◌≡◌, ◌≤◌, ℕ, List, false, length, IfErr, OnOk, OnErr};
 ghost use Rattle.line_io.specs.Lines.{EndsLine, with_newline};
@@ -22,7 +22,7 @@ use script_commands::{CommandFault, Publication};
 use std::alloc::Global;
 use store_answers::{Wording, append_offered, append_reply};
 
-/// Answers the line of an offer. Not inlined: its item is read into this frame, and isn't copied.
+/// Answers an offer's line. Not inlined: its item is parsed into this frame, and isn't copied.
 #[inline(never)]
 pub(crate) fn fast_offer(
     alloc: Global,
@@ -50,7 +50,7 @@ pub(crate) fn fast_offer(
     }
 }
 
-/// Answers the line of a publication. Not inlined, likewise.
+/// Answers a publication's line. Not inlined, likewise.
 #[inline(never)]
 pub(crate) fn fast_publish(
     alloc: Global,
@@ -90,7 +90,7 @@ pub(crate) fn fast_publish(
     }
 }
 
-/// Answers the line of a retrieval. Not inlined, likewise.
+/// Answers a retrieval's line. Not inlined, likewise.
 #[inline(never)]
 pub(crate) fn fast_retrieve(
     line: &[u8],
@@ -115,7 +115,7 @@ pub(crate) fn fast_retrieve(
     }
 }
 
-// Answers an offer: the store merges the one item.
+// Answers an offer: the store merges its one item.
 fn answer_offer(session: &mut Session, output: &mut Vec<u8>, item: &Item) -> Result<(), NoRoom>
     ensures answered { OnOk result (AppendsEvent (Offer item.now) output.old.items output.new.items session.old session.new) }
     ensures unanswered { OnErr result (output.new.items ≡ output.old.items) }
@@ -124,7 +124,7 @@ fn answer_offer(session: &mut Session, output: &mut Vec<u8>, item: &Item) -> Res
     append_offered(output, &reply, Limits::larger())
 }
 
-// Answers a command of a store whose reply has no items.
+// Answers a store's command whose reply has no items.
 #[inline(always)]
 fn answer_asked(session: &mut Session, output: &mut Vec<u8>, command: Command) -> Result<(), NoRoom>
     requires { gives_items command ≡ false }

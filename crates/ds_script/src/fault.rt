@@ -8,15 +8,15 @@ use thiserror::Error;
 /// Why a replay ended before its input did.
 #[derive(Clone, Copy, Debug, PartialEq, Eq, Error)]
 pub enum ReplayFault {
-    /// A line that is no command's: its number, from 1, and the byte, from 0, where the first part that can't
-    /// be read begins, with that part. A line above 4096 bytes is bad at 4096.
+    /// A line that isn't a command: its number, from 1, and the byte, from 0, where the first part that can't be read
+    /// begins, with what was expected there. A line above 4096 bytes is bad at 4096.
     #[error("line {line} can't be read from byte {place} on")]
     BadLine {
         line: u64,
         place: usize,
         expected: Expected,
     },
-    /// The reader failed, or was read 2^32 times.
+    /// The reader failed, or 2^32 reads were made.
     #[error("the input can't be read")]
     ReadFault,
     /// The writer failed, or took no bytes.

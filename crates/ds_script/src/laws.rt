@@ -1,11 +1,11 @@
-//! Laws over every script, over definitions alone.
+//! Laws of every script, stated over definitions alone.
 
 ghost use Rattle.ds_script.specs.Laws.{ScriptsAreEvents, ScriptHoldersAgree, ScriptLabelsAreNewest, ShowsAgree, NoneIsBadWhereOneEnds};
 
-/// What a script drives is a world that came of events, whatever its lines are answered; so what holds over every list of
-/// events holds over every script: stores and maps that know the same under a query hold the same under it, if all that the
-/// script brought in is exact (no two changes have one key, one owner and one version, but two bodies), the labels of maps name no
-/// older generation, and `show` answers the same at both sides where both stores hold the same.
+/// A law: whatever the answers are, a script's world is the result of events, so the laws over events hold for it.
+/// Stores and maps that know the same under a query hold the same under it, if all that the script brought in is exact
+/// (no two changes of one key, owner and version have two bodies). No label of a caught-up map names an older
+/// generation. If both stores hold the same, `show` has the same answer at both sides.
 pub fn scripts_are_events()
     ensures events { ScriptsAreEvents }
     ensures agree { ScriptHoldersAgree }
@@ -13,7 +13,7 @@ pub fn scripts_are_events()
     ensures shows { ShowsAgree }
 {}
 
-/// Where a bad line ends a script, none of the lines that are answered is bad.
+/// A law: where a bad line ends the script, no answered line is bad.
 pub fn none_is_bad_where_one_ends()
     ensures { NoneIsBadWhereOneEnds }
 {}

@@ -1,7 +1,8 @@
 //! Scripts: a session over a world of two stores, and its replay, which answers a script line by line.
 //!
-//! A script asks the stores of a world, makes maps, and delivers messages, with one command a line. Reading, writing and
-//! want of memory are told apart when a replay ends. The lines and their answers are of this project.
+//! A script sends commands to the stores, RS and the driver tables, makes maps, and delivers messages, one command a
+//! line. The fault of a replay that ends early tells reading, writing and memory apart. The lines and their answers are
+//! this project's; docs/reference/lines.md lists them.
 #![tactic(auto)]
 
 mod answer;

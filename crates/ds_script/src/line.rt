@@ -14,8 +14,8 @@ use line_io::LONGEST_LINE;
 use script_commands::{CommandFault, is_offer, is_publish, is_retrieve, read_line_behind};
 use std::alloc::Global;
 
-/// Answers one line behind so many others, which comes with its newline and has no other. `Err` says that it is no
-/// command's, which changes nothing, or that there was no room for its answer.
+/// Answers one line, given with its newline, after `before` others. `Err`: the line isn't a command, and nothing
+/// changes; or out of memory for its answer.
 pub(crate) fn answer_line(
     alloc: Global,
     line: &[u8],

@@ -1,36 +1,37 @@
-//! What becomes of lines that can't be read, and who is told of them.
+//! What happens at lines that can't be read, and how a caller learns of them.
 
 use ds_line::Expected;
 
-/// What becomes of a script at a line that is no command's.
+/// What a replay does at a line that isn't a command.
 #[derive(Clone, Copy, PartialEq, Eq)]
 pub enum BadLines {
-    /// The line ends it, and no answer is written for it.
+    /// Ends there. The line has no answer.
     End,
-    /// The line is answered `badline` with its number and its place and changes nothing, and the next one follows.
+    /// Answers `badline` with the line's number and place, changes nothing, and continues.
     GoOn,
 }
 
-/// A line that is no command's.
+/// A line that isn't a command.
 #[derive(Clone, Copy)]
 pub struct BadLine<'a> {
     /// Its number, from 1.
     pub number: u64,
     /// The byte, from 0, where the first part that can't be read begins.
     pub place: usize,
-    /// That part.
+    /// What was expected there.
     pub expected: Expected,
-    /// Its bytes. Of a line above 4096 bytes it may be a front that is above them too.
+    /// Its bytes. Of a line above 4096 bytes, perhaps only a front longer than that.
     pub text: &'a [u8],
 }
 
-/// Whoever is told of the lines that can't be read.
+/// A receiver of the lines that can't be read.
 pub trait Report {
-    /// A line can't be read. The answers to the lines before it are written, and its own, if it has one.
+    /// Receives a line that can't be read, after the answers to the lines before it, and its own if it has one, are
+    /// written.
     fn bad_line(&mut self, line: &BadLine<'_>);
 }
 
-/// Whoever isn't told.
+/// A receiver that ignores them.
 #[derive(Clone, Copy)]
 pub(crate) struct Nobody;
 

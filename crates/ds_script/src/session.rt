@@ -1,4 +1,4 @@
-//! What a script drives.
+//! The session of a script.
 
 ghost use Rattle.std.specs.Prelude.{◌≡◌, ◌≤◌, ◌∷◌, [], false, slice_get, IfOk};
 ghost use Rattle.std.specs.Option.{option_copied};
@@ -23,10 +23,10 @@ use std::marker::Model;
 
 mod servers;
 
-/// How many of its last items the journal of each store keeps, where the first line doesn't say so.
+/// How many items each store's journal keeps, unless the first line says otherwise.
 pub(crate) const RING: u32 = 256;
 
-/// What a script drives: a world, the side whose store is asked, and RS with the driver tables.
+/// The session of a script: a world of two stores, the side of the current one, and RS with the driver tables.
 #[derive(Drop)]
 pub(crate) struct Session {
     world: World,
@@ -52,8 +52,8 @@ impl Model for Session {
 }
 
 impl Session {
-    /// A world that was just made, whose stores have the incarnations 1 and 2 and keep so many of their last items, with no
-    /// maps and no messages; side a is asked, no settings were accepted, and no unit is assigned. NoRoom: there is no memory for the stores' rings.
+    /// Opens a new session: stores of incarnations 1 and 2 whose journals keep `ring` items, no maps, no messages, side
+    /// a current, no settings, no units. NoRoom: out of memory for the stores' rings.
     pub(crate) fn open(alloc: Global, ring: u32) -> Result<Session, NoRoom>
         requires { (1 ≤ ring) × (ring ≤ 4096) }
         ensures opened { IfOk result (λ session. IsOpened ring session) }
@@ -64,34 +64,34 @@ impl Session {
                 side: Side::A,
                 servers: Servers::new(alloc),
             }),
-            // The rings are in their range, and the incarnations differ.
+            // The rings are in range, and the incarnations differ: only memory is left.
             Err(_) => Err(NoRoom),
         }
     }
 
-    /// The side whose store is asked.
+    /// Returns the side of the current store.
     pub(crate) fn side(&self) -> Side
         ensures { result ≡ self.now.side }
     {
         self.side
     }
 
-    /// From now on the store of this side is asked.
+    /// Makes the store of this side the current one.
     pub(crate) fn turn_to(&mut self, side: Side)
         ensures { self.new ≡ turned self.old side }
     {
         self.side = side;
     }
 
-    /// Lets one event happen, and gives what came of it.
+    /// Lets one event happen, and returns its outcome.
     pub(crate) fn happen(&mut self, event: Event) -> Outcome
         ensures { IsHappening event result self.old self.new }
     {
         self.world.happen(event)
     }
 
-    /// Asks the store a command whose reply has no items, and returns the reply: what `happen` does of an Ask, with no event and no
-    /// outcome.
+    /// Sends a command whose reply has no items to the current store, and returns the reply. It does what `happen` does
+    /// for an Ask, with neither event nor outcome.
     pub(crate) fn ask(&mut self, command: Command) -> Reply
         requires { gives_items command ≡ false }
         ensures { IsHappening (Ask self.old.side command) (Replied result) self.old self.new }
@@ -99,28 +99,28 @@ impl Session {
         self.world.reply(self.side, command)
     }
 
-    /// Asks the store to merge one item, which is only lent, and returns its reply, as `ask` does of that Merge.
+    /// Merges one borrowed item into the current store, and returns the reply, as `ask` does for that Merge.
     pub(crate) fn fast_offer(&mut self, item: &Item) -> Reply
         ensures { IsHappening (Ask self.old.side (Merge (item.now ∷ []))) (Replied result) self.old self.new }
     {
         self.world.fast_offer(self.side, item)
     }
 
-    /// What the store that is asked holds.
+    /// Returns what the current store holds.
     pub(crate) fn held(&self) -> &Held
         ensures { held_items result.now ≡ held_of self.now }
     {
         self.world.store(self.side).held()
     }
 
-    /// The map of a number.
+    /// Returns a map by its number.
     pub(crate) fn map(&self, number: u64) -> Option<&SubMap>
         ensures { option_copied result ≡ slice_get self.now.world.maps number }
     {
         self.world.map(number as usize)
     }
 
-    /// The message of a number: the reply that a store gave.
+    /// Returns a message by its number: a reply that a store gave.
     pub(crate) fn message(&self, number: usize) -> Option<&Message>
         ensures { option_copied result ≡ slice_get self.now.world.messages number }
     {
@@ -128,7 +128,7 @@ impl Session {
     }
 }
 
-// With what the store of an incarnation is opened.
+// Returns how the store of an incarnation is opened.
 fn seed(incarnation: u64, ring: u32) -> Seed
     ensures { result ≡ described_seed incarnation ring }
 {

@@ -13,11 +13,10 @@ use ds_names::NoRoom;
 use std::alloc::Global;
 use store_answers::append_noroom;
 
-/// Appends the answer to `show`, which are the puts, or to `all`, with floors and tombstones, or the refusal for want of
-/// memory.
+/// Appends the answer to `show` (the puts) or to `all` (floors and tombstones too), or the refusal if memory runs out.
 ///
-/// It takes what is held as one list, the floors first and then the changes in the order of the keys: going from key to
-/// key instead would search all keys for each.
+/// It copies what is held as one list, floors first, then changes in key order. Stepping from key to key would search
+/// all keys each time.
 pub(crate) fn append_shown(
     alloc: Global,
     held: &Held,
@@ -36,8 +35,8 @@ pub(crate) fn append_shown(
     }
 }
 
-/// Appends the lines of the items, or of the puts among them alone, `shown` and their number, or nothing where there is
-/// no room for all of it.
+/// Appends the lines of the items, or of the puts alone, then `shown` and their count. If memory runs out, appends
+/// nothing.
 pub(crate) fn append_items(items: &Items, output: &mut Vec<u8>, all: bool) -> Result<(), NoRoom>
     ensures written { OnOk result (output.new.items ≡ output.old.items ++ shown (picked all items.now)) }
     ensures unwritten { OnErr result (output.new.items ≡ output.old.items) }
@@ -50,7 +49,7 @@ pub(crate) fn append_items(items: &Items, output: &mut Vec<u8>, all: bool) -> Re
     written
 }
 
-// The same, but some of it may stand where there is no room for all.
+// Likewise, but if memory runs out, some of it may be appended.
 fn append_lines(items: &Items, output: &mut Vec<u8>, all: bool) -> Result<(), NoRoom>
     ensures written { OnOk result (output.new.items ≡ output.old.items ++ shown (picked all items.now)) }
     ensures kept { OnErr result (take (length output.old.items) output.new.items ≡ output.old.items) }
@@ -62,7 +61,7 @@ fn append_lines(items: &Items, output: &mut Vec<u8>, all: bool) -> Result<(), No
     append_numbers(output, &[(b"shown ", count as u64)])
 }
 
-// The line of an item, if it is picked, and how many lines that is.
+// Appends the line of an item if it is picked, and returns how many lines that is.
 fn append_picked(item: &Item, output: &mut Vec<u8>, all: bool) -> Result<usize, NoRoom>
     ensures count { IfOk result (λ count. count ≡ length (picked all (item.now ∷ []))) }
     ensures written { OnOk result (output.new.items ≡ output.old.items ++ flat_map item_spelling (picked all (item.now ∷ []))) }

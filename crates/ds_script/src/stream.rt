@@ -18,28 +18,29 @@ use crate::tally::Tally;
 use line_io::{Lines, Sink, Source, WriteFailed, write_out};
 use std::alloc::Global;
 
-/// What a replay has come to.
+/// The counts of a whole replay.
 #[derive(Clone, Copy)]
 pub struct Replayed {
     /// How many lines were answered.
     pub lines: u64,
-    /// How many of them are no command's.
+    /// How many of them aren't commands.
     pub bad: u64,
 }
 
-/// Answers the lines of a script, one after the other, over a world of two stores that was just made: the store of side a has
-/// the incarnation 1 and that of side b 2, their first items have the position 0, and their journals keep 256 items, or as
-/// many as a first line `ring N` says; each may have 128 subscriptions and 4096 keys. Side a is asked at first. It gives the
-/// number of lines.
+/// Answers the lines of a script, in order, and returns how many there were.
 ///
-/// What is written is the answers to the lines that were read, in their order, and nothing else. Each answer is
-/// written before the next read, so a person at a terminal sees it at once; answers to the lines that one read
-/// brought are written together. A line that there is no memory for is answered `refused noroom`, and changes
-/// nothing. What is kept is bounded by the longest line and by what the world holds, whatever the length of the input.
+/// The world is new: the store of side a has incarnation 1, that of side b 2; their journals begin at position 0 and
+/// keep 256 items, or as many as a first line `ring N` says; each has 128 subscriptions and 4096 keys at most. Side a
+/// is current at first.
 ///
-/// A fault ends it: a line that is no command's (no answer is written for it), a read of this call that failed behind others that
-/// didn't, 2^32 reads, a write that failed, which was the writer's last, or want of memory for the buffers. All lines before were
-/// answered then, and but for a failed write all answers were written.
+/// The output is the answers in the order of the lines, and nothing else. Each answer is written before the next read,
+/// so a person at a terminal sees it at once; the answers to lines of one read are written together. A line for which
+/// memory runs out is answered `refused noroom`, and changes nothing. Memory is bounded by the longest line and by what
+/// the world holds, not by the length of the input.
+///
+/// Errors: BadLine, for a line that isn't a command, which has no answer; ReadFault, if a read failed or 2^32 reads
+/// were made; WriteFault, if a write failed, after which nothing more is written; NoRoom, out of memory for the
+/// buffers. All lines before are answered then, and their answers are written unless the writer failed.
 pub fn replay<R: Source, W: Sink>(
     alloc: Global,
     reader: &mut R,
@@ -59,12 +60,12 @@ pub fn replay<R: Source, W: Sink>(
     Ok(done.lines)
 }
 
-/// Answers the lines of a script as `replay` does, and does at lines that are no command's as `bad_lines` says. Each such line
-/// is reported once the answers before it, and its own if it has one, are written. It gives how many lines there were, and
-/// how many of them were bad.
+/// Answers the lines of a script as `replay` does, but handles lines that aren't commands as `bad_lines` says. Each
+/// such line is reported after the answers before it, and its own if it has one, are written. Returns how many lines
+/// there were, and how many were bad.
 ///
-/// Where bad lines don't end it, a line is kept until its end is read, and NoRoom comes also where that are more than
-/// 16777216 bytes.
+/// Where bad lines don't end the replay, a line is kept until its end is read, and one above 16777216 bytes ends it
+/// with NoRoom.
 pub fn replay_reporting<R: Source, W: Sink, B: Report>(
     alloc: Global,
     reader: &mut R,
@@ -99,7 +100,7 @@ pub fn replay_reporting<R: Source, W: Sink, B: Report>(
     )
 }
 
-// The same over a session that was just opened, and lines of which nothing was read.
+// Likewise over a session that was just opened, and lines of which none was read.
 fn replay_over<R: Source, W: Sink, B: Report>(
     alloc: Global,
     session: &mut Session,
@@ -147,7 +148,7 @@ fn replay_over<R: Source, W: Sink, B: Report>(
 }
 
 impl<W: Sink, B: Report> Replay<'_, W, B> {
-    // Reads and answers until there is no more, or until no more can be read or answered.
+    // Reads and answers until the input ends, or until no more can be read or answered.
     fn run<R: Source>(&mut self, reader: &mut R, lines: &mut Lines) -> Result<(), ReplayFault>
         requires start { IsAtStart self.old lines.old }
         ensures same { KeepsWriter self.old self.new }
@@ -171,7 +172,7 @@ impl<W: Sink, B: Report> Replay<'_, W, B> {
     }
 }
 
-// Writes the answers that wait where a fault ended the replay, and gives the fault. A writer that failed isn't asked again.
+// Writes the waiting answers after a fault, and returns the fault. A writer that failed isn't called again.
 fn settled<W: Sink>(writer: &mut W, output: &[u8], fault: ReplayFault) -> ReplayFault
     ensures settles { Settles result fault (W.contents writer.old) (W.contents writer.new) output.now }
     ensures cause { SettlesFor W.Sink result fault writer.old writer.new }

@@ -1,4 +1,4 @@
-//! Lines of a replay, one after the other.
+//! The lines of a replay.
 
 ghost use Rattle.std.specs.Prelude.{◌≡◌, ◌<◌, ◌+◌, ◌^◌, suc, length, OnOk, IfErr};
 ghost use Rattle.line_io.specs.Lines.{EndsLine, IsUnbroken};
@@ -15,11 +15,10 @@ use line_io::{LONGEST_LINE, Lines, Sink, send, send_full};
 use script_commands::CommandFault;
 use std::alloc::Global;
 
-/// The most bytes that are kept of a line whose end wasn't read, where bad lines don't end the replay.
+/// The most bytes kept of a line whose end wasn't read, where bad lines don't end the replay.
 const MOST_KEPT: usize = 16777216;
 
-/// A replay under way: whom its answers go to and who is told of bad lines, what it drives, the answers that wait, how far it has
-/// come, and what becomes of bad lines.
+/// A replay under way.
 #[derive(Drop)]
 pub(crate) struct Replay<'a, W, B> {
     pub alloc: Global,
@@ -32,7 +31,7 @@ pub(crate) struct Replay<'a, W, B> {
 }
 
 impl<W: Sink, B: Report> Replay<'_, W, B> {
-    // Answers one line, which comes with its newline and has no other, after the answers that wait where they are many.
+    // Answers one line, given with its newline. Writes the waiting answers first if they are many.
     fn take_line(&mut self, line: &[u8]) -> Result<(), ReplayFault>
         requires line { EndsLine line.now }
         requires few { self.old.tally.lines < 2 ^ 62 }
@@ -77,7 +76,7 @@ impl<W: Sink, B: Report> Replay<'_, W, B> {
         }
     }
 
-    /// Answers all whole lines that are there.
+    /// Answers all whole lines that were read.
     pub(crate) fn take_whole(&mut self, lines: &mut Lines) -> Result<(), ReplayFault>
         requires count { self.old.tally.lines ≡ lines.old.count }
         ensures same { KeepsWriter self.old self.new }
@@ -92,7 +91,8 @@ impl<W: Sink, B: Report> Replay<'_, W, B> {
         self.judge_front(lines.front())
     }
 
-    // Judges the front of a line whose end wasn't read: above 4096 bytes it is bad already, where a bad line ends the replay.
+    // Judges the front of a line whose end wasn't read. Where a bad line ends the replay, one above 4096 bytes is bad
+    // already.
     fn judge_front(&mut self, front: &[u8]) -> Result<(), ReplayFault>
         requires front { IsUnbroken front.now }
         requires few { self.old.tally.lines < 2 ^ 62 }
@@ -116,7 +116,7 @@ impl<W: Sink, B: Report> Replay<'_, W, B> {
         }
     }
 
-    /// Answers the last line, if its newline is missing, and writes the answers that wait.
+    /// Answers the last line if its newline is missing, and writes the waiting answers.
     pub(crate) fn take_last(&mut self, lines: &mut Lines) -> Result<(), ReplayFault>
         requires unbroken { IsUnbroken lines.old.rest }
         requires count { self.old.tally.lines ≡ lines.old.count }
@@ -128,7 +128,7 @@ impl<W: Sink, B: Report> Replay<'_, W, B> {
         Ok(())
     }
 
-    // Answers the last line, if its newline is missing.
+    // Answers the last line if its newline is missing.
     fn take_unended(&mut self, lines: &mut Lines) -> Result<(), ReplayFault>
         requires unbroken { IsUnbroken lines.old.rest }
         requires count { self.old.tally.lines ≡ lines.old.count }

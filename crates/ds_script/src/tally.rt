@@ -2,7 +2,7 @@
 
 ghost use Rattle.std.specs.Prelude.{◌≤◌};
 
-/// How many lines were answered, and how many of them are no command's.
+/// How many lines were answered, and how many of them aren't commands.
 #[derive(Drop)]
 pub(crate) struct Tally {
     pub lines: u64,

@@ -1,4 +1,4 @@
-//! One read of a replay, and the answers to the lines that it brings.
+//! One read of a replay, and the answers to its lines.
 
 ghost use Rattle.std.specs.Prelude.{◌≡◌, ◌<◌, ◌^◌, true, suc, IfOk};
 ghost use Rattle.line_io.specs.Lines.{IsUnbroken};
@@ -10,8 +10,8 @@ use crate::taking::Replay;
 use line_io::{Filled, Lines, Sink, Source, send};
 
 impl<W: Sink, B: Report> Replay<'_, W, B> {
-    /// Writes the answers that wait, reads once, and answers all whole lines that are there then; or at the end the last line, whose
-    /// answer it writes. Gives whether there may be more to read.
+    /// Writes the waiting answers, reads once, and answers all whole lines; at the end, also the last line, and writes
+    /// its answer. Returns whether there may be more to read.
     pub(crate) fn take_turn<R: Source>(
         &mut self,
         reader: &mut R,
@@ -28,7 +28,7 @@ impl<W: Sink, B: Report> Replay<'_, W, B> {
         self.take_read(reader, lines)
     }
 
-    // Reads once, and answers all whole lines that are there then; or at the end the last line, whose answer it writes.
+    // Reads once, and answers all whole lines; at the end, also the last line, and writes its answer.
     fn take_read<R: Source>(
         &mut self,
         reader: &mut R,

@@ -36,11 +36,11 @@ use Rattle.ds_content.specs.Content.{ContentRecord}
 use Rattle.ds_content.specs.Stands.{ContentStands}
 use Rattle.ds_store.proofs.ReadingLemmas.{refused_last}
 
--- what the machine itself answers tells want of memory only where it may
+-- the machine's own answer reports lack of memory only where it may
 pub last_of : (s : State) (command : Command) (reply : Reply) (t : State) → IsOutcome (outcome s command) reply t → IsLast s command reply
 last_of s command reply t is = subst (λ (r : Reply). IsLast s command r) (sym is.reply_is) (last s command)
 
--- ---- want of memory is no cause
+-- ---- lack of memory isn't a cause
 pub answered_no_room : (cause : Cause) → answer_for cause ≡ replies.Refused refusals.NoRoom → cause ≡ causes.Refused refusals.NoRoom
 answered_no_room causes.Known e = absurd (cc)
 answered_no_room (causes.Refused r) e = cc
@@ -63,7 +63,8 @@ asked_refused s a body cause e =
     let result : Option Cause → Reply × State = λ o. option_map_or (λ x. (answer_for x, s)) o (replies.Changed (owed s (Changed (asked_in s a body) ∷ [])), takes_effect s (Changed (asked_in s a body) ∷ [])) in
     record { reply_is = sym (ap (λ o. (result o).0) e); state_is = sym (ap (λ o. (result o).1) e) }
 
-pub asked_taken : (v : ContentRecord) (s : State) (a : AskedChange) (body : Body) (c : ChangeRecord) (bits : ℕ) → ContentStands v s → cause_against s a body ≡ None → c ≡ change_asked (name_of v.held a.caller) a body → bits ≡ owed s (Changed c ∷ [])
+pub asked_taken : (v : ContentRecord) (s : State) (a : AskedChange) (body : Body) (c : ChangeRecord) (bits : ℕ) → ContentStands v s → cause_against s a body ≡ None →
+    c ≡ change_asked (name_of v.held a.caller) a body → bits ≡ owed s (Changed c ∷ [])
     → Answers s (asking s a body) (replies.Changed bits) (takes_effect s (Changed c ∷ []))
 asked_taken v s a body c bits stands e made owes =
     let result : Option Cause → Reply × State = λ o. option_map_or (λ x. (answer_for x, s)) o (replies.Changed (owed s (Changed (asked_in s a body) ∷ [])), takes_effect s (Changed (asked_in s a body) ∷ [])) in
@@ -73,7 +74,7 @@ asked_taken v s a body c bits stands e made owes =
       state_is = ap (λ (x : ChangeRecord). takes_effect s (Changed x ∷ [])) change ∙ sym (ap (λ o. (result o).1) e);
     })
 
--- memory may be wanting for a change that would take effect, where its key isn't held or its copy takes memory
+-- memory may run out for a change that would take effect, if its key isn't held or its copy takes memory
 pub asked_lacks : (v : ContentRecord) (s : State) (a : AskedChange) (body : Body) → ContentStands v s → cause_against s a body ≡ None → (held_at v.held a.key ≡ None) ⊎ (¬ IsBodyInPlace body) → MayLackAsked s a body
 asked_lacks v s a body stands e takes = (e, elim takes [ inl none ↦ inl (sym (ap (λ (hs : List Item). held_at hs a.key) stands.held) ∙ none) | inr copies ↦ inr copies ])
 
@@ -83,7 +84,8 @@ sweep_refused s caller f cause e =
     let result : Option Cause → Reply × State = λ o. option_map_or (λ x. (sweep_answer x, s)) o (replies.Swept (length (puts_void_by f (changes_in (held s)))) (owed s (Floored f ∷ [])), takes_effect s (Floored f ∷ [])) in
     record { reply_is = sym (ap (λ o. (result o).0) e); state_is = sym (ap (λ o. (result o).1) e) }
 
-pub sweep_taken : (v : ContentRecord) (s : State) (caller : EndpointRecord) (f : Floor) (count bits : ℕ) → ContentStands v s → sweep_cause s caller f ≡ None → count ≡ length (puts_void_by f (changes_in v.held)) → bits ≡ owed s (Floored f ∷ [])
+pub sweep_taken : (v : ContentRecord) (s : State) (caller : EndpointRecord) (f : Floor) (count bits : ℕ) → ContentStands v s → sweep_cause s caller f ≡ None →
+    count ≡ length (puts_void_by f (changes_in v.held)) → bits ≡ owed s (Floored f ∷ [])
     → IsOutcome (sweeping s caller f) (replies.Swept count bits) (takes_effect s (Floored f ∷ []))
 sweep_taken v s caller f count bits stands e counted owes =
     let result : Option Cause → Reply × State = λ o. option_map_or (λ x. (sweep_answer x, s)) o (replies.Swept (length (puts_void_by f (changes_in (held s)))) (owed s (Floored f ∷ [])), takes_effect s (Floored f ∷ [])) in
@@ -106,8 +108,8 @@ found_in_place hs key c value e change put p =
     let of : IsOfKind c.key.kind (Put value) = subst (λ (b : Body). IsOfKind c.key.kind b) put change.kind in
     kind_in_place c.key.kind value of (subst (λ (k : Key). IsKindInPlace k.kind) here p)
 
--- ---- where want of memory is told
--- of what a caller asks
+-- ---- where lack of memory is reported
+-- for a Publish or a Delete
 pub asked_last : (s : State) (command : Command) (reply : Reply) → IsAskedReply reply → (reply ≡ replies.Refused refusals.NoRoom → MayLackRoom s command) → IsLast s command reply
 asked_last s command (replies.Changed owed) fit may = tt
 asked_last s command replies.Known fit may = tt
@@ -123,7 +125,7 @@ asked_last s command (replies.Paged page) fit may = absurd fit
 asked_last s command (replies.Merged done taken stale owed) fit may = absurd fit
 asked_last s command (replies.MergeStopped done fault owed) fit may = absurd fit
 
--- of an answer that never tells it
+-- an answer that never reports it
 pub never_last : (s : State) (command : Command) (reply : Reply) (t : State) → Answers s (outcome s command) reply t → reply ≢ replies.Refused refusals.NoRoom → IsLast s command reply
 never_last s command reply t (inl is) never = last_of s command reply t is
 never_last s command reply t (inr wants) never = absurd (never wants.reply_is)

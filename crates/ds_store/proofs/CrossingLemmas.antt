@@ -13,12 +13,24 @@ use Rattle.ds_store.specs.contracts.store.Store.TheInside as in_store
 
 content_send : IsSend Content.the_row
 content_send =
-    let inside : IsSend in_content.the_row = declared_send in_content.the_type (search (send, sendable) depth 40, (search (marked.the_send, masks.the_send, sendable, crosses) depth 40, (search (journal.the_send, sendable) depth 40, (search sendable depth 40, (search (subscriptions_send, sendable) depth 40, tt))))) in
+    let inside : IsSend in_content.the_row = declared_send in_content.the_type (
+      search (send, sendable) depth 40,
+      (
+        search (marked.the_send, masks.the_send, sendable, crosses) depth 40,
+        (search (journal.the_send, sendable) depth 40, (search sendable depth 40, (search (subscriptions_send, sendable) depth 40, tt))),
+      ),
+    ) in
     search (inside, sendable) depth 40
 
 content_sync : IsSync Content.the_row
 content_sync =
-    let inside : IsSync in_content.the_row = declared_sync in_content.the_type (search (sync, sendable) depth 40, (search (marked.the_sync, masks.the_sync, sendable, crosses) depth 40, (search (journal.the_sync, sendable) depth 40, (search sendable depth 40, (search (subscriptions_sync, sendable) depth 40, tt))))) in
+    let inside : IsSync in_content.the_row = declared_sync in_content.the_type (
+      search (sync, sendable) depth 40,
+      (
+        search (marked.the_sync, masks.the_sync, sendable, crosses) depth 40,
+        (search (journal.the_sync, sendable) depth 40, (search sendable depth 40, (search (subscriptions_sync, sendable) depth 40, tt))),
+      ),
+    ) in
     search (inside, sendable) depth 40
 
 pub store_send : IsSend Store.the_row

@@ -1,4 +1,4 @@
--- How a merge goes on.
+-- How a merge continues.
 use Rattle.std.proofs.Common.{◌≡◌, ℕ, zero, suc, ◌+◌, ◌-◌, ◌<◌, ◌≤◌, Bool, false, List, [], ◌∷◌, ◌++◌, map, length, take, drop, get_or, fold, replicate, Option, Some, None, Ok, Err, refl, ap, ap₂, sym, ◌∙◌, subst, inl, inr, arith, length-append, ◌⊎◌, ◌||◌}
 use Rattle.std.proofs.lemmas.List.Sums.{fold_more, fold-append}
 use Rattle.std.proofs.lemmas.List.{take-append-drop, take_all, length-map}
@@ -66,7 +66,7 @@ item_done k c Stale t n r is =
     subst (λ (x : Course). Reached x (counted n (Some Stale)) × (x.state ≡ t)) (sym (judged k c (Some (causes.Refused refusals.Stale)) r.stop is.0))
     (record { stop = r.stop; count = ap (λ m. counted m (Some Stale)) r.count }, sym is.1)
 
--- an item against which a cause stands is passed over, or stops the merge, and is owed to nobody
+-- an item that a cause applies to is passed over, or stops the merge, and no subscription is owed it
 pub passed_merges : (s : State) (i : Item) (cause : Cause) → cause_of s i ≡ Some cause → MergesItem s i (passed_as cause) s
 passed_merges s i causes.Known e = (e, refl)
 passed_merges s i (causes.Refused r) e = by_refusal r e
@@ -190,7 +190,7 @@ merge_done s items n o owes few gone r =
     past : (xs : List Item) (j : ℕ) → slice_get xs j ≡ None → length xs ≤ j
     past xs j e = elim ((slice_get_cases xs j).1) [ inl h ↦ absurd (let no : None ≡ Some h.0 = sym e ∙ h.2 in cc) | inr h ↦ h.0 ]
 
--- ---- to whom the items are owed that were taken
+-- ---- the subscriptions that are owed the taken items
 either_owed : (xs ys : List Item) (subs : List (Option Subscription)) → map (is_owed (xs ++ ys)) subs ≡ either (map (is_owed xs) subs) (map (is_owed ys) subs)
 either_owed xs ys [] = refl
 either_owed xs ys (None ∷ subs) = ap (λ l. false ∷ l) (either_owed xs ys subs)
@@ -262,8 +262,9 @@ item_owed k i Stale t subs flags more stop is e f = e ∙ ap (λ (x : Course). p
 pub course_number : (s : State) (k : Course) (n : ℕ) (flags : List Bool) → n ≡ mask flags → flags ≡ padded (map (is_owed k.taken) s.subscriptions) → n ≡ owed s k.taken
 course_number s k n flags e f = e ∙ ap mask f ∙ padded_number (map (is_owed k.taken) s.subscriptions)
 
--- ---- where it is stopped for want of memory
-pub stopped_last : (s : State) (items : List Item) (i : ℕ) (item : Item) (fault : Refusal) (o : ℕ) → slice_get items i ≡ Some item → (fault ≡ refusals.NoRoom → MayLackItem (course s (take i items)).state item) → IsLast s (Merges items) (MergeStopped i fault o)
+-- ---- where it stops for lack of memory
+pub stopped_last : (s : State) (items : List Item) (i : ℕ) (item : Item) (fault : Refusal) (o : ℕ) → slice_get items i ≡ Some item →
+    (fault ≡ refusals.NoRoom → MayLackItem (course s (take i items)).state item) → IsLast s (Merges items) (MergeStopped i fault o)
 stopped_last s items i item refusals.NoRoom o at lacks = record { item = item; is_next = at; lacks = lacks refl }
 stopped_last s items i item refusals.BadSub o at lacks = tt
 stopped_last s items i item refusals.TooMany o at lacks = tt
@@ -287,6 +288,6 @@ stopped_last s items i item refusals.Worn o at lacks = tt
 stopped_last s items i item refusals.BadRing o at lacks = tt
 stopped_last s items i item refusals.BadFirst o at lacks = tt
 
--- memory may be wanting for a change that would take effect, where its key isn't held or its copy takes memory
+-- memory may run out for a change that would take effect, if its key isn't held or its copy takes memory
 pub change_lacks : (v : ContentRecord) (s : State) (c : ChangeRecord) → ContentStands v s → cause_of s (Changed c) ≡ None → (held_at v.held c.key ≡ None) ⊎ (¬ IsBodyInPlace c.body) → MayLackItem s (Changed c)
 change_lacks v s c stands e takes = (e, elim takes [ inl none ↦ inl (sym (ap (λ (hs : List Item). held_at hs c.key) stands.held) ∙ none) | inr copies ↦ inr copies ])

@@ -1,4 +1,4 @@
--- How a run goes on.
+-- How a run continues.
 use Rattle.std.proofs.Common.{◌≡◌, List, [], ◌∷◌, ◌++◌, length, take, refl, ap, sym, ◌∙◌, subst}
 use Rattle.std.proofs.Math.Seq.{take-append_seam}
 use Rattle.ds_machine.specs.State.{State}
@@ -9,7 +9,8 @@ use Rattle.ds_judge.specs.Last.{IsLast}
 use Rattle.ds_store.specs.Run.{LastRun, RunsFirst}
 
 -- a run, and one step more at its end
-pub run_more : (commands : List Command) (replies : List Reply) (s mid t : State) (command : Command) (reply : Reply) → LastRun s commands replies mid → Step mid command reply t → IsLast mid command reply → LastRun s (commands ++ command ∷ []) (replies ++ reply ∷ []) t
+pub run_more : (commands : List Command) (replies : List Reply) (s mid t : State) (command : Command) (reply : Reply) → LastRun s commands replies mid → Step mid command reply t →
+    IsLast mid command reply → LastRun s (commands ++ command ∷ []) (replies ++ reply ∷ []) t
 run_more [] [] s mid t command reply run step last = (t, subst (λ (x : State). Step x command reply t) run step, subst (λ (x : State). IsLast x command reply) run last, refl)
 run_more [] (r ∷ replies) s mid t command reply run step last = absurd run
 run_more (c ∷ commands) [] s mid t command reply run step last = absurd run

@@ -19,7 +19,7 @@ use Rattle.ds_machine.proofs.SaysLemmas.{refused_says}
 use Rattle.ds_judge.proofs.RoomLemmas.{no_course}
 use Rattle.ds_store.specs.Turns.{Answered, RepliesSettle, HistoriesSettle}
 
--- the machine's own answer to a merge is never that it was stopped for want of memory
+-- the machine's own answer to a merge is never that it stopped for lack of memory
 never_stopped : (s : State) (items : List Item) (done owes : ℕ) → (outcome s (Merge items)).0 ≢ MergeStopped done NoRoom owes
 never_stopped s items done owes = by_refusal (first_refusal (against_merge (length items)))
   where
@@ -33,7 +33,7 @@ never_stopped s items done owes = by_refusal (first_refusal (against_merge (leng
     by_refusal (Some r) e = absurd (cc)
     by_refusal None e = by_stop (course s items) (course s items).stop (no_course s items) (owed s (course s items).taken) e
 
--- two merges that were stopped for it behind as many items, which the reply says, led to one state
+-- two merges that stopped for it after the same number of items, which the reply has, led to one state
 stopped_settles : (s t u : State) (items : List Item) (reply : Reply) (done more : ℕ)
     → StopsForRoom s items reply t done → StopsForRoom s items reply u more → t ≡ u
 stopped_settles s t u items reply done more a b = a.state_is ∙ ap (λ (n : ℕ). (course s (take n items)).state) same ∙ sym b.state_is
@@ -60,7 +60,7 @@ outcome_settles s t u (Since scope at max) reply a b = absurd b
 outcome_settles s t u (Snapshot scope) reply a b = absurd b
 outcome_settles s t u (Page scope after max) reply a b = absurd b
 
--- two merges that were stopped so, whatever was asked
+-- two merges that stopped so, for any command
 wants_settle : (s t u : State) (command : Command) (reply : Reply)
     → MergeWantsRoom s command reply t → MergeWantsRoom s command reply u → t ≡ u
 wants_settle s t u (Merge items) reply a b = stopped_settles s t u items reply a.0 b.0 a.1 b.1
@@ -75,7 +75,7 @@ wants_settle s t u (Since scope at max) reply a b = absurd b
 wants_settle s t u (Snapshot scope) reply a b = absurd b
 wants_settle s t u (Page scope after max) reply a b = absurd b
 
--- a command that was refused for want of memory left the state as it was, by whatever step
+-- a command refused for lack of memory left the state unchanged, by any step
 refused_settles : (s t u : State) (command : Command) (reply : Reply) → reply ≡ Refused NoRoom → t ≡ s → Step s command reply u → t ≡ u
 refused_settles s t u command reply refused stays other =
     stays ∙ sym (refused_says s u command NoRoom (subst (λ (r : Reply). Step s command r u) refused other))

@@ -52,14 +52,16 @@ void_is h sound held e c =
 abbrev pub floor_told : Option Floor → ℕ → ℕ → FloorStanding
 floor_told held count position = record { held = held; count = count; position = position }
 
-pub floor_told_same : (v : ContentRecord) (f : Floor) (o : Option Floor) (count position : ℕ) → o ≡ floor_at v.held f.owner → count ≡ length (floors_in v.held) → position ≡ v.journal.position → floor_told o count position ≡ floor_standing_in v f
+pub floor_told_same : (v : ContentRecord) (f : Floor) (o : Option Floor) (count position : ℕ) → o ≡ floor_at v.held f.owner → count ≡ length (floors_in v.held) →
+    position ≡ v.journal.position → floor_told o count position ≡ floor_standing_in v f
 floor_told_same v f o count position p q r = λ i. record { held = p i; count = q i; position = r i }
 
 pub standing_is : (v : ContentRecord) (c : ChangeRecord) (t : Standing) (key : Key) (void : Bool) → t ≡ standing_with v key void → key ≡ c.key → void ≡ is_void v.held c → t ≡ standing_in v c
 standing_is v c t key void same k b = same ∙ ap (λ q. standing_with v q void) k ∙ ap (standing_with v c.key) b
 
 -- ---- the first cause
-pub asked_cause : (v : ContentRecord) (s : State) (a : AskedChange) (body : Body) (caller : Option (List ℕ)) (t : Standing) (o : Option Cause) → ContentStands v s → caller ≡ name_of v.held a.caller → t ≡ standing_in v (change_asked caller a body)
+pub asked_cause : (v : ContentRecord) (s : State) (a : AskedChange) (body : Body) (caller : Option (List ℕ)) (t : Standing) (o : Option Cause) → ContentStands v s →
+    caller ≡ name_of v.held a.caller → t ≡ standing_in v (change_asked caller a body)
     → o ≡ first_cause (Some a.version) (against_asked t caller a body) → o ≡ cause_against s a body
 asked_cause v s a body caller t o stands named same first =
     first ∙ ap (λ (x : Standing). first_cause (Some a.version) (against_asked x caller a body)) (same ∙ standing_at v s (change_asked caller a body) stands)
@@ -71,7 +73,8 @@ change_cause v s c t o stands same first = first ∙ ap (λ (x : Standing). firs
 pub floor_cause : (v : ContentRecord) (s : State) (f : Floor) (t : FloorStanding) (o : Option Cause) → ContentStands v s → t ≡ floor_standing_in v f → o ≡ first_cause None (against_floor t f) → o ≡ cause_of s (Floored f)
 floor_cause v s f t o stands same first = first ∙ ap (λ (x : FloorStanding). first_cause None (against_floor x f)) (same ∙ floor_standing_at v s f stands)
 
-pub swept_cause : (v : ContentRecord) (s : State) (caller : EndpointRecord) (f : Floor) (t : FloorStanding) (o : Option Cause) → ContentStands v s → t ≡ floor_standing_in v f → o ≡ first_cause None (against_sweep t caller f) → o ≡ sweep_cause s caller f
+pub swept_cause : (v : ContentRecord) (s : State) (caller : EndpointRecord) (f : Floor) (t : FloorStanding) (o : Option Cause) → ContentStands v s → t ≡ floor_standing_in v f →
+    o ≡ first_cause None (against_sweep t caller f) → o ≡ sweep_cause s caller f
 swept_cause v s caller f t o stands same first = first ∙ ap (λ (x : FloorStanding). first_cause None (against_sweep x caller f)) (same ∙ floor_standing_at v s f stands)
 
 -- ---- what is free

@@ -56,7 +56,8 @@ module _ (s : State) (sub : ℕ) (query : Query) (initial overwrite : Bool) wher
       let now : first_refusal (against_subscribe (subscribe_case s sub query overwrite)) ≡ Some r = ap (λ (y : SubscribeCase). first_refusal (against_subscribe y)) (sym same) ∙ e in
       inl (record { reply_is = sym (ap (λ o. (subscribed_with o).0) now); state_is = sym (ap (λ o. (subscribed_with o).1) now) })
 
-  pub subscribe_made : (v : ContentRecord) (x : SubscribeCase) (n bits : ℕ) → ContentStands v s → x ≡ subscribe_case s sub query overwrite → first_refusal (against_subscribe x) ≡ None → n ≡ v.stamp + 1 → bits ≡ owed_at_first v.held sub query initial
+  pub subscribe_made : (v : ContentRecord) (x : SubscribeCase) (n bits : ℕ) → ContentStands v s → x ≡ subscribe_case s sub query overwrite →
+      first_refusal (against_subscribe x) ≡ None → n ≡ v.stamp + 1 → bits ≡ owed_at_first v.held sub query initial
       → Answers s (subscribing s sub query initial overwrite) (Subscribed n bits) (subscribes s sub query (shown_at_first v.held initial))
   subscribe_made v x n bits stands same none e owes =
       let now : first_refusal (against_subscribe (subscribe_case s sub query overwrite)) ≡ None = ap (λ (y : SubscribeCase). first_refusal (against_subscribe y)) (sym same) ∙ none in
@@ -79,16 +80,16 @@ check_refused s sub max r e =
     let result : Option Refusal → Reply × State = λ o. option_map_or (λ x. (Refused x, s)) o rest in
     record { reply_is = sym (ap (λ o. (result o).0) e); state_is = sym (ap (λ o. (result o).1) e) }
 
--- a Check against which nothing stands before showing: its subscription, whose stamp this is, and what stands against showing
+-- a Check that no refusal applies to before showing: its subscription, with this stamp, and the refusal to show
 pub record IsBegun (s : State) (sub max stamp : ℕ) : Type 0 where
   pub seer : Subscription
   pub here : subscription_at s sub ≡ Some seer
   pub stamp_is : stamp ≡ seer.stamp
   pub left : first_refusal (against_check (check_case s sub max (subscription_at s sub))) ≡ refusal_of_showing (has_unseen s seer) s.stamp
 
--- what a Check meets: so many places, and at its own a subscription with this stamp, or none
+-- what a Check meets: the number of places, and at its own a subscription with this stamp, or none
 module _ (v : ContentRecord) (s : State) (sub max places : ℕ) (last : Option ℕ) (stands : ContentStands v s) (p : places ≡ v.limits.subs) (q : last ≡ stamp_at v sub) where
-  -- what stands against it in each case is this
+  -- the refusal that applies to it in each case
   abbrev IsAgainst : (Bool → ℕ → Option Refusal) → Type 0
   IsAgainst f = (some : Bool) (stamp : ℕ) → first_refusal (against_check (check_of places (is_some last) some stamp sub max)) ≡ f some stamp
 
@@ -148,12 +149,13 @@ pub some_items : (items : List Item) → 0 < length items → are_some items ≡
 some_items [] l = absurd (omega (arith, l))
 some_items (i ∷ items) l = refl
 
--- what could not be shown for want of memory is refused for what stands, and for want of memory where nothing does
+-- what could not be shown because memory ran out is refused by what applies, or else for lack of memory
 pub check_short : (s : State) (sub max : ℕ) (o : Option Refusal) → first_refusal (against_check (check_case s sub max (subscription_at s sub))) ≡ o → Answers s (checking s sub max) (Refused (unwrap_or o refusals.NoRoom)) s
 check_short s sub max None e = inr (record { reply_is = refl; state_is = refl })
 check_short s sub max (Some r) e = inl (check_refused s sub max r e)
 
-pub short_last : (s : State) (sub max : ℕ) (o : Option Refusal) → (check_case s sub max (subscription_at s sub)).some ≡ true → first_refusal (against_check (check_case s sub max (subscription_at s sub))) ≡ o → IsLast s (Check sub max) (Refused (unwrap_or o refusals.NoRoom))
+pub short_last : (s : State) (sub max : ℕ) (o : Option Refusal) → (check_case s sub max (subscription_at s sub)).some ≡ true →
+    first_refusal (against_check (check_case s sub max (subscription_at s sub))) ≡ o → IsLast s (Check sub max) (Refused (unwrap_or o refusals.NoRoom))
 short_last s sub max None shown e = (e, shown)
 short_last s sub max (Some r) shown e = last_of s (Check sub max) (Refused r) s (check_refused s sub max r e)
 
@@ -161,13 +163,14 @@ module _ (s : State) (sub max : ℕ) (seer : Subscription) (here : subscription_
   abbrev checked_with : Option Refusal → Reply × State
   checked_with o = option_map_or (λ r. (Refused r, s)) o (shows s sub seer (take max (unseen s seer)))
 
-  -- a Check of what nothing stands against shows the first
+  -- a Check that no refusal applies to shows the first
   pub checking_is : first_refusal (against_check (check_case s sub max (subscription_at s sub))) ≡ None → checking s sub max ≡ shows s sub seer (take max (unseen s seer))
   checking_is none =
       let at : first_refusal (against_check (check_case s sub max (Some seer))) ≡ None = ap (λ o. first_refusal (against_check (check_case s sub max o))) (sym here) ∙ none in
       ap (checking_at s sub max) here ∙ ap checked_with at
 
-  pub check_empty : (n : ℕ) (items : List Item) → first_refusal (against_check (check_case s sub max (subscription_at s sub))) ≡ None → items ≡ take max (unseen s seer) → items ≡ [] → n ≡ seer.stamp → IsOutcome (checking s sub max) (Checked items n n) s
+  pub check_empty : (n : ℕ) (items : List Item) → first_refusal (against_check (check_case s sub max (subscription_at s sub))) ≡ None → items ≡ take max (unseen s seer) →
+      items ≡ [] → n ≡ seer.stamp → IsOutcome (checking s sub max) (Checked items n n) s
   check_empty n items none e empty stamp =
       let now : checking s sub max ≡ (Checked [] seer.stamp seer.stamp, s) = checking_is none ∙ ap (shows s sub seer) (sym e ∙ empty) in
       record { reply_is = ap₂ (λ a b. Checked a b b) empty stamp ∙ sym (ap (λ (x : Reply × State). x.0) now); state_is = sym (ap (λ (x : Reply × State). x.1) now) }

@@ -3,7 +3,7 @@ use Rattle.ds_machine.specs.declared.command.Command.{Command}
 use Rattle.ds_machine.specs.declared.command.Command.TheVariants.{Retrieve, NameOf}
 use Rattle.ds_judge.specs.Last.{IsKindInPlace}
 
--- the command is answered without memory
+-- The command is answered without taking memory.
 abbrev pub TakesNoMemory : Command → Type 0
 TakesNoMemory (Retrieve key) = IsKindInPlace key.kind
 TakesNoMemory (NameOf endpoint) = Unit {0}

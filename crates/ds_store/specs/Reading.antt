@@ -1,4 +1,4 @@
--- What a reader is given.
+-- What a reader gets.
 use Rattle.std.specs.Prelude.{ℕ, Option}
 use Rattle.ds_names.specs.declared.key.Key.{Key}
 use Rattle.ds_feed.specs.declared.reading.Page.{Page}
@@ -8,10 +8,10 @@ use Rattle.ds_machine.specs.Scope.{is_kept}
 use Rattle.ds_machine.specs.State.{State, held, cursor}
 use Rattle.ds_machine.specs.declared.command.Scope.{Scope}
 
--- the page of what the state holds under the scope
+-- The page of what the state holds under the scope.
 abbrev pub page_in : State → Scope → Option Key → ℕ → Page
 page_in s scope after max = page_of (is_kept scope) after max (held s) (cursor s)
 
--- all that the state holds under the scope
+-- Everything that the state holds under the scope.
 abbrev pub snapshot_in : State → Scope → Snapshot
 snapshot_in s scope = snapshot_of (is_kept scope) (held s) (cursor s)

@@ -1,10 +1,9 @@
-//! The store of the programs: it judges what stands against each command, and lets it take effect in what it keeps. Each
-//! call of `apply` is one step of the store's machine.
+//! The store that the programs run: it judges each command, and applies its effect to what it keeps. Each call of
+//! `apply` is one step of the store's machine.
 //!
-//! Publishing, deleting, retrieving, naming, subscribing and checking are MINIX 3's data store's (DS), where each entry has
-//! an owner, only RS publishes labels, and a live entry is overwritten only with the overwrite flag (the DS interface of
-//! MINIX 3; Herder and others, DSN 2007). Versions, tombstones, floors under the entries of a dead owner, the journal,
-//! snapshots, pages and merges are of this project.
+//! From MINIX 3's data store (DS; Herder and others, DSN 2007): publish, delete, retrieve, name, subscribe and check;
+//! each entry has an owner, only RS publishes labels, and a live entry is overwritten only with the overwrite flag. Of
+//! this project: versions, tombstones, floors, the journal, snapshots, pages and merges.
 #![tactic(auto)]
 
 mod machine;

@@ -1,4 +1,4 @@
-//! The store as a machine, which a desk of threads, or whoever else asks it in turns, may hold.
+//! The store as a machine that a desk of threads, or any other caller that takes turns, may hold.
 
 ghost use Rattle.ds_store.specs.Turns.{HistoriesRun, HistoriesSettle, RepliesSettle, Turn, TurnsAreAnswered, TurnsRun};
 
@@ -6,7 +6,7 @@ use crate::store::Store;
 use ds_machine::{Command, Reply};
 use history::Machine;
 
-// One turn of the store. That it stands for some state is said by its cursor.
+// Answers one command. The call of `cursor` shows that the store stands for some state.
 fn turn(store: &mut Store, command: Command) -> Reply
     ensures { Turn store.old command result store.new }
 {
@@ -14,7 +14,7 @@ fn turn(store: &mut Store, command: Command) -> Reply
     store.apply(command)
 }
 
-// The machine's states are what a store keeps, so that a history tells of each reply that it fits its command.
+// The machine's states are contents, so that a history proves of each reply that it fits its command.
 impl Machine for Store {
     ghost use Rattle.std.specs.Prelude.{◌≡◌};
     ghost use Rattle.ds_content.specs.Content.{ContentRecord};
@@ -42,11 +42,11 @@ impl Machine for Store {
     }
 }
 
-/// A law: of the histories of stores that are asked in turns.
+/// A law: what a history of a store's turns says.
 ///
-/// Turns are a run of the store's machine from each state that the store stood for, in which want of memory comes last, and
-/// the last of some turns was answered by the machine in some state that it comes to. A reply settles the state after it, and
-/// so a history settles the state that it leads to. Such a run is the machine's over the commands and the replies.
+/// From each state that the store stood for, the turns are a run of the store's machine in which lack of memory comes
+/// last. The last turn was answered in some reached state. A command and its reply determine the next state, so a
+/// history determines the state that it leads to. It is the machine's run over its commands and replies.
 pub fn stores_take_turns()
     ensures run { TurnsRun }
     ensures answered { TurnsAreAnswered }

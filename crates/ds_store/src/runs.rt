@@ -1,4 +1,4 @@
-//! A caller of the store that gives it a list of commands.
+//! Running a list of commands on a store.
 
 ghost use Rattle.std.specs.Prelude.{IfOk, OnErr};
 ghost use Rattle.ds_store.specs.Run.{LastRun, RunsFirst};
@@ -9,8 +9,8 @@ use ds_machine::{Command, Reply};
 use ds_names::NoRoom;
 use std::alloc::Global;
 
-/// Gives the store the commands in order. Its replies are those of a run of the store's machine, whatever
-/// the store is made of. `NoRoom` where there is no room for a reply; the store has answered up to there.
+/// Sends the commands to the store in order, and returns its replies: those of a run of the store's machine. Fails with
+/// `NoRoom` if a reply can't be kept; the commands up to that one were answered.
 pub fn run(alloc: Global, store: &mut Store, commands: Vec<Command>) -> Result<Vec<Reply>, NoRoom>
     ensures done { IfOk result (λ replies. ContentSteps store.old (λ s t. LastRun s commands.items replies.items t) store.new) }
     ensures stopped { OnErr result (ContentSteps store.old (λ s t. RunsFirst s commands.items t) store.new) }

@@ -31,11 +31,11 @@ mod reading;
 mod subscribing;
 mod sweeping;
 
-/// A replica of the data store: what it holds, the journal of what took effect, and its subscriptions.
+/// A replica of the data store: what it holds, the journal, and its subscriptions.
 #[derive(Drop)]
 pub struct Store {
     alloc: Global,
-    /// In a place of its own, so that who moves or drops a store moves and drops no more than where that is.
+    /// Boxed, so that moving or dropping a store is as cheap as moving or dropping a pointer.
     content: Box<Content>,
 }
 
@@ -47,7 +47,7 @@ impl Model for Store {
     ghost view = { λ s. s.content.value };
 }
 
-// The refusal of a ring or of a first position.
+// Returns the refusal for a bad ring or a bad first position.
 fn refusal_of_opening(fault: OpenFault) -> Refusal
     ensures { result ≡ refusal_of_opening fault }
 {
@@ -58,7 +58,7 @@ fn refusal_of_opening(fault: OpenFault) -> Refusal
     }
 }
 
-// The store of a content.
+// Returns the store of a content.
 fn boxed(alloc: Global, content: Content) -> Result<Store, Refusal>
     ensures made { IfOk result (λ store. store ≡ content) }
     ensures refused { IfErr result (λ refusal. refusal ≡ NoRoom) }
@@ -70,9 +70,8 @@ fn boxed(alloc: Global, content: Content) -> Result<Store, Refusal>
 }
 
 impl Store {
-    /// A store of this incarnation that holds nothing yet and whose first item will have the position `first`, for 128
-    /// subscriptions and 4096 keys. BadRing unless the ring is 1 to 4096, then BadFirst above 2^62, and NoRoom last, for the
-    /// ring and for the store's place.
+    /// Opens a store with 128 subscriptions and 4096 keys. It holds nothing, and its first item gets position `first`.
+    /// Refuses as BadRing unless the ring is 1 to 4096, then as BadFirst above 2^62, and last as NoRoom.
     pub fn open(alloc: Global, incarnation: u64, first: u64, ring: u32) -> Result<Store, Refusal>
         ensures opened { IfOk result (λ store. ContentStands store (opening incarnation first ring larger)) }
         ensures fits { OnOk result (IsRing ring × (first ≤ last_place)) }
@@ -81,7 +80,7 @@ impl Store {
         Store::open_with(alloc, incarnation, first, ring, Limits::larger())
     }
 
-    /// The same within other limits.
+    /// As `open`, with other limits.
     pub fn open_with(
         alloc: Global,
         incarnation: u64,
@@ -99,8 +98,7 @@ impl Store {
         }
     }
 
-    /// Begins again as another incarnation, as it was opened: with its first position, ring and limits, and nothing held. It
-    /// takes no memory.
+    /// Restarts as another incarnation: holds nothing, and keeps its first position, ring and limits. Takes no memory.
     pub fn restart(&mut self, incarnation: u64)
         ensures { (s : State) → ContentStands self.old s → ContentStands self.new (opening incarnation s.feed.first s.feed.ring s.limits) }
     {
@@ -109,10 +107,10 @@ impl Store {
 
     /// Answers a command, by one step of the store's machine.
     ///
-    /// A command is refused for the first cause that stands against it, in the order of [`Refusal`]'s variants; a repeat is
-    /// `Known`, which is judged behind `Stale`. Want of memory comes last, but for the pattern of a Subscribe or of a scope,
-    /// which is read in its place. Every refusal but a stopped Merge leaves the store as it was. NameOf, and Retrieve of a
-    /// label or a number, take no memory.
+    /// A command is refused for the first cause that applies to it, in the order of [`Refusal`]'s variants; a repeat is
+    /// `Known`, judged after `Stale`. Out-of-memory is reported after every other refusal. Exception: a pattern, in a
+    /// Subscribe or a scope, is compiled when its turn comes. A refused command changes nothing; a stopped Merge keeps
+    /// the items that it did. NameOf, and Retrieve of a label or a number, take no memory.
     pub fn apply(&mut self, command: Command) -> Reply
         ensures step { ContentSteps self.old (λ s t. Step s command result t) self.new }
         ensures in_place { TakesNoMemory command → result ≢ Reply.Refused Refusal.NoRoom }
@@ -154,7 +152,8 @@ impl Store {
         }
     }
 
-    /// What it holds: the greatest floor of each owner, and for each key the greatest version that no floor makes void.
+    /// Returns what is held: the greatest floor of each owner, and for each key the greatest version that no floor
+    /// makes void.
     pub fn held(&self) -> &Held
         ensures value { held_items result.now ≡ self.now.held }
         ensures limits { result.now.limits ≡ self.now.limits }
@@ -164,7 +163,7 @@ impl Store {
         self.content.held()
     }
 
-    /// The cursor behind all that took effect: its incarnation, and the position of the next item.
+    /// Returns the cursor after everything that took effect: the incarnation, and the position of the next item.
     pub fn cursor(&self) -> Cursor
         ensures value { result ≡ cursor_of self.now.journal }
         ensures limit { result.position ≤ last_place }
@@ -173,14 +172,14 @@ impl Store {
         self.content.cursor()
     }
 
-    /// The number by which its cursors are told from those of an earlier run.
+    /// Returns the number of this run, which tells its cursors from those of earlier runs.
     pub fn incarnation(&self) -> u64
         ensures { result ≡ self.now.journal.incarnation }
     {
         self.content.cursor().incarnation
     }
 
-    /// How many subscriptions and keys there may be.
+    /// Returns how many subscriptions and keys there may be.
     pub fn limits(&self) -> Limits
         ensures { result ≡ self.now.limits }
     {

@@ -1,4 +1,4 @@
--- The puts of what is held, one after the other.
+-- The puts of what is held, in order.
 use Rattle.std.proofs.Common.{◌≡◌, ℕ, ◌+◌, true, false, cond, List, [], ◌∷◌, ◌++◌, map, take, Some, refl, sym, ap, ◌∙◌, append-nil}
 use Rattle.std.proofs.lemmas.List.{take_more}
 use Rattle.std.proofs.lemmas.List.Elements.{filter-append}
@@ -16,7 +16,7 @@ use Rattle.ds_entry.specs.Under.{entries_of}
 abbrev pub puts_of : List ChangeRecord → List Item
 puts_of changes = entries_of (map change_item changes)
 
--- floors are no puts
+-- Floors aren't puts.
 no_puts : (fs : List (List ℕ × ℕ)) → entries_of (map floor_item fs) ≡ []
 no_puts [] = refl
 no_puts (f ∷ fs) = no_puts fs

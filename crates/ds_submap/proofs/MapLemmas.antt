@@ -1,4 +1,4 @@
--- What a take leaves: the top of what was held and of the items under the query, in a map that floors stand in.
+-- What a take leaves: the top of what was held and of the items under the query, in a map where floors stand.
 use Rattle.std.proofs.Common.{◌≡◌, ◌++◌, List, [], ◌∷◌, All, Contains, IsTrue, take, Result, Ok, Err, refl, sym, ap, ◌∙◌, inl, inr}
 use Rattle.std.proofs.lemmas.List.Elements.{All-contains, All-contains_itself, All-weaker, Contains-append_cases, Contains-append_left, Contains-append_right}
 use Rattle.std.proofs.lemmas.Option.{none-some}
@@ -30,14 +30,14 @@ use Rattle.ds_entry.specs.Left.{is_put}
 use Rattle.ds_pattern.specs.Under.{is_under}
 use Rattle.ds_entry.specs.Item.{passes}
 
--- what isn't refused was merged, or raised
+-- An item that isn't refused was merged, or raised.
 merged_so : (old : Holding) (items : List Item) (rs : List Merge) (new : Holding) → AreAnswered old items rs new → AreMerged old items new
 merged_so old [] [] new a = a
 merged_so old [] (r ∷ rs) new a = absurd a
 merged_so old (i ∷ items) [] new a = absurd a
 merged_so old (i ∷ items) (r ∷ rs) new a = (r, a.0, merged_so (after_item old i (Ok r)) items rs new a.1)
 
--- the limits stay
+-- The limits are unchanged.
 same_limits : (old : Holding) (i : Item) (r : Merge) → (after_item old i (Ok r)).limits ≡ old.limits
 same_limits old (Changed c) Taken = refl
 same_limits old (Changed c) Known = refl
@@ -52,7 +52,7 @@ limits_stay old [] (r ∷ rs) new a = absurd a
 limits_stay old (i ∷ items) [] new a = absurd a
 limits_stay old (i ∷ items) (r ∷ rs) new a = limits_stay (after_item old i (Ok r)) items rs new a.1 ∙ same_limits old i r
 
--- the map to which nothing came
+-- The empty map.
 pub empty_is_map : (q : Query) → IsMap (empty_map q)
 empty_is_map q = record {
   limits = refl;
@@ -68,7 +68,7 @@ empty_is_map q = record {
     none (Changed c) h = absurd (none-some c (sym (get-empty key_cmp c.key) ∙ h))
     none (Floored f) h = refl
 
--- a held floor makes no put void
+-- A held floor voids no put.
 pub entries_swept : (h : Holding) → IsSound h → AreSwept (held_items h) (entries_of (held_items h))
 entries_swept h sound f k c m = void_isnt_held (held_items h) (held_items h) f c top k (Contains-from_filter is_put (held_items h) (Changed c) m).0
   where
@@ -91,7 +91,7 @@ module _ (q : Query) (old : Holding) (items : List Item) (new : Holding) where
     limits = limits_stay old (under (is_under q) (take stop.done items)) s.front.answers new s.front.answered;
   }
 
-  -- floors among what was held or came stand
+  -- Floors stand, whether they were held or arrived.
   floors_stand : (came : List Item) → IsTop (held_items new) (held_items old ++ under (is_under q) came) → EachFloorStands (held_items old ++ came) (held_items new)
   floors_stand came top f k =
       record {

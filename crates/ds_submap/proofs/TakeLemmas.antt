@@ -1,4 +1,4 @@
--- Taking items in turn.
+-- Taking items in order.
 use Rattle.std.proofs.Common.{◌≡◌, ℕ, ◌+◌, ◌<◌, ◌≤◌, ◌^◌, Bool, true, false, cond, List, [], ◌∷◌, ◌++◌, All, length, filter, take, drop, zero, suc, Option, Some, None, Ok, IsFalse}
 use Rattle.std.proofs.Common.{refl, sym, ap, ◌∙◌, subst, inl, inr, append-nil, length-append, length-drop, arith}
 use Rattle.std.proofs.lemmas.List.{take_more, take_all}
@@ -32,7 +32,7 @@ answered_push old mid (j ∷ items) (q ∷ rs) i r new m a n = (m.0, answered_pu
 under_push : (q : Query) (items : List Item) (i : Item) (b : Bool) → passes (is_under q) i ≡ b → under (is_under q) (items ++ i ∷ []) ≡ under (is_under q) items ++ cond b (i ∷ []) []
 under_push q items i b e = filter-append (passes (is_under q)) items (i ∷ []) ∙ ap (λ t. under (is_under q) items ++ cond t (i ∷ []) []) e
 
--- what the query isn't asked about is a floor, or isn't under it
+-- An item that doesn't need the pattern is a floor, or isn't under the query.
 pub unasked_other : (q : Query) (i : Item) → IsFalse (needs_query q i) → IsFloorOrOther q i
 unasked_other q (Changed c) other = rw other refl
 unasked_other q (Floored f) other = tt
@@ -45,7 +45,7 @@ one_more p rs r = ap length (filter-append p rs (r ∷ [])) ∙ length-append (f
     by true = refl
     by false = refl
 
--- so many of the items were taken
+-- This many of the items were taken.
 taken_push : (q : Query) (old mid new : Holding) (items : List Item) (i : Item) (n : Count) (answer : Option Merge) → AreCounted q old items mid n → IsItemTaken q mid i answer new → AreCounted q old (items ++ i ∷ []) new (counted n answer)
 taken_push q old mid new items i n None t h =
     record {
@@ -81,7 +81,7 @@ taken_push q old mid new items i n (Some r) t h =
     stale Stale = omega (arith, t.stale, one_more is_stale t.all.answers Stale)
 
 -- ---- a take on its way
--- the first `i` items were taken, and no more were taken or stale than are done
+-- The first `i` items were taken, and no more were taken or stale than are done.
 pub record Taking (q : Query) (old : Holding) (items : List Item) (i : ℕ) (mid : Holding) (n : Count) : Type 0 where
   pub counted_so : AreCounted q old (take i items) mid n
   pub sound : IsSound mid
@@ -127,7 +127,7 @@ module _ (q : Query) (old : Holding) (items : List Item) where
   pub taking_ends : (i : ℕ) (mid : Holding) (n : Count) → Taking q old items i mid n → length items ≤ i → AreCounted q old items mid n
   taking_ends i mid n t l = subst (λ xs. AreCounted q old xs mid n) (take_all i items l) t.counted_so
 
--- and while the query wasn't asked, none of them was one that it has to be asked about
+-- And while the tester wasn't built, none of them needed it.
 pub record Asking (q : Query) (old : Holding) (items : List Item) (i : ℕ) (mid : Holding) (n : Count) (was_asked : Bool) : Type 0 where
   pub taking : Taking q old items i mid n
   pub unasked : was_asked ≡ false → All (λ j. IsFalse (needs_query q j)) (take i items)

@@ -1,4 +1,4 @@
--- What a map takes of items that come in order, and where it stops.
+-- What a map takes of items in order, and where it stops.
 use Rattle.std.specs.Prelude.{◌≡◌, ◌⊎◌, Bool, true, false, List, [], ◌∷◌, ◌++◌, All, length, filter, take, slice_get, Option, Some, None, Result, Ok, Err, IsTrue, IsFalse}
 use Rattle.ds_names.specs.Kind.{names_kind}
 use Rattle.ds_entry.specs.declared.item.Item.{Item}
@@ -17,82 +17,83 @@ use Rattle.ds_join.specs.declared.count.Count.{Count}
 use Rattle.ds_entry.specs.Item.{passes}
 use Rattle.ds_entry.specs.Under.{under}
 
--- one after the other the items come to `old`: they get these answers, none of them a refusal, and leave `new`
+-- Whether the items arrive in order at `old`, get these answers, none of them a refusal, and lead to `new`.
 abbrev pub AreAnswered : Holding → List Item → List Merge → Holding → Type 0
 AreAnswered old [] [] new = new ≡ old
 AreAnswered old [] (r ∷ rs) new = ⊥
 AreAnswered old (i ∷ items) [] new = ⊥
 AreAnswered old (i ∷ items) (r ∷ rs) new = ItemAnswer old i (Ok r) × AreAnswered (after_item old i (Ok r)) items rs new
 
--- the item took effect
+-- Whether the item took effect.
 abbrev pub is_taken : Merge → Bool
 is_taken Taken = true
 is_taken Known = false
 is_taken Stale = false
 
--- a greater version was held, or a floor that makes it void, or a higher floor
+-- Whether something greater is held: a greater version, a floor that voids the change, or a higher floor.
 abbrev pub is_stale : Merge → Bool
 is_stale Taken = false
 is_stale Known = false
 is_stale Stale = true
 
--- the items under the query were merged or raised in turn, and the others were passed over
+-- Whether the items under the query were merged or raised in order, and the others skipped.
 pub record AreTaken (q : Query) (old : Holding) (items : List Item) (new : Holding) : Type 0 where
   pub answers : List Merge
   pub answered : AreAnswered old (under (is_under q) items) answers new
 
--- all items were taken so, and the answers are counted
+-- Whether all items were taken, and the answers are counted.
 pub record AreCounted (q : Query) (old : Holding) (items : List Item) (new : Holding) (count : Count) : Type 0 where
   pub all : AreTaken q old items new
   pub done : count.done ≡ length items
   pub taken : count.taken ≡ length (filter is_taken all.answers)
   pub stale : count.stale ≡ length (filter is_stale all.answers)
 
--- one item was taken: it was merged or raised, with this answer, if it is under the query, and passed over if not
+-- Whether one item was taken: merged or raised with this answer if it is under the query, else skipped.
 abbrev pub IsItemTaken : Query → Holding → Item → Option Merge → Holding → Type 0
 IsItemTaken q old i (Some r) new = IsTrue (passes (is_under q) i) × ItemAnswer old i (Ok r) × (new ≡ after_item old i (Ok r))
 IsItemTaken q old i None new = IsFalse (passes (is_under q) i) × (new ≡ old)
 
--- the query has to be asked about the item: it is a change of a kind that the query names
+-- Whether the item needs the query's pattern: a change of a kind that the query names.
 abbrev pub needs_query : Query → Item → Bool
 needs_query q (Changed c) = names_kind q.kinds c.key.kind
 needs_query q (Floored f) = false
 
--- the item is a floor, or a change that isn't under the query
+-- Whether the item is a floor, or a change that isn't under the query.
 abbrev pub IsFloorOrOther : Query → Item → Type 0
 IsFloorOrOther q (Changed c) = IsFalse (is_under q c.key)
 IsFloorOrOther q (Floored f) = Unit {0}
 
--- the item is under the query, and refused by this fault as its merge, or the raising of its floor, is
+-- Whether the item is under the query, and its merge, or its raised floor, is refused by this fault.
 abbrev pub IsRefusedUnder : Query → Holding → Item → JoinFault → Type 0
 IsRefusedUnder q held i fault = IsTrue (passes (is_under q) i) × IsItemRefused held i fault
 
--- there is no memory to ask the query about an item that it has to be asked about, and it wasn't asked before
+-- Whether memory runs out for the tester of the query, which the item is the first to need.
 pub record CannotAsk (q : Query) (was_asked : Bool) (i : Item) (fault : JoinFault) : Type 0 where
   pub noroom : fault ≡ NoRoom
   pub first : was_asked ≡ false
   pub asked : IsTrue (needs_query q i)
 
--- the item is refused, or the query can't be asked about it
+-- Whether the item is refused, or memory runs out for the tester of the query.
 abbrev pub IsRefusedOrUnasked : Query → Bool → Holding → Item → JoinFault → Type 0
 IsRefusedOrUnasked q was_asked held i fault = IsRefusedUnder q held i fault ⊎ CannotAsk q was_asked i fault
 
--- there is no memory to ask the query: it is taken at the first item that it has to be asked about
+-- Whether memory runs out for the tester of the query, at the first item that needs it.
 pub record IsUnasked (q : Query) (front : List Item) (i : Item) (fault : JoinFault) : Type 0 where
   pub noroom : fault ≡ NoRoom
   pub none_before : All (λ j. IsFalse (needs_query q j)) front
   pub asked : IsTrue (needs_query q i)
 
--- the first `done` of the items were taken, and the next one is refused
+-- Whether the first `done` items were taken, and the next one is refused.
 pub record IsTakeStopped (q : Query) (old : Holding) (items : List Item) (new : Holding) (stop : Stop) : Type 0 where
   pub front : AreTaken q old (take stop.done items) new
-  pub refused : (next : Item) × (slice_get items stop.done ≡ Some next) × (IsRefusedUnder q new next stop.fault ⊎ IsUnasked q (take stop.done items) next stop.fault)
+  pub refused : (next : Item) × (slice_get items stop.done ≡ Some next) ×
+      (IsRefusedUnder q new next stop.fault ⊎ IsUnasked q (take stop.done items) next stop.fault)
 
--- what is held now is the top of what was held and of those of the items that are under the query, floors among them
+-- Whether the new holding is the top of the old one and of the items under the query, floors among them.
 abbrev pub JoinsUnder : Query → Holding → List Item → Holding → Type 0
 JoinsUnder q old items new = IsTop (held_items new) (held_items old ++ under (is_under q) items)
 
--- the items that were done: all of them, or those in front of the one that was refused
+-- The items that were done: all of them, or those before the refused one.
 abbrev pub done_items : Result Count Stop → List Item → List Item
 done_items (Ok count) items = items
 done_items (Err stop) items = take stop.done items

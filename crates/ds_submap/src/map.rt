@@ -1,4 +1,4 @@
-//! What a subscriber keeps.
+//! Maps of subscribers.
 
 ghost use Rattle.std.specs.Prelude.{◌≡◌, ◌++◌, All, IfOk, IfErr, IfSome};
 ghost use Rattle.std.specs.Option.{option_copied};
@@ -24,11 +24,11 @@ use ds_pattern::{Filter, PatternFault, Query};
 use std::alloc::Global;
 use std::marker::Model;
 
-/// What a subscriber keeps: its query, and of what came under it the greatest floor of each owner and the greatest version of
-/// each key, for up to 4096 keys and 64 floors.
+/// What a subscriber keeps: its query, and of everything under it the greatest floor of each owner and the greatest
+/// version of each key, for up to 64 floors and 4096 keys.
 ///
-/// So where a floor of an owner is held, none of its entries is from a generation up to the floor's but labels, and no take
-/// brings one, however late it comes, until the map is cleared.
+/// While a floor of an owner is held, no entry from the owner's generations up to it is held, labels aside. No take
+/// brings one, however late it arrives, until the map is cleared.
 #[derive(Drop)]
 pub struct SubMap {
     filter: Filter,
@@ -54,7 +54,7 @@ impl Model for SubMap {
 }
 
 impl SubMap {
-    /// The map of a query, to which nothing came yet. It is refused as the query's pattern is.
+    /// Returns the empty map of a query. It is refused as the query's pattern is.
     pub fn new(alloc: Global, query: &Query) -> Result<SubMap, PatternFault>
         ensures value { IfOk result (λ map. map ≡ empty_map query.now) }
         ensures pattern { IfOk result (λ map. IsPattern map.query.text) }
@@ -66,12 +66,13 @@ impl SubMap {
         })
     }
 
-    /// Takes items in their order: raises each floor, whatever the query; merges the changes under its query, and passes over
-    /// the others.
+    /// Takes items in order: raises each floor, merges each change under its query, and skips the others.
     ///
-    /// Known and stale items count as done, and so do those that are passed over. At the first change of a kind that the query
-    /// names it takes memory to ask for names; a floor needs none of that. A change is copied only where it is taken. It stops
-    /// at the first item that is refused, and those before it stand.
+    /// It stops at the first item that is refused, and keeps what it took before. Known, stale and skipped items
+    /// count as done.
+    ///
+    /// The first change of a kind that the query names allocates buffers to match names. A change is copied only to
+    /// be taken.
     pub fn take(&mut self, alloc: Global, items: &Items) -> Result<Count, Stop>
         ensures joined { JoinsUnder self.old.query self.old.held (done_items result items.now) self.new.held }
         ensures counted { IfOk result (AreCounted self.old.query self.old.held items.now self.new.held) }
@@ -82,7 +83,7 @@ impl SubMap {
         self.take_slice(alloc, items.as_slice())
     }
 
-    /// Takes items of a slice as `take` does those of a list, as where a part of a list is lent.
+    /// Like `take`, for a slice of items.
     pub fn take_slice(&mut self, alloc: Global, items: &[Item]) -> Result<Count, Stop>
         ensures joined { JoinsUnder self.old.query self.old.held (done_items result items.now) self.new.held }
         ensures counted { IfOk result (AreCounted self.old.query self.old.held items.now self.new.held) }
@@ -93,7 +94,7 @@ impl SubMap {
         take_items(alloc, &self.filter, &mut self.held, items)
     }
 
-    /// Takes items that are packed, likewise. Unpacking them takes no memory.
+    /// Like `take`, for packed items. Unpacking them allocates nothing.
     pub fn take_packed(&mut self, alloc: Global, items: Unpacking<'_>) -> Result<Count, Stop>
         ensures joined { JoinsUnder self.old.query self.old.held (done_items result items.entry) self.new.held }
         ensures counted { IfOk result (AreCounted self.old.query self.old.held items.entry self.new.held) }
@@ -104,7 +105,7 @@ impl SubMap {
         take_packed(alloc, &self.filter, &mut self.held, items)
     }
 
-    /// The change that is held for a key. It takes no memory.
+    /// Returns the change that is held for a key. It allocates nothing.
     pub fn get(&self, key: &Key) -> Option<&Change>
         ensures value { option_copied result ≡ held_for self.now.held key.now }
         ensures change { IfSome (option_copied result) IsChange }
@@ -112,7 +113,7 @@ impl SubMap {
         self.held.get(key)
     }
 
-    /// The endpoint behind a label now; `None` too where the label is gone. It takes no memory.
+    /// Returns the endpoint that a label has now; `None` too if the label is gone. It allocates nothing.
     pub fn label(&self, name: &Name) -> Option<Endpoint>
         ensures value { result ≡ endpoint_of_label self.now.held name.now }
         ensures valid { IfSome result IsEndpoint }
@@ -127,7 +128,7 @@ impl SubMap {
         }
     }
 
-    /// All that is held, tombstones and floors too. It takes no memory.
+    /// Returns everything held, tombstones and floors too. It allocates nothing.
     pub fn held(&self) -> &Held
         ensures value { result.now ≡ self.now.held }
         ensures map { IsMap self.now }
@@ -135,14 +136,14 @@ impl SubMap {
         &self.held
     }
 
-    /// Holds nothing again, neither tombstones nor floors; the query stays. It takes no memory.
+    /// Removes everything, tombstones and floors too, and keeps the query. It allocates nothing.
     pub fn clear(&mut self)
         ensures { self.new ≡ empty_map self.old.query }
     {
         self.held.clear();
     }
 
-    /// The puts of what is held, in the order of their keys. None of them is one that a held floor makes void.
+    /// Returns the puts of what is held, in the order of their keys. No held floor voids any of them.
     pub fn entries(&self, alloc: Global) -> Result<Items, NoRoom>
         ensures value { IfOk result (λ items. items ≡ entries_of (held_items self.now.held)) }
         ensures floors { IfOk result (AreSwept (held_items self.now.held)) }

@@ -1,4 +1,4 @@
-//! Items in turn: a floor is raised, and a change is merged if it is under the query, and passed over if not.
+//! Taking items in order: a floor is raised; a change is merged if it is under the query, else skipped.
 
 ghost use Rattle.std.specs.Prelude.{◌≡◌, false, is_some, IfErr, IfOk, IfSome, IsFalse, OnErr, OnOk};
 ghost use Rattle.ds_held.specs.Held.{IsSound};
@@ -13,7 +13,7 @@ use ds_packed::Unpacking;
 use ds_pattern::{Asker, Filter};
 use std::alloc::Global;
 
-// Takes items. Memory to ask the query is taken at the first change of a kind that the query names.
+// Takes items. The tester of names is built at the first change of a kind that the query names.
 pub(crate) fn take_items(
     alloc: Global,
     filter: &Filter,
@@ -36,7 +36,7 @@ pub(crate) fn take_items(
     Ok(count)
 }
 
-// Takes items that are packed, likewise.
+// Takes packed items likewise.
 pub(crate) fn take_packed(
     alloc: Global,
     filter: &Filter,
@@ -62,7 +62,7 @@ pub(crate) fn take_packed(
     Ok(count)
 }
 
-// What asks the query.
+// Builds the tester of the query.
 fn asker_of(alloc: Global, filter: &Filter) -> Result<Asker<'_>, JoinFault>
     ensures asker { IfOk result (λ asker. asker ≡ filter.now) }
     ensures refused { IfErr result (λ fault. fault ≡ JoinFault.NoRoom) }
@@ -73,7 +73,7 @@ fn asker_of(alloc: Global, filter: &Filter) -> Result<Asker<'_>, JoinFault>
     }
 }
 
-// Takes the next item. What asks the query is made where it is first asked.
+// Takes the next item. The tester is built when it is first needed.
 fn take_next<'f>(
     alloc: Global,
     filter: &'f Filter,
@@ -102,7 +102,7 @@ fn take_next<'f>(
     }
 }
 
-// Whether the query has to be asked about an item: about a change of a kind that it names. A floor is under every query.
+// Whether an item needs the query's pattern: a change of a kind that the query names. A floor is under every query.
 fn is_asked(filter: &Filter, item: &Item) -> bool
     ensures { result ≡ needs_query filter.now item.now }
 {
@@ -112,7 +112,7 @@ fn is_asked(filter: &Filter, item: &Item) -> bool
     }
 }
 
-// Raises a floor, and passes over a change, which isn't under the query.
+// Raises a floor, and skips a change, which isn't under the query.
 fn raise_or_pass(held: &mut Held, item: &Item) -> Result<Option<Merge>, JoinFault>
     requires { IsSound held.old }
     ensures sound { IsSound held.new }

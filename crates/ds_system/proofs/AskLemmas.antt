@@ -1,4 +1,4 @@
--- What goes to a store beside what RS and the services make.
+-- What reaches a store besides new changes.
 use Rattle.std.proofs.Common.{◌≡◌, ℕ, zero, suc, ◌<◌, ◌≤◌, true, false, List, [], ◌∷◌, length, Some, None, refl, ap, sym, ◌∙◌, subst, arith}
 use Rattle.std.specs.List.{slice_get}
 use Rattle.std.proofs.lemmas.Option.{slice_get_within}
@@ -27,7 +27,7 @@ use Rattle.ds_system.specs.Stands.{SystemRecord, SystemEventLeads}
 pub proper_one : (event : worlds.Event) (outcome : outcomes.Outcome) → IsProperEvent event → AreProper ((event, outcome) ∷ [])
 proper_one event outcome h e k = subst (λ (z : worlds.Event × outcomes.Outcome). IsProperEvent z.0) (sym (Contains-single (event, outcome) e k)) h
 
--- what the world tells of an event says so
+-- what the world says of an event includes its proper parts
 told_proper : (event : worlds.Event) (outcome : outcomes.Outcome) (old new : WorldRecord) → IsTold event outcome old new → IsProperEvent event
 told_proper (Ask side command) outcome old new told = told.0
 told_proper (NewMap query) outcome old new told = tt
@@ -35,14 +35,14 @@ told_proper (Deliver k holder count) outcome old new told = tt
 told_proper (ClearMap j) outcome old new told = tt
 told_proper (RestartStore side incarnation) outcome old new told = tt
 
--- an index behind the last element
+-- an index past the last element
 behind : (xs : List ChangeRecord) (k : ℕ) → slice_get xs k ≡ None → length xs ≤ k
 behind [] k e = omega arith
 behind (x ∷ xs) zero e = absurd (cc)
 behind (x ∷ xs) (suc k) e = let l : length xs ≤ k = behind xs k e in omega arith
 
 module _ (value : SystemRecord) where
-  -- ---- a change once more
+  -- ---- a repeated change
   pub no_change : (k : ℕ) (side : Side) → slice_get value.made k ≡ None → SystemEventLeads (events.Again k side) (Refused refusals.NoMessage) value value
   no_change k side e s st = (s, no_steps, record { refused = subst (λ (l : List ChangeRecord). length l ≤ k) (sym st.made) (behind value.made k e); steps_are = refl; system_is = refl }, st)
 

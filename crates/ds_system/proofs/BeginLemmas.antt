@@ -46,7 +46,7 @@ refusal_is out TwoIds h n = sym h
 refusal_is out NoDevice h n = sym h
 refusal_is out NotPending h n = sym h
 
--- a unit that is refused leaves the table as it was
+-- a refused unit leaves the table unchanged
 abbrev assigned_out : DriverTable → ℕ → Driver → Bool → Result (Unit {0}) TableFault × DriverTable
 assigned_out t unit driver b = cond b (Err Assigned, t) (Ok tt, assigns t unit driver)
 
@@ -58,7 +58,7 @@ refused_same t unit driver fault e = by (is_some (driver_of t.units unit)) e
     by false h = absurd (let q : Ok tt ≡ Err fault = h in cc)
 
 module _ (old new : TableRecord) (units : List (ℕ × Driver)) where
-  -- a service that has none in the table
+  -- a service without a unit in the table
   pub no_unit : (o : Option (ℕ × Driver)) → o ≡ None → TableStands old (assigned_all units) → TableStands old (assigned_all (units ++ cons_option o []))
   no_unit o e st = subst (λ (l : List (ℕ × Driver)). TableStands old (assigned_all l)) (sym (ap (λ (o : Option (ℕ × Driver)). units ++ cons_option o []) e ∙ append-nil units)) st
 
@@ -69,14 +69,14 @@ module _ (old new : TableRecord) (units : List (ℕ × Driver)) where
       subst (λ (v : TableRecord). TableStands v (assigning (assigned_all units) unit driver).1) (sym same)
       (subst (TableStands old) (sym (refused_same (assigned_all units) unit driver fault (refusal_is (assigning (assigned_all units) unit driver).0 fault (answers (assigned_all units) st) (λ e. some (ap Err e))))) st)
 
-  -- one that was assigned, where it is the first of its number
+  -- an assigned unit, if it is the first of its number
   one_unit : (o : Option (ℕ × Driver)) (unit : ℕ) (driver : Driver) (answer : Result (Unit {0}) TableFault) → o ≡ Some (unit, driver) → answer ≢ Err NoRoom → AnswersAs old (λ (t : DriverTable). assigning t unit driver) answer
       → LeavesAs old (λ (t : DriverTable). assigning t unit driver) answer new → OnErr answer (new ≡ old) → TableStands old (assigned_all units) → TableStands new (assigned_all (units ++ cons_option o []))
   one_unit o unit driver answer e some answers leaves same st =
       subst (λ (o : Option (ℕ × Driver)). TableStands new (assigned_all (units ++ cons_option o []))) (sym e)
       (subst (TableStands new) (sym (fold-append (λ (t : DriverTable) (u : ℕ × Driver). (assigning t u.0 u.1).1) empty_table units ((unit, driver) ∷ []))) (assigned_stands unit driver answer some answers leaves same st))
 
-  -- so says what was made of the answer
+  -- the answer, as the code passes it on
   pub unit_added : {E : Type 0} (o : Option (ℕ × Driver)) (unit : ℕ) (driver : Driver) (answer : Result (Unit {0}) TableFault) (result : Result (Unit {0}) E) → o ≡ Some (unit, driver) → OnOk result (answer ≢ Err NoRoom)
       → AnswersAs old (λ (t : DriverTable). assigning t unit driver) answer → LeavesAs old (λ (t : DriverTable). assigning t unit driver) answer new → OnErr answer (new ≡ old) → TableStands old (assigned_all units)
       → OnOk result (TableStands new (assigned_all (units ++ cons_option o [])))
@@ -106,7 +106,7 @@ pub second_made : {E : Type 0} (result : Result (Unit {0}) E) (a b c : WorldReco
 second_made (Ok x) a b c one two = two_made a b c one two
 second_made (Err x) a b c one two = tt
 
--- ---- all of it
+-- ---- together
 pub with_both : (a b : Seed) (old new : WorldRecord) → WorldStands old (new_world a b larger) → MakesTwoMaps old new → HasBothMaps a b new
 with_both a b old new st h = h (new_world a b larger) st refl
 

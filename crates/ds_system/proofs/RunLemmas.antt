@@ -11,7 +11,6 @@ use Rattle.system_model.proofs.ApartLemmas.{labels_are_apart}
 use Rattle.ds_system.specs.Stands.{SystemRecord, SystemEventLeads}
 use Rattle.ds_system.specs.Since.{SystemRunLeads, SystemPast, IsRightAmong, HoldsOfPast, SystemLawsHold}
 
--- the step of a run
 abbrev Entered : System → SystemEntry → System → Type 0
 Entered s e t = SystemDoes s e.event e.outcome e.steps t
 
@@ -26,7 +25,7 @@ mapped {X} f entries xs e q = over entries ∙ ap (λ (l : List X). l ++ f e ∷
     over [] = refl
     over (z ∷ l) = ap (λ (k : List X). f z ∷ k) (over l)
 
--- one more event behind a run
+-- one more event after a run
 pub run_more : (a b c : SystemRecord) (es : List SystemEvent) (os : List SystemOutcome) (event : SystemEvent) (outcome : SystemOutcome) → SystemRunLeads es os a b → SystemEventLeads event outcome b c → SystemRunLeads (es ++ event ∷ []) (os ++ outcome ∷ []) a c
 run_more a b c es os event outcome led one s st =
     let first = led s st in
@@ -40,7 +39,7 @@ run_more a b c es os event outcome led one s st =
     )
 
 -- ---- since a system was new
--- each entry among all that happened
+-- each entry, among all that happened
 right_among : (past : SystemPast) (front back : List SystemEntry) (entry : SystemEntry) → past.entries ≡ front ++ entry ∷ back → IsRightAmong past front entry back
 right_among past front back entry e =
     let cut = path_cut Entered past.start past.now front (entry ∷ back) (subst (λ (l : List SystemEntry). SystemRun past.start l past.now) e past.run) in

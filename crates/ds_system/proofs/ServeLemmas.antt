@@ -1,4 +1,4 @@
--- What RS's actions lead to.
+-- The effects of RS's actions.
 use Rattle.std.proofs.Common.{◌≡◌, ◌≢◌, ℕ, zero, suc, ◌+◌, ◌≤◌, true, false, List, [], ◌∷◌, ◌++◌, length, take, min, Option, Some, None, refl, ap, sym, ◌∙◌, subst, inl, inr, arith}
 use Rattle.std.specs.List.{slice_get, filter_map, cons_option, AllByRecursion}
 use Rattle.std.proofs.lemmas.List.{append-nil, length_push, take_more}
@@ -39,7 +39,7 @@ use Rattle.ds_system.specs.Stands.{SystemRecord, SystemEventLeads}
 use Rattle.ds_system.specs.Effects.{AskedIfAny, AllAsked}
 use Rattle.ds_system.proofs.AskLemmas.{proper_one}
 
--- ---- what is asked has no items for an answer
+-- ---- commands of changes return no items
 pub asking_plain : (caller : EndpointRecord) (key : Key) (version : Version) (content : Body) → gives_items (asking_for caller key version content) ≡ false
 asking_plain caller key version (Put value) = refl
 asking_plain caller key version Gone = refl
@@ -58,7 +58,7 @@ plain_action (actions.Ping e) = tt
 pub plain_command : (x : Action) (command : Command) → Some command ≡ command_of x → gives_items command ≡ false
 plain_command x command e = subst IsPlain (sym e) (plain_action x)
 
--- ---- one action after the other
+-- ---- actions in sequence
 answered_more : (side : Side) (cs : List Command) (rs : List Reply) (c : Command) (r : Reply) → length rs ≡ length cs → asks_replied side (cs ++ c ∷ []) (rs ++ r ∷ []) ≡ asks_replied side cs rs ++ (Ask side c, results.Replied r) ∷ []
 answered_more side [] [] c r e = refl
 answered_more side [] (x ∷ rs) c r e = absurd (let l : length (x ∷ rs) ≡ 0 = e in omega arith)
@@ -121,7 +121,7 @@ stands_fault rs event tick faults.OldEndpoint e = e
 stands_fault rs event tick faults.GenerationsSpent e = e
 stands_fault rs event tick faults.NoSlot e = e
 
--- where nothing stood against the event, RS refuses it for want of memory alone
+-- unless something was against the event, RS refuses it only if memory runs out
 pub late_fault : (rs : RsRecord) (event : services.Event) (tick : ℕ) (fault : RsFault) → (fault ≢ faults.NoRoom → refusal rs event tick ≡ Some fault) → refusal rs event tick ≡ None → IsServiceFault (refusal rs event tick) fault
 late_fault rs event tick faults.NoRoom h none = none
 late_fault rs event tick faults.TickBack h none = h (λ e. cc)
@@ -138,7 +138,7 @@ module _ (value : SystemRecord) (event : services.Event) (tick : ℕ) (side : Si
   pub rs_refused : (fault : RsFault) → IsServiceFault (refusal value.rs event tick) fault → SystemEventLeads (events.Service event tick side) (Refused (refusals.Service fault)) value value
   rs_refused fault e s st = (s, no_steps, record { refused = subst (λ (z : RsRecord). IsServiceFault (refusal z event tick) fault) (sym st.rs) e; steps_are = refl; system_is = refl }, st)
 
-  -- and so where RS and what was made stayed as they were
+  -- and then RS and the made changes are unchanged
   pub rs_kept : (fault : RsFault) (rs : RsRecord) (made : List ChangeRecord) → rs ≡ value.rs → made ≡ value.made → IsServiceFault (refusal value.rs event tick) fault
       → SystemEventLeads (events.Service event tick side) (Refused (refusals.Service fault)) value (record value { rs = rs; made = made })
   rs_kept fault rs made same kept e =

@@ -1,4 +1,4 @@
--- What both servers' tables lead to.
+-- The effects of both servers' tables.
 use Rattle.std.proofs.Common.{◌≡◌, ℕ, List, [], ◌∷◌, ◌++◌, Option, Some, None, Result, Ok, Err, IsOk, OnErr, refl, ap, sym, ◌∙◌, subst, inl, append-nil}
 use Rattle.std.specs.List.{slice_get}
 use Rattle.std.proofs.lemmas.Option.{slice_get-map}
@@ -30,11 +30,11 @@ use Rattle.ds_system.specs.Turns.{moved_so, HasSubmitted, HasReplied, ServersFol
 
 -- ---- one table
 
--- what a map of the value's world holds, the world's own map holds
+-- a map holds the same in the value's world and in the world itself
 held_is : (value : WorldRecord) (w : World) (j : ℕ) → WorldStands value w → held_in value (Map j) ≡ held_by w (Map j)
 held_is value w j st = ap map_held (sym (ap (λ (l : List MapState). slice_get l j) st.maps ∙ slice_get-map map_state value.maps j))
 
--- a map that isn't there holds nothing, and tells nothing
+-- a map that doesn't exist holds nothing, and tells nothing
 nothing_follows : (labels : List (List ℕ)) (t : DriverTable) → Follows [] labels t [] None t
 nothing_follows [] t = (refl, refl, refl)
 nothing_follows (label ∷ labels) t = inl ([], refl, nothing_follows labels t)
@@ -42,7 +42,7 @@ nothing_follows (label ∷ labels) t = inl ([], refl, nothing_follows labels t)
 pub none_followed : (table : TableRecord) (before : List (List Move)) → HasFollowed [] table table before before None
 none_followed table before t st = (t, [], sym (append-nil before), nothing_follows (labels_of t) t, st)
 
--- a turn in which no request comes
+-- a turn without a request
 abbrev plain_turn : DriverTable → List (List Move) → Option TableFault → DriverTable → TableTurn
 plain_turn t rounds stop u = record { before = t; rounds = rounds; stop = stop; followed = u; own = None; after = u }
 
@@ -64,7 +64,7 @@ refused_turn mid id unit stops.TwoIds h = (sym h, refl)
 refused_turn mid id unit stops.NoDevice h = (sym h, refl)
 refused_turn mid id unit stops.NotPending h = (sym h, refl)
 
--- behind a follow that came to its end the request is answered
+-- after a complete follow the request is answered
 pub submit_answered : (held : List Item) (id unit : ℕ) (old mid new : TableRecord) (before rounds : List (List Move)) (answer : Result Move TableFault) → before ≡ [] → HasFollowed held old mid before rounds None
     → AnswersAs mid (λ (t : DriverTable). submitting t id unit) answer → LeavesAs mid (λ (t : DriverTable). submitting t id unit) answer new → OnErr answer (new ≡ mid) → HasSubmitted held id unit old new rounds answer
 submit_answered held id unit old mid new before rounds (Ok own) none h answers leaves same t st =
@@ -111,7 +111,7 @@ stands_with value s File kept t st k = record { rs = st.rs; numberers = st.numbe
 stands_with value s Net kept t st k = record { rs = st.rs; numberers = st.numberers; world = st.world; file = st.file; net = k; made = st.made }
 
 module _ (value : SystemRecord) where
-  -- the map of the value's world is the one of the system's
+  -- the map of the value's world is the system's
   own_map : (s : System) → SystemStands value s → (table : Table) (turn : TableTurn) → FollowsItems (held_in value.world (Map (map_number table))) turn → FollowsItems (held_by s.world (Map (map_number table))) turn
   own_map s st table turn f = subst (λ (l : List Item). FollowsItems l turn) (held_is value.world s.world (map_number table) st.world) f
 

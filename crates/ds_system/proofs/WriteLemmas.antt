@@ -1,4 +1,4 @@
--- What a service writes: by which instance it is numbered, what stands against it, and what it leads to.
+-- A service's write: the instance that numbers it, the causes against it, and its effect.
 use Rattle.std.proofs.Common.{◌≡◌, ℕ, ◌+◌, ◌||◌, Bool, true, false, not, cond, List, [], ◌∷◌, ◌++◌, Option, Some, None, Result, Ok, Err, IsOk, refl, ap, sym, ◌∙◌, subst}
 use Rattle.std.specs.List.{slice_set}
 use Rattle.std.specs.Option.{option_map}
@@ -35,8 +35,8 @@ use Rattle.ds_system.specs.Stands.{SystemRecord, SystemStands, SystemEventLeads}
 use Rattle.ds_system.specs.Effects.{instance_at, write_event}
 use Rattle.ds_system.proofs.AskLemmas.{proper_one}
 
--- ---- what is judged
--- the service's instance, as RS told it by its label
+-- ---- the judgement
+-- the service's instance, as RS returned it for the label
 pub up_from : (rs : RsRecord) (label : List ℕ) (i : ℕ) (o : Option State) (state : State) (r : Running) → o ≡ option_map (state_at rs) (place_of_label rs label) → place_of_label rs label ≡ Some i → o ≡ Some state → state ≡ Up r → state_at rs i ≡ Up r
 up_from rs label i o state r told place is up = some (state_at rs i) state (sym (ap (option_map (state_at rs)) place) ∙ (sym told ∙ is)) ∙ up
   where
@@ -75,7 +75,7 @@ module _ (rs : RsRecord) (numberers : List NumbererRecord) (label : List ℕ) (k
           pub drawn_so : is_spent n ≡ false → judged rs numberers label key content ≡ Ok (instance_at i r)
           drawn_so e = in_kind ∙ ap (λ (b : Bool). cond b (Err SeqSpent) (Ok (instance_at i r))) e
 
--- ---- what it leads to
+-- ---- the effect
 change_parts : (c : ChangeRecord) → IsChange c → AreParts c.key c.version c.body
 change_parts c h = record { name = h.name; epoch = h.epoch; seq = h.seq; body = h.body }
 
@@ -83,7 +83,7 @@ asking_proper : (caller : EndpointRecord) (key : Key) (version : Version) (conte
 asking_proper caller key version (Put value) h = h
 asking_proper caller key version Gone h = h
 
--- the fault that was judged, of which NoRoom is none
+-- the judged fault is never NoRoom
 not_room : (numberers : List NumbererRecord) (key : Key) (content : Body) (it : Instance) → judged_kind numberers key content it ≡ Err refusals.NoRoom → ⊥
 not_room numberers key content it e = by (is_of_kind key.kind content) (is_spent (numbers_left numberers it)) e
   where
@@ -122,7 +122,7 @@ module _ (value : SystemRecord) (label : List ℕ) (key : Key) (side : Side) whe
   judged_of : (content : Body) (s : System) → SystemStands value s → judged s.rs s.numberers label key content ≡ judged value.rs value.numberers label key content
   judged_of content s st = ap (λ (r : RsRecord). judged r s.numberers label key content) st.rs ∙ ap (λ (n : List NumbererRecord). judged value.rs n label key content) st.numberers
 
-  -- it is refused
+  -- the write is refused
   refused_of : (content : Body) (fault : SystemFault) → IsWriteFault (judged value.rs value.numberers label key content) fault → (s : System) → SystemStands value s → IsWriteFault (judged s.rs s.numberers label key content) fault
   refused_of content fault h s st = subst (λ (o : Result Instance SystemFault). IsWriteFault o fault) (sym (judged_of content s st)) h
 
@@ -136,7 +136,7 @@ module _ (value : SystemRecord) (label : List ℕ) (key : Key) (side : Side) whe
   pub write_wanting : (content : Body) (it : Instance) → judged value.rs value.numberers label key content ≡ Ok it → SystemEventLeads (write_event label key content side) (Refused refusals.NoRoom) value value
   write_wanting content it e = refused_so content refusals.NoRoom (subst IsOk (sym e) refl)
 
-  -- it is numbered, made, and goes to the store
+  -- the write is numbered, made, and sent to the store
   module _ (content : Body) (it : Instance) (number : Version) (left : NumbererRecord) (reply : Reply) (next : WorldRecord) where
     abbrev pub written : SystemRecord
     written = record value { numberers = slice_set value.numberers it.place left; world = next; made = value.made ++ change_of key label number content ∷ [] }

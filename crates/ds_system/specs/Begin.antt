@@ -1,4 +1,4 @@
--- How a system begins.
+-- The beginning of a system.
 use Rattle.std.specs.Prelude.{◌≡◌, ◌<◌, ◌≤◌, ◌⊎◌, ◌++◌, ℕ, List, [], length, replicate, Option, Result, OnOk}
 use Rattle.std.specs.List.{cons_option, filter_map}
 use Rattle.ds_names.specs.declared.room.NoRoom as room
@@ -25,28 +25,29 @@ use Rattle.ds_system.specs.declared.fault.BeginFault.{BeginFault}
 use Rattle.ds_system.specs.declared.fault.BeginFault.TheVariants.{OutOfRange, BadRing, BadFirst, OldIncarnation, NoRoom}
 use Rattle.ds_system.specs.Stands.{SystemRecord}
 
--- making a map of all labels leads from each world that the old value stands for to one that the new value stands for
+-- A map of all labels is made: it leads from each world that the old value stands for to one that the new value stands
+-- for.
 abbrev pub MakesLabelMap : WorldRecord → WorldRecord → Type 0
 MakesLabelMap old new = (map : ℕ) × EventLeads (NewMap labels_query) (MapMade map) old new
 
--- from each world without maps that the old value stands for, both maps are made in one that the new value stands for
+-- Both maps are made, from each world without maps that the old value stands for to one that the new value stands for.
 abbrev pub MakesTwoMaps : WorldRecord → WorldRecord → Type 0
 MakesTwoMaps old new = (w : World) → WorldStands old w → w.maps ≡ [] → (after : World) × HappenAll w two_maps after × WorldStands new after
 
--- the value stands for the world of two seeds in which both maps were made
+-- The value stands for the world of two seeds in which both maps were made.
 abbrev pub HasBothMaps : Seed → Seed → WorldRecord → Type 0
 HasBothMaps a b world = (after : World) × HappenAll (new_world a b larger) two_maps after × WorldStands world after
 
--- RS of which every service is down
+-- RS with every service down.
 abbrev pub resting_rs : SettingsRecord → ℕ → RsRecord
 resting_rs settings next = rs_of settings (replicate (length settings.services) Down) 0 next (new_slots 16)
 
--- where the old value stands for a table to which these units were assigned, and nothing was refused, the new value stands for that
--- with one more behind them, if there is one
+-- If the old value stands for a table with these units assigned, and nothing was refused, the new value stands for that
+-- table with one more unit, if there is one.
 abbrev pub AddsUnit : Option (ℕ × Driver) → (old new : TableRecord) → Result (Unit {0}) room.NoRoom → Type 0
 AddsUnit unit old new result = (units : List (ℕ × Driver)) → TableStands old (assigned_all units) → OnOk result (TableStands new (assigned_all (units ++ cons_option unit [])))
 
--- the value has RS at rest, no numbers drawn, this world, the tables of the settings' units, and nothing was made
+-- The value has RS at rest, no drawn numbers, this world, the tables of the settings' units, and no made change.
 pub record BeginsOver (settings : SettingsRecord) (next : ℕ) (world : WorldRecord) (value : SystemRecord) : Type 0 where
   pub checked : IsSettings settings
   pub rs : value.rs ≡ resting_rs settings next
@@ -56,17 +57,17 @@ pub record BeginsOver (settings : SettingsRecord) (next : ℕ) (world : WorldRec
   pub net : TableStands value.net (assigned_all (filter_map net_unit settings.services))
   pub made : value.made ≡ []
 
--- RS can start something from this generation on
+-- RS can start something from this generation on.
 pub record IsFirstGeneration (next : ℕ) : Type 0 where
   pub some : 1 ≤ next
   pub few : next ≤ 2097152
 
--- a system can begin: RS can start something, and two stores can be opened with the seeds
+-- A system can begin: RS can start something, and two stores can be opened with the seeds.
 pub record CanBegin (a b : Seed) (next : ℕ) : Type 0 where
   pub first : IsFirstGeneration next
   pub seeds : AreSeeds a b
 
--- why no system begins: the first generation first, then the seeds; memory is wanting only where nothing else stands
+-- Why a system can't begin: the first generation first, then the seeds; NoRoom only if there is no other cause.
 abbrev pub IsBeginFault : BeginFault → Seed → Seed → ℕ → Type 0
 IsBeginFault OutOfRange a b next = (next < 1) ⊎ (2097152 < next)
 IsBeginFault BadRing a b next = IsFirstGeneration next × IsSeedFault seeds.BadRing a b
@@ -74,7 +75,7 @@ IsBeginFault BadFirst a b next = IsFirstGeneration next × IsSeedFault seeds.Bad
 IsBeginFault OldIncarnation a b next = IsFirstGeneration next × IsSeedFault seeds.OldIncarnation a b
 IsBeginFault NoRoom a b next = CanBegin a b next
 
--- the fault of a world's seeds, as one of a system that begins
+-- A fault of a world's seeds, as one of a system that can't begin.
 abbrev pub begin_fault_of : SeedFault → BeginFault
 begin_fault_of seeds.BadRing = BadRing
 begin_fault_of seeds.BadFirst = BadFirst

@@ -1,4 +1,4 @@
--- What the steps of an event come to by what the code keeps: of what goes to a store, and of what a service writes.
+-- The effects of an event's steps on what the code keeps: what goes to a store, and what a service writes.
 use Rattle.std.specs.Prelude.{◌≡◌, ℕ, List, [], ◌∷◌, ◌++◌, length, Option, Some, None, Result}
 use Rattle.ds_names.specs.declared.key.Key.{Key}
 use Rattle.ds_entry.specs.declared.body.Body.{Body}
@@ -20,26 +20,26 @@ use Rattle.system_model.specs.Drawing.{Instance, judged}
 use Rattle.system_model.specs.Steps.{asks_replied, AreProper}
 use Rattle.ds_system.specs.Stands.{SystemRecord}
 
--- a command went to the store of a side, if there was one, and its reply came behind those before
+-- A command, if there is one, went to the store of a side, and its reply was appended.
 abbrev pub AskedIfAny : Side → Option Command → (before after : List Reply) → (old new : WorldRecord) → Type 0
 AskedIfAny side None before after old new = (after ≡ before) × (new ≡ old)
 AskedIfAny side (Some command) before after old new = (reply : Reply) × (after ≡ before ++ reply ∷ []) × IsProper command × EventLeads (Ask side command) (Replied reply) old new
 
--- these commands went to it, one after the other, with these replies
+-- These commands went to it, in order, with these replies.
 pub record AllAsked (side : Side) (commands : List Command) (replies : List Reply) (old new : WorldRecord) : Type 0 where
   pub one_each : length replies ≡ length commands
   pub proper : AreProper (asks_replied side commands replies)
   pub leads : Leads (λ w after. HappenAll w (asks_replied side commands replies) after) old new
 
--- the event by which a service writes: a Put of a value, or a Remove
+-- The event of a service's write: a Put of a value, or a Remove.
 abbrev pub write_event : List ℕ → Key → Body → Side → SystemEvent
 write_event label key (bodies.Put value) side = events.Put label key value side
 write_event label key bodies.Gone side = events.Remove label key side
 
--- the running instance of these two
+-- The running instance at a place.
 abbrev pub instance_at : ℕ → Running → Instance
 instance_at place running = record { place = place; running = running }
 
--- what stands against a change of a service, or the instance that draws a number for it, of what the code keeps
+-- The judgement of a service's change, by what the code keeps.
 abbrev pub judged_by : SystemRecord → List ℕ → Key → Body → Result Instance SystemFault
 judged_by value label key content = judged value.rs value.numberers label key content

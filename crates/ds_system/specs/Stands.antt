@@ -1,4 +1,4 @@
--- What callers see of a system, and for which systems of the definitions it stands.
+-- What callers see of a system, and the systems that this value stands for.
 use Rattle.std.specs.Prelude.{◌≡◌, List}
 use Rattle.ds_entry.specs.Change.{ChangeRecord}
 use Rattle.rs_core.specs.State.{RsRecord}
@@ -21,21 +21,20 @@ pub record SystemRecord : Type 0 where
   pub net : TableRecord
   pub made : List ChangeRecord
 
--- the record of these parts
+-- The record of these parts.
 abbrev pub system_of : RsRecord → List NumbererRecord → WorldRecord → TableRecord → TableRecord → List ChangeRecord → SystemRecord
 system_of rs numberers world file net made = record { rs = rs; numberers = numberers; world = world; file = file; net = net; made = made }
 
--- what is kept of a server's table
 abbrev pub kept_table : SystemRecord → Table → TableRecord
 kept_table value File = value.file
 kept_table value Net = value.net
 
--- the value with another table of a server
+-- The value with a server's table replaced.
 abbrev pub keeping_table : SystemRecord → Table → TableRecord → SystemRecord
 keeping_table value File t = record value { file = t }
 keeping_table value Net t = record value { net = t }
 
--- RS, the numbers and what was made are the system's; the world and the tables stand for its own
+-- RS, the numbers and the made changes are the system's; the world and the tables stand for the system's.
 pub record SystemStands (value : SystemRecord) (s : System) : Type 0 where
   pub rs : s.rs ≡ value.rs
   pub numberers : s.numberers ≡ value.numberers
@@ -44,6 +43,7 @@ pub record SystemStands (value : SystemRecord) (s : System) : Type 0 where
   pub net : TableStands value.net s.net
   pub made : s.made ≡ value.made
 
--- from each system that the old value stands for, the event leads with this outcome to one that the new value stands for
+-- The event leads with this outcome from each system that the old value stands for to one that the new value stands
+-- for.
 abbrev pub SystemEventLeads : SystemEvent → SystemOutcome → SystemRecord → SystemRecord → Type 0
 SystemEventLeads event outcome old new = (s : System) → SystemStands old s → (t : System) × (steps : Steps) × SystemDoes s event outcome steps t × SystemStands new t

@@ -1,4 +1,4 @@
--- What turns and replies come to by what the code keeps of the tables.
+-- The effects of turns and replies on what the code keeps of the tables.
 use Rattle.std.specs.Prelude.{◌≡◌, ℕ, List, [], Option, Some, None, Result, Ok, Err}
 use Rattle.ds_names.specs.Endpoint.{EndpointRecord}
 use Rattle.ds_entry.specs.declared.item.Item.{Item}
@@ -14,7 +14,7 @@ use Rattle.system_model.specs.declared.outcome.SystemOutcome.TheVariants.{Moved}
 use Rattle.system_model.specs.Turn.{TableTurn, FollowsItems}
 use Rattle.system_model.specs.Effects.{Submits, Replies}
 
--- the move of an answer, and its fault
+-- The move of an answer, and its fault.
 abbrev pub own_move_of : Result Move TableFault → Option Move
 own_move_of (Ok own) = Some own
 own_move_of (Err fault) = None
@@ -23,15 +23,15 @@ abbrev pub own_fault_of : Result Move TableFault → Option TableFault
 own_fault_of (Ok own) = None
 own_fault_of (Err fault) = Some fault
 
--- what came of a server's event, behind these rounds
+-- The outcome of a server's event, with these rounds.
 abbrev pub moved_so : List (List Move) → Result Move TableFault → SystemOutcome
 moved_so rounds answer = Moved rounds (own_move_of answer) (own_fault_of answer)
 
--- the table followed the map of a number, by rounds behind those before; a map that isn't there tells nothing
+-- The table followed the map of a number, and its rounds were appended; a map that doesn't exist tells nothing.
 abbrev pub FollowsMap : WorldRecord → ℕ → (old new : TableRecord) → (before after : List (List Move)) → Option TableFault → Type 0
 FollowsMap world map old new before after fault = HasFollowed (held_in world (Map map)) old new before after fault
 
--- the turn is of this table, which follows a map that holds these items; then the request comes, and has this answer
+-- The turn is of this table, which follows a map that holds these items, and then takes the request with this answer.
 pub record IsSubmitTurn (held : List Item) (id unit : ℕ) (t : DriverTable) (rounds : List (List Move)) (answer : Result Move TableFault) (turn : TableTurn) : Type 0 where
   pub before : turn.before ≡ t
   pub follows : FollowsItems held turn
@@ -39,20 +39,20 @@ pub record IsSubmitTurn (held : List Item) (id unit : ℕ) (t : DriverTable) (ro
   pub submits : Submits turn.followed id unit turn.stop turn.own (own_fault_of answer) turn.after
   pub rounds_are : rounds ≡ turn.rounds
 
--- each table that the old value stands for had such a turn, and the new value stands for the table after it
+-- Each table that the old value stands for had such a turn, and the new value stands for the table after it.
 abbrev pub HasSubmitted : List Item → (id unit : ℕ) → (old new : TableRecord) → List (List Move) → Result Move TableFault → Type 0
 HasSubmitted held id unit old new rounds answer = (t : DriverTable) → TableStands old t → (turn : TableTurn) × IsSubmitTurn held id unit t rounds answer turn × TableStands new turn.after
 
--- a reply came to each of them, and has this answer
+-- Each of them took a reply, with this answer.
 abbrev pub HasReplied : EndpointRecord → ℕ → (old new : TableRecord) → Result Move TableFault → Type 0
 HasReplied endpoint id old new answer = (t : DriverTable) → TableStands old t → (after : DriverTable) × Replies t endpoint id (own_move_of answer) (own_fault_of answer) after × TableStands new after
 
--- where nothing ended the other follow, the table followed too, by rounds behind those before
+-- Unless something ended the other follow, the table followed too, and its rounds were appended.
 abbrev pub FollowsUnlessEnded : Option TableFault → List Item → (old new : TableRecord) → (before after : List (List Move)) → Option TableFault → Type 0
 FollowsUnlessEnded None held old new before after fault = HasFollowed held old new before after fault
 FollowsUnlessEnded (Some stop) held old new before after fault = (after ≡ before) × (fault ≡ Some stop) × (new ≡ old)
 
--- the file server's table followed map 0 first, and then the network server's map 1
+-- The file server's table followed map 0 first, and then the network server's map 1.
 abbrev pub ServersFollow : WorldRecord → (file_old file_new net_old net_new : TableRecord) → List (List Move) → Option TableFault → Type 0
 ServersFollow world file_old file_new net_old net_new rounds fault =
     (first : List (List Move)) × (stop : Option TableFault) × FollowsMap world 0 file_old file_new [] first stop × FollowsUnlessEnded stop (held_in world (Map 1)) net_old net_new first rounds fault

@@ -1,4 +1,4 @@
-//! The parts of a system that begins.
+//! The parts of a new system.
 
 ghost use Rattle.std.specs.Prelude.{◌≡◌, ◌≢◌, length, replicate, Err, IfOk, OnOk};
 ghost use Rattle.std.specs.List.{filter_map};
@@ -18,7 +18,7 @@ use rs_core::Numberer;
 use rs_settings::{Class, Service, Settings};
 use std::alloc::Global;
 
-/// What a new system has of its settings.
+/// The parts of a new system that depend on its settings.
 #[derive(Drop)]
 pub(crate) struct Parts {
     pub numberers: Vec<Numberer>,
@@ -26,7 +26,7 @@ pub(crate) struct Parts {
     pub net: NetTable,
 }
 
-// Numbers for so many services, of which no instance drew one.
+// Returns the numbers of `count` services, none of which has drawn one.
 fn no_numbers(alloc: Global, count: usize) -> Result<Vec<Numberer>, NoRoom>
     ensures { IfOk result (λ numberers. numberers.items ≡ replicate count (numberer 0 0)) }
 {
@@ -41,7 +41,6 @@ fn no_numbers(alloc: Global, count: usize) -> Result<Vec<Numberer>, NoRoom>
     Ok(numberers)
 }
 
-// All labels.
 fn labels(alloc: Global) -> Result<Query, NoRoom>
     ensures { IfOk result (λ query. query ≡ labels_query) }
 {
@@ -54,7 +53,7 @@ fn labels(alloc: Global) -> Result<Query, NoRoom>
     })
 }
 
-// Makes a map of all labels. Nothing stands against it but want of memory.
+// Makes a map of all labels. It fails only if memory runs out.
 fn make_map(alloc: Global, world: &mut World) -> Result<(), NoRoom>
     ensures { OnOk result (MakesLabelMap world.old world.new) }
 {
@@ -73,7 +72,6 @@ fn make_maps(alloc: Global, world: &mut World) -> Result<(), NoRoom>
     make_map(alloc, world)
 }
 
-// The world with both maps.
 pub(crate) fn with_maps(alloc: Global, mut world: World) -> Result<World, NoRoom>
     ensures { IfOk result (λ w. MakesTwoMaps world w) }
 {
@@ -81,7 +79,8 @@ pub(crate) fn with_maps(alloc: Global, mut world: World) -> Result<World, NoRoom
     Ok(world)
 }
 
-// Only memory can be wanting for a unit: in checked settings none stands twice, and a table keeps the first of two.
+// Turns a table's answer into out-of-memory or success. In checked settings no unit occurs twice, and a table keeps the
+// first of two.
 fn assigned(answer: Result<(), TableFault>) -> Result<(), NoRoom>
     ensures { OnOk result (answer ≢ Err room) }
 {
@@ -91,7 +90,7 @@ fn assigned(answer: Result<(), TableFault>) -> Result<(), NoRoom>
     }
 }
 
-// Assigns the unit of a service to the file server's table, if the service has one there.
+// Assigns a service's unit to the file server's table, if it has one there.
 fn add_file(table: &mut FileTable, service: &Service) -> Result<(), NoRoom>
     ensures { AddsUnit (file_unit service.now) table.old table.new result }
 {
@@ -106,7 +105,7 @@ fn add_file(table: &mut FileTable, service: &Service) -> Result<(), NoRoom>
     }
 }
 
-// The same for the network server's.
+// Like `add_file`, for the network server's table.
 fn add_net(table: &mut NetTable, service: &Service) -> Result<(), NoRoom>
     ensures { AddsUnit (net_unit service.now) table.old table.new result }
 {
@@ -121,7 +120,7 @@ fn add_net(table: &mut NetTable, service: &Service) -> Result<(), NoRoom>
     }
 }
 
-// The file server's table of the settings' units, in their order.
+// Returns the file server's table, with the settings' units in order.
 fn file_table(alloc: Global, settings: &Settings) -> Result<FileTable, NoRoom>
     ensures { IfOk result (λ table. TableStands table (assigned_all (filter_map file_unit settings.now.services))) }
 {
@@ -138,7 +137,7 @@ fn file_table(alloc: Global, settings: &Settings) -> Result<FileTable, NoRoom>
     Ok(table)
 }
 
-// The network server's.
+// Returns the network server's table, with the settings' units in order.
 fn net_table(alloc: Global, settings: &Settings) -> Result<NetTable, NoRoom>
     ensures { IfOk result (λ table. TableStands table (assigned_all (filter_map net_unit settings.now.services))) }
 {
@@ -155,7 +154,7 @@ fn net_table(alloc: Global, settings: &Settings) -> Result<NetTable, NoRoom>
     Ok(table)
 }
 
-// Numbers of which none was drawn, and both tables of the settings' units.
+// Returns numbers of which none is drawn, and both tables with the settings' units.
 pub(crate) fn parts_of(alloc: Global, settings: &Settings) -> Result<Parts, NoRoom>
     ensures numberers { IfOk result (λ p. p.numberers.items ≡ replicate (length settings.now.services) (numberer 0 0)) }
     ensures file { IfOk result (λ p. TableStands p.file (assigned_all (filter_map file_unit settings.now.services))) }

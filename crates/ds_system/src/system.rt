@@ -1,4 +1,4 @@
-//! Systems.
+//! The system's type, and its runs of events.
 
 ghost use Rattle.std.specs.Prelude.{◌≡◌, ◌≢◌, ◌≤◌, [], length, vec_capacity, IfOk, IfErr, OnOk, OnErr};
 ghost use Rattle.ds_world.specs.Run.{most_events};
@@ -22,13 +22,13 @@ mod writing;
 /// The most events of one run.
 const MOST_EVENTS: usize = 65536;
 
-/// RS, the numbers that its services draw, a world of two stores with map 0 of the file server and map 1 of the network server, both
-/// driver tables, and the changes that RS and the services made.
+/// RS, the numbers that its services draw, a world of two stores (its map 0 is the file server's, its map 1 the network
+/// server's), both driver tables, and the changes that RS and the services made.
 #[derive(Drop)]
 pub struct System {
     alloc: Global,
     rs: Rs,
-    // For each service of the settings the numbers of its instance that drew one last.
+    // For each service of the settings, the numbers of the instance that drew one last.
     numberers: Vec<Numberer>,
     world: World,
     file: FileTable,
@@ -62,16 +62,16 @@ impl Model for System {
 }
 
 impl System {
-    /// Lets the events happen in their order, and gives what came of each. A refused event changes nothing, and the next one
-    /// follows; what RS decided and the numbers that were drawn stand, also where a store refuses what was made of them.
+    /// Runs the events in order, and returns their outcomes. A refused event changes nothing, and the next one follows.
+    /// RS's decisions and drawn numbers remain, even if a store refuses what came of them.
     ///
-    /// Whatever happened since the system was new, in however many runs, the laws of systems hold of all of it, with no premise but
-    /// that the settings were checked: what Asks brought into the stores is single-numbered, so replicas and maps that know the same
-    /// hold the same, and no delivery is stopped by a clash or by another owner; and no Send and no Start of either server goes to
-    /// an older generation.
+    /// The laws of systems hold of everything since the system was new, over all runs, with no premise but that the
+    /// settings were checked. What Asks brought into the stores is single-numbered, so replicas and maps that know the
+    /// same hold the same, and no delivery is stopped by a clash or by another owner. No Send and no Start of either
+    /// server goes to an older generation.
     ///
-    /// TooMany above 65536 events, and NoRoom where there is no room for the outcomes: then nothing happens at all. A run of no
-    /// events takes no memory.
+    /// Refuses more than 65536 events as TooMany, then NoRoom if the outcomes can't be allocated; nothing happens then.
+    /// A run of no events takes no memory.
     pub fn run(&mut self, events: SystemEvents) -> Result<SystemOutcomes, WorldFault>
         ensures one_each { IfOk result (λ outcomes. length outcomes ≡ length events) }
         ensures few { OnOk result (length events ≤ most_events) }
@@ -90,7 +90,7 @@ impl System {
         Ok(self.happen_all(events, outcomes))
     }
 
-    // Lets the events happen. There is room for their outcomes.
+    // Runs the events. The list has room for their outcomes.
     fn happen_all(
         &mut self,
         events: SystemEvents,
@@ -107,7 +107,7 @@ impl System {
         SystemOutcomes::of(outcomes)
     }
 
-    // Lets an event happen, and gives what came of it. A refused event changes nothing.
+    // Runs one event, and returns its outcome. A refused event changes nothing.
     fn happen(&mut self, event: SystemEvent) -> SystemOutcome
         ensures { SystemEventLeads event result self.old self.new }
     {
@@ -132,7 +132,7 @@ impl System {
         }
     }
 
-    /// The world, of which everything can be read.
+    /// Returns the world, which can be read in full.
     pub fn world(&self) -> &World
         ensures { result.now ≡ self.now.world }
     {

@@ -14,10 +14,10 @@ use system_model::{Rounds, SystemOutcome};
 /// The number of the map that the file server follows.
 pub(crate) const FILE_MAP: usize = 0;
 
-/// The number of the network server's.
+/// The number of the map that the network server follows.
 pub(crate) const NET_MAP: usize = 1;
 
-// What came of a server's event.
+// Returns the outcome of a server's event.
 pub(crate) fn moved(rounds: Rounds, answer: Result<Move, TableFault>) -> SystemOutcome
     ensures { result ≡ moved_so rounds answer }
 {
@@ -35,7 +35,7 @@ pub(crate) fn moved(rounds: Rounds, answer: Result<Move, TableFault>) -> SystemO
     }
 }
 
-// A table follows the map of a number. A map that isn't there tells nothing.
+// Follows the map of a number. A map that doesn't exist tells nothing.
 fn follows<T: Drivers>(
     table: &mut T,
     world: &World,
@@ -50,7 +50,7 @@ fn follows<T: Drivers>(
     }
 }
 
-// Both follow their maps, the file server's table first; where that is ended the other one doesn't.
+// Follows both maps, the file server's first; if something ends that, the network server doesn't follow.
 pub(crate) fn servers_follow(
     file: &mut FileTable,
     net: &mut NetTable,
@@ -66,7 +66,7 @@ pub(crate) fn servers_follow(
     }
 }
 
-// A table follows the map of a number, and then takes a request.
+// Follows the map of a number, and then takes a request.
 pub(crate) fn submits<T: Drivers>(
     table: &mut T,
     world: &World,
@@ -84,7 +84,6 @@ pub(crate) fn submits<T: Drivers>(
     }
 }
 
-// A table takes a driver's reply.
 pub(crate) fn replies<T: Drivers>(
     table: &mut T,
     endpoint: Endpoint,

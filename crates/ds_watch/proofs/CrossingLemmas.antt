@@ -1,4 +1,4 @@
--- Subscriptions may cross threads, as the filters that they hold.
+-- Subscriptions may cross threads, like the filters that they hold.
 use denote.Param.Send.{IsSend, IsSync, sendable}
 use denote.Param.SendFields.{declared_send, declared_sync}
 use Rattle.std.proofs.Crossing.{crosses}

@@ -15,7 +15,7 @@ use Rattle.ds_watch.specs.Mask.{has_bit, flags, either}
 use Rattle.ds_watch.specs.MaskBits.{flags_long, flag_at}
 use Rattle.ds_watch.proofs.PlaceLemmas.{either_by_place}
 
--- lists of flags are equal by place
+-- Lists of flags are equal if they are at each place.
 pub same_flags : (xs ys : List Bool) → length xs ≡ length ys → ((i : ℕ) → i < length xs → get_or xs i false ≡ get_or ys i false) → xs ≡ ys
 same_flags [] [] l h = refl
 same_flags [] (y ∷ ys) l h = absurd (omega arith)
@@ -71,7 +71,7 @@ eq_or_not zero (suc k) = inr (λ e. omega (arith, e))
 eq_or_not (suc i) zero = inr (λ e. omega (arith, e))
 eq_or_not (suc i) (suc k) = elim (eq_or_not i k) [ inl e ↦ inl (ap suc e) | inr other ↦ inr (λ e. other (omega (arith, e))) ]
 
--- a number whose bits are another's but for one
+-- A number that differs from another in one bit.
 pub flags_set : (m n k : ℕ) (b : Bool) → k < 128 → has_bit m k ≡ b → ((i : ℕ) → i < 128 → i ≢ k → bit_at m i ≡ bit_at n i) → flags m ≡ set (flags n) k b
 flags_set m n k b l here rest =
     let longm = flags_long m in

@@ -42,7 +42,7 @@ more_by_place f d (suc n) m (x ∷ xs) (b ∷ fs) l within here none =
     ap₂ ◌∷◌ (here 0 (omega arith))
     (more_by_place f d n m xs fs (omega (arith, l)) (omega (arith, within)) (λ k j. here (suc k) (omega (arith, j))) (λ k j. none (suc k) (omega (arith, j))))
 
--- the flags of the first places, and none behind them
+-- The flags of the first places, padded with false.
 pub padded_by_place : {X : Type 0} (f : X → Bool) (d : X) (n : ℕ) (xs : List X) (fs : List Bool) → length fs ≡ 128 → length xs ≡ 128 → n ≤ 128
     → ((k : ℕ) → k < n → get_or fs k false ≡ f (get_or xs k d)) → ((k : ℕ) → n ≤ k → get_or fs k false ≡ false) → fs ≡ padded (map f (take n xs))
 padded_by_place f d n xs fs l long few here none =

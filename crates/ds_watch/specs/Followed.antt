@@ -4,17 +4,18 @@ use Rattle.ds_names.specs.declared.key.Key.{Key}
 use Rattle.ds_pattern.specs.declared.query.Query.{Query}
 use Rattle.ds_pattern.specs.Under.{is_under}
 
--- a subscription, with a flag for each held item, floors first and then changes in key order: whether it is still to be shown
+-- A subscription, with a flag for each held item, floors first and then changes in key order: whether it is still to
+-- be shown.
 pub record Followed : Type 0 where
   pub query : Query
   pub stamp : ℕ
   pub unseen : List Bool
 
--- there is a subscription, and the key is under its query
+-- Whether there is a subscription and the key is under its query.
 abbrev pub owes : Key → Option Followed → Bool
 owes key None = false
 owes key (Some f) = is_under f.query key
 
--- to which of the subscriptions a change of the key is owed
+-- The flags of the subscriptions that are owed a change of the key.
 abbrev pub owed_for : Key → List (Option Followed) → List Bool
 owed_for key subscriptions = map (owes key) subscriptions

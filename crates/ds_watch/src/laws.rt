@@ -1,9 +1,8 @@
-//! The laws of masks.
+//! Laws of masks.
 
 ghost use Rattle.ds_watch.specs.Mask.{PaddingKeepsNumber};
 
-/// A law of masks of fewer places: the number of such a mask is that of its flags alone, whether 64 places are used
-/// or all.
+/// A law: padding flags to all 128 places keeps the mask's number.
 pub fn padding_keeps_number()
     ensures { PaddingKeepsNumber }
 {}

@@ -1,8 +1,8 @@
-//! Subscriptions: what each asks for, what is still to be shown to it, and to which of them changes are owed.
+//! Subscriptions: the query of each, and the masks that say what it is owed and what it is still to be shown.
 //!
-//! A subscriber of MINIX 3's data store (DS) asks for the entries whose names a regular expression matches, is
-//! told that some changed, and then checks which (the DS interface of MINIX 3; Herder and others, DSN 2007).
-//! That there are 128 at most, and that stamps tell one check from another, is of this project.
+//! A subscriber of MINIX 3's data store (DS) registers a regular expression over names. It is notified when a
+//! matching entry changes, and then checks which one (the DS interface of MINIX 3; Herder and others, DSN 2007). The
+//! limit of 128 subscriptions, and the stamps that number checks, are of this project.
 #![tactic(auto)]
 
 mod laws;

@@ -5,7 +5,7 @@ ghost use Rattle.ds_watch.specs.Mask.{mask, either};
 
 use std::marker::Model;
 
-/// Some of the subscriptions, each by the bit of its number.
+/// A set of subscriptions, each by the bit of its number.
 #[derive(Clone, Copy)]
 pub struct Mask {
     bits: u128,
@@ -28,14 +28,14 @@ impl Model for Mask {
 }
 
 impl Mask {
-    /// None of the subscriptions.
+    /// Returns the empty set.
     pub fn none() -> Mask
         ensures { result ≡ replicate 128 false }
     {
         Mask { bits: 0 }
     }
 
-    /// Whether the subscription with this number is one of them.
+    /// Whether the subscription with this number is in the set.
     pub(crate) fn has(self, sub: usize) -> bool
         requires { sub < 128 }
         ensures { result ≡ slice_index_or self sub false }
@@ -43,7 +43,7 @@ impl Mask {
         self.bits & (1 << sub) != 0
     }
 
-    /// These with or without the subscription with this number.
+    /// Returns the set with or without the subscription with this number.
     pub fn put(self, sub: usize, is_in: bool) -> Mask
         requires { sub < 128 }
         ensures value { result ≡ slice_set self sub is_in }
@@ -56,7 +56,7 @@ impl Mask {
         }
     }
 
-    // These and the subscription with this number.
+    // Returns the set with the subscription with this number.
     fn with(self, sub: usize) -> Mask
         requires { sub < 128 }
         ensures value { result ≡ slice_set self sub true }
@@ -67,7 +67,7 @@ impl Mask {
         }
     }
 
-    // These without the subscription with this number.
+    // Returns the set without the subscription with this number.
     fn without(self, sub: usize) -> Mask
         requires { sub < 128 }
         ensures value { result ≡ slice_set self sub false }
@@ -78,14 +78,14 @@ impl Mask {
         }
     }
 
-    /// Those of the other mask are added.
+    /// Adds the subscriptions of the other mask.
     pub fn add(&mut self, other: Mask)
         ensures { self.new ≡ either self.old other }
     {
         self.bits |= other.bits;
     }
 
-    /// The mask as a number, in which the bit of a subscription is its number.
+    /// Returns the mask as a number, in which the bit of a subscription is its number.
     pub fn number(self) -> u128
         ensures { result ≡ mask self }
     {

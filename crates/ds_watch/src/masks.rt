@@ -1,12 +1,12 @@
-//! What stands beside a held change or floor.
+//! The masks beside a held change or floor.
 
 ghost use Rattle.std.specs.Prelude.{◌≡◌, ◌<◌, ◌&&◌, false, slice_index_or};
 ghost use Rattle.ds_watch.specs.Masks.{fresh, shown_to, made_at};
 
 use crate::mask::Mask;
 
-/// Of a held change or floor: the subscriptions to which it is owed, and those that it is still to be shown to. A change is owed
-/// to those under whose query its key is, a floor to all.
+/// The subscriptions that are owed a held change or floor, and those that haven't been shown it. A change is owed to
+/// those under whose query its key is, a floor to all.
 #[derive(Clone, Copy)]
 pub struct Masks {
     under: Mask,
@@ -14,7 +14,7 @@ pub struct Masks {
 }
 
 impl Masks {
-    /// Of what just took effect: it is to be shown to all to which it is owed.
+    /// Returns the masks of what just took effect: no subscription that it is owed to has been shown it.
     pub fn fresh(under: Mask) -> Masks
         ensures { result ≡ fresh under }
     {
@@ -24,14 +24,14 @@ impl Masks {
         }
     }
 
-    /// The subscriptions to which it is owed.
+    /// Returns the subscriptions to which it is owed.
     pub fn under(self) -> Mask
         ensures { result ≡ self.under }
     {
         self.under
     }
 
-    /// Whether it is to be shown to the subscription with this number.
+    /// Whether the subscription with this number is still to be shown it.
     pub fn is_unseen(self, sub: usize) -> bool
         requires { sub < 128 }
         ensures { result ≡ slice_index_or self.unseen sub false }
@@ -39,7 +39,7 @@ impl Masks {
         self.unseen.has(sub)
     }
 
-    /// After it was shown to the subscription with this number.
+    /// Returns the masks after it was shown to the subscription with this number.
     pub fn shown_to(self, sub: usize) -> Masks
         requires { sub < 128 }
         ensures { result ≡ shown_to sub self }
@@ -50,8 +50,8 @@ impl Masks {
         }
     }
 
-    /// After the subscription with this number was made, where its key is under the query or not. It is then
-    /// to be shown to it with `initial` alone.
+    /// Returns the masks after a Subscribe with this number, for a key that is under the query or isn't. The
+    /// subscription is to be shown it only with `initial`.
     pub fn made_at(self, sub: usize, is_under: bool, initial: bool) -> Masks
         requires { sub < 128 }
         ensures made { result ≡ made_at sub is_under initial self }

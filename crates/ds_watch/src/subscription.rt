@@ -9,7 +9,7 @@ use ds_pattern::Filter;
 use std::alloc::Global;
 use std::marker::Model;
 
-/// A query that was taken up, and its stamp. What is still to be shown to it stands beside what is held.
+/// A compiled query and its stamp. What the subscription is still to be shown is marked beside what is held.
 #[derive(Drop)]
 pub struct Subscription {
     filter: Filter,
@@ -25,28 +25,28 @@ impl Model for Subscription {
 }
 
 impl Subscription {
-    /// A subscription to a query, made at this stamp. It takes no memory.
+    /// Returns a subscription to a query, with this stamp. It allocates nothing.
     pub fn new(filter: Filter, stamp: u64) -> Subscription
         ensures { result ≡ watching filter stamp }
     {
         Subscription { filter, stamp }
     }
 
-    /// Whether changes of the key are owed to it.
+    /// Whether it is owed changes of the key.
     pub fn admits(&self, alloc: Global, key: &Key) -> Result<bool, NoRoom>
         ensures { IfOk result (λ yes. yes ≡ is_under self.now.query key.now) }
     {
         self.filter.admits(alloc, key)
     }
 
-    /// The stamp of its last Subscribe or Check.
+    /// Returns the stamp of its last Subscribe or Check.
     pub fn stamp(&self) -> u64
         ensures { result ≡ self.now.stamp }
     {
         self.stamp
     }
 
-    /// It was checked, at this stamp.
+    /// Sets the stamp, after a Check.
     pub fn set_stamp(&mut self, stamp: u64)
         ensures { self.new ≡ stamped stamp self.old }
     {

@@ -11,10 +11,10 @@ use ds_names::{Key, NoRoom};
 use std::alloc::Global;
 use std::marker::Model;
 
-// How many subscriptions there can be at most.
+// The most subscriptions.
 const MOST_PLACES: usize = 128;
 
-/// A place for each subscription, of which there are at most 128.
+/// A place for each subscription, at most 128.
 #[derive(Drop)]
 pub struct Subscriptions {
     places: [Option<Subscription>; MOST_PLACES],
@@ -33,7 +33,7 @@ impl Model for Subscriptions {
 }
 
 impl Subscriptions {
-    /// So many places, at which no subscription is made yet. It takes no memory.
+    /// Returns this many empty places. It allocates nothing.
     pub fn new(places: usize) -> Subscriptions
         requires { places ≤ 128 }
         ensures { result ≡ replicate places None }
@@ -44,7 +44,7 @@ impl Subscriptions {
         }
     }
 
-    /// The subscription with this number.
+    /// Returns the subscription with this number.
     pub fn get(&self, sub: usize) -> Option<&Subscription>
         requires { sub < length self.now }
         ensures { option_copied result ≡ slice_index_or self.now sub None }
@@ -53,7 +53,7 @@ impl Subscriptions {
         self.places[sub].as_ref()
     }
 
-    /// The subscription with this number is made anew. It takes no memory.
+    /// Puts a subscription at the place of this number, instead of the one there. It allocates nothing.
     pub fn put(&mut self, sub: usize, subscription: Subscription)
         requires { sub < length self.old }
         ensures { self.new ≡ slice_set self.old sub (Some subscription) }
@@ -62,7 +62,7 @@ impl Subscriptions {
         self.places[sub] = Some(subscription);
     }
 
-    /// The subscription with this number was checked, at this stamp.
+    /// Sets the stamp of the subscription with this number, after a Check.
     pub fn set_stamp(&mut self, sub: usize, stamp: u64)
         requires { sub < length self.old }
         ensures { self.new ≡ slice_set self.old sub (option_map (stamped stamp) (slice_index_or self.old sub None)) }
@@ -73,8 +73,8 @@ impl Subscriptions {
         }
     }
 
-    /// The subscriptions to which changes of the key are owed, of which none stands behind the last place. It
-    /// asks their patterns, which takes memory.
+    /// Returns the mask of the subscriptions that are owed changes of the key. It runs their patterns, which takes
+    /// memory.
     pub fn owed(&self, alloc: Global, key: &Key) -> Result<Mask, NoRoom>
         ensures { IfOk result (λ owed. owed ≡ padded (map (watches key.now) self.now)) }
     {
@@ -85,7 +85,7 @@ impl Subscriptions {
         Ok(owed)
     }
 
-    /// The subscriptions that are made: what is owed whatever the key is owed to each of them.
+    /// Returns the mask of all subscriptions, which are owed every floor.
     pub fn made(&self) -> Mask
         ensures { result ≡ padded (map is_some self.now) }
     {
@@ -97,7 +97,7 @@ impl Subscriptions {
     }
 }
 
-// Whether there is a subscription, and changes of the key are owed to it.
+// Whether there is a subscription, and it is owed changes of the key.
 fn is_owed(alloc: Global, place: &Option<Subscription>, key: &Key) -> Result<bool, NoRoom>
     ensures { IfOk result (λ yes. yes ≡ watches key.now place.now) }
 {

@@ -26,7 +26,7 @@ use Rattle.ds_world.specs.World.{WorldRecord, map_state, HasItems}
 use Rattle.ds_world.specs.Account.{IsFor}
 use Rattle.ds_world.proofs.StandLemmas.{all_items}
 
--- what items stand for that somebody gives is something that he knows
+-- what a holder's items stand for is something that it knows
 given_within : (known items brought : List Item) → IsPartOf known brought → AreWithin brought (given known items)
 given_within known items brought part s h i k =
     let j = Contains-from_map (sent_by known) items s h in
@@ -34,7 +34,7 @@ given_within known items brought part s h i k =
     part i (Contains-from_filter (covers j.0) known i there).0
 
 -- ---- a map
--- that was given what it holds by somebody who knows just that
+-- whose items are from a holder that knows exactly what the map holds
 abbrev map_account : SubMapRecord → MapAccount
 map_account m = record { query = m.query; taken = given (held_items m.held) (held_items m.held) }
 
@@ -78,7 +78,7 @@ maps_fit (m ∷ maps) brought all part = (
 )
 
 -- ---- messages
--- that whoever knows just their items gave
+-- from a holder that knows exactly their items
 abbrev message_account : List Item → List Sent
 message_account items = given items items
 

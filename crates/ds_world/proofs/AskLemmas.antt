@@ -61,7 +61,7 @@ merge_none _ f = absurd f
 not_true : true ≡ false → ⊥
 not_true e = cc
 
--- a command to which a store gives nothing gets no items
+-- a command whose reply has no items gets none
 pub none_given : (command : Command) (reply : Reply) → gives_items command ≡ false → IsReplyTo command reply → items_given reply ≡ None
 none_given (Publish caller key version value overwrite) reply e f = asked_none reply f
 none_given (Delete caller key version) reply e f = asked_none reply f
@@ -93,7 +93,7 @@ same_messages : (w : World) (side : Side) (s : State) → (with_state w side s).
 same_messages w A s = refl
 same_messages w B s = refl
 
--- what stands against a command that is asked where there are so many messages
+-- the fault against a command when there are this many messages
 abbrev full_fault : Command → ℕ → Option EventFault
 full_fault command many = cond (gives_items command && nat_le most_messages many) (Some MessagesFull) None
 
@@ -184,7 +184,7 @@ few_free command messages few = ap (λ x. gives_items command && x) (lt-leb most
     and_false true = refl
     and_false false = refl
 
--- ---- an Ask that is refused before the store is asked
+-- ---- an Ask that is refused before the store gets it
 pub messages_full : (value : WorldRecord) (side : Side) (command : Command) → gives_items command ≡ true → most_messages ≤ length value.messages → EventLeads (Ask side command) (Rejected MessagesFull) value value
 messages_full value side command gives full w s =
     let e : gives_items command && nat_le most_messages (length w.messages) ≡ true =

@@ -34,7 +34,7 @@ carried {event' = event'} {outcome = outcome} {outcome' = outcome'} {old = old} 
     subst (λ (v : WorldRecord). EventLeads event' outcome' old' v) is
     (subst (λ (v : WorldRecord). EventLeads event' outcome' v new) was (subst (λ (x : Outcome). EventLeads event' x old new) o (subst (λ (x : Event). EventLeads x outcome old new) e leads)))
 
--- and tells the same
+-- and reports the same
 pub told_so : {event event' : Event} {outcome outcome' : Outcome} {old old' new new' : WorldRecord} → event ≡ event' → outcome ≡ outcome' → old ≡ old' → new ≡ new' → IsTold event outcome old new → IsTold event' outcome' old' new'
 told_so {event' = event'} {outcome = outcome} {outcome' = outcome'} {old = old} {old' = old'} {new = new} e o was is told =
     subst (λ (v : WorldRecord). IsTold event' outcome' old' v) is
@@ -68,7 +68,7 @@ module _ (value : WorldRecord) (k : ℕ) (count : Option ℕ) where
     pub too_many_for_map : (j : ℕ) (m : SubMapRecord) → slice_get value.maps j ≡ Some m → length items < count_of count items → EventLeads (Deliver k (Map j) count) (Refused TooMany) value value
     too_many_for_map j m e l w s = (w, (by_items w (Map j) s ∙ by_count w j m s e ∙ ap (λ b. cond b (Some TooMany) None) (lt-ltb (length items) (count_of count items) l), refl), s)
 
-    -- ---- so many items are there
+    -- ---- there are at least `count` items
     module _ (few : count_of count items ≤ length items) (tally : Tally) where
       -- whatever the tally, its outcome isn't a refusal
       happens : (w new : World) (holder : Holder) → delivery_fault w holder count items ≡ None → WorldStands value w → Delivers w k holder count (tally_outcome tally tally.stop) new
@@ -85,7 +85,7 @@ module _ (value : WorldRecord) (k : ℕ) (count : Option ℕ) where
       message_there : (w : World) → WorldStands value w → slice_get w.messages k ≡ Some items
       message_there w s = message_is value w k s ∙ there
 
-      -- it led to such a world, in whose store want of memory came last
+      -- it led to such a world, and lack of memory came last for its store
       abbrev pub Led : Side → WorldRecord → Type 0
       Led side new =
           (w : World) → WorldStands value w → (after : World) × Happens w (Deliver k (Store side) count) (tally_outcome tally tally.stop) after
@@ -117,7 +117,7 @@ module _ (value : WorldRecord) (k : ℕ) (count : Option ℕ) where
       pub led : (side : Side) (new : WorldRecord) → Led side new → EventLeads (Deliver k (Store side) count) (tally_outcome tally tally.stop) value new
       led side new to w s = let there = to w s in (there.0, there.1, there.3)
 
-      -- and want of memory came last
+      -- and lack of memory came last
       pub store_told : (side : Side) (new : WorldRecord) → Led side new → new.messages ≡ value.messages → IsTold (Deliver k (Store side) count) (tally_outcome tally tally.stop) value new
       store_told side new to same = (
         λ others e. subst (λ (l : List Item). IsStoreTold (Deliver k (Store side) count) side (take (count_of count l) l) (tally_outcome tally tally.stop) value new)
@@ -157,7 +157,7 @@ map_at [] j l = absurd (omega (arith, l))
 map_at (m ∷ maps) zero l = (m, refl)
 map_at (m ∷ maps) (suc j) l = map_at maps j (omega (arith, l))
 
--- ---- what a delivery to a map tells
+-- ---- what a delivery to a map reports
 set_there : (maps : List SubMapRecord) (j : ℕ) (old new : SubMapRecord) → slice_get maps j ≡ Some old → slice_get (slice_set maps j new) j ≡ Some new
 set_there [] j old new e = absurd (cc)
 set_there (m ∷ maps) zero old new e = refl

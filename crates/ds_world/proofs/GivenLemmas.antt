@@ -30,7 +30,7 @@ extended_append : (xs ys : List (Event × Outcome)) (account : Account) → exte
 extended_append [] ys account = refl
 extended_append (x ∷ xs) ys account = extended_append xs ys (extended account x.0 x.1)
 
--- the account now is the one behind what was asked
+-- the account now is the one after the command
 pub now_after : (account : Account) (events : List (Event × Outcome)) (side : Side) (command : Command) (k : ℕ) (g : WasGiven events side command k)
     → account_after (extended_all account g.before) side command k g.since ≡ extended_all account events
 now_after account events side command k g = sym (extended_append g.before ((Ask side command, Made k) ∷ g.since) account) ∙ ap (extended_all account) g.all

@@ -36,7 +36,7 @@ use Rattle.ds_world.proofs.ReplyLemmas.{all_proper, happened}
 use Rattle.ds_world.proofs.StandLemmas.{held_is, message_is}
 use Rattle.ds_entry.specs.Under.{under, entries_of}
 
--- what stands at a place is in the list
+-- the element at an index is in the list
 get_contains : {X : Type 0} (xs : List X) (k : ℕ) (x : X) → slice_get xs k ≡ Some x → Contains xs x
 get_contains [] k x e = absurd (cc)
 get_contains (y ∷ xs) zero x e = let same : y ≡ x = cc in subst (Contains (y ∷ xs)) same (Contains-head y xs)

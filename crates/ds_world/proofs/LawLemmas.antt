@@ -1,4 +1,4 @@
--- What holds behind events and their outcomes, in one record.
+-- What holds after events and their outcomes, in one record.
 use Rattle.std.proofs.Common.{List, ◌++◌, All}
 use Rattle.ds_submap.specs.Map.{IsMap}
 use Rattle.ds_machine.specs.Says.{SnappedSays, PagedSays, JournaledSays}

@@ -27,14 +27,14 @@ use Rattle.ds_world.proofs.StandLemmas.{map_is, lt_false}
 use Rattle.std.proofs.lemmas.Bool.{le-leb, lt-leb, lt-ltb}
 
 -- ---- a map is made
--- a map to which nothing came holds nothing
+-- a map that got nothing holds nothing
 empty_state : (query : Query) → map_state (empty_map query) ≡ new_map query
 empty_state query = ap (λ (l : List Item). record { query = query; held = l }) (nothing_is_held larger)
 
 many : (value : WorldRecord) (w : World) → WorldStands value w → length w.maps ≡ length value.maps
 many value w s = ap (λ (l : List MapState). length l) s.maps ∙ length-map value.maps map_state
 
--- what stands against a query where there are few maps
+-- the fault against a query when there are few maps
 few_fault : (value : WorldRecord) (w : World) (query : Query) → WorldStands value w → length value.maps < most_maps → map_fault w query ≡ pattern_fault query
 few_fault value w query s few =
     ap (λ b. cond b (Some MapsFull) (pattern_fault query)) (ap (λ n. nat_le most_maps n) (many value w s) ∙ lt-leb most_maps (length value.maps) few)
@@ -53,7 +53,7 @@ bad_pattern : (query : Query) → length query.text ≤ 128 → is_pattern query
 bad_pattern query l e =
     ap (λ b. cond b (Some TooLong) (cond (not (is_pattern query.text)) (Some BadPattern) None)) (fits query l) ∙ ap (λ b. cond (not b) (Some BadPattern) None) e
 
--- for want of room a pattern may have any fault but its length
+-- when memory runs out, a pattern may have any fault but its length
 none_or_bad : (query : Query) → length query.text ≤ 128 → (pattern_fault query ≡ None) ⊎ (pattern_fault query ≡ Some BadPattern)
 none_or_bad query l = by_test (is_pattern query.text) refl
   where

@@ -1,4 +1,4 @@
--- That Merges one after the other are what the definitions of deliveries say.
+-- Merges in order are what the definitions of deliveries say.
 use Rattle.std.proofs.Common.{◌≡◌, ◌≢◌, Bool, true, false, not, is_some, ℕ, zero, suc, max, ◌+◌, ◌<◌, ◌≤◌, ◌^◌, List, [], ◌∷◌, ◌++◌, length, map, take, Option, Some, None}
 use Rattle.std.proofs.Common.{refl, ap, ap₂, sym, ◌∙◌, subst, inl, inr, arith, append-nil, length-append, Contains}
 use Rattle.std.specs.List.{flat_map}
@@ -51,7 +51,7 @@ AreFew groups = (group : List Item) → Contains groups group → length group �
 singles_few : (items : List Item) → AreFew (singles items)
 singles_few items group h = let m = Contains-from_map (λ (i : Item). i ∷ []) items group h in subst (λ (x : List Item). length x ≤ most_items) m.2 (omega arith)
 
--- ---- Merges and those behind them
+-- ---- Merges and those after them
 masks_joined : (a b c : ℕ) → bit_or (bit_or a b) c ≡ bit_or a (bit_or b c)
 masks_joined a b c =
     same_from_bits (bit_or (bit_or a b) c) (bit_or a (bit_or b c))
@@ -69,7 +69,7 @@ counts_same {stop = stop} d t s o =
 none_before : (u : Tally) → both_tallied (ended 0 0 None) u ≡ u
 none_before u = counts_same (omega arith) (omega arith) (omega arith) (or_zero_l u.owed)
 
--- none behind
+-- none after it
 none_behind : (done taken stale owed : ℕ) → added done taken stale owed (ended 0 0 None) ≡ tallied done taken stale owed None
 none_behind done taken stale owed = counts_same (omega arith) (omega arith) (omega arith) (or_zero_r owed)
 
@@ -93,7 +93,7 @@ groups_append s mid new (g ∷ gs) hs t u (reply, at, step, follow) none rest = 
     by_reply (Refused fault) again (e, f) = absurd (stopped_not e none)
     by_reply _ again f = absurd f
 
--- where they were stopped, nothing more is asked
+-- after a Merge that stopped, nothing more is merged
 groups_stopped : (s new : State) (gs hs : List (List Item)) (t : Tally) (fault : Refusal) → GroupsAreMerged s gs t new → t.stop ≡ Some fault → GroupsAreMerged s (gs ++ hs) t new
 groups_stopped s new [] hs t fault m some = absurd (let e = ap (λ (k : Tally). k.stop) m.0 in cc)
 groups_stopped s new (g ∷ gs) hs t fault (reply, at, step, follow) some = (reply, at, step, by_reply reply (λ later more e. groups_stopped at new gs hs later fault more e) follow)
@@ -161,8 +161,8 @@ counts_one n (MergeStopped done fault owed) c = record { all = λ none. absurd (
 counts_one n (Refused fault) c = record { all = λ none. absurd (let e : Some fault ≡ None = none in cc); few = omega arith; within = omega arith }
 counts_one n _ c = absurd c
 
--- ---- where want of memory is told
--- a place among the first items, and one behind them
+-- ---- where lack of memory is reported
+-- an index among the first items, and one after them
 in_front : (xs ys : List Item) (k : ℕ) (x : Item) → slice_get xs k ≡ Some x → slice_get (xs ++ ys) k ≡ Some x
 in_front [] ys k x e = absurd (cc)
 in_front (y ∷ xs) ys zero x e = e
@@ -172,7 +172,7 @@ behind : (xs ys : List Item) (k : ℕ) → slice_get (xs ++ ys) (length xs + k) 
 behind [] ys k = ap (slice_get ys) (let e : 0 + k ≡ k = omega arith in e)
 behind (x ∷ xs) ys k = ap (slice_get (x ∷ xs ++ ys)) (let e : length (x ∷ xs) + k ≡ suc (length xs + k) = omega arith in e) ∙ behind xs ys k
 
--- a Merge that wants memory leaves what its first items made
+-- a Merge that runs out of memory leaves what its first items made
 module _ (s t : State) (items : List Item) (done owes : ℕ) where
   -- what a Merge answers that a fault stopped, or none
   abbrev answered : Option Refusal → Reply
@@ -211,7 +211,7 @@ front_want xs ys done None t w = tt
 front_want xs ys done (Some NoRoom) t w = record { item = w.item; is_next = in_front xs ys done w.item w.is_next; lacks = w.lacks }
 front_want xs ys done (Some _) t w = tt
 
--- of the others behind a group
+-- of the others after a group
 later_want : (group rest : List Item) (done : ℕ) (stop : Option Refusal) (t : State) → IsWantLast rest done stop t → IsWantLast (group ++ rest) (length group + done) stop t
 later_want group rest done None t w = tt
 later_want group rest done (Some NoRoom) t w = record { item = w.item; is_next = behind group rest done ∙ w.is_next; lacks = w.lacks }

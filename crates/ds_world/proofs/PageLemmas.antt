@@ -1,4 +1,5 @@
--- Messages of a run are turns of the stores that gave them; snapshots are whole, the journal goes on, and all pages are whole with it.
+-- Messages of a run are turns of their stores; snapshots are whole, the journal extends what is whole, and all pages
+-- are whole with it.
 use Rattle.std.proofs.Common.{◌≡◌, ℕ, ◌≤◌, Bool, true, false, List, [], ◌∷◌, ◌++◌, take, Option, None, Some, refl, ap, sym, ◌∙◌, subst, append-nil}
 use Rattle.std.specs.Prelude.{MatchBool}
 use Rattle.std.specs.List.{filter, flat_map, slice_get}

@@ -1,4 +1,4 @@
--- That messages stay, and are the replies that stores gave.
+-- Messages stay, and are the stores' replies.
 use Rattle.std.proofs.Common.{◌≡◌, ℕ, List, [], ◌∷◌, ◌++◌, length, append-nil, append_assoc, None, Some, refl, ap, sym, ◌∙◌, subst, inl, inr, Contains}
 use Rattle.std.specs.List.{slice_get}
 use Rattle.ds_entry.proofs.Members.{Contains-nil, Contains-cons}
@@ -59,16 +59,16 @@ all_proper old new (x ∷ events) told e h = elim (Contains-cons x events e h) [
   | inr k ↦ all_proper told.0 new events told.3 e k
 ]
 
--- what was told of one event was told of a list of that one
+-- what one event reports, a list of that one event reports
 pub told_alone : (event : Event) (outcome : Outcome) (old new : WorldRecord) → EventLeads event outcome old new → IsTold event outcome old new → AreTold old ((event, outcome) ∷ []) new
 told_alone event outcome old new leads told = (new, leads, told, refl)
 
--- ---- what was told of two parts of a list
+-- ---- what two parts of a list report
 in_two : (xs ys : List (Event × Outcome)) (old new : WorldRecord) → AreTold old (xs ++ ys) new → (mid : WorldRecord) × AreTold old xs mid × AreTold mid ys new
 in_two [] ys old new told = (old, refl, told)
 in_two (x ∷ xs) ys old new told = let rest = in_two xs ys told.0 new told.3 in (rest.0, (told.0, told.1, told.2, rest.1), rest.2)
 
--- and of two lists, one behind the other
+-- and of two lists, joined
 pub told_on : (xs ys : List (Event × Outcome)) (old mid new : WorldRecord) → AreTold old xs mid → AreTold mid ys new
     → AreTold old (xs ++ ys) new
 told_on [] ys old mid new one two = subst (λ (v : WorldRecord). AreTold v ys new) one two
@@ -88,7 +88,7 @@ behind : (front : List Reply) (reply : Reply) (rest : List Reply) → slice_get 
 behind [] reply rest = refl
 behind (x ∷ front) reply rest = behind front reply rest
 
--- how a store was asked for a message that is there now
+-- the Ask whose message is there now
 pub record WasAsked (before since : List (Event × Outcome)) (side : Side) (command : Command) (k : ℕ) (w : World) (new : WorldRecord) : Type 0 where
   pub mid : World
   pub before_happens : HappenAll w before mid

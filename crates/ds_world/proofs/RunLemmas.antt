@@ -1,4 +1,4 @@
--- How a run goes on.
+-- How a run continues.
 use Rattle.std.proofs.Common.{◌≡◌, ◌<◌, List, [], ◌∷◌, ◌++◌, length, length-append, append-nil, refl, sym, ◌∙◌, subst, arith}
 use Rattle.ds_replica.specs.declared.event.Event.{Event}
 use Rattle.ds_replica.specs.declared.outcome.Outcome.{Outcome}
@@ -24,7 +24,7 @@ run_more events outcomes old mid new event outcome e run one w s =
     let next = one went.0 went.2 in
     (next.0, happen_more events outcomes w went.0 next.0 event outcome e went.1 next.1, next.2)
 
--- and so do the values, one after the other
+-- and so do the values, in order
 pub told_more : (events : List Event) (outcomes : List Outcome) (old mid new : WorldRecord) (event : Event) (outcome : Outcome) → length outcomes ≡ length events → AreTold old (paired events outcomes) mid → EventLeads event outcome mid new
     → IsTold event outcome mid new → AreTold old (paired (events ++ event ∷ []) (outcomes ++ outcome ∷ [])) new
 told_more [] [] old mid new event outcome e run leads told = (new, subst (λ (x : WorldRecord). EventLeads event outcome x new) run leads, subst (λ (x : WorldRecord). IsTold event outcome x new) run told, refl)

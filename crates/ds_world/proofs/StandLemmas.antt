@@ -42,7 +42,7 @@ held_is value w (Store A) s = sym s.a.held
 held_is value w (Store B) s = sym s.b.held
 held_is value w (Map j) s = ap map_held (map_is value w j s)
 
--- where each message has items, there are worlds for which the value stands, if both stores stand for states
+-- if each message has items and both stores stand for states, the value stands for some world
 items_there : (o : Option (List Item)) → is_some o ≡ true → (items : List Item) × (o ≡ Some items)
 items_there None e = absurd (let n : false ≡ true = e in cc)
 items_there (Some items) e = (items, refl)

@@ -54,7 +54,7 @@ floor_not_clash : (v : Version) (o : Option ℕ) (count generation : ℕ) → An
 floor_not_clash v None count generation a = a
 floor_not_clash v (Some held) count generation a = a
 
--- what a map's holder says against an item stands against it
+-- a map's fault against an item applies to it
 pub stands : (held : Holding) → IsSound held → (i : Item) (fault : JoinFault) → IsItemRefused held i fault → StandsAgainst (held_items held) i (refusal_of_join fault)
 stands held sound (Changed c) NotOwner r = of_owner held sound c (held_for held c.key) refl (is_void_at held c) r
 stands held sound (Changed c) (Clash v) r = of_clash held sound c v (held_for held c.key) refl (is_void_at held c) r
@@ -65,7 +65,7 @@ stands held sound (Floored f) (Clash v) r = floor_not_clash v (floor_for held f.
 stands held sound (Floored f) Full r = tt
 stands held sound (Floored f) NoRoom r = tt
 
--- want of room stands against every item
+-- lack of memory applies to every item
 wants_room : (held : List Item) (i : Item) → StandsAgainst held i refusals.NoRoom
 wants_room held (Changed c) = tt
 wants_room held (Floored f) = tt

@@ -1,4 +1,4 @@
--- What accounts say of a world's value: the headline's statements, read off what callers see.
+-- What accounts say about a world's value: the headline's statements in terms of what callers see.
 use Rattle.std.specs.Prelude.{◌≡◌, ◌⊎◌, ℕ, ◌≤◌, Bool, true, false, List, ◌∷◌, ◌++◌, Option, Some, Contains}
 use Rattle.std.specs.List.{slice_get}
 use Rattle.ds_names.specs.declared.key.Key.{Key}
@@ -39,72 +39,85 @@ use Rattle.ds_world.specs.World.{WorldRecord, held_in, store_in, kept_items, Wor
 use Rattle.ds_names.specs.Key.{label_key}
 use Rattle.ds_entry.specs.Under.{under, entries_of}
 
--- the account fits a world for which the value stands
+-- The account fits a world that the value stands for.
 abbrev pub IsFor : Account → WorldRecord → Type 0
 IsFor account value = (w : World) × WorldStands value w × Fits account w
 
--- *agreement*: holders that know the same under a query hold the same under it, tombstones, versions and floors too, and so
--- equal entries, if all that Asks brought in is exact
+-- *agreement*: holders that know the same under a query hold the same under it, tombstones, versions and floors
+-- included, and so have equal entries, if everything brought is exact.
 abbrev pub Agrees : Account → WorldRecord → Type 0
 Agrees account value =
     (query : Key → Bool) (h i : Holder) → AreExact account.brought → KnowSame query (known_at account h) (known_at account i) →
-    (under query (held_in value h) ≡ under query (held_in value i)) × (entries_of (under query (held_in value h)) ≡ entries_of (under query (held_in value i)))
+    (under query (held_in value h) ≡ under query (held_in value i)) ×
+    (entries_of (under query (held_in value h)) ≡ entries_of (under query (held_in value i)))
 
--- *catch-up*: a map that has all of a store, and nothing else, holds just what the store holds under its query, if all that Asks
--- brought in is exact
+-- *catch-up*: a map that has all of a store, and nothing else, holds exactly what the store holds under its query, if
+-- everything brought is exact.
 abbrev pub CatchesUp : Account → WorldRecord → Type 0
 CatchesUp account value =
     (j : ℕ) (m : MapAccount) (side : Side) → AreExact account.brought → HasAll account j m side → HasNothingElse account m side →
-    (held_in value (Map j) ≡ under (is_under m.query) (held_in value (Store side))) × (entries_of (held_in value (Map j)) ≡ entries_of (under (is_under m.query) (held_in value (Store side))))
+    (held_in value (Map j) ≡ under (is_under m.query) (held_in value (Store side))) ×
+    (entries_of (held_in value (Map j)) ≡ entries_of (under (is_under m.query) (held_in value (Store side))))
 
--- told more, it holds for each key under its query at least the store's version
+-- A map that was given more holds at least the store's version of each key under its query.
 abbrev pub KeepsUp : Account → WorldRecord → Type 0
-KeepsUp account value = (j : ℕ) (m : MapAccount) (side : Side) → HasAll account j m side → CoversAll (held_in value (Map j)) (under (is_under m.query) (held_in value (Store side)))
+KeepsUp account value =
+    (j : ℕ) (m : MapAccount) (side : Side) → HasAll account j m side →
+    CoversAll (held_in value (Map j)) (under (is_under m.query) (held_in value (Store side)))
 
--- *no older generation*: such a map's label, as the map reads it, is for each name whose label is under its query the endpoint
--- of the greatest generation that the store knows, or none where that one is gone; exact or not
+-- *no older generation*: for each label under such a map's query, the map returns the endpoint of the greatest
+-- generation that the store knows, or none if that one has ended. Exactness isn't needed.
 abbrev pub NamesNewest : Account → WorldRecord → Type 0
 NamesNewest account value =
     (j : ℕ) (m : MapAccount) (n : SubMapRecord) (side : Side) (name : List ℕ) → slice_get value.maps j ≡ Some n →
     AreItems account.brought → HasAll account j m side → HasNothingElse account m side →
     is_under m.query (label_key name) ≡ true → IsNewest (store_of account side).known name (endpoint_of_label n.held name)
 
--- *no stop by clash or owner*: no two changes of a key that are held, or can be delivered, have two owners, or two bodies at
--- one version, if all that Asks brought in is single-numbered
+-- *no stop by clash or owner*: no two changes of one key that are held or can be delivered have two owners, or two
+-- bodies at one version, if everything brought is single-numbered.
 abbrev pub IsFoundIn : WorldRecord → Item → Type 0
-IsFoundIn value i = ((h : Holder) × Contains (held_in value h) i) ⊎ ((k : ℕ) × (items : List Item) × (kept_items value.messages k ≡ Some items) × Contains items i)
+IsFoundIn value i =
+    ((h : Holder) × Contains (held_in value h) i) ⊎
+    ((k : ℕ) × (items : List Item) × (kept_items value.messages k ≡ Some items) × Contains items i)
 
 abbrev pub NothingClashes : Account → WorldRecord → Type 0
 NothingClashes account value =
-    (c d : ChangeRecord) → AreSingleNumbered account.brought → IsFoundIn value (Changed c) → IsFoundIn value (Changed d) → c.key ≡ d.key → (c.owner ≡ d.owner) × (c.version ≡ d.version → c ≡ d)
+    (c d : ChangeRecord) → AreSingleNumbered account.brought → IsFoundIn value (Changed c) → IsFoundIn value (Changed d) → c.key ≡ d.key →
+    (c.owner ≡ d.owner) × (c.version ≡ d.version → c ≡ d)
 
--- and no delivery among these events is stopped by such a fault
+-- No delivery among these events stops by such a fault.
 abbrev pub NothingStops : Account → List (Event × Outcome) → Type 0
 NothingStops account events =
-    (before since : List (Event × Outcome)) (k : ℕ) (holder : Holder) (count : Option ℕ) (done : ℕ) (fault : Refusal) (owed : ℕ) → before ++ (Deliver k holder count, Stopped done fault owed) ∷ since ≡ events →
+    (before since : List (Event × Outcome)) (k : ℕ) (holder : Holder) (count : Option ℕ) (done : ℕ) (fault : Refusal) (owed : ℕ) →
+    before ++ (Deliver k holder count, Stopped done fault owed) ∷ since ≡ events →
     AreSingleNumbered (extended_all account before).brought → ¬ IsContradiction fault
 
--- *floors*: where a holder knows a floor, it holds nothing that the floor makes void
+-- *floors*: a holder that knows a floor holds nothing that the floor makes void.
 abbrev pub NothingBelowFloors : Account → WorldRecord → Type 0
-NothingBelowFloors account value = (h : Holder) (f : Floor) (c : ChangeRecord) → Contains (known_at account h) (Floored f) → Contains (held_in value h) (Changed c) → voids f c ≡ false
+NothingBelowFloors account value =
+    (h : Holder) (f : Floor) (c : ChangeRecord) → Contains (known_at account h) (Floored f) → Contains (held_in value h) (Changed c) →
+    voids f c ≡ false
 
--- and these events brought nothing that a floor known before them makes void, unless they emptied the holder
+-- These events bring nothing that a floor known before them makes void, unless they empty the holder.
 abbrev pub FloorsStand : Account → List (Event × Outcome) → WorldRecord → Type 0
 FloorsStand account events new =
-    (h : Holder) (f : Floor) (c : ChangeRecord) → Stays h events → Contains (known_at account h) (Floored f) → Contains (held_in new h) (Changed c) → voids f c ≡ false
+    (h : Holder) (f : Floor) (c : ChangeRecord) → Stays h events → Contains (known_at account h) (Floored f) →
+    Contains (held_in new h) (Changed c) → voids f c ≡ false
 
--- *wholeness*: what is whole for a store stays so over these events, unless they restart the store
+-- *wholeness*: what is whole for a store stays whole over these events, unless they restart the store.
 abbrev pub StaysWhole : Account → List (Event × Outcome) → Type 0
 StaysWhole account events =
-    (side : Side) (query : Key → Bool) (items : List Sent) (r : ℕ) → Stays (Store side) events → r ≤ position (store_of account side).state.feed → IsWhole (store_of account side).state.feed query items r →
+    (side : Side) (query : Key → Bool) (items : List Sent) (r : ℕ) → Stays (Store side) events →
+    r ≤ position (store_of account side).state.feed → IsWhole (store_of account side).state.feed query items r →
     IsWhole (store_of (extended_all account events) side).state.feed query items r
 
--- all that Asks brought in keeps the rules of changes and of floors, if all did that was brought in before these events
+-- Everything brought keeps the rules of changes and floors, if everything brought before these events did.
 abbrev pub StayItems : Account → List (Event × Outcome) → Type 0
 StayItems account events = AreItems account.brought → AreItems (extended_all account events).brought
 
--- a store's turns in these events are a run of its machine, unless they restart the store
+-- A store's turns in these events are a run of its machine, unless they restart the store.
 abbrev pub TurnsAreRun : WorldRecord → List (Event × Outcome) → WorldRecord → Type 0
 TurnsAreRun old events new =
     (w : World) (side : Side) → WorldStands old w → Stays (Store side) events →
-    (after : World) × (commands : List Command) × (replies : List Reply) × Run (store_at w side) commands replies (store_at after side) × contents.ContentStands (store_in new side) (store_at after side)
+    (after : World) × (commands : List Command) × (replies : List Reply) × Run (store_at w side) commands replies (store_at after side) ×
+    contents.ContentStands (store_in new side) (store_at after side)

@@ -1,4 +1,4 @@
--- What holds behind events and their outcomes, of an account that fitted the world before them.
+-- What holds after events and their outcomes, for an account that fitted the world before them.
 use Rattle.std.specs.Prelude.{List, ◌++◌}
 use Rattle.ds_replica.specs.declared.event.Event.{Event}
 use Rattle.ds_replica.specs.declared.outcome.Outcome.{Outcome}
@@ -9,14 +9,14 @@ use Rattle.ds_world.specs.Messages.{SnapshotsAreWhole, SincesAreTurns, SinceMess
 use Rattle.ds_world.specs.Pages.{AllPagesAreWhole}
 use Rattle.ds_world.specs.Told.{AreTold}
 
--- The value came of these events, with these outcomes, from one that the account fitted, in however many runs: of no events where
--- the account fits it.
+-- These events with these outcomes, in any number of runs, led here from a value that the account fitted. With no
+-- events, the account fits this value.
 pub record CameSince (known : Account) (told : List (Event × Outcome)) (value : WorldRecord) : Type 0 where
   pub first : WorldRecord
   pub fits : IsFor known first
   pub told_so : AreTold first told value
 
--- what holds of such a value: of the account that the events extend, of the events, and of the messages
+-- What holds for such a value: about the account that the events extend, about the events, and about the messages.
 pub record Laws (known : Account) (told : List (Event × Outcome)) (new : WorldRecord) : Type 0 where
   pub came : CameSince known told new
   pub account : IsFor (extended_all known told) new
@@ -38,8 +38,8 @@ pub record Laws (known : Account) (told : List (Event × Outcome)) (new : WorldR
   pub checks : ChecksAreTurns known told
   pub all_checks : AllChecksAreWhole known told
 
--- Behind the events the laws hold of all that happened since any account fitted: of them, and of whatever came before them. So
--- pages and checks may be asked for in any number of runs.
+-- After the events, the laws hold for everything that happened since any account fitted: these events, and all those
+-- before them. So pages and checks may be read in any number of runs.
 abbrev pub LawsHold : WorldRecord → List (Event × Outcome) → WorldRecord → Type 0
 LawsHold old events new =
     (known : Account) (before : List (Event × Outcome)) → CameSince known before old → Laws known (before ++ events) new

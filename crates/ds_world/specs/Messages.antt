@@ -1,4 +1,4 @@
--- What the messages leave out nothing of that stores gave in a run.
+-- What the stores' messages of a run leave out nothing of.
 use Rattle.std.specs.Prelude.{◌≡◌, ℕ, ◌<◌, Bool, true, false, List, ◌∷◌, ◌++◌, length, Option, Some}
 use Rattle.std.specs.List.{list_any, slice_get}
 use Rattle.ds_names.specs.declared.key.Key.{Key}
@@ -35,65 +35,75 @@ use Rattle.ds_replica.specs.Messages.{IsMessage, feed_of}
 use Rattle.ds_replica.specs.Checks.{is_subscribing, sent_in, checks_sent}
 use Rattle.ds_replica.specs.Turns.{Stays}
 
--- among the events a store was asked, gave this message, and wasn't restarted since
+-- Among the events, a store was sent the command and made this message, and it wasn't restarted since.
 pub record WasGiven (events : List (Event × Outcome)) (side : Side) (command : Command) (k : ℕ) : Type 0 where
   pub before : List (Event × Outcome)
   pub since : List (Event × Outcome)
   pub all : before ++ (Ask side command, Made k) ∷ since ≡ events
   pub stays : Stays (Store side) since
 
--- a reply of a store's journal that is a message: how many items were asked for, and the message's number
+-- A journal message: how many items were asked for, its number, and the reply.
 pub record GivenSince : Type 0 where
   pub max : ℕ
   pub message : ℕ
   pub since : readings.Since
 
--- and a page
+-- A page message, likewise.
 pub record GivenPage : Type 0 where
   pub max : ℕ
   pub message : ℕ
   pub page : pages.Page
 
--- a message with a snapshot, under a scope that keeps all of the query, is whole up to the cursor that came with it
+-- A snapshot message, under a scope that has all of the query, is whole up to its cursor.
 abbrev pub SnapshotsAreWhole : Account → List (Event × Outcome) → List Reply → Type 0
 SnapshotsAreWhole account events messages =
-    (side : Side) (scope : Scope) (query : Key → Bool) (k : ℕ) (snapshot : snapshots.Snapshot) → WasGiven events side (Snapshot scope) k → slice_get messages k ≡ Some (Snapped snapshot) → KeepsQuery (keeps scope) query →
+    (side : Side) (scope : Scope) (query : Key → Bool) (k : ℕ) (snapshot : snapshots.Snapshot) → WasGiven events side (Snapshot scope) k →
+    slice_get messages k ≡ Some (Snapped snapshot) → KeepsQuery (keeps scope) query →
     let now = extended_all account events in
     IsWhole (feed_of now side) query (sent_in now k) snapshot.cursor.position
 
--- a message of the journal is a turn of the store as it was when it was asked
+-- A journal message is a turn of the store in its state at the Since.
 abbrev pub SincesAreTurns : Account → List (Event × Outcome) → List Reply → Type 0
 SincesAreTurns account events messages =
-    (side : Side) (scope : Scope) (at : Cursor) (x : GivenSince) (g : WasGiven events side (Since scope at x.max) x.message) → slice_get messages x.message ≡ Some (Journaled x.since) →
+    (side : Side) (scope : Scope) (at : Cursor) (x : GivenSince) (g : WasGiven events side (Since scope at x.max) x.message) →
+    slice_get messages x.message ≡ Some (Journaled x.since) →
     let now = extended_all account events in
-    (t : SinceTurn) × (t.max ≡ x.max) × (t.since ≡ x.since) × (t.feed ≡ feed_of (extended_all account g.before) side) × IsSinceTurn (feed_of now side) (keeps scope) at t × (sent_in now x.message ≡ given t.known x.since.items)
+    (t : SinceTurn) × (t.max ≡ x.max) × (t.since ≡ x.since) × (t.feed ≡ feed_of (extended_all account g.before) side) ×
+    IsSinceTurn (feed_of now side) (keeps scope) at t × (sent_in now x.message ≡ given t.known x.since.items)
 
--- items that are whole up to a cursor, with those of a message of the journal from there, under a scope that keeps all of the
--- query, are whole up to the cursor that came with the message
+-- Items that are whole up to a cursor, with a journal message from that cursor under a scope that has all of the query,
+-- are whole up to the message's cursor.
 abbrev pub SinceMessagesExtend : Account → List (Event × Outcome) → List Reply → Type 0
 SinceMessagesExtend account events messages =
     (side : Side) (scope : Scope) (query : Key → Bool) (at : Cursor) (x : GivenSince) (items : List Sent) →
-    WasGiven events side (Since scope at x.max) x.message → slice_get messages x.message ≡ Some (Journaled x.since) → KeepsQuery (keeps scope) query →
+    WasGiven events side (Since scope at x.max) x.message → slice_get messages x.message ≡ Some (Journaled x.since) →
+    KeepsQuery (keeps scope) query →
     let now = extended_all account events in
-    IsWhole (feed_of now side) query items at.position → IsWhole (feed_of now side) query (items ++ sent_in now x.message) x.since.cursor.position
+    IsWhole (feed_of now side) query items at.position →
+    IsWhole (feed_of now side) query (items ++ sent_in now x.message) x.since.cursor.position
 
--- a page is a turn of the store as it was when it was asked, of which the law of pages speaks
+-- A page message is a turn of the store in its state at the Page, as the law of pages takes it.
 abbrev pub PagesAreTurns : Account → List (Event × Outcome) → List Reply → Type 0
 PagesAreTurns account events messages =
-    (side : Side) (scope : Scope) (behind : Option Key) (x : GivenPage) (g : WasGiven events side (Page scope behind x.max) x.message) → slice_get messages x.message ≡ Some (Paged x.page) →
+    (side : Side) (scope : Scope) (behind : Option Key) (x : GivenPage) (g : WasGiven events side (Page scope behind x.max) x.message) →
+    slice_get messages x.message ≡ Some (Paged x.page) →
     let now = extended_all account events in
-    (t : PageTurn) × (t.max ≡ x.max) × (t.page ≡ x.page) × (t.feed ≡ feed_of (extended_all account g.before) side) × IsPageTurn (feed_of now side) (keeps scope) behind t × (sent_in now x.message ≡ given t.known x.page.items)
+    (t : PageTurn) × (t.max ≡ x.max) × (t.page ≡ x.page) × (t.feed ≡ feed_of (extended_all account g.before) side) ×
+    IsPageTurn (feed_of now side) (keeps scope) behind t × (sent_in now x.message ≡ given t.known x.page.items)
 
--- and so is a check, of the subscription as the store's state has it when it is asked; `early` is any earlier time
+-- A check message is a turn of its subscription, in the store's state at the Check. `early` is the feed of any earlier
+-- state.
 abbrev pub ChecksAreTurns : Account → List (Event × Outcome) → Type 0
 ChecksAreTurns account events =
-    (side : Side) (sub max k : ℕ) (early : Feed) (g : WasGiven events side (Check sub max) k) → IsFront early (feed_of (extended_all account g.before) side) →
+    (side : Side) (sub max k : ℕ) (early : Feed) (g : WasGiven events side (Check sub max) k) →
+    IsFront early (feed_of (extended_all account g.before) side) →
     let now = extended_all account events in
-    (seer : Subscription) × (subscription_at (store_of (extended_all account g.before) side).state sub ≡ Some seer) × (t : CheckTurn) × (t.max ≡ max) × IsCheckTurn early (feed_of now side) (is_under seer.query) seer.shown t
+    (seer : Subscription) × (subscription_at (store_of (extended_all account g.before) side).state sub ≡ Some seer) × (t : CheckTurn) ×
+    (t.max ≡ max) × IsCheckTurn early (feed_of now side) (is_under seer.query) seer.shown t
     × IsMessage now k (given t.known t.items)
 
--- among the events a subscription to the query was made with INITIAL, and later checked; meanwhile it wasn't made again, and
--- the store not restarted
+-- Among the events, a subscription with the query was made with INITIAL and later checked. In between it wasn't made
+-- again, and the store wasn't restarted.
 pub record WasChecked (events : List (Event × Outcome)) (side : Side) (sub : ℕ) (query : Query) (max k : ℕ) : Type 0 where
   pub before : List (Event × Outcome)
   pub overwrite : Bool
@@ -101,15 +111,19 @@ pub record WasChecked (events : List (Event × Outcome)) (side : Side) (sub : �
   pub owed : ℕ
   pub between : List (Event × Outcome)
   pub since : List (Event × Outcome)
-  pub all : before ++ (Ask side (Subscribe sub query true overwrite), Replied (Subscribed stamp owed)) ∷ (between ++ (Ask side (Check sub max), Made k) ∷ since) ≡ events
+  pub all : before ++ (Ask side (Subscribe sub query true overwrite), Replied (Subscribed stamp owed)) ∷
+      (between ++ (Ask side (Check sub max), Made k) ∷ since) ≡ events
   pub stays : Stays (Store side) between
   pub alone : list_any (is_subscribing side sub) between ≡ false
 
--- the items of all checks since then are whole up to that check, if it gave fewer than its max
+-- The items of all checks since then are whole up to that check, if it showed fewer than its max.
 abbrev pub AllChecksAreWhole : Account → List (Event × Outcome) → Type 0
 AllChecksAreWhole account events =
     (side : Side) (sub : ℕ) (query : Query) (max k : ℕ) (g : WasChecked events side sub query max k) →
-    let begun = extended (extended_all account g.before) (Ask side (Subscribe sub query true g.overwrite)) (Replied (Subscribed g.stamp g.owed)) in
+    let begun = extended (extended_all account g.before) (Ask side (Subscribe sub query true g.overwrite))
+    (Replied (Subscribed g.stamp g.owed)) in
     let asked = extended_all begun g.between in
     let told = extended asked (Ask side (Check sub max)) (Made k) in
-    length (sent_in told k) < max → IsWhole (feed_of told side) (is_under query) (checks_sent side sub begun g.between ++ sent_in told k) (position (feed_of asked side))
+    length (sent_in told k) < max →
+    IsWhole (feed_of told side) (is_under query) (checks_sent side sub begun g.between ++ sent_in told k)
+    (position (feed_of asked side))

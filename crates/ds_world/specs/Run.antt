@@ -7,25 +7,25 @@ use Rattle.ds_world.specs.declared.fault.WorldFault.{WorldFault}
 use Rattle.ds_world.specs.declared.fault.WorldFault.TheVariants.{TooMany, NoRoom}
 use Rattle.ds_world.specs.World.{WorldRecord, Leads}
 
--- the most events of one run
+-- The most events of one run.
 abbrev pub most_events : ℕ
 most_events = 65536
 
--- each event with its outcome
+-- Each event with its outcome.
 abbrev pub paired : List Event → List Outcome → List (Event × Outcome)
 paired [] outcomes = []
 paired (event ∷ events) [] = []
 paired (event ∷ events) (outcome ∷ outcomes) = (event, outcome) ∷ paired events outcomes
 
--- the event happened, with this outcome
+-- The event happened, with this outcome.
 abbrev pub EventLeads : Event → Outcome → WorldRecord → WorldRecord → Type 0
 EventLeads event outcome old new = Leads (λ w after. Happens w event outcome after) old new
 
--- the events happened one after the other, with these outcomes
+-- The events happened in order, with these outcomes.
 abbrev pub RunLeads : List Event → List Outcome → WorldRecord → WorldRecord → Type 0
 RunLeads events outcomes old new = Leads (λ w after. HappenAll w (paired events outcomes) after) old new
 
--- why events aren't run: memory is wanting only where they aren't too many
+-- Why events can't be run. Lack of memory is reported only if they aren't too many.
 abbrev pub IsRunFault : WorldFault → List Event → Type 0
 IsRunFault TooMany events = most_events < length events
 IsRunFault NoRoom events = length events ≤ most_events

@@ -1,4 +1,4 @@
--- Why no world is made of two seeds.
+-- Why a world can't be made from two seeds.
 use Rattle.std.specs.Prelude.{◌≡◌, ◌≢◌, ◌⊎◌, ◌<◌, ◌≤◌}
 use Rattle.ds_feed.specs.Kept.{IsRing}
 use Rattle.ds_replica.specs.declared.seed.Seed.{Seed}
@@ -6,18 +6,19 @@ use Rattle.ds_world.specs.declared.fault.SeedFault.{SeedFault}
 use Rattle.ds_world.specs.declared.fault.SeedFault.TheVariants.{BadRing, BadFirst, OldIncarnation, NoRoom}
 use Rattle.ds_names.specs.Limits.{last_place}
 
--- a store can be opened with it
+-- A store can be opened with the seed.
 pub record IsSeed (seed : Seed) : Type 0 where
   pub ring : IsRing seed.ring
   pub first : seed.first ≤ last_place
 
--- two stores can be opened with them, of two incarnations
+-- Two stores of different incarnations can be opened with the seeds.
 pub record AreSeeds (a b : Seed) : Type 0 where
   pub a_is : IsSeed a
   pub b_is : IsSeed b
   pub apart : a.incarnation ≢ b.incarnation
 
--- first for a ring, then for a first position, then for one incarnation of both; memory is wanting only where none stands
+-- The fault is the first that holds: a ring's, a first position's, equal incarnations, and NoRoom only if there is no
+-- other.
 abbrev pub IsSeedFault : SeedFault → Seed → Seed → Type 0
 IsSeedFault BadRing a b = (¬ IsRing a.ring) ⊎ (¬ IsRing b.ring)
 IsSeedFault BadFirst a b = IsRing a.ring × IsRing b.ring × ((last_place < a.first) ⊎ (last_place < b.first))

@@ -1,5 +1,5 @@
--- What an event tells, beside what it leaves: an Ask of the reply, a delivery to a map of the map, and each event of the
--- messages. And what a run is, value by value.
+-- What an event reports besides the world that it leaves: an Ask its reply, a delivery to a map that map, each event
+-- the messages. And what a run reports, value by value.
 use Rattle.std.specs.Prelude.{◌≡◌, ℕ, List, [], ◌∷◌, ◌++◌, length, take, Option, None, Some}
 use Rattle.std.specs.List.{slice_get}
 use Rattle.ds_entry.specs.declared.item.Item.{Item}
@@ -27,73 +27,82 @@ use Rattle.ds_replica.specs.Bringing.{IsProper}
 use Rattle.ds_world.specs.World.{WorldRecord, kept_items, WorldStands, Leads}
 use Rattle.ds_world.specs.Run.{EventLeads}
 
--- the item behind so many of them would take effect in this state, and that takes memory
+-- The item after the first `done` ones would take effect in this state, and takes memory.
 pub record WouldTake (s : State) (items : List Item) (done : ℕ) : Type 0 where
   pub item : Item
   pub is_next : slice_get items done ≡ Some item
   pub lacks : MayLackItem s item
 
--- where items were stopped for want of memory, the next one would take effect in the state that they left, and takes memory
+-- If items were stopped for lack of memory, the next one would take effect in the state that they left, and takes
+-- memory.
 abbrev pub IsWantLast : List Item → ℕ → Option Refusal → State → Type 0
 IsWantLast items done (Some NoRoom) s = WouldTake s items done
 IsWantLast items done _ s = Unit {0}
 
--- a delivery to a store that was stopped leads to a world in whose store want of memory came last
+-- A stopped delivery to a store leads to a world in which lack of memory comes last for that store.
 abbrev pub IsStoreTold : Event → Side → List Item → Outcome → WorldRecord → WorldRecord → Type 0
-IsStoreTold event side items (Stopped done fault owed) old new = Leads (λ w after. Happens w event (Stopped done fault owed) after × IsWantLast items done (Some fault) (store_at after side)) old new
+IsStoreTold event side items (Stopped done fault owed) old new =
+    Leads (λ w after. Happens w event (Stopped done fault owed) after × IsWantLast items done (Some fault) (store_at after side)) old new
 IsStoreTold event side items outcome old new = Unit {0}
 
--- the map took all items, and so many of them took effect and so many were stale; or it took the first ones, and the next one
--- is refused by this fault, as the map's own contract says
+-- The map took all items, with this count; or it took the first ones and refuses the next by this fault, as the map's
+-- own contract says.
 abbrev pub IsMapTold : Query → Holding → List Item → Outcome → Holding → Type 0
 IsMapTold query old items (Merged counted owed) new = AreCounted query old items new counted
 IsMapTold query old items (Stopped done fault owed) new =
     (stop : JoinFault) × (fault ≡ refusal_of_join stop) × IsTakeStopped query old items new (record { done = done; fault = stop })
 IsMapTold query old items _ new = Unit {0}
 
--- an Ask was answered by this reply, from each world that the old value stands for to one that the new value stands for, and
--- want of memory comes last
+-- The store answered an Ask with this reply, from each world that the old value stands for to one that the new value
+-- stands for, and lack of memory comes last.
 pub record IsAnswered (side : Side) (command : Command) (outcome : Outcome) (reply : Reply) (old new : WorldRecord) : Type 0 where
-  pub asks : (w : World) → WorldStands old w → (event_fault w (Ask side command) ≡ None) × (after : World) × (a : Asks w side command outcome after) × (a.reply ≡ reply) × WorldStands new after
+  pub asks : (w : World) → WorldStands old w →
+      (event_fault w (Ask side command) ≡ None) × (after : World) × (a : Asks w side command outcome after) × (a.reply ≡ reply) ×
+      WorldStands new after
   pub last : (w : World) → WorldStands old w → IsLast (store_at w side) command reply
 
--- and the reply is the message of this number, kept whole behind the others
+-- The reply is kept whole as the message of this number, after the others.
 pub record IsMessageKept (side : Side) (command : Command) (k : ℕ) (old new : WorldRecord) : Type 0 where
   pub reply : Reply
   pub answered : IsAnswered side command (Made k) reply old new
   pub next : k ≡ length old.messages
   pub kept : new.messages ≡ old.messages ++ reply ∷ []
 
--- what an Ask tells: the reply, or the number under which it is kept; a refused one changes no message
+-- What an Ask reports: the reply, or the number of the message that keeps it. A refused Ask changes no message.
 abbrev pub IsAskTold : Side → Command → Outcome → WorldRecord → WorldRecord → Type 0
 IsAskTold side command (Replied reply) old new = IsAnswered side command (Replied reply) reply old new × (new.messages ≡ old.messages)
 IsAskTold side command (Made k) old new = IsMessageKept side command k old new
 IsAskTold side command _ old new = new.messages ≡ old.messages
 
--- what an Ask and a delivery tell; what an Ask names of changes and floors is in its ranges; only an Ask makes a message
+-- What an event reports. The changes and floors that an Ask names are in their ranges, and only an Ask makes a message.
 abbrev pub IsTold : Event → Outcome → WorldRecord → WorldRecord → Type 0
 IsTold (Ask side command) outcome old new = IsProper command × IsAskTold side command outcome old new
 IsTold (Deliver k (Store side) count) outcome old new =
-    ((items : List Item) → kept_items old.messages k ≡ Some items → IsStoreTold (Deliver k (Store side) count) side (take (count_of count items) items) outcome old new)
+    ((items : List Item) → kept_items old.messages k ≡ Some items →
+    IsStoreTold (Deliver k (Store side) count) side (take (count_of count items) items) outcome old new)
     × (new.messages ≡ old.messages)
 IsTold (Deliver k (Map j) count) outcome old new =
-    ((items : List Item) (m n : SubMapRecord) → kept_items old.messages k ≡ Some items → slice_get old.maps j ≡ Some m → slice_get new.maps j ≡ Some n →
+    ((items : List Item) (m n : SubMapRecord) → kept_items old.messages k ≡ Some items → slice_get old.maps j ≡ Some m →
+    slice_get new.maps j ≡ Some n →
     IsMapTold m.query m.held (take (count_of count items) items) outcome n.held)
     × (new.messages ≡ old.messages)
 IsTold event outcome old new = new.messages ≡ old.messages
 
--- the events led from each value to the next, with these outcomes, and told so
+-- The events led from each value to the next with these outcomes, and reported so.
 abbrev pub AreTold : WorldRecord → List (Event × Outcome) → WorldRecord → Type 0
 AreTold old [] new = new ≡ old
 AreTold old (e ∷ es) new = (mid : WorldRecord) × EventLeads e.0 e.1 old mid × IsTold e.0 e.1 old mid × AreTold mid es new
 
--- the messages that there were are there still, under their numbers
+-- The existing messages stay, under their numbers.
 abbrev pub MessagesStay : WorldRecord → WorldRecord → Type 0
 MessagesStay old new = (made : List Reply) × (new.messages ≡ old.messages ++ made)
 
--- an Ask among these events made a message: it is the reply by which the store made its step then, behind the events before it
+-- Each message that an Ask among these events made is the reply of the store's step at that time, after the events
+-- before it.
 abbrev pub RepliesAreKept : WorldRecord → List (Event × Outcome) → WorldRecord → Type 0
 RepliesAreKept old events new =
-    (before since : List (Event × Outcome)) (side : Side) (command : Command) (k : ℕ) (w : World) → before ++ (Ask side command, Made k) ∷ since ≡ events → WorldStands old w →
-    (mid : World) × HappenAll w before mid × (after : World) × (a : Asks mid side command (Made k) after) × (slice_get new.messages k ≡ Some a.reply)
+    (before since : List (Event × Outcome)) (side : Side) (command : Command) (k : ℕ) (w : World) →
+    before ++ (Ask side command, Made k) ∷ since ≡ events → WorldStands old w →
+    (mid : World) × HappenAll w before mid × (after : World) × (a : Asks mid side command (Made k) after) ×
+    (slice_get new.messages k ≡ Some a.reply)
     × (late : World) × HappenAll after since late × WorldStands new late

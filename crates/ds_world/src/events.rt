@@ -23,7 +23,7 @@ impl Model for Events {
 }
 
 impl Events {
-    /// A list of no events. It takes no memory.
+    /// Returns an empty list. Takes no memory.
     pub fn new(alloc: Global) -> Events
         ensures { result ≡ [] }
     {
@@ -32,14 +32,14 @@ impl Events {
         }
     }
 
-    /// Gives the `Vec` back. It takes no memory.
+    /// Returns the events as a `Vec`. Takes no memory.
     pub fn into_list(self) -> Vec<Event>
         ensures { result.items ≡ self }
     {
         self.events
     }
 
-    /// Adds an event at the end. Where there is no room, the list is unchanged and the error gives the event back.
+    /// Appends an event. If memory runs out, the list is unchanged and the error returns the event.
     pub fn push(&mut self, event: Event) -> Result<(), AllocFailed<Event>>
         ensures ok { OnOk result (self.new ≡ self.old ++ event ∷ []) }
         ensures err { OnErr result (self.new ≡ self.old) }
@@ -48,14 +48,14 @@ impl Events {
         self.events.push(event)
     }
 
-    /// How many events it has.
+    /// Returns how many events there are.
     pub fn len(&self) -> usize
         ensures { result ≡ length self.now }
     {
         self.events.len()
     }
 
-    /// The event at an index from 0, `None` behind the last one.
+    /// Returns the event at an index from 0, or `None` past the end.
     pub fn get(&self, index: usize) -> Option<&Event>
         ensures { option_copied result ≡ slice_get self.now index }
     {

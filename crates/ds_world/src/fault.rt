@@ -1,8 +1,8 @@
-//! Why no world is made, and why events aren't run.
+//! Why a world can't be made, and why events can't be run.
 
 use thiserror::Error;
 
-/// Why no world is made of two seeds, in the order in which the causes are judged. Of this project.
+/// Why a world can't be made from two seeds, in the order of judgement. Of this project.
 #[derive(Clone, Copy, Debug, PartialEq, Eq, Error)]
 pub enum SeedFault {
     /// A ring isn't 1 to 4096.
@@ -11,21 +11,21 @@ pub enum SeedFault {
     /// A first position is above 2^62.
     #[error("the first position is above 2^62")]
     BadFirst,
-    /// Both stores have one incarnation.
+    /// Both stores have the same incarnation.
     #[error("both stores have one incarnation")]
     OldIncarnation,
-    /// Memory is wanting.
+    /// The stores can't be allocated.
     #[error("out of memory")]
     NoRoom,
 }
 
-/// Why a list of events isn't run. Nothing happened. Of this project.
+/// Why a list of events can't be run. Nothing happened. Of this project.
 #[derive(Clone, Copy, Debug, PartialEq, Eq, Error)]
 pub enum WorldFault {
-    /// There are more than 65536 events.
+    /// The list has more than 65536 events.
     #[error("more than 65536 events")]
     TooMany,
-    /// Memory is wanting for the outcomes.
+    /// The outcomes can't be allocated.
     #[error("out of memory")]
     NoRoom,
 }

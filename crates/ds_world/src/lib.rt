@@ -1,8 +1,7 @@
-//! A world that runs: two stores that can exchange what they know, subscribers' maps, and the messages between them.
+//! A world that runs: two stores that exchange what they know, subscribers' maps, and the messages between them.
 //!
-//! Replicas, messages and the join of what holders know are of this project; MINIX 3's data store is one server (the DS
-//! interface of MINIX 3; Tanenbaum and Woodhull, third edition), and its subscribers ask it again (Herder and others, DSN
-//! 2007).
+//! Replicas, messages and the join of knowledge are of this project. MINIX 3's data store is one server (Tanenbaum and
+//! Woodhull, third edition), which its subscribers query again (Herder and others, DSN 2007).
 #![tactic(auto)]
 
 mod events;

@@ -6,7 +6,7 @@ ghost use Rattle.std.specs.Option.{option_copied};
 use ds_replica::Outcome;
 use std::marker::Model;
 
-/// What came of events, in their order.
+/// The outcomes of events, in order.
 #[derive(Drop)]
 pub struct Outcomes {
     outcomes: Vec<Outcome>,
@@ -22,28 +22,28 @@ impl Model for Outcomes {
 }
 
 impl Outcomes {
-    /// The outcomes of a `Vec`. It takes no memory.
+    /// Wraps a `Vec`. Takes no memory.
     pub(crate) fn of(outcomes: Vec<Outcome>) -> Outcomes
         ensures { result ≡ outcomes.items }
     {
         Outcomes { outcomes }
     }
 
-    /// Gives the `Vec` back. It takes no memory.
+    /// Returns the outcomes as a `Vec`. Takes no memory.
     pub fn into_list(self) -> Vec<Outcome>
         ensures { result.items ≡ self }
     {
         self.outcomes
     }
 
-    /// How many outcomes it has.
+    /// Returns how many outcomes there are.
     pub fn len(&self) -> usize
         ensures { result ≡ length self.now }
     {
         self.outcomes.len()
     }
 
-    /// The outcome at an index from 0, `None` behind the last one.
+    /// Returns the outcome at an index from 0, or `None` past the end.
     pub fn get(&self, index: usize) -> Option<&Outcome>
         ensures { option_copied result ≡ slice_get self.now index }
     {

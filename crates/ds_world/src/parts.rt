@@ -1,4 +1,4 @@
-//! What commands name of changes and floors: each part is in its range, as its type has it.
+//! The changes and floors that commands name: each part is in its range, as its type guarantees.
 
 ghost use Rattle.std.specs.Prelude.{◌<◌, ◌≤◌, ◌^◌, All};
 ghost use Rattle.ds_names.specs.Name.{IsName};
@@ -10,7 +10,7 @@ use ds_entry::{Item, Value};
 use ds_machine::Command;
 use ds_names::{Key, Version};
 
-// Reads what a command names of changes and floors.
+// Shows it for a command.
 pub(crate) fn read_parts(command: &Command)
     ensures { IsProper command.now }
 {
@@ -41,7 +41,7 @@ pub(crate) fn read_parts(command: &Command)
     }
 }
 
-// Reads what is published.
+// Shows it for a publish.
 fn read_published(key: &Key, version: &Version, value: &Value)
     ensures { AreParts key.now version.now (Put value.now) }
 {
@@ -49,7 +49,7 @@ fn read_published(key: &Key, version: &Version, value: &Value)
     read_version(key, version);
 }
 
-// Reads a key and a version.
+// Shows it for a key and a version.
 fn read_version(key: &Key, version: &Version)
     ensures name { IsName key.now.name }
     ensures epoch { version.now.epoch ≤ 2097151 }
@@ -60,7 +60,7 @@ fn read_version(key: &Key, version: &Version)
     let _seq = version.seq;
 }
 
-// Reads items.
+// Shows it for items.
 fn read_items(items: &[Item])
     ensures { All IsItem items.now }
 {
@@ -69,7 +69,7 @@ fn read_items(items: &[Item])
     }
 }
 
-// Reads an item.
+// Shows it for an item.
 pub(crate) fn read_item(item: &Item)
     ensures { IsItem item.now }
 {

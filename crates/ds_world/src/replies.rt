@@ -1,4 +1,4 @@
-//! Which commands get replies with items, and how these are kept as messages.
+//! Which commands get replies with items, and how these replies are kept as messages.
 
 ghost use Rattle.std.specs.Prelude.{◌≡◌, ◌<◌, ◌++◌, ◌∷◌, [], None, Some, is_some, length, vec_capacity, IfSome, IfNone};
 ghost use Rattle.ds_message.specs.Lent.{items_lent};
@@ -9,7 +9,7 @@ use ds_machine::{Command, Reply};
 use ds_message::{Lent, Message};
 use std::alloc::Global;
 
-// Whether what a store gives to the command is kept as a message.
+// Returns whether the reply to the command is kept as a message.
 pub(crate) fn gives_items(command: &Command) -> bool
     ensures { result ≡ gives_items command.now }
 {
@@ -28,7 +28,7 @@ pub(crate) fn gives_items(command: &Command) -> bool
     }
 }
 
-// Whether a reply has items.
+// Returns whether a reply has items.
 pub(crate) fn has_items(reply: &Reply) -> bool
     ensures { result ≡ is_some (items_given reply.now) }
 {
@@ -38,7 +38,7 @@ pub(crate) fn has_items(reply: &Reply) -> bool
     )
 }
 
-// The items of the message of a number, `None` where there is no such message.
+// Returns the items of the message with this number, or `None` if there is no such message.
 pub(crate) fn items_at(messages: &[Message], number: usize) -> Option<Lent<'_>>
     ensures some { IfSome result (λ items. kept_items messages.now number ≡ Some (items_lent items)) }
     ensures none { IfNone result (kept_items messages.now number ≡ None) }
@@ -46,8 +46,8 @@ pub(crate) fn items_at(messages: &[Message], number: usize) -> Option<Lent<'_>>
     messages.get(number)?.items()
 }
 
-// Keeps a reply as one more message, for which there is room. The one before it, which was told, is packed, which may be refused
-// memory and do without: a function of its own, so that a test sees who asked for it.
+// Keeps a reply as one more message. The message before it, which was reported already, is packed; if that runs out of
+// memory, it stays unpacked. Not inlined: a test has to see where memory was taken.
 #[inline(never)]
 pub(crate) fn keep(alloc: Global, messages: &mut Vec<Message>, reply: Reply)
     requires { length messages.old.items < vec_capacity messages.old }

@@ -9,7 +9,8 @@ use ds_machine::Refusal;
 use ds_pattern::PatternFault;
 use ds_replica::{EventFault, Outcome};
 
-// How the items of a delivery are counted, the mask of the subscriptions to which something is owed, and what stopped it.
+// The tally of a delivery: the count of its items, the mask of subscriptions to notify, and the refusal that stopped
+// it.
 #[derive(Clone, Copy, Drop)]
 pub(crate) struct Tally {
     pub(crate) count: Count,
@@ -18,7 +19,7 @@ pub(crate) struct Tally {
 }
 
 impl Tally {
-    // Of items that stop, or end, at the first one left.
+    // Returns the tally of `done` items, none of them taken or stale, with this end.
     pub(crate) fn ended(done: usize, owed: u128, stop: Option<Refusal>) -> Tally
         ensures { tally_of result ≡ ended done owed stop }
     {
@@ -33,7 +34,7 @@ impl Tally {
         }
     }
 
-    // Counts what followed as well.
+    // Adds the tally of the items that followed.
     pub(crate) fn add(&mut self, later: &Tally)
         requires { CanJoin (tally_of self.old) (tally_of later.now) }
         ensures { tally_of self.new ≡ both_tallied (tally_of self.old) (tally_of later.now) }
@@ -45,7 +46,7 @@ impl Tally {
         self.stop = later.stop;
     }
 
-    // The outcome of the delivery.
+    // Returns the outcome of the delivery.
     pub(crate) fn outcome(&self) -> Outcome
         ensures { result ≡ outcome_of self.now }
     {
@@ -63,7 +64,7 @@ impl Tally {
     }
 }
 
-// Why a map isn't made.
+// Returns why a map can't be made.
 pub(crate) fn fault_of(fault: PatternFault) -> EventFault
     ensures { result ≡ fault_of fault }
 {

@@ -32,9 +32,9 @@ mod opening;
 /// The most events of one run.
 const MOST_EVENTS: usize = 65536;
 
-/// Two stores, up to 64 maps of subscribers, and up to 65536 messages: the replies that the stores gave to Checks, Sinces,
-/// Snapshots and Pages, with their items, cursors and stamps. Maps and messages have numbers, counted from 0 in the order in
-/// which they were made.
+/// Two stores, up to 64 subscribers' maps, and up to 65536 messages. A message is a store's reply to a Check, Since,
+/// Snapshot or Page, with its items, cursors and stamps. Maps and messages are numbered from 0 in the order of their
+/// making.
 #[derive(Drop)]
 pub struct World {
     alloc: Global,
@@ -65,9 +65,9 @@ impl Model for World {
 }
 
 impl World {
-    /// A world of two stores that hold nothing, each opened with its seed for 128 subscriptions and 4096 keys, without maps
-    /// and messages. BadRing where a ring isn't 1 to 4096, then BadFirst where a first position is above 2^62, then
-    /// OldIncarnation where both incarnations are equal, and NoRoom last, for the rings.
+    /// Makes a world of two empty stores, without maps and messages. Each store is opened with its seed, for 128
+    /// subscriptions and 4096 keys. Refuses as BadRing unless both rings are 1 to 4096, then as BadFirst if a first
+    /// position is above 2^62, then as OldIncarnation if both incarnations are equal, and last as NoRoom.
     pub fn new(alloc: Global, a: Seed, b: Seed) -> Result<World, SeedFault>
         ensures made { IfOk result (λ world. WorldStands world (new_world a b larger)) }
         ensures account { IfOk result (λ world. IsFor (new_account a b larger) world) }
@@ -88,11 +88,11 @@ impl World {
         })
     }
 
-    /// Lets the events happen in their order, and gives what came of each. A refused event changes nothing, and the next one
+    /// Lets the events happen in order, and returns their outcomes. A refused event changes nothing, and the next one
     /// follows.
     ///
-    /// TooMany above 65536 events, and NoRoom where there is no room for the outcomes: then nothing happens at all. A run of no events
-    /// takes no memory.
+    /// Refuses as TooMany above 65536 events, then as NoRoom if the outcomes can't be allocated; then nothing happens.
+    /// An empty list takes no memory.
     pub fn run(&mut self, events: Events) -> Result<Outcomes, WorldFault>
         ensures one_each { IfOk result (λ outcomes. length outcomes ≡ length events) }
         ensures few { OnOk result (length events ≤ most_events) }
@@ -118,7 +118,7 @@ impl World {
         Ok(outcomes)
     }
 
-    // Lets the events happen. There is room for their outcomes.
+    // Lets the events happen. Their outcomes fit into `outcomes`.
     fn happen_all(&mut self, events: Events, mut outcomes: Vec<Outcome>) -> Outcomes
         requires none { outcomes.items ≡ [] }
         requires room { length events ≤ vec_capacity outcomes }
@@ -132,10 +132,9 @@ impl World {
         Outcomes::of(outcomes)
     }
 
-    /// Lets an event happen, and gives what came of it. A refused event changes nothing.
+    /// Lets an event happen, and returns its outcome. A refused event changes nothing.
     ///
-    /// Of an account that fitted the world before, extended by the event and its outcome, the caller learns what `run` says of one
-    /// extended by a whole list.
+    /// An account that fitted the world fits it after it is extended by the event and its outcome, as for `run`.
     pub fn happen(&mut self, event: Event) -> Outcome
         ensures leads { EventLeads event result self.old self.new }
         ensures told { IsTold event result self.old self.new }
@@ -167,8 +166,9 @@ impl World {
         }
     }
 
-    /// The store of a side. Whatever happened, there are worlds of the definitions for which this one stands, and what `happen`
-    /// and `run` say is said of each; and there is an account that fits it, with which whoever was handed a world can begin.
+    /// Returns the store of a side. At any time the world stands for some world of the definitions, and what `happen`
+    /// and `run` say holds for each of them. Some account fits it, with which a caller that was handed the world can
+    /// begin.
     pub fn store(&self, side: Side) -> &Store
         ensures is { result.now ≡ store_in self.now side }
         ensures stands { (w : Described) × WorldStands self.now w }
@@ -181,7 +181,7 @@ impl World {
         }
     }
 
-    /// The map of a number, `None` where there is no such map. It is one, as whoever has a `SubMap` learns of it.
+    /// Returns the map with this number, or `None` if there is no such map.
     pub fn map(&self, number: usize) -> Option<&SubMap>
         ensures is { option_copied result ≡ slice_get self.now.maps number }
         ensures map { IfSome result (λ map. IsMap map.now) }
@@ -189,8 +189,8 @@ impl World {
         self.maps.get(number)
     }
 
-    /// The message of a number, which is the reply that a store gave, with its items: `Checked`, `Journaled`, `Snapped` or
-    /// `Paged`, and no other. `None` where there is no such message.
+    /// Returns the message with this number, a store's reply with items (`Checked`, `Journaled`, `Snapped` or `Paged`),
+    /// or `None` if there is no such message.
     pub fn message(&self, number: usize) -> Option<&Message>
         ensures is { option_copied result ≡ slice_get self.now.messages number }
         ensures items { IfSome result (λ message. HasItems message.now) }

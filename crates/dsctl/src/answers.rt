@@ -1,8 +1,8 @@
-//! Standard output, for the answers.
+//! Standard output.
 
 use std::io::{self, Write};
 
-/// A writer that keeps why its last failed write failed.
+/// A writer that keeps the error of its last failed write.
 #[derive(Drop)]
 pub(crate) struct Answers<W> {
     writer: W,
@@ -10,7 +10,7 @@ pub(crate) struct Answers<W> {
 }
 
 impl<W: Write> Answers<W> {
-    /// Over a writer, of which no write failed yet.
+    /// Returns such a writer over another.
     pub(crate) fn new(writer: W) -> Answers<W> {
         Answers {
             writer,

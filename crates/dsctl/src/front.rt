@@ -1,8 +1,8 @@
-//! The front of an input, which is kept while the rest is read.
+//! Keeps the front of an input while the rest is read.
 
 use std::io::{self, Read};
 
-/// How many bytes are kept: more than the header of a trace has.
+/// How many bytes are kept: a trace's header is shorter.
 const KEPT: usize = 96;
 
 /// A reader that keeps the first bytes that it read.
@@ -14,7 +14,7 @@ pub(crate) struct WithFront<R> {
 }
 
 impl<R: Read> WithFront<R> {
-    /// Over a reader, from which nothing was read yet.
+    /// Returns such a reader over another, which wasn't read yet.
     pub(crate) fn new(reader: R) -> WithFront<R> {
         WithFront {
             reader,
@@ -32,7 +32,7 @@ impl<R: Read> WithFront<R> {
         }
     }
 
-    // Keeps what was read, as long as there is room.
+    // Keeps what was read, up to KEPT bytes.
     fn keep(&mut self, read: &[u8]) {
         for byte in read {
             if self.count >= KEPT {

@@ -1,4 +1,4 @@
-//! A run of threads that publish, follow and exchange.
+//! Threads that publish, follow and exchange.
 
 use ds_live::{LiveFault, LiveReport, OpenGate, Sizes, live_run};
 use dsctl_cli::Failure;
@@ -7,7 +7,7 @@ use std::rt::Runtime;
 use std::sync::Wait;
 use std::thread::Threads;
 
-/// Runs as many publishers and subscribers as were asked for, and prints what came of it.
+/// Runs the publishers and subscribers, and prints a report.
 pub(crate) fn run<R: Runtime + AllocGlobal + Threads + Wait + Sync>(
     rt: &R,
     sizes: Sizes,

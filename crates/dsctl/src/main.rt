@@ -1,9 +1,9 @@
-//! `dsctl`: the data store at the command line. It reads standard input and writes standard output.
+//! `dsctl`: the data store at the command line, from standard input to standard output.
 //!
-//! The program is thin: the words of the command line and of the prompt are `dsctl_cli`'s, the work is `ds_script`'s, `rs_settings`'s, `trace_check`'s,
-//! `trace_record`'s and `ds_live`'s, what is said of a line that can't be read is `ds_explain`'s, and what is left here is the printing of
-//! settings, verdicts and reports and the choice of the exit status. 0: done. 1: refused input. 2: usage. 3: memory, reading or writing failed, or a run of
-//! threads, and standard error says which.
+//! The program is thin: `dsctl_cli` parses the command line and has the prompt; `ds_script`, `rs_settings`,
+//! `trace_check`, `trace_record` and `ds_live` do the work; `ds_explain` explains bad lines. This crate prints
+//! settings, verdicts and reports and chooses the exit status. 0: done. 1: refused input. 2: usage. 3: memory, reading,
+//! writing or a run of threads failed, and standard error says which.
 #![tactic(auto)]
 
 mod answers;
@@ -39,7 +39,7 @@ fn main(rt: HostRuntime) -> ExitCode {
     }
 }
 
-// Judges the words before any input is read, and then does what they ask for.
+// Parses the command line before any input is read, then does what it asks for.
 fn run<R: Runtime + AllocGlobal + Threads + Wait + Sync>(
     rt: &R,
     terminals: Terminals,
@@ -69,7 +69,7 @@ fn run<R: Runtime + AllocGlobal + Threads + Wait + Sync>(
     }
 }
 
-// What becomes of bad lines: what was asked for. Else somebody who types loses nothing by one, and a script ends there.
+// Returns what happens at bad lines: what the command line says, else a script ends there and a terminal continues.
 fn bad_lines(go_on: Option<bool>, terminals: Terminals) -> BadLines {
     if go_on.unwrap_or(terminals.are_both()) {
         BadLines::GoOn
@@ -78,7 +78,7 @@ fn bad_lines(go_on: Option<bool>, terminals: Terminals) -> BadLines {
     }
 }
 
-// Who reads what is said of bad lines.
+// Returns who reads the explanations of bad lines.
 fn audience(terminals: Terminals) -> Audience {
     if terminals.are_both() {
         Audience::Prompt
@@ -89,7 +89,7 @@ fn audience(terminals: Terminals) -> Audience {
     }
 }
 
-// What somebody is told who types a script.
+// Returns the greeting for a script.
 fn greeting(bad_lines: BadLines) -> Greeting {
     match bad_lines {
         BadLines::End => Greeting::ScriptToStop,
@@ -97,7 +97,7 @@ fn greeting(bad_lines: BadLines) -> Greeting {
     }
 }
 
-// Says of each line that can't be read what was expected, and prints the line's number and place where it ends the script.
+// Explains each bad line, and prints `badline` with its number and place if it ends the script.
 #[derive(Drop)]
 struct Explainer<'a, R> {
     rt: &'a R,
@@ -150,7 +150,7 @@ fn replay_input(
     )
 }
 
-// What comes of a replay; with why a bad line's place, the input or an answer failed, where one did.
+// Returns the exit status of a replay, or why printing a bad line's place, reading or answering failed.
 fn outcome(
     replayed: Result<Replayed, ReplayFault>,
     unwritten: Option<io::Error>,

@@ -9,8 +9,8 @@ use std::process::ExitCode;
 use std::rt::Runtime;
 use trace_record::{Form, RecordFault, record};
 
-/// Runs a store on the commands on standard input, and writes the trace of that run. Standard error has the number of a line that can't
-/// be read, and its place. Somebody who types the commands is greeted.
+/// Runs a store on the commands on standard input, and writes the trace of that run. Standard error gets the number and
+/// place of a bad line. Greets a user at a terminal.
 pub(crate) fn record_input(
     rt: &(impl Runtime + AllocGlobal),
     terminals: Terminals,
@@ -23,7 +23,7 @@ pub(crate) fn record_input(
     outcome(rt, recorded, reader.0.fault, writer.0.fault)
 }
 
-// What comes of a recording; with why the input or the trace failed, where one did.
+// Returns the exit status of a recording, or why the input or the trace failed.
 fn outcome(
     rt: &impl Runtime,
     recorded: Result<u64, RecordFault>,
@@ -42,7 +42,7 @@ fn outcome(
     }
 }
 
-// The form that the words name.
+// Returns the form that the command line names.
 fn form_of(form: TraceForm) -> Form {
     match form {
         TraceForm::One => Form::One,

@@ -1,4 +1,4 @@
-//! What a settings text tells RS, or its first fault.
+//! Shows a settings text, or its first fault.
 
 use ds_explain::{explain_settings, write_settings};
 use dsctl_cli::{Failure, Greeting, Terminals, greet};
@@ -7,8 +7,8 @@ use std::io::{self, BufWriter, ErrorKind, Read};
 use std::process::ExitCode;
 use std::rt::Runtime;
 
-/// Reads the settings on standard input, and prints their services, or their first fault. Nothing is printed before
-/// the whole text is judged. Somebody who types them is greeted.
+/// Parses the settings on standard input, and prints their services, or their first fault. Nothing is printed before
+/// the whole text is judged. Greets a user at a terminal.
 pub(crate) fn show_input(
     rt: &(impl Runtime + AllocGlobal),
     terminals: Terminals,
@@ -38,8 +38,8 @@ fn show(rt: &(impl Runtime + AllocGlobal), settings: &Settings) -> Result<ExitCo
     }
 }
 
-// Prints the fault of a text, which is a refused input, unless memory was wanting, and says on standard error which field it is
-// about.
+// Prints the fault of a text, and writes to standard error which field it is about. Out of memory isn't a fault
+// of the text.
 fn show_fault(
     rt: &(impl Runtime + AllocGlobal),
     text: &[u8],
@@ -61,7 +61,7 @@ fn show_fault(
     }
 }
 
-// The word of a cause, but for want of memory.
+// Returns the word of a cause; out of memory has none.
 fn word_of(cause: SettingsCause) -> Option<&'static str> {
     match cause {
         SettingsCause::BadToml => Some("toml"),

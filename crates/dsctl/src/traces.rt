@@ -1,4 +1,4 @@
-//! The verdict on a recorded trace, and an older one in format 2.
+//! The verdict on a recorded trace, and the upgrade of one from format 1 to 2.
 
 use crate::answers::Answers;
 use crate::front::WithFront;
@@ -10,8 +10,8 @@ use std::process::ExitCode;
 use std::rt::Runtime;
 use trace_check::{Judged, Stands, UpgradeFault, Verdict, Wanted, WrongLine, judge, upgrade};
 
-/// Judges the trace on standard input, and prints the verdict on it; of one that isn't legal standard error has what had to stand in
-/// the line that is told. Somebody who types it is greeted.
+/// Judges the trace on standard input, and prints the verdict. If the trace isn't legal, standard error gets what was
+/// expected in the first wrong line. Greets a user at a terminal.
 pub(crate) fn judge_input(
     rt: &(impl Runtime + AllocGlobal),
     terminals: Terminals,
@@ -23,7 +23,7 @@ pub(crate) fn judge_input(
     tell_verdict(rt, &judged, input.first_line(), input.reader.fault)
 }
 
-// Prints the verdict on a trace that was read, and says what is wrong with it; with its first line, and why a read failed, where one did.
+// Prints the verdict on a trace, and explains what is wrong with it.
 fn tell_verdict(
     rt: &(impl Runtime + AllocGlobal),
     judged: &Judged,
@@ -43,7 +43,7 @@ fn tell_verdict(
     }
 }
 
-// Says on standard error what had to stand in the line that is told, if one is.
+// Writes to standard error what was expected in the first wrong line, if there is one.
 fn explain_wrong_line(
     rt: &(impl Runtime + AllocGlobal),
     judged: &Judged,
@@ -58,7 +58,7 @@ fn explain_wrong_line(
     }
 }
 
-// The line that is told, with what stands in the place of a header, which the walk doesn't tell.
+// Returns the wrong line, with the trace's first line if a header was expected: the walk doesn't keep that one.
 fn with_header<'a>(wrong: WrongLine<'a>, first_line: &'a [u8]) -> WrongLine<'a> {
     match wrong.wanted {
         Wanted::Header => WrongLine {
@@ -69,8 +69,8 @@ fn with_header<'a>(wrong: WrongLine<'a>, first_line: &'a [u8]) -> WrongLine<'a> 
     }
 }
 
-/// Writes the trace of format 1 on standard input in format 2. Of one that can't be upgraded standard error has why, in one line.
-/// Somebody who types it is greeted.
+/// Writes the trace of format 1 on standard input in format 2. If it can't be upgraded, standard error says why, in one
+/// line. Greets a user at a terminal.
 pub(crate) fn upgrade_input(
     rt: &(impl Runtime + AllocGlobal),
     terminals: Terminals,
@@ -82,7 +82,7 @@ pub(crate) fn upgrade_input(
     outcome(rt, upgraded, reader.0.fault, writer.0.fault)
 }
 
-// What comes of an upgrade; with why the older trace or the newer one failed, where one did.
+// Returns the exit status of an upgrade, or why reading or writing failed.
 fn outcome(
     rt: &impl Runtime,
     upgraded: Result<u64, UpgradeFault>,

@@ -4,12 +4,12 @@ use clap::builder::ValueParser;
 use clap::{Arg, ArgAction, Command};
 use std::alloc::{AllocError, Global};
 
-/// A subcommand, with what the list of them says of it.
+/// Returns a subcommand with its text in the list of subcommands.
 pub(crate) fn named<'a>(alloc: Global, name: &'a str, about: &'a str) -> Command<'a> {
     Command::new(alloc, name).about(about)
 }
 
-/// A subcommand, with what the list of them and its own help say of it.
+/// Returns a subcommand with its text in that list and its own help.
 pub(crate) fn described<'a>(
     alloc: Global,
     name: &'a str,
@@ -19,17 +19,17 @@ pub(crate) fn described<'a>(
     named(alloc, name, about).long_about(long_about)
 }
 
-// An option.
+// Returns an option.
 fn option<'a>(alloc: Global, name: &'a str, about: &'a str) -> Arg<'a> {
     Arg::new(alloc, name).long(name).help(about)
 }
 
-/// An option without a value.
+/// Returns an option without a value.
 pub(crate) fn flag<'a>(alloc: Global, name: &'a str, about: &'a str) -> Arg<'a> {
     option(alloc, name, about).action(ArgAction::SetTrue)
 }
 
-/// An option with a value, of which its text says what it may be.
+/// Returns an option with a value; its text says which values are allowed.
 pub(crate) fn valued<'a>(
     alloc: Global,
     name: &'a str,
@@ -47,7 +47,7 @@ pub(crate) fn add<T: Drop>(all: &mut Vec<T>, one: T) -> Result<(), AllocError> {
     Ok(all.push(one)?)
 }
 
-/// Adds a subcommand or an option that there was memory to make.
+/// Adds a subcommand or an option, unless memory ran out for making it.
 pub(crate) fn add_made<T: Drop>(
     all: &mut Vec<T>,
     one: Result<T, AllocError>,

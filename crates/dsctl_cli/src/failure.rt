@@ -1,20 +1,20 @@
-//! What ends the program with status 3.
+//! Failures that end the program with status 3.
 
 use std::io::{self, ErrorKind};
 use std::rt::Runtime;
 
-/// What ends the program with status 3; and why, where the system said so.
+/// Why the program ends with status 3, with the system's error if there is one.
 #[derive(Clone, Copy)]
 pub enum Failure {
     NoRoom,
     ReadFault(Option<io::Error>),
     WriteFault(Option<io::Error>),
-    /// A run of threads failed, by this word.
+    /// A run of threads failed, with this word.
     Live(&'static str),
 }
 
 impl Failure {
-    /// Says its word on standard error, and in a second line why, where that is a terminal.
+    /// Writes the failure's word to standard error, and at a terminal the reason in a second line.
     pub fn tell(&self, rt: &impl Runtime, at_terminal: bool) {
         let _ = rt.eprintln(self.word());
         if at_terminal {

@@ -1,35 +1,35 @@
-//! What `dsctl` says of recording.
+//! The help of `dsctl record`.
 
 pub(crate) const RECORD_ABOUT: &str = "Run a store on commands, and write the trace of that run";
 
 pub(crate) const RECORD_LONG_ABOUT: &str = "\
 Runs one store on commands, and writes the trace of that run.
 
-The commands stand on standard input, one a line. The store is a new one, of
-incarnation 1; its positions begin at 0, and its journal keeps 256 items, or as
-many as a first line `ring N` says. An entry of the trace is a command and what
-the store replied; `dsctl verify --help` has its lines. What is written is a
-legal trace, wherever the commands end.
+The commands are read from standard input, one a line. The store is a new one,
+of incarnation 1; its positions begin at 0, and its journal keeps 256 items, or
+as many as a first line `ring N` says. An entry of the trace is a command and
+the store's reply; `dsctl verify --help` lists its lines. The output is a legal
+trace, wherever the commands end.
 
 Lines of commands:
-  COMMAND          a line of a script that asks a store: publish, delete, sweep,
+  COMMAND          a line of a script to a store: publish, delete, sweep,
                    retrieve, nameof, subscribe, check, since, snapshot, page or
                    offer
-  merge N          merge N items, 0 to 256, which stand behind it
+  merge N          merge the N items, 0 to 256, on the lines after it
   + ITEM           one of these items, a change or a floor
   PASS COMMAND, PASS merge N
-                   the same, asked by PASS, 0 to 63; where none stands, 0 asks
-  ring N           on the first line alone: how many items the journal keeps, 1
+                   likewise, with the caller's PASS, 0 to 63; 0 by default
+  ring N           on the first line only: how many items the journal keeps, 1
                    to 4096
 
 A trace of format 1 has no floors, so its sweeps leave tombstones; its store has
-room for 1024 keys and 64 subscriptions. So has one of format 2 with `--keys
-1024`, and else it has room for 4096 and 128.
+room for 1024 keys and 64 subscriptions. A trace of format 2 has the same limits
+with `--keys 1024`, and otherwise 4096 and 128.
 
 A line that can't be read ends the run with status 1. What was written before
 stays, and standard error has `badline LINE PLACE`, lines counted from 1 and
 bytes from 0. No line of a trace is above 4096 bytes: a command that would be,
-with `> PASS ` in front of it, is bad at its first byte too many.
+with `> PASS ` before it, is bad at its first byte too many.
 
 Two commands:
   publish 0/2 new eth0 label 3.0 = 3/17
@@ -42,6 +42,6 @@ The trace of their run:
   > 7 retrieve eth0 label
   < found 3/17";
 
-pub(crate) const FORMAT_ABOUT: &str = "1 or 2, the format of the trace; 2 where it isn't given";
+pub(crate) const FORMAT_ABOUT: &str = "1 or 2, the format of the trace; 2 by default";
 
-pub(crate) const KEYS_ABOUT: &str = "1024 or 4096; where it isn't given 4096, in format 1 1024";
+pub(crate) const KEYS_ABOUT: &str = "1024 or 4096; 4096 by default, 1024 in format 1";

@@ -1,11 +1,11 @@
-//! What the help has of one word: of a line, an answer, a refusal or a kind.
+//! The help about one word: a line, an answer, a refusal or a kind.
 
 use crate::help::LONG_ABOUT;
 use crate::help_words::AFTER_HELP;
 use std::rt::Runtime;
 use typed_words::{IfNear, Plain, Search};
 
-// Between which texts of the help its rows stand.
+// The texts of the help before and after these rows.
 const LINES_BEGIN: &str = "Lines of a script:\n";
 
 const ANSWERS_BEGIN: &str = "Other answers:\n";
@@ -14,14 +14,14 @@ const KINDS_BEGIN: &str = "kinds and their values:\n";
 
 const PARAGRAPH_ENDS: &str = "\n\n";
 
-const REFUSALS_BEGIN: &str = "Words behind `refused`";
+const REFUSALS_BEGIN: &str = "Words after `refused`";
 
 const REFUSALS_END: &str = "Exit status:\n";
 
-/// How many bytes of a word that isn't explained are shown.
+/// How many bytes of an unknown word are shown.
 const SHOWN: usize = 28;
 
-/// Prints the rows of the help about a word on standard error; of a word that has none, one sentence with the nearest that has.
+/// Writes the help's rows about a word to standard error; for an unknown word, a sentence with the nearest known one.
 pub(crate) fn explain_word(rt: &impl Runtime, word: &[u8]) {
     let mut search = Search::to(word);
     let lines = print_rows(rt, lines(), word, &mut search);
@@ -53,7 +53,7 @@ fn kinds() -> &'static str {
     between(LONG_ABOUT, KINDS_BEGIN, PARAGRAPH_ENDS)
 }
 
-// What stands between two texts, or from the first one to the end.
+// Returns the text between two others, or from the first one to the end.
 fn between(text: &'static str, begin: &str, end: &str) -> &'static str {
     let Some((_, rest)) = text.split_once(begin) else {
         return "";
@@ -64,7 +64,8 @@ fn between(text: &'static str, begin: &str, end: &str) -> &'static str {
     }
 }
 
-// Prints the rows that begin with a word, with the lines that continue them. Returns whether there are any. Every row's word is compared.
+// Writes the rows that begin with a word, with their further lines, and returns whether there are any. Offers each
+// row's word to the search.
 fn print_rows(rt: &impl Runtime, rows: &'static str, word: &[u8], search: &mut Search<'_>) -> bool {
     let mut is_found = false;
     let mut is_shown = false;
@@ -83,7 +84,7 @@ fn print_rows(rt: &impl Runtime, rows: &'static str, word: &[u8], search: &mut S
     is_found
 }
 
-// The word of the row that a line begins, if it begins one: the lines that continue a row stand further in.
+// Returns the word of the row that begins at a line. A row's further lines are indented deeper, and have none.
 fn word_of_row(line: &'static str) -> Option<&'static str> {
     let row = line.strip_prefix("  ")?;
     if row.starts_with(' ') {

@@ -1,7 +1,7 @@
-//! The words of `dsctl`: those of its command line, read by `clap`, with the help, and with a tip for whoever named a file; those that
-//! somebody at a terminal sees and types beside the lines; and those with which it fails.
+//! The words of `dsctl`: its command line, parsed by `clap`, with the help; the greeting, the prompt and its commands;
+//! and the failures.
 //!
-//! Nothing of a store stands here, so that the help and the words are proved without one. Of this project.
+//! This crate knows no store, so the help and the words are proved without one. This project's.
 #![tactic(auto)]
 
 mod described;

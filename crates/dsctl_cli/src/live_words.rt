@@ -1,4 +1,4 @@
-//! The words of `dsctl live`.
+//! The command line of `dsctl live`.
 
 use crate::described::{add, add_made, described, valued};
 use crate::words::Words;
@@ -16,15 +16,15 @@ const CHANGES: &str = "changes";
 const ABOUT: &str = "Run threads that publish, follow and exchange, and report";
 
 const LONG_ABOUT: &str = "\
-Runs threads that publish, follow and exchange over two stores, and reports what
-came of it. Nothing is read.
+Runs threads that publish, follow and exchange over two stores, and reports the
+result. Nothing is read.
 
 RS publishes the labels `p0`, `p1` and so on at the first store, and then each
 worker has a thread of its own. A publisher overwrites its number there, `n0`,
 `n1` and so on, once a turn. A subscriber takes its notices, and keeps a map of
-all that the first store holds. One more gives what the first store has to the
-second. When all have ended, the maps and the second store are brought up to
-date, and then there are four lines:
+all that the first store holds. One more worker delivers what the first store
+has to the second. When all have ended, the maps and the second store are
+brought up to date, and then there are four lines:
   entries N        how many entries the first store holds
   maps equal       each subscriber's map has just these; else `maps differ`
   replicas equal   the second store has just these; else `replicas differ`
@@ -32,8 +32,8 @@ date, and then there are four lines:
                    `account wrong`
 
 A run that fails prints nothing, has one word on standard error, and status 3:
-  noroom           memory was wanting
-  stopped          it was wanting while the second store was given items
+  noroom           memory ran out
+  stopped          memory ran out while the second store was brought up to date
   nothread         a thread couldn't be made; all that were made have ended
   refused, desk    a store, or the desk at which threads share it, refused a
                    call";
@@ -54,7 +54,7 @@ fn add_numbers<'a>(alloc: Global, all: &mut Vec<Arg<'a>>) -> Result<(), AllocErr
 
 const TURNS_ABOUT: &str = "How many turns each takes, 1 to 1000";
 
-// Adds an option whose value is a number, 1 to this one at most.
+// Adds an option whose value is a number from 1 to `most`.
 fn add_number<'a>(
     alloc: Global,
     all: &mut Vec<Arg<'a>>,
@@ -67,7 +67,8 @@ fn add_number<'a>(
     add(all, number.default_value(default))
 }
 
-/// The threads that were asked for. Each option has a default; without it the number would be 0, which is none of a run's.
+/// Returns the threads that the options ask for. Each option has a default; without it the number would be 0, which no
+/// run takes.
 pub(crate) fn crew_of(given: &ArgMatches<'_>) -> Words {
     Words::Live {
         publishers: given.get_one::<u32>(PUBLISHERS).unwrap_or(0),

@@ -1,14 +1,14 @@
-//! What somebody at a terminal sees beside the answers, on standard error: a greeting, a prompt, and help where they ask for it.
+//! What a user at a terminal sees beside the answers, on standard error: a greeting, a prompt, and help on request.
 
 use crate::help::LINES;
 use crate::help_word::explain_word;
 use std::io::{self, Read};
 use std::rt::Runtime;
 
-/// What somebody is told who types.
+/// What a greeting is about.
 #[derive(Clone, Copy)]
 pub enum Greeting {
-    /// A script, in which a bad line ends nothing.
+    /// A script that continues at a bad line.
     Script,
     /// A script that ends at a bad line.
     ScriptToStop,
@@ -16,17 +16,15 @@ pub enum Greeting {
     Settings,
     /// A trace.
     Trace,
-    /// Commands of which a trace is made.
+    /// Commands to record.
     Commands,
 }
 
 impl Greeting {
     fn text(self) -> &'static str {
         match self {
-            Greeting::Script => "dsctl: `help` shows the lines, ^D ends. A bad line ends nothing",
-            Greeting::ScriptToStop => {
-                "dsctl: `help` shows the lines, ^D ends, and so does a bad line"
-            }
+            Greeting::Script => "dsctl: `help` shows the lines, ^D ends. Bad lines are skipped",
+            Greeting::ScriptToStop => { "dsctl: `help` shows the lines, ^D or a bad line ends" }
             Greeting::Settings => "dsctl: a TOML text, as in dsctl settings --help, ^D ends",
             Greeting::Trace => "dsctl: a trace, as in dsctl verify --help, ^D ends",
             Greeting::Commands => "dsctl: a command a line, as in dsctl record --help, ^D ends",
@@ -42,13 +40,13 @@ pub struct Terminals {
 }
 
 impl Terminals {
-    /// Whether somebody types the input and sees what standard error is told.
+    /// Whether a user types the input and sees standard error.
     pub fn are_both(&self) -> bool {
         self.input && self.error
     }
 }
 
-/// Greets somebody who types, on standard error. Who doesn't is told nothing.
+/// Writes a greeting to standard error, if a user types the input.
 pub fn greet(rt: &impl Runtime, terminals: Terminals, greeting: Greeting) {
     if terminals.are_both() {
         let text = greeting.text();
@@ -56,10 +54,10 @@ pub fn greet(rt: &impl Runtime, terminals: Terminals, greeting: Greeting) {
     }
 }
 
-/// Standard input, with a prompt before each line where somebody types it. Of a failed read it keeps why.
+/// Standard input, with a prompt before each line if a user types it. Keeps the error of the last failed read.
 ///
-/// At the prompt an empty line, `help`, `help WORD`, `quit` and `exit` are taken here, and aren't lines of the script; `?` is `help`. Once the
-/// input has ended it isn't read again, since a terminal would ask for another ^D.
+/// At the prompt, an empty line, `help`, `help WORD`, `?`, `quit` and `exit` are handled here, and aren't lines of the
+/// script. Once the input has ended it isn't read again: a terminal would wait for another ^D.
 #[derive(Drop)]
 pub struct Typed<'a, R: Runtime> {
     rt: &'a R,
@@ -67,19 +65,19 @@ pub struct Typed<'a, R: Runtime> {
     prompts: bool,
     begins_line: bool,
     ended: bool,
-    /// Why the last read that failed did.
+    /// The error of the last failed read.
     pub fault: Option<io::Error>,
 }
 
 impl<'a, R: Runtime> Typed<'a, R> {
-    /// Standard input, with a prompt where somebody types it.
+    /// Returns standard input, with a prompt if a user types it.
     pub fn prompted(rt: &'a R, terminals: Terminals) -> Typed<'a, R> {
         let mut typed = Typed::unprompted(rt);
         typed.prompts = terminals.are_both();
         typed
     }
 
-    /// Standard input, whoever types it, with no prompt.
+    /// Returns standard input without a prompt.
     pub fn unprompted(rt: &'a R) -> Typed<'a, R> {
         Typed {
             rt,
@@ -91,14 +89,14 @@ impl<'a, R: Runtime> Typed<'a, R> {
         }
     }
 
-    // Prompts, where somebody types and a line begins.
+    // Prompts, if a user types and a line begins.
     fn prompt(&self) {
         if self.prompts && self.begins_line {
             let _ = self.rt.eprint("> ");
         }
     }
 
-    // What is meant by what was read. Help is shown where it was asked for.
+    // Returns what the bytes mean. Shows help if they ask for it.
     fn meaning(&mut self, read: &[u8]) -> Meaning {
         if !self.prompts {
             return if read.is_empty() {
@@ -124,7 +122,7 @@ impl<'a, R: Runtime> Typed<'a, R> {
         meaning
     }
 
-    // Prints the help that a line asks for: of the word after `help`, or all lines.
+    // Writes the help that a line asks for: about the word after `help`, or all lines.
     fn help(&self, line: &[u8]) {
         let (_, rest) = first_word(line);
         let word = word_asked(rest);
@@ -162,7 +160,7 @@ fn meaning_of(line: &[u8]) -> Meaning {
     }
 }
 
-// The first word of a line, and what stands after it and the spaces there.
+// Returns the first word of a line, and what comes after it and its spaces.
 fn first_word(line: &[u8]) -> (&[u8], &[u8]) {
     let count = line
         .iter()
@@ -172,7 +170,7 @@ fn first_word(line: &[u8]) -> (&[u8], &[u8]) {
     (word, rest.trim_ascii())
 }
 
-// The word that help is wanted of. An answer `refused WORD` can be given as it was printed.
+// Returns the word that help is requested for. An answer `refused WORD` may be typed as printed.
 fn word_asked(rest: &[u8]) -> &[u8] {
     let (first, more) = first_word(rest);
     if first == b"refused".as_slice() && !more.is_empty() {

@@ -1,4 +1,4 @@
-//! The words of `dsctl record`.
+//! The command line of `dsctl record`.
 
 use crate::described::{add, add_made, described, valued};
 use crate::help_record::{FORMAT_ABOUT, KEYS_ABOUT, RECORD_ABOUT, RECORD_LONG_ABOUT};
@@ -8,7 +8,7 @@ use clap::error::ErrorKind;
 use clap::{Arg, ArgMatches, Command, Error};
 use std::alloc::{AllocError, Global};
 
-// The options, by their names, and their values.
+// The options' names and values.
 const FORMAT: &str = "format";
 
 const FORMATS: [&str; 2] = ["1", "2"];
@@ -41,7 +41,7 @@ fn add_one_of<'a>(
     add(all, valued(alloc, name, about, ValueParser::Names(values)))
 }
 
-/// The form that was asked for; of format 1 where 4096 keys were, too, `None`.
+/// Returns the form of trace that the options ask for; `None` for format 1 with 4096 keys.
 pub(crate) fn form_of(given: &ArgMatches<'_>) -> Option<TraceForm> {
     match (given.get_str(FORMAT), given.get_str(KEYS)) {
         (Some("1"), Some("4096")) => None,
@@ -51,7 +51,7 @@ pub(crate) fn form_of(given: &ArgMatches<'_>) -> Option<TraceForm> {
     }
 }
 
-/// The fault of format 1 with 4096 keys.
+/// Returns the usage error for format 1 with 4096 keys.
 pub(crate) fn too_many_keys(alloc: Global) -> Result<Error, AllocError> {
     Command::new(alloc, "record")
         .override_usage("dsctl record [OPTIONS]")

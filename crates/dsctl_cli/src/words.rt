@@ -1,4 +1,4 @@
-//! The words of the command line.
+//! The command line.
 
 use crate::described::{add, add_made, described, flag, named};
 use crate::help::{ABOUT, LINES, LONG_ABOUT};
@@ -15,34 +15,34 @@ use std::env::Args;
 use std::io;
 use std::rt::Runtime;
 
-/// What the words ask for, or how they were answered.
+/// What the command line asks for, or how it was answered.
 #[derive(Clone, Copy)]
 pub enum Words {
-    /// To answer a script; and whether to go on behind a line that can't be read, if that was said.
+    /// Answer a script; and whether to continue after a bad line, if an option says so.
     Replay {
         go_on: Option<bool>,
     },
-    /// To show what settings tell RS.
+    /// Show a settings text.
     Settings,
-    /// To judge a trace.
+    /// Judge a trace.
     Verify,
-    /// To write a trace of format 1 in format 2.
+    /// Write a trace of format 1 in format 2.
     Upgrade,
-    /// To write the trace of a run, in this form.
+    /// Write the trace of a run, in this form.
     Record(TraceForm),
-    /// To run threads: so many that publish and so many that follow, each for so many turns.
+    /// Run threads: how many publish, how many follow, and how many turns each takes.
     Live {
         publishers: u32,
         subscribers: u32,
         changes: u32,
     },
-    /// Help or the version was asked for, and stands on standard output.
+    /// Help or the version was asked for, and is printed.
     Shown,
-    /// They are none of the program's, as standard error says.
+    /// The command line is wrong, as standard error says.
     Usage,
-    /// There was no memory to read them.
+    /// Out of memory to parse it.
     NoRoom,
-    /// Help or the version could not be written.
+    /// Help or the version couldn't be written.
     WriteFault,
 }
 
@@ -51,13 +51,13 @@ pub enum Words {
 pub enum TraceForm {
     /// Format 1, of 64 subscriptions and 1024 keys.
     One,
-    /// Format 2, with as many of both as format 1.
+    /// Format 2, with the limits of format 1.
     SmallerTwo,
     /// Format 2, with 128 subscriptions and 4096 keys.
     Two,
 }
 
-/// Reads the words that the program was started with. Answers a wrong word, or a wish for help, itself.
+/// Parses the program's command line. Answers a wrong one, or a request for help, itself.
 pub fn read<R: Runtime + AllocGlobal>(rt: &R) -> Words {
     match std::env::args(rt) {
         Ok(given) => read_given(rt, given),
@@ -65,7 +65,7 @@ pub fn read<R: Runtime + AllocGlobal>(rt: &R) -> Words {
     }
 }
 
-// Words that can't be read: there is no memory for them, or one isn't UTF-8.
+// Answers a command line that can't be read: out of memory, or not UTF-8.
 fn unread(rt: &impl Runtime, kind: io::ErrorKind) -> Words {
     if kind == io::ErrorKind::OutOfMemory {
         return Words::NoRoom;
@@ -81,11 +81,11 @@ fn read_given<R: Runtime + AllocGlobal>(rt: &R, given: Args) -> Words {
     }
 }
 
-// The words, one behind another.
+// Returns the arguments as a list.
 fn listed(alloc: Global, given: Args) -> Result<Vec<String>, AllocError> {
     let mut words: Vec<String> = Vec::new(alloc);
     for word in given {
-        // Not `collect`, which goes on where a growth was refused and asks for less.
+        // Not `collect`, which continues with fewer after a growth was refused.
         if words.push(word).is_err() {
             return Err(AllocError);
         }
@@ -93,7 +93,7 @@ fn listed(alloc: Global, given: Args) -> Result<Vec<String>, AllocError> {
     Ok(words)
 }
 
-// What the words ask for. Where they are none of the program's, or ask for help, they are answered.
+// Returns what the arguments ask for. Answers wrong ones, and requests for help.
 fn understood<R: Runtime + AllocGlobal>(rt: &R, words: &[String]) -> Words {
     match parse(rt.alloc(), words) {
         Ok(words) => words,
@@ -101,7 +101,7 @@ fn understood<R: Runtime + AllocGlobal>(rt: &R, words: &[String]) -> Words {
     }
 }
 
-// What the words ask for, if they are the program's.
+// Parses the arguments.
 fn parse(alloc: Global, words: &[String]) -> Result<Words, Error> {
     let asked = asked_by(&matches_of(alloc, words)?);
     match asked {
@@ -110,12 +110,12 @@ fn parse(alloc: Global, words: &[String]) -> Result<Words, Error> {
     }
 }
 
-// The words as `clap` reads them.
+// Returns the arguments as `clap` parses them.
 fn matches_of<'a>(alloc: Global, words: &'a [String]) -> Result<ArgMatches<'a>, Error> {
     command(alloc)?.try_get_matches_from(words)
 }
 
-// What is asked for; of a trace of format 1 with 4096 keys, which there is none of, `None`.
+// Returns what is asked for; `None` for a trace of format 1 with 4096 keys.
 fn asked_by(matches: &ArgMatches<'_>) -> Option<Words> {
     let Some((word, given)) = matches.subcommand() else {
         return Some(Words::Replay { go_on: None });
@@ -132,7 +132,7 @@ fn asked_by(matches: &ArgMatches<'_>) -> Option<Words> {
     })
 }
 
-// Whether to go on behind a line that can't be read, if that was said.
+// Returns whether to continue after a bad line, if an option says so.
 fn going_on(given: &ArgMatches<'_>) -> Option<bool> {
     if given.get_flag(KEEP_GOING) {
         return Some(true);
@@ -140,19 +140,19 @@ fn going_on(given: &ArgMatches<'_>) -> Option<bool> {
     given.get_flag(STOP).then_some(false)
 }
 
-// The options to go on behind lines that can't be read, and to end there.
+// The options to continue after bad lines, and to end there.
 const KEEP_GOING: &str = "keep-going";
 
 const STOP: &str = "stop";
 
-// The command line of the program.
+// Returns the program's command line.
 fn command<'a>(alloc: Global) -> Result<Command<'a>, AllocError> {
     let mut subcommands = Vec::new(alloc);
     add_subcommands(alloc, &mut subcommands)?;
     program(alloc).subcommands(subcommands)
 }
 
-// The program, without its subcommands.
+// Returns the program, without its subcommands.
 fn program<'a>(alloc: Global) -> Command<'a> {
     described(alloc, "dsctl", ABOUT, LONG_ABOUT)
         .version("0.9.0")
@@ -183,7 +183,7 @@ fn add_without_options<'a>(
 fn add_replay<'a>(alloc: Global, all: &mut Vec<Command<'a>>) -> Result<(), AllocError> {
     let mut options = Vec::new(alloc);
     add_flags(alloc, &mut options)?;
-    let about = "Answer a script; no subcommand means this one";
+    let about = "Answer a script; this is the default subcommand";
     let replay = named(alloc, "replay", about).after_help(LINES);
     add_made(all, replay.args(options))
 }
@@ -194,27 +194,26 @@ fn add_flags<'a>(alloc: Global, options: &mut Vec<Arg<'a>>) -> Result<(), AllocE
     add_made(options, stop.conflicts_with(KEEP_GOING))
 }
 
-// What somebody is told who named a file.
-const SCRIPT: &str = "A script is read from standard input, and not by its name: dsctl < SCRIPT";
+// Tips for a user who named a file.
+const SCRIPT: &str = "A script is read from standard input, not by name: dsctl < SCRIPT";
 
-const TEXT: &str = "A text is read from standard input, and not by its name: dsctl settings < TEXT";
+const TEXT: &str = "A text is read from standard input, not by name: dsctl settings < TEXT";
 
-const TRACE: &str =
-    "A trace is read from standard input, and not by its name: dsctl verify < TRACE";
+const TRACE: &str = "A trace is read from standard input, not by name: dsctl verify < TRACE";
 
 const OLDER_TRACE: &str =
-    "A trace is read from standard input, and not by its name: dsctl upgrade < TRACE > NEWER";
+    "A trace is read from standard input, not by name: dsctl upgrade < TRACE > NEWER";
 
 const COMMANDS: &str =
-    "Commands are read from standard input, and not by name: dsctl record < COMMANDS > TRACE";
+    "Commands are read from standard input, not by name: dsctl record < COMMANDS > TRACE";
 
-const NOTHING: &str = "Nothing is read by dsctl live, whose options have numbers behind them";
+const NOTHING: &str = "dsctl live reads nothing, and its options take numbers";
 
-// What somebody is told who said what becomes of bad lines before saying of what.
+// The tip for a user who gave an option for bad lines without its subcommand.
 const BEHIND_REPLAY: &str =
-    "--keep-going and --stop stand behind a word, as in dsctl replay --keep-going";
+    "--keep-going and --stop follow a subcommand, as in dsctl replay --keep-going";
 
-// What is said of words that are none of the program's, beside what `clap` has to say.
+// Returns a tip to add to `clap`'s message about a wrong command line.
 fn tip(given: &[String]) -> Option<&'static str> {
     let first = given.get(1)?.as_str();
     match first {
@@ -223,7 +222,7 @@ fn tip(given: &[String]) -> Option<&'static str> {
     }
 }
 
-// What somebody is told who named a file behind this word.
+// Returns the tip for a file's name after this word.
 fn not_by_name(first: &str) -> &'static str {
     match first {
         "settings" => TEXT,
@@ -235,17 +234,17 @@ fn not_by_name(first: &str) -> &'static str {
     }
 }
 
-// Whether one of the words behind the program's name looks like the name of a file.
+// Whether an argument looks like a file's name.
 fn name_a_file(given: &[String]) -> bool {
     given.iter().skip(1).any(|word| names_file(word.as_str()))
 }
 
-// Whether a word looks like the name of a file.
+// Whether a word looks like a file's name.
 fn names_file(word: &str) -> bool {
     !word.starts_with('-') && (word.contains('.') || word.contains('/'))
 }
 
-// Prints what `clap` has to say: a usage fault on standard error, help or the version on standard output.
+// Prints `clap`'s message: a usage error to standard error, help or the version to standard output.
 fn answer(rt: &impl Runtime, error: &Error, given: &[String]) -> Words {
     if matches!(error.kind(), ErrorKind::OutOfMemory) {
         return Words::NoRoom;

@@ -1,10 +1,11 @@
 //! `dstest`: the program for tests.
 //!
-//! Standard input has sections. Each begins with a line `=== NAME`, and the lines up to the next such line are its own: `store`,
-//! `rows`, `desk`, `threads`, `system`, `rs` or `pair`. What their lines ask is told by the crates that answer them, each in turn.
+//! Standard input has sections. Each begins with a line `=== NAME`, and has the lines up to the next such line:
+//! `store`, `rows`, `desk`, `threads`, `system`, `rs` or `pair`. The crates that answer the sections describe their
+//! lines. Sections are answered in order.
 //!
-//! Status 0: done. 1: a line that can't be read, or a call that didn't answer as it should. 3: memory, reading or writing failed, or
-//! a pass of a desk was refused a note, and standard error says which.
+//! Status 0: done. 1: a line can't be read, or a call's answer was wrong. 3: memory, reading or writing failed, or a
+//! pass of a desk was refused a note; standard error says which.
 #![tactic(auto)]
 
 use std::io::{ErrorKind, Read};
@@ -25,7 +26,7 @@ fn main(rt: HostRuntime) -> ExitCode {
     ExitCode::from(3)
 }
 
-// Reads all that is asked, and answers it.
+// Reads the input, and answers it.
 fn run<R: Runtime + AllocGlobal + Threads + Wait + Sync>(rt: &R) -> Result<(), Failure> {
     let input = read_input(rt)?;
     answer_sections(rt, input.as_str())
@@ -42,7 +43,7 @@ fn read_input(rt: &(impl Runtime + AllocGlobal)) -> Result<String, Failure> {
     }
 }
 
-// Answers the sections in turn.
+// Answers the sections in order.
 fn answer_sections<R: Runtime + AllocGlobal + Threads + Wait + Sync>(
     rt: &R,
     input: &str,

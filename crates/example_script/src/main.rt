@@ -1,7 +1,7 @@
 //! A caller of `ds_script`: answers the script on standard input, as `dsctl replay` does.
 //!
-//! It has no words of a command line, no prompt and no threads, so it compiles in about half the time of `dsctl`. 0: done. 1: a bad line.
-//! 3: memory, reading or writing failed, and standard error says which.
+//! It has no command line, prompt or threads, so it compiles in about half the time of `dsctl`. Status 0: done. 1: a
+//! bad line. 3: memory, reading or writing failed, and standard error says which.
 #![tactic(auto)]
 
 use ds_script::{ReplayFault, replay};
@@ -24,7 +24,7 @@ fn answer_input(rt: &(impl Runtime + AllocGlobal)) -> Result<u64, ReplayFault> {
     replay(rt.alloc(), &mut reader, &mut writer)
 }
 
-// Says why the script ended early. A bad line is among the answers, too, as it is in those of `dsctl`.
+// Writes why the script ended early. A bad line is also printed among the answers, as `dsctl` does.
 fn tell(rt: &impl Runtime, fault: ReplayFault) -> ExitCode {
     let _ = eprintln!(rt; "{fault}");
     if let ReplayFault::BadLine { line, place, .. } = fault {

@@ -1,4 +1,4 @@
-//! What is asked of the store.
+//! Commands to the store.
 
 use ds_entry::Value;
 use ds_machine::Command;
@@ -14,7 +14,7 @@ pub(crate) struct Driver {
 }
 
 impl Driver {
-    /// The driver `eth0` in this generation and process slot. None where the numbers are no endpoint's.
+    /// Returns the driver `eth0` in this generation and process slot. `None` if the numbers aren't an endpoint's.
     pub(crate) fn eth0(generation: u32, slot: u16) -> Option<Driver> {
         Some(Driver {
             label: Name::read(b"eth0").ok()?,
@@ -22,7 +22,7 @@ impl Driver {
         })
     }
 
-    /// RS publishes its label, over the one of an earlier generation.
+    /// Returns RS's command that publishes its label, over that of an earlier generation.
     pub(crate) fn started(&self) -> Command {
         Command::Publish {
             caller: Endpoint::rs(),
@@ -36,7 +36,7 @@ impl Driver {
         }
     }
 
-    /// It publishes its MTU, the first number that it publishes.
+    /// Returns its command that publishes its MTU, the first number that it publishes.
     pub(crate) fn publishes_mtu(&self, bytes: u32) -> Option<Command> {
         Some(Command::Publish {
             caller: self.endpoint,
@@ -50,7 +50,7 @@ impl Driver {
         })
     }
 
-    /// RS sweeps all that it left, of this generation and of those before.
+    /// Returns RS's command that sweeps everything it left, in this generation and earlier ones.
     pub(crate) fn died(&self) -> Command {
         Command::Sweep {
             caller: Endpoint::rs(),
@@ -59,7 +59,7 @@ impl Driver {
         }
     }
 
-    // The first version of its generation.
+    // Returns the first version of its generation.
     fn version(&self) -> Version {
         Version {
             epoch: self.endpoint.generation(),
@@ -68,7 +68,7 @@ impl Driver {
     }
 }
 
-/// All labels and numbers whose names begin with `eth0`. None where there is no memory.
+/// Returns the query of all labels and numbers whose names begin with `eth0`. `None` if out of memory.
 pub(crate) fn eth0_and_below(alloc: Global) -> Option<Query> {
     Some(Query {
         text: PatternText::of(alloc, br"eth0.*").ok()?,

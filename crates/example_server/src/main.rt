@@ -1,8 +1,9 @@
-//! How a server uses the data store: `inet` follows a network driver, which dies and comes back.
+//! How a server uses the data store: `inet` follows a network driver that dies and is restarted.
 //!
-//! RS publishes the label of `eth0`, and the driver its MTU. When it dies, RS sweeps what it left, and publishes the label of
-//! its next generation. `inet`, server 5, checks when a notice is owed to it: whoever runs the store sends that notice, and
-//! calls `apply` with the endpoints that the kernel told it. What the dead process still sends is refused.
+//! RS publishes the label of `eth0`, and the driver its MTU. When the driver dies, RS sweeps what it left, and
+//! publishes the label of its next generation. `inet`, server 5, checks when a notice is owed to it. The program around
+//! the store sends that notice, and calls `apply` with the endpoints that the kernel reports. What the dead process
+//! still sends is refused.
 #![tactic(auto)]
 
 mod drivers;
@@ -26,13 +27,13 @@ fn main(rt: HostRuntime) -> ExitCode {
     }
 }
 
-// Answers None where memory or writing fails.
+// Returns None if memory or writing fails.
 fn example(rt: &(impl Runtime + AllocGlobal)) -> Option<()> {
     let mut store = Store::open(rt.alloc(), 1, 0, 256).ok()?;
     follow_eth0(rt, rt.alloc(), &mut store)
 }
 
-// `inet` follows `eth0`, which dies and comes back.
+// `inet` follows `eth0`, which dies and is restarted.
 fn follow_eth0(rt: &impl Print, alloc: Global, store: &mut Store) -> Option<()> {
     let follow = Command::Subscribe {
         sub: INET,
@@ -54,12 +55,12 @@ fn follow_eth0(rt: &impl Print, alloc: Global, store: &mut Store) -> Option<()> 
     ask(rt, store, check())
 }
 
-// Asks the store, and prints what it says.
+// Applies a command to the store, and prints the reply.
 fn ask(rt: &impl Print, store: &mut Store, command: Command) -> Option<()> {
     tell(rt, &store.apply(command))
 }
 
-// What `inet` asks when it hears a notice.
+// Returns the command that `inet` sends on a notice.
 fn check() -> Command {
     Command::Check {
         sub: INET,

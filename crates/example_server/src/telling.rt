@@ -1,11 +1,11 @@
-//! What the store's replies say.
+//! Prints the store's replies.
 
 use crate::INET;
 use ds_entry::{Body, Change, Floor, Item, Items, Value};
 use ds_machine::Reply;
 use std::rt::Runtime;
 
-/// Prints what a reply says. None where writing fails.
+/// Prints a reply. Returns None if writing fails.
 pub(crate) fn tell(rt: &impl Print, reply: &Reply) -> Option<()> {
     match reply {
         Reply::Subscribed { stamp, .. } => println!(rt; "subscribed with stamp {stamp}").ok(),
@@ -36,14 +36,14 @@ fn tell_items(rt: &impl Print, items: &Items) -> Option<()> {
     Some(())
 }
 
-// Prints up to which generation all that an owner published is gone.
+// Prints up to which generation everything that an owner published is gone.
 fn tell_floor(rt: &impl Print, floor: &Floor) -> Option<()> {
     let owner = str::from_utf8(floor.owner.bytes()).ok()?;
     let generation = floor.generation.number();
     println!(rt; "  {owner} has left nothing up to generation {generation}").ok()
 }
 
-// Prints what stands under a name now.
+// Prints the value under a name.
 fn tell_change(rt: &impl Print, change: &Change) -> Option<()> {
     let name = str::from_utf8(change.key().name.bytes()).ok()?;
     let printed = match change.body() {

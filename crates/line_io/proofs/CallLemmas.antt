@@ -1,4 +1,4 @@
--- Calls, one after the other.
+-- Calls in order.
 use Rattle.std.proofs.Common.{ℕ, ◌+◌, sym, subst, add-one}
 use Rattle.line_io.specs.Streams.{CallsLead}
 

@@ -12,7 +12,7 @@ All-head line front all = all 0 [] (omega arith)
 All-tail : (line : List ℕ) (front : List (List ℕ)) → All IsUnbroken (line ∷ front) → All IsUnbroken front
 All-tail line front all k d lt = all (suc k) d (omega (arith, lt))
 
--- whole lines and what stands behind them
+-- Whole lines, and what follows them.
 record Parts (input : List ℕ) : Type 0 where
   front : List (List ℕ)
   last : List ℕ

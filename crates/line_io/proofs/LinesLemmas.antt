@@ -1,11 +1,11 @@
--- Where the next line stands in the bytes.
+-- Where the next line is in the bytes.
 use Rattle.std.proofs.Common.{◌≡◌, ◌≢◌, ℕ, ◌+◌, ◌-◌, ◌^◌, ◌≤◌, ◌<◌, List, [], ◌∷◌, ◌++◌, length, take, drop, refl, sym, ap, subst, ◌∙◌, arith, append_assoc, add-one, take-append-drop, length-append}
 use Rattle.std.proofs.Math.Seq.{take-append_seam}
 use Rattle.std.proofs.lemmas.List.{length-take-le, length-drop, drop_at, drop_all, take_all, drop-append-le}
 use Rattle.line_io.specs.Lines.{IsUnbroken, EndsLine, with_newline}
 use Rattle.line_io.specs.Reading.{lines_of, AreLinesKept, GoesToNext, GoesToLast}
 
--- what comes behind a line that stands behind so many bytes
+-- The rest after a line that begins at an offset.
 rest_behind : (bytes line more : List ℕ) (at : ℕ) → at ≤ length bytes → drop at bytes ≡ line ++ more → drop (at + length line) bytes ≡ more
 rest_behind bytes line more at h e =
     let split : bytes ≡ (take at bytes ++ line) ++ more = sym (take-append-drop at bytes) ∙ ap (λ l. take at bytes ++ l) e ∙ sym (append_assoc (take at bytes) line more) in
@@ -38,7 +38,7 @@ goes_on bytes line more chunk have start at count reads kept all e ends =
       reads = refl;
     }
 
--- no more lines were gone to than bytes read
+-- No more lines were reached than bytes were read.
 pub few_lines : (chunk have start end count reads : ℕ) → AreLinesKept chunk have start end count reads → count ≤ 2 ^ 48
 few_lines chunk have start end count reads kept = omega (arith, kept.few, kept.reads, kept.within)
 
@@ -46,20 +46,20 @@ pub few_more : (bytes line more : List ℕ) (chunk have start at count reads : �
 few_more bytes line more chunk have start at count reads kept all e ends =
     omega (arith, kept.few, kept.reads, all, line_within bytes line more at (omega (arith, kept.within, all)) e, line_some line ends)
 
--- what stands from a place on, as a slice to the end says it
+-- The bytes from an index on, as a slice to the end has them.
 pub sliced : (text bytes line more : List ℕ) (at : ℕ) → text ≡ bytes → take (length text - at) (drop at text) ≡ line ++ more → drop at bytes ≡ line ++ more
 sliced text bytes line more at same e =
     let few : length (drop at text) ≤ length text - at = omega (arith, length-drop at text) in
     ap (drop at) (sym same) ∙ sym (take_all (length text - at) (drop at text) few) ∙ e
 
--- the last line, where a newline is written behind it
+-- The last line, after which a newline is written.
 last_line : (bytes : List ℕ) (at : ℕ) → at ≤ length bytes → take (length (bytes ++ 10 ∷ []) - at) (drop at (bytes ++ 10 ∷ [])) ≡ with_newline (drop at bytes)
 last_line bytes at h =
     let split : drop at (bytes ++ 10 ∷ []) ≡ drop at bytes ++ 10 ∷ [] = drop-append-le at bytes (10 ∷ []) h in
     let few : length (drop at (bytes ++ 10 ∷ [])) ≤ length (bytes ++ 10 ∷ []) - at = omega (arith, length-drop at (bytes ++ 10 ∷ [])) in
     take_all (length (bytes ++ 10 ∷ []) - at) (drop at (bytes ++ 10 ∷ [])) few ∙ split
 
--- something stood there, so it is no empty line
+-- The line isn't empty.
 last_some : (bytes : List ℕ) (at : ℕ) → at < length bytes → drop at bytes ≢ []
 last_some bytes at h none = omega (arith, h, length-drop at bytes, ap length none)
 

@@ -11,7 +11,7 @@ pub unbroken_more : (b : ℕ) (bs : List ℕ) → b ≢ 10 → IsUnbroken bs →
 unbroken_more b bs first rest zero d h = first
 unbroken_more b bs first rest (suc k) d h = rest k d (omega (arith, h))
 
--- no newline stands at the first `n` places
+-- None of the first `n` bytes is a newline.
 abbrev NoneBelow : List ℕ → ℕ → Type 0
 NoneBelow text n = Nowhere (Passes (is_byte 10) text) 0 n
 

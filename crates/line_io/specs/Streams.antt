@@ -1,37 +1,37 @@
--- What readers and writers tell of their calls, and what has to have happened where no more can be read or written.
+-- What readers and writers state about their calls, and what must have happened when reading or writing stops.
 use Rattle.std.specs.Prelude.{◌≡◌, ◌≢◌, ℕ, zero, suc, ◌-◌, ◌^◌, ◌≤◌, ◌⊎◌, Result, Ok, Err}
 use Rattle.line_io.specs.declared.missed.Missed.{Missed}
 use Rattle.line_io.specs.declared.missed.Missed.TheVariants.{Interrupted, Failed}
 
--- One read by its answer: it failed, or it didn't.
+-- A read, judged by its answer: it failed, or it didn't.
 abbrev pub TellsRead : {S : Type 0} → (reads fails : S → S → Type 0) → Result ℕ Missed → S → S → Type 0
 TellsRead reads fails (Ok count) old new = reads old new
 TellsRead reads fails (Err Interrupted) old new = reads old new
 TellsRead reads fails (Err Failed) old new = fails old new
 
--- One write by its answer: it failed, or took no bytes, or it didn't.
+-- A write, judged by its answer: it failed or took no bytes, or it didn't.
 abbrev pub TellsWrite : {S : Type 0} → (writes fails : S → S → Type 0) → Result ℕ Missed → S → S → Type 0
 TellsWrite writes fails (Ok count) old new = (count ≢ 0 → writes old new) × (count ≡ 0 → fails old new)
 TellsWrite writes fails (Err Interrupted) old new = writes old new
 TellsWrite writes fails (Err Failed) old new = fails old new
 
--- so many calls, one after the other, lead from the one to the other
+-- Whether `n` calls lead from the first state to the second.
 abbrev pub CallsLead : {S : Type 0} → (S → S → Type 0) → ℕ → S → S → Type 0
 CallsLead calls zero old new = new ≡ old
 CallsLead {S} calls (suc n) old new = (mid : S) × CallsLead calls n old mid × calls mid new
 
--- such a call left it so
+-- Whether the state is the result of such a call.
 abbrev pub IsLeft : {S : Type 0} → (S → S → Type 0) → S → Type 0
 IsLeft {S} calls now = (before : S) × calls before now
 
--- So many calls were made, one after the other, and then a last one.
+-- Whether `n` calls, and then a last one of another sort, lead from the first state to the second.
 abbrev pub IsLastBehind : {S : Type 0} → (calls last : S → S → Type 0) → ℕ → S → S → Type 0
 IsLastBehind {S} calls last n old new = (mid : S) × CallsLead calls n old mid × last mid new
 
--- Reads were made: behind some that didn't fail one failed, the last; or none of 2^32 failed.
+-- The reads that ended in a fault: the last one failed after some that didn't; or 2^32 were made, and none failed.
 abbrev pub HasFailedRead : {R : Type 0} → (reads fails : R → R → Type 0) → (old new : R) → Type 0
 HasFailedRead reads fails old new = (n : ℕ) × (IsLastBehind reads fails n old new ⊎ ((n ≡ 2 ^ 32) × CallsLead reads n old new))
 
--- A write failed, and was the last one; or that many writes were made, one after the other, of which none failed.
+-- The writes that ended in a fault: the last one failed; or at least 2^64 - 1 were made, and none failed.
 abbrev pub HasFailedWrite : {W : Type 0} → (writes fails : W → W → Type 0) → W → Type 0
 HasFailedWrite {W} writes fails now = IsLeft fails now ⊎ ((first : W) × (n : ℕ) × (2 ^ 64 - 1 ≤ n) × CallsLead writes n first now)

@@ -1,10 +1,11 @@
--- What one read does, to the reader and to the bytes that wait; and a text of which only a front is written.
+-- The effect of a read on the reader and the buffer, and texts of which a prefix is written.
 use Rattle.std.specs.Prelude.{◌≡◌, ℕ, ◌≤◌, List, [], ◌++◌, length, take, Option}
 use Rattle.std.specs.Io.KnownBytes.{Appends, Consumes, IsAtEnd}
 use Rattle.line_io.specs.declared.transfer.Filled.{Filled}
 use Rattle.line_io.specs.declared.transfer.Filled.TheVariants.{More, End, Interrupted, Failed, NoRoom}
 
--- what was read stands behind what waited before, and nothing is read but by `More` and `NoRoom`
+-- The meaning of each outcome of a read. `More` appends the bytes to the buffer; only `More` and `NoRoom` take bytes
+-- from the reader.
 abbrev pub Fills : Filled → Option (List ℕ) → Option (List ℕ) → List ℕ → List ℕ → Type 0
 Fills More from to before after = (bytes : List ℕ) × Consumes from to bytes × (after ≡ before ++ bytes)
 Fills End from to before after = Consumes from to [] × IsAtEnd to × (after ≡ before)
@@ -12,19 +13,19 @@ Fills Interrupted from to before after = Consumes from to [] × (after ≡ befor
 Fills Failed from to before after = Consumes from to [] × (after ≡ before)
 Fills NoRoom from to before after = (bytes : List ℕ) × Consumes from to bytes × (after ≡ before)
 
--- the answer of that read to the reader: `Failed` where it failed
+-- The outcome, in terms of the reader: `Failed` if its read failed.
 abbrev pub FillsBy : {R : Type 0} → (reads fails : R → R → Type 0) → Filled → (old new : R) → Type 0
 FillsBy reads fails Failed old new = fails old new
 FillsBy reads fails _ old new = reads old new
 
--- a front of the text was written, and the writer failed
+-- Whether a prefix of the text was written.
 abbrev pub WritesPart : Option (List ℕ) → Option (List ℕ) → List ℕ → Type 0
 WritesPart had has text = (sent left : List ℕ) × (text ≡ sent ++ left) × Appends had has sent
 
--- the first so many bytes of the text were written
+-- Whether the first `count` bytes of the text were written.
 abbrev pub WritesFront : Option (List ℕ) → Option (List ℕ) → ℕ → List ℕ → Type 0
 WritesFront had has count text = (count ≤ length text) × Appends had has (take count text)
 
--- a front of what waited was written, and the rest waits
+-- Whether a prefix of the buffer was written, and the rest is still in it.
 abbrev pub SendsFront : Option (List ℕ) → Option (List ℕ) → (before after : List ℕ) → Type 0
 SendsFront had has before after = (sent : List ℕ) × (before ≡ sent ++ after) × Appends had has sent

@@ -2,7 +2,7 @@
 
 ghost use Rattle.line_io.specs.Lines.{InputsHaveLines};
 
-/// Every input has lines.
+/// A law: every input has lines.
 pub fn inputs_have_lines()
     ensures { InputsHaveLines }
 {}

@@ -1,8 +1,8 @@
-//! The lines of an input as they come from a reader, and texts to a writer.
+//! Reads an input line by line, and writes texts to a writer.
 //!
-//! Whoever reads lines goes to the next one while a whole one is there, and reads once more where none is: so it decides itself
-//! what is done before each read. The last line may have no newline. Readers and writers may tell which bytes they give and
-//! have, and which of their calls fail; those of std tell their bytes.
+//! The caller moves to the next line while a whole one is buffered, and otherwise reads once more. So it decides what
+//! to do before each read. The last line may lack its newline. Readers and writers may state which bytes they hold
+//! and which of their calls fail; those of std state their bytes.
 #![tactic(auto)]
 
 mod faulty;

@@ -1,4 +1,4 @@
-//! Lines, as they come from a reader.
+//! Lines, as a reader delivers them.
 
 ghost use Rattle.std.specs.Prelude.{◌≡◌, ◌<◌, ◌≤◌, ◌^◌, [], true, false, suc, IfOk, OnErr};
 ghost use Rattle.line_io.specs.Lines.{IsUnbroken};
@@ -11,16 +11,16 @@ use crate::transfer::{Filled, drop_front, fill};
 use std::alloc::{AllocError, Global};
 use std::marker::Model;
 
-/// The bytes that are asked for at once.
+/// The most bytes of one read.
 const CHUNK: usize = 65536;
 
 /// The most reads of one input.
 const READS: u64 = 4294967296;
 
-/// The lines of an input: the one that it is at, what was read behind it, how many it was at, and how often it read.
+/// The lines of an input: the current line, the bytes read after it, the count of lines and the count of reads.
 ///
-/// Whoever goes through them goes to the next one while a whole one is there, and reads once more where none is: so it decides
-/// itself what is done before each read. The last line may have no newline.
+/// The caller moves to the next line while a whole one is buffered, and otherwise reads once more. So it decides what
+/// to do before each read. The last line may lack its newline.
 #[derive(Drop)]
 pub struct Lines {
     chunk: Vec<u8>,
@@ -43,7 +43,7 @@ impl Model for Lines {
 }
 
 impl Lines {
-    /// At no line yet, and nothing was read.
+    /// Returns the lines of an input of which nothing was read yet.
     pub fn new(alloc: Global) -> Result<Lines, AllocError>
         ensures { IfOk result (λ lines. lines ≡ no_lines) }
     {
@@ -58,7 +58,7 @@ impl Lines {
         })
     }
 
-    /// Goes to the next line, if its end was read. Gives whether it was.
+    /// Moves to the next line, if its end was read. Returns whether it was.
     pub fn next(&mut self) -> bool
         ensures found { result ≡ true → GoesToNext self.old self.new }
         ensures none { result ≡ false → IsUnbroken self.old.rest }
@@ -83,7 +83,7 @@ impl Lines {
         self.reads < READS
     }
 
-    /// Reads once. The line that it was at is forgotten.
+    /// Reads once. The current line becomes empty.
     pub fn read<R: Source>(&mut self, reader: &mut R) -> Filled
         requires { self.old.reads < 2 ^ 32 }
         ensures fills { Fills result (R.remaining reader.old) (R.remaining reader.new) self.old.rest self.new.rest }
@@ -99,8 +99,8 @@ impl Lines {
         fill(reader, self.chunk.as_mut_slice(), &mut self.bytes)
     }
 
-    /// Goes to the last line, where its newline is missing, and writes that behind it. Gives whether something stood there. `Err`
-    /// says that there is no room for the newline.
+    /// Moves to the last line, which lacks its newline, and appends the newline. Returns whether there was such a
+    /// line. `Err` if memory runs out for the newline.
     pub fn last(&mut self) -> Result<bool, AllocError>
         requires { IsUnbroken self.old.rest }
         ensures found { IfOk result (λ some. some ≡ true → GoesToLast self.old self.new) }
@@ -118,21 +118,21 @@ impl Lines {
         Ok(true)
     }
 
-    /// The line that it is at, with its newline; nothing behind a read.
+    /// Returns the current line, with its newline; it is empty after a read.
     pub fn line(&self) -> &[u8]
         ensures { result.now ≡ self.now.line }
     {
         &self.bytes[self.start..self.end]
     }
 
-    /// What was read behind it.
+    /// Returns the bytes read after the current line.
     pub fn front(&self) -> &[u8]
         ensures { result.now ≡ self.now.rest }
     {
         &self.bytes[self.end..]
     }
 
-    /// How many lines it was at.
+    /// Returns how many lines were reached.
     pub fn count(&self) -> u64
         ensures value { result ≡ self.now.count }
         ensures limit { result ≤ 2 ^ 49 }

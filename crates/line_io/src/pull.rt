@@ -1,4 +1,4 @@
-//! Lines of at most 4096 bytes, one after the other.
+//! Lines of at most 4096 bytes, in order.
 
 ghost use Rattle.std.specs.Prelude.{◌≡◌, ◌≤◌, length};
 ghost use Rattle.line_io.specs.Lines.{IsUnbroken};
@@ -8,26 +8,26 @@ use crate::lines::Lines;
 use crate::streams::Source;
 use crate::transfer::Filled;
 
-/// The most bytes of a line, its newline not counted.
+/// The most bytes of a line, without its newline.
 pub const LONGEST_LINE: usize = 4096;
 
-/// What came of going to the next line.
+/// The outcome of a move to the next line.
 #[derive(Clone, Copy, Debug, PartialEq, Eq)]
 pub enum Pulled {
-    /// It is gone to.
+    /// The next line was reached.
     Line,
-    /// It is above 4096 bytes.
+    /// The next line is above 4096 bytes.
     Long,
-    /// There is none.
+    /// No line is left.
     End,
     /// The reader failed, or was read 2^32 times.
     ReadFault,
-    /// There is no room for it.
+    /// Out of memory for the line.
     NoRoom,
 }
 
 impl Lines {
-    /// Goes to the next line, and reads until its end is there, or until it is too long. The last one may have no newline.
+    /// Moves to the next line, reading until its end is there or it is too long. The last line may lack its newline.
     pub fn pull<R: Source>(&mut self, reader: &mut R) -> Pulled
         ensures pulls { Pulls result (left self.old (R.remaining reader.old)) (left self.new (R.remaining reader.new)) self.old self.new }
         ensures told { PulledBy R.Source result reader.old reader.new self.old.reads self.new.reads }
@@ -49,7 +49,7 @@ impl Lines {
         self.judged()
     }
 
-    // The line that it is at may be too long.
+    // Judges the current line's length.
     fn judged(&self) -> Pulled
         ensures { IsJudged result self.now.line }
     {
@@ -60,7 +60,7 @@ impl Lines {
         }
     }
 
-    // There is no more to read: what waits is the last line.
+    // Moves to the last line, if any: there is no more to read.
     fn ended(&mut self) -> Pulled
         requires { IsUnbroken self.old.rest }
         ensures ends { ComesToEnd result self.old self.new }

@@ -1,4 +1,4 @@
-//! Writing what waits.
+//! Writing the buffered output.
 
 ghost use Rattle.std.specs.Prelude.{◌≡◌, [], OnOk, OnErr};
 ghost use Rattle.std.specs.Io.KnownBytes.{Appends};
@@ -8,10 +8,10 @@ ghost use Rattle.line_io.specs.Transfer.{WritesPart, SendsFront};
 use crate::streams::Sink;
 use crate::transfer::{WriteFailed, write_out};
 
-/// What waits for the next read is written earlier once that are so many bytes.
+/// The size at which the output is written before the next read.
 const FULL: usize = 65536;
 
-/// Writes what waits, where that are 65536 bytes or more.
+/// Writes the output if it has 65536 bytes or more.
 pub fn send_full<W: Sink>(writer: &mut W, output: &mut Vec<u8>) -> Result<(), WriteFailed>
     ensures ok { OnOk result (SendsFront (W.contents writer.old) (W.contents writer.new) output.old.items output.new.items) }
     ensures err { OnErr result (WritesPart (W.contents writer.old) (W.contents writer.new) output.old.items) }
@@ -26,7 +26,7 @@ pub fn send_full<W: Sink>(writer: &mut W, output: &mut Vec<u8>) -> Result<(), Wr
     }
 }
 
-/// Writes what waits. Where the writer fails it has got a front of it.
+/// Writes the output and clears it. If the writer fails, it has a prefix of the output.
 pub fn send<W: Sink>(writer: &mut W, output: &mut Vec<u8>) -> Result<(), WriteFailed>
     ensures ok { OnOk result (Appends (W.contents writer.old) (W.contents writer.new) output.old.items × (output.new.items ≡ [])) }
     ensures err { OnErr result (WritesPart (W.contents writer.old) (W.contents writer.new) output.old.items) }

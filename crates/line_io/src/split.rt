@@ -5,14 +5,14 @@ ghost use Rattle.line_io.specs.Lines.{IsUnbroken, BreaksAt, EndsLine};
 
 use memchr::memchr;
 
-/// The place of the first newline.
+/// Returns the index of the first newline.
 pub fn newline_place(text: &[u8]) -> Option<usize>
     ensures { MatchOption result (IsUnbroken text.now) (BreaksAt text.now) }
 {
     memchr(b'\n', text)
 }
 
-/// The first line with its newline, and what follows it. `None` where no newline stands in the text.
+/// Splits off the first line, with its newline. `None` if the text has no newline.
 pub fn split_line(text: &[u8]) -> Option<(&[u8], &[u8])>
     ensures { MatchOption result (IsUnbroken text.now) (λ p. EndsLine p.0.now × (text.now ≡ p.0.now ++ p.1.now)) }
 {

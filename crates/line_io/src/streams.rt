@@ -8,43 +8,43 @@ ghost use Rattle.line_io.specs.Streams.{TellsRead, TellsWrite};
 use crate::missed::Missed;
 use std::io::{self, ErrorKind, Read, Write};
 
-/// What is read from: a reader that may tell which bytes it gives, and which of its reads fail.
+/// A source of bytes: a reader that may state which bytes it returns, and which of its reads fail.
 pub trait Source {
-    // The bytes that reads will give from here on, where they are known.
+    // The bytes that later reads will return, if they are known.
     ghost remaining: { Self → Option (List ℕ) } = { λ _. None };
 
-    // A read that didn't fail may lead from the one to the other.
+    // A read that didn't fail may lead from the first state to the second.
     ghost reads: { Self → Self → Type 0 } = { λ _ _. Unit {0} };
 
-    // A read that failed may.
+    // A read that failed may lead from the first state to the second.
     ghost fails: { Self → Self → Type 0 } = { λ _ _. Unit {0} };
 
-    /// Reads once, and gives the number of bytes: 0 where there are no more.
+    /// Reads once, and returns the count of bytes: 0 at the end.
     fn read(&mut self, buf: &mut [u8]) -> Result<usize, Missed>
         ensures bound { ReadsAtMost result buf.new }
         ensures bytes { ReadConsumes (remaining self.old) (remaining self.new) result buf.new }
         ensures told { TellsRead reads fails result self.old self.new };
 }
 
-/// What is written to: a writer that may tell which bytes it has, and which of its writes fail.
+/// A sink of bytes: a writer that may state which bytes it holds, and which of its writes fail.
 pub trait Sink {
-    // The bytes that it holds, where they are known.
+    // The bytes that it holds, if they are known.
     ghost contents: { Self → Option (List ℕ) } = { λ _. None };
 
-    // A write that didn't fail may lead from the one to the other.
+    // A write that didn't fail may lead from the first state to the second.
     ghost writes: { Self → Self → Type 0 } = { λ _ _. Unit {0} };
 
-    // A write that failed, or took no bytes, may.
+    // A write that failed, or took no bytes, may lead from the first state to the second.
     ghost fails: { Self → Self → Type 0 } = { λ _ _. Unit {0} };
 
-    /// Writes once, and gives the number of bytes that were taken. One that takes none has failed.
+    /// Writes once, and returns the count of bytes that were taken. A write that takes none has failed.
     fn write(&mut self, buf: &[u8]) -> Result<usize, Missed>
         ensures bound { WritesAtMost result buf.now }
         ensures bytes { WriteAppends (contents self.old) (contents self.new) result buf.now }
         ensures told { TellsWrite writes fails result self.old self.new };
 }
 
-/// A reader or a writer of `std`. It tells its bytes where the one inside does, and nothing of its failures.
+/// A reader or a writer of `std`. It states its bytes if the inner one does, and nothing about failures.
 #[derive(Drop)]
 pub struct Plain<T>(pub T);
 

@@ -8,22 +8,22 @@ ghost use Rattle.line_io.specs.Transfer.{Fills, FillsBy, WritesFront, WritesPart
 use crate::missed::Missed;
 use crate::streams::{Sink, Source};
 
-/// What became of one read.
+/// The outcome of one read.
 #[derive(Clone, Copy, Debug, PartialEq, Eq)]
 pub enum Filled {
-    /// Some bytes came.
+    /// Some bytes were read.
     More,
     /// The reader has no more.
     End,
-    /// A signal came in the way. Nothing was read, and the next read may give more.
+    /// A signal interrupted it. Nothing was read, and the next read may succeed.
     Interrupted,
     /// The reader failed.
     Failed,
-    /// Bytes came that there is no room for.
+    /// Out of memory for the bytes that were read.
     NoRoom,
 }
 
-/// Reads once, and puts what came behind the bytes that wait.
+/// Reads once, and appends the bytes to the buffer.
 pub(crate) fn fill<R: Source>(reader: &mut R, chunk: &mut [u8], pending: &mut Vec<u8>) -> Filled
     requires { 0 < length chunk.old }
     ensures fills { Fills result (R.remaining reader.old) (R.remaining reader.new) pending.old.items pending.new.items }
@@ -46,7 +46,7 @@ pub(crate) fn fill<R: Source>(reader: &mut R, chunk: &mut [u8], pending: &mut Ve
 #[derive(Clone, Copy, Debug, PartialEq, Eq)]
 pub struct WriteFailed;
 
-/// Writes all of the text. Where the writer fails it has got a front of it.
+/// Writes all of the text. If the writer fails, it has a prefix of the text.
 pub fn write_out<W: Sink>(writer: &mut W, text: &[u8]) -> Result<(), WriteFailed>
     ensures ok { OnOk result (Appends (W.contents writer.old) (W.contents writer.new) text.now) }
     ensures err { OnErr result (WritesPart (W.contents writer.old) (W.contents writer.new) text.now) }
@@ -65,7 +65,7 @@ pub fn write_out<W: Sink>(writer: &mut W, text: &[u8]) -> Result<(), WriteFailed
     Err(WriteFailed)
 }
 
-// Writes once, and gives the number of bytes that were taken: 0 where a signal came in the way.
+// Writes once, and returns the count of bytes that were taken: 0 if a signal interrupted it.
 fn write_once<W: Sink>(writer: &mut W, text: &[u8]) -> Result<usize, WriteFailed>
     ensures ok { IfOk result (λ count. WritesFront (W.contents writer.old) (W.contents writer.new) count text.now) }
     ensures err { OnErr result (Appends (W.contents writer.old) (W.contents writer.new) []) }
@@ -80,7 +80,7 @@ fn write_once<W: Sink>(writer: &mut W, text: &[u8]) -> Result<usize, WriteFailed
     }
 }
 
-// What comes behind the first `count` bytes.
+// Returns the rest after the first `count` bytes.
 fn behind(text: &[u8], count: usize) -> &[u8]
     requires { count ≤ length text.now }
     ensures { result.now ≡ drop count text.now }
@@ -88,7 +88,7 @@ fn behind(text: &[u8], count: usize) -> &[u8]
     &text[count..]
 }
 
-/// Leaves out the first `count` bytes.
+/// Removes the first `count` bytes.
 pub(crate) fn drop_front(bytes: &mut Vec<u8>, count: usize)
     requires { count ≤ vec_len bytes.old }
     ensures { bytes.new.items ≡ drop count bytes.old.items }

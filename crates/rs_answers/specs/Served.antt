@@ -16,32 +16,32 @@ use Rattle.service_answers.specs.SettingsLines.{settings_line, settings_fault_li
 use Rattle.rs_store.specs.declared.call.RsReply.{RsReply}
 use Rattle.rs_store.specs.declared.call.RsReply.TheVariants.{Replied, NotAllowed, Begun, Exists, NotBegun, Acted, Refused}
 
--- the lines of the store's reply to an action, if there is one
+-- The lines of the store's reply to an action, if there is one.
 abbrev pub reply_lines_if : Option (Option Reply) → List ℕ
 reply_lines_if (Some (Some reply)) = reply_lines AsMerge reply larger
 reply_lines_if (Some None) = []
 reply_lines_if None = []
 
--- each action's line, and below it the store's reply
+-- Each action's line, followed by the store's reply.
 abbrev pub acted_lines : List Action → List (Option Reply) → List ℕ
 acted_lines [] replies = []
 acted_lines (action ∷ actions) [] = action_line action ++ acted_lines actions []
 acted_lines (action ∷ actions) (reply ∷ replies) = action_line action ++ (reply_lines_if (Some reply) ++ acted_lines actions replies)
 
--- these lines, and then the count of the actions
+-- These lines, and then the number of actions.
 abbrev pub all_acted_lines : List Action → List (Option Reply) → List ℕ
 all_acted_lines actions replies = acted_lines actions replies ++ action_count_line (length actions)
 
--- why RS didn't begin, in the words of a refused settings text
+-- Why RS didn't begin, in the words of a refused settings text.
 abbrev pub start_fault_line : NewFault → List ℕ
 start_fault_line new_faults.OutOfRange = settings_fault_line causes.OutOfRange
 start_fault_line new_faults.NoRoom = settings_fault_line causes.NoRoom
 
--- a client's command in RS's name is refused, in the words of the store's refusal
+-- The refusal of a client's command in RS's name, in the words of the store's refusal.
 abbrev pub not_allowed_lines : List ℕ
 not_allowed_lines = reply_lines AsMerge (store_replies.Refused refusals.NotAllowed) larger
 
--- the lines of a reply. That a service was given up has no line
+-- The lines of a reply; a service that was given up has no line.
 abbrev pub served_lines : Wording → RsReply → List ℕ
 served_lines wording (Replied reply) = reply_lines wording reply larger
 served_lines wording NotAllowed = not_allowed_lines

@@ -1,4 +1,4 @@
-//! The lines that answer RS and its store, as a script prints them.
+//! The lines that answer RS and its store, as in a script.
 #![tactic(auto)]
 
 mod served;

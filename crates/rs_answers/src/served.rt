@@ -17,8 +17,9 @@ use service_answers::{
 };
 use store_answers::{Wording, append_reply};
 
-/// Appends the lines of a reply, as a script prints them: a line for each action, below it the store's reply to it, and then how many
-/// actions there are. `wording` is that of the reply to a client's Merge. Where memory runs out, the buffer is unchanged.
+/// Appends the lines of a reply, as in a script: a line for each action, followed by the store's reply to it, and then
+/// the number of actions. `wording` is that of the reply to a client's Merge. If memory runs out, the buffer is
+/// unchanged.
 pub fn append_served(buffer: &mut Vec<u8>, wording: Wording, reply: &RsReply) -> Result<(), NoRoom>
     ensures written { OnOk result (buffer.new.items ≡ buffer.old.items ++ served_lines wording reply.now) }
     ensures unchanged { OnErr result (buffer.new.items ≡ buffer.old.items) }
@@ -38,7 +39,7 @@ pub fn append_served(buffer: &mut Vec<u8>, wording: Wording, reply: &RsReply) ->
     }
 }
 
-// Appends the refusal of a client's command in RS's name, in the words of the store's, or nothing.
+// Appends the refusal of a client's command in RS's name, in the words of the store's refusal.
 fn append_not_allowed(buffer: &mut Vec<u8>) -> Result<(), NoRoom>
     ensures written { OnOk result (buffer.new.items ≡ buffer.old.items ++ not_allowed_lines) }
     ensures unchanged { OnErr result (buffer.new.items ≡ buffer.old.items) }
@@ -47,7 +48,7 @@ fn append_not_allowed(buffer: &mut Vec<u8>) -> Result<(), NoRoom>
     append_reply(buffer, Wording::AsMerge, &reply, Limits::larger())
 }
 
-// Appends why RS didn't begin, in the words of a refused settings text, or nothing.
+// Appends why RS didn't begin, in the words of a refused settings text.
 fn append_start_fault(buffer: &mut Vec<u8>, fault: NewFault) -> Result<(), NoRoom>
     ensures written { OnOk result (buffer.new.items ≡ buffer.old.items ++ start_fault_line fault) }
     ensures unchanged { OnErr result (buffer.new.items ≡ buffer.old.items) }
@@ -58,7 +59,7 @@ fn append_start_fault(buffer: &mut Vec<u8>, fault: NewFault) -> Result<(), NoRoo
     }
 }
 
-// Appends the lines of actions and replies, and the count of the actions, or nothing.
+// Appends the lines of actions and replies, and the number of actions.
 fn append_acted(buffer: &mut Vec<u8>, actions: &Actions, replies: &Replies) -> Result<(), NoRoom>
     ensures written { OnOk result (buffer.new.items ≡ buffer.old.items ++ all_acted_lines actions.now replies.now) }
     ensures unchanged { OnErr result (buffer.new.items ≡ buffer.old.items) }
@@ -73,7 +74,7 @@ fn append_acted(buffer: &mut Vec<u8>, actions: &Actions, replies: &Replies) -> R
     }
 }
 
-// Appends the same lines. Where memory runs out, some of them may be left.
+// Like `append_acted`, but if memory runs out, some lines may remain.
 fn append_all_acted(
     buffer: &mut Vec<u8>,
     actions: &Actions,
@@ -92,7 +93,7 @@ fn append_all_acted(
     append_action_count(buffer, actions.len())
 }
 
-// Appends the lines of the store's reply to an action, if there is one, or nothing.
+// Appends the lines of the store's reply to an action, if there is one.
 fn append_reply_if(buffer: &mut Vec<u8>, reply: Option<&Option<Reply>>) -> Result<(), NoRoom>
     ensures written { OnOk result (buffer.new.items ≡ buffer.old.items ++ reply_lines_if (option_copied reply.entry)) }
     ensures unchanged { OnErr result (buffer.new.items ≡ buffer.old.items) }

@@ -34,7 +34,7 @@ at_most_one given key = by (nat_lt key given)
 not_given : (given key : ℕ) → given ≤ key → times_given given key ≡ 0
 not_given given key h = ap one (le-ltb key given h)
 
--- one key more is given
+-- one more key is taken
 given_more : (first given key : ℕ) → one ((first + given) == (first + key)) + times_given given key ≡ times_given (given + 1) key
 given_more first given key = elim (cases_eq key given) [
   | inl same ↦ rw (eq-eqb (first + given) (first + key) (omega (arith, same)), le-ltb key given (omega (arith, same)), lt-ltb key (given + 1) (omega (arith, same))) refl
@@ -89,7 +89,7 @@ rest_not_up (Waiting p) h = refl
 rest_not_up Down h = refl
 rest_not_up GaveUp h = refl
 
--- a state stands where more generations were given
+-- a state still holds when more generations were used
 stands : (first next more : ℕ) (state : State) → next ≤ more → IsState first next state → IsState first more state
 stands first next more (Up r) le h = record { valid = h.valid; given = h.given; below = omega (arith, h.below, le); slot = h.slot; failures = h.failures }
 stands first next more (Waiting p) le h = h
@@ -104,7 +104,7 @@ record Follows (first : ℕ) (freed more : List ℕ) (given now : ℕ) (before a
       times_freed key more + one (is_at first key after) + times_given given key ≡ times_freed key freed + one (is_at first key before) + times_given now key
   taken : length more + one (is_up after) + given ≡ length freed + one (is_up before) + now
 
--- it takes the slot that is given next
+-- it takes the next slot
 takes_next : (first : ℕ) (freed : List ℕ) (given : ℕ) (before : State) (r : Running) → is_up before ≡ false →
     r.endpoint.slot ≡ first + next_of freed given →
     Follows first freed (giving first freed given).freed given (giving first freed given).given before (Up r)
@@ -117,7 +117,7 @@ takes_next first (k ∷ freed) given before r rest slot = record {
   taken = rw rest (omega arith);
 }
 
--- it gives its slot back
+-- it frees its slot
 gives_back : (first : ℕ) (freed : List ℕ) (given : ℕ) (r : Running) (after : State) → first ≤ r.endpoint.slot → is_up after ≡ false →
     Follows first freed ((r.endpoint.slot - first) ∷ freed) given given (Up r) after
 gives_back first freed given r after high rest = record {
@@ -172,7 +172,7 @@ kept_on settings states tick now next more old new at after same kept within wor
 
 -- ---- what follows of it
 
--- the key that is given next is one of the settings' just where fewer services are up than there are slots
+-- the next key is one of the settings' exactly if fewer services are up than there are slots
 key_below : (first limit : ℕ) (freed : List ℕ) (given : ℕ) (states : List State) → ((key : ℕ) →
     times_freed key freed + count_by (is_at first key) states ≡ times_given given key) →
     length freed + up_count states ≡ given → given ≤ limit → (next_of freed given < limit) ↔ (up_count states < limit)
@@ -207,7 +207,7 @@ some_up states at within up =
     let is : one (is_up (get_or states at Down)) ≡ 1 = ap one up in
     omega (arith, is, get_or-le-sum_by (λ s. one (is_up s)) states at Down within)
 
--- no more keys are given than there are services
+-- no more keys are taken than there are services
 giving_few : (settings : SettingsRecord) (states : List State) (tick next : ℕ) (slots : SlotsRecord) (at : ℕ) →
     IsRs settings states tick next slots → at < length states →
     is_up (get_or states at Down) ≡ false → (giving slots.first slots.freed slots.given).given ≤ length states
@@ -227,7 +227,7 @@ giving_own settings states tick next slots kept free = by slots.freed kept.fit.t
     by [] taken = omega (arith, taken, free)
     by (k ∷ freed) taken = kept.own
 
--- no instance runs in the slot that is given next
+-- no instance runs in the next slot
 not_counted : (first key : ℕ) (states : List State) (i : ℕ) → i < length states → count_by (is_at first key) states ≤ 0 →
     IsNotAt first key (get_or states i Down)
 not_counted first key states i l none =
@@ -311,7 +311,7 @@ giving_first : (first : ℕ) (freed : List ℕ) (given : ℕ) → (giving first 
 giving_first first [] given = refl
 giving_first first (k ∷ freed) given = refl
 
--- a service is started in the slot that is given next
+-- a service is started in the next slot
 pub kept_by_start : (settings : SettingsRecord) (states : List State) (tick now next : ℕ) (slots : SlotsRecord) (at : ℕ) (r : Running) →
     IsRs settings states tick next slots → at < length states → now ≤ 2 ^ 62 → next ≤ 2097151 →
     up_count states < settings.slots → is_up (get_or states at Down) ≡ false → IsRunning slots.first (next + 1) r →
@@ -331,8 +331,9 @@ kept_by_stop settings states tick now next slots at r after kept within worn up 
     (gives_back slots.first slots.freed slots.given r after (up_keeps settings states tick next slots at r kept within up).slot (rest_not_up after rest)))
     kept.fit.few kept.own
 
--- its instance goes on, or another one does in the same slot
-pub kept_by_change : (settings : SettingsRecord) (states : List State) (tick now next more : ℕ) (slots : SlotsRecord) (at : ℕ) (r q : Running) → IsRs settings states tick next slots → at < length states → now ≤ 2 ^ 62 → next ≤ more → more ≤ 2097152 →
+-- its instance continues, or another one runs in the same slot
+pub kept_by_change : (settings : SettingsRecord) (states : List State) (tick now next more : ℕ) (slots : SlotsRecord) (at : ℕ) (r q : Running) →
+    IsRs settings states tick next slots → at < length states → now ≤ 2 ^ 62 → next ≤ more → more ≤ 2097152 →
     get_or states at Down ≡ Up r → IsRunning slots.first more q → r.endpoint.slot ≡ q.endpoint.slot →
     IsRs settings (set states at (Up q)) now more slots
 kept_by_change settings states tick now next more slots at r q kept within worn le spent up here same =

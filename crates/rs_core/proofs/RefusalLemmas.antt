@@ -1,4 +1,4 @@
--- What is never told of a refusal.
+-- What never refuses an event.
 use Rattle.std.proofs.Common.{◌≡◌, ℕ, Bool, true, false, cond, List, [], ◌∷◌, Some, refl, sym, ap, ◌∙◌}
 use Rattle.std.specs.List.{find}
 use Rattle.std.proofs.lemmas.Option.{same_Some}
@@ -17,6 +17,6 @@ passes p (y ∷ ys) x h = by_test (p y) refl h (passes p ys x)
     by_test true e q rest = ap p (sym (same_Some y x q)) ∙ e
     by_test false e q rest = rest q
 
--- want of memory never stands against an event
+-- lack of memory is never a fault against an event
 pub never_room : (s : RsRecord) (event : Event) (tick : ℕ) → refusal s event tick ≡ Some NoRoom → ⊥
 never_room s event tick e = let q : false ≡ true = passes (against s event tick) order NoRoom e in cc

@@ -42,7 +42,9 @@ follow_rises s tick None actions t h =
     subst (λ (z : List Action). AreRising s.next (starts z) t.next) (sym h.done) (omega arith)
 follow_rises s tick (Some p) actions t h =
     let n : next_after s (state_at s p.place) p.deed ≡ t.next = sym (ap (λ (r : RsRecord). r.next) h.after) in
-    subst (λ (z : List Action). AreRising s.next (starts z) t.next) (sym h.done) (subst (λ k. AreRising s.next (starts (actions_of s (service_at s p.place) (state_at s p.place) p.deed)) k) n (deed_rises s (service_at s p.place) (state_at s p.place) p.deed))
+    subst (λ (z : List Action). AreRising s.next (starts z) t.next) (sym h.done)
+    (subst (λ k. AreRising s.next (starts (actions_of s (service_at s p.place) (state_at s p.place) p.deed)) k) n
+    (deed_rises s (service_at s p.place) (state_at s p.place) p.deed))
 
 rises_from : (low mid high : ℕ) (es : List EndpointRecord) → low ≤ mid → AreRising mid es high → AreRising low es high
 rises_from low mid high [] le h = omega arith

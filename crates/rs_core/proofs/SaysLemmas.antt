@@ -34,7 +34,7 @@ up_is r q e = cc
 
 -- ---- what is done to a service
 
--- what is done to a service with this index says the same of these actions, of the next generation, and of its state after it
+-- what a deed to the service with this index says about these actions, the next generation, and its state after it
 record DeedSays (s : RsRecord) (place : ℕ) (state : State) (actions : List Action) (next : ℕ) (after : State) : Type 0 where
   few : length actions ≤ 5
   in_place : AllByRecursion IsActionInPlace actions
@@ -133,7 +133,7 @@ module _ (s : RsRecord) (place : ℕ) where
 
 -- ---- a step
 
--- nothing of a list stands
+-- none of a list applies
 none_stands : {X : Type 0} (p : X → Bool) (xs : List X) (x : X) → find p xs ≡ None → In x xs → p x ≡ false
 none_stands p [] x e h = absurd h
 none_stands p (y ∷ ys) x e h = by (p y) refl e h (none_stands p ys x)
@@ -147,7 +147,7 @@ second_false : (a b : Bool) → a && b ≡ false → a ≡ true → b ≡ false
 second_false true b e q = e
 second_false false b e q = absurd (let n : false ≡ true = q in cc)
 
--- a deed that takes a generation finds one left, where nothing stands against the event
+-- a deed that takes a generation finds one left, if no fault applies to the event
 generation_left : (s : RsRecord) (event : Event) (tick : ℕ) (p : Plan) → refusal s event tick ≡ None → asked s event tick ≡ Ok (Some p) → takes_generation p.deed ≡ true → s.next ≤ 2097151
 generation_left s event tick p free is takes =
     let spent : asks takes_generation (asked s event tick) && nat_lt 2097151 s.next ≡ false = none_stands (against s event tick) order GenerationsSpent free (inr (inr (inr (inr (inr (inr (inr (inl refl)))))))) in

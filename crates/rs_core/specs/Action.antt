@@ -1,4 +1,4 @@
--- What RS does when an instance of a service starts, and when one is stopped.
+-- What RS does to start an instance of a service, and to stop one.
 use Rattle.std.specs.Prelude.{ℕ, Bool, List, [], ◌∷◌, ◌++◌, if◌then◌else◌}
 use Rattle.ds_names.specs.declared.version.Version.{Version}
 use Rattle.ds_names.specs.Endpoint.{EndpointRecord}
@@ -11,7 +11,8 @@ use Rattle.rs_core.specs.declared.action.Action.TheVariants.{Kill, Start, Ping, 
 use Rattle.ds_names.specs.Name.{rs_name}
 use Rattle.ds_names.specs.Key.{label_key}
 
--- a copy of the action takes no memory, as none of RS's own does: it would for the offer of a text or of bytes alone
+-- Copying the action takes no memory. That holds for all of RS's own: only the offer of a text or a blob would take
+-- some.
 abbrev pub IsActionInPlace : Action → Type 0
 IsActionInPlace (Offer change) = IsBodyInPlace change.body
 IsActionInPlace (Kill endpoint) = Unit {0}
@@ -19,22 +20,24 @@ IsActionInPlace (Start label endpoint) = Unit {0}
 IsActionInPlace (Ping endpoint) = Unit {0}
 IsActionInPlace (Sweep floor) = Unit {0}
 
--- the version of an epoch and a number
+-- The version of this epoch and number.
 abbrev pub version : ℕ → ℕ → Version
 version epoch seq = record { epoch = epoch; seq = seq }
 
--- the change that publishes a label: number 0 of its endpoint's generation
+-- The change that publishes a label: number 0 of its endpoint's generation.
 abbrev pub label_put : List ℕ → EndpointRecord → ChangeRecord
 label_put label endpoint = change_of (label_key label) rs_name (version endpoint.generation 0) (Put (values.Label endpoint))
 
--- the change that takes it back: number 1 of that generation
+-- The change that ends a label: number 1 of that generation.
 abbrev pub label_gone : List ℕ → ℕ → ChangeRecord
 label_gone label generation = change_of (label_key label) rs_name (version generation 1) Gone
 
--- to start an instance: it is started, and its label is published
+-- The actions of starting an instance: start it, and publish its label.
 abbrev pub start_actions : List ℕ → EndpointRecord → List Action
 start_actions label endpoint = Start label endpoint ∷ Offer (label_put label endpoint) ∷ []
 
--- to stop one: it is killed where it may still live, its label is taken back, and what it published is swept
+-- The actions of stopping an instance: kill it if it may be alive, end its label, and sweep what it published.
 abbrev pub stop_actions : Bool → List ℕ → EndpointRecord → List Action
-stop_actions kill label endpoint = (if kill then Kill endpoint ∷ [] else []) ++ (Offer (label_gone label endpoint.generation) ∷ Sweep (floor_of label endpoint.generation) ∷ [])
+stop_actions kill label endpoint =
+    (if kill then Kill endpoint ∷ [] else []) ++
+    (Offer (label_gone label endpoint.generation) ∷ Sweep (floor_of label endpoint.generation) ∷ [])

@@ -1,4 +1,4 @@
--- What stands against an event, in the one order of refusals.
+-- The faults against an event, in the one order of refusals.
 use Rattle.std.specs.Prelude.{ℕ, ◌^◌, Bool, true, false, not, ◌&&◌, nat_le, nat_lt, List, [], ◌∷◌, Option, Some, None, Result, Ok, Err, if◌then◌else◌}
 use Rattle.std.specs.List.{find}
 use Rattle.rs_core.specs.declared.event.Event.{Event}
@@ -11,41 +11,41 @@ use Rattle.rs_core.specs.declared.deed.Plan.{Plan}
 use Rattle.rs_core.specs.State.{RsRecord, up_count}
 use Rattle.rs_core.specs.Machine.{asked}
 
--- the one order
+-- The one order.
 abbrev pub order : List RsFault
 order = TickBack ∷ Worn ∷ UnknownLabel ∷ BadCause ∷ AlreadyUp ∷ NotUp ∷ OldEndpoint ∷ GenerationsSpent ∷ NoSlot ∷ []
 
--- causes of death are 1 to 6
+-- Whether the event is a death of a cause other than 1 to 6.
 abbrev pub is_bad_cause : Event → Bool
 is_bad_cause (events.Death endpoint cause) = not (nat_le 1 cause && nat_le cause 6)
 is_bad_cause _ = false
 
--- the deed takes a generation
+-- Whether the deed takes a generation.
 abbrev pub takes_generation : Deed → Bool
 takes_generation Begin = true
 takes_generation Resume = true
 takes_generation Replace = true
 takes_generation _ = false
 
--- the deed takes a slot and frees none
+-- Whether the deed takes a slot and frees none.
 abbrev pub takes_slot : Deed → Bool
 takes_slot Begin = true
 takes_slot Resume = true
 takes_slot _ = false
 
--- the deed has actions, and so takes memory for their list
+-- Whether the deed has actions, and so takes memory for their list.
 abbrev pub has_actions : Deed → Bool
 has_actions Forget = false
 has_actions Hear = false
 has_actions _ = true
 
--- a deed of this sort is asked
+-- Whether the event calls for a deed that passes the test.
 abbrev pub asks : (Deed → Bool) → Result (Option Plan) RsFault → Bool
 asks test (Ok (Some p)) = test p.deed
 asks test (Ok None) = false
 asks test (Err fault) = false
 
--- the table names this fault
+-- Whether the table answers with this fault.
 abbrev pub names_unknown : Result (Option Plan) RsFault → Bool
 names_unknown (Err UnknownLabel) = true
 names_unknown _ = false
@@ -62,11 +62,11 @@ abbrev pub names_old : Result (Option Plan) RsFault → Bool
 names_old (Err OldEndpoint) = true
 names_old _ = false
 
--- as many services are up as there are slots
+-- Whether as many services are up as there are slots.
 abbrev pub is_full : RsRecord → Bool
 is_full s = nat_le s.settings.slots (up_count s.states)
 
--- the cause stands against the event
+-- Whether the fault applies to the event.
 abbrev pub against : RsRecord → Event → ℕ → RsFault → Bool
 against s event tick TickBack = nat_lt tick s.tick
 against s event tick Worn = nat_lt (2 ^ 62) tick
@@ -79,13 +79,13 @@ against s event tick GenerationsSpent = asks takes_generation (asked s event tic
 against s event tick NoSlot = asks takes_slot (asked s event tick) && is_full s
 against s event tick NoRoom = false
 
--- what a deed lacks
+-- What is missing for a deed.
 abbrev pub lack_for : RsRecord → Deed → Option RsFault
 lack_for s deed =
     if takes_generation deed && nat_lt 2097151 s.next then Some GenerationsSpent
     else if takes_slot deed && is_full s then Some NoSlot
     else None
 
--- the first cause of the order that stands against the event
+-- The first fault, in the order, that applies to the event.
 abbrev pub refusal : RsRecord → Event → ℕ → Option RsFault
 refusal s event tick = find (against s event tick) order

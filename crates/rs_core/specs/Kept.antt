@@ -1,4 +1,4 @@
--- What RS keeps true of its states, slots and generations.
+-- What holds for RS's states, slots and generations at any time.
 use Rattle.std.specs.Prelude.{◌≡◌, ◌≢◌, ◌⊎◌, ℕ, ◌+◌, ◌^◌, ◌<◌, ◌≤◌, ◌==◌, nat_lt, Bool, false, List, length, slice_index_or, count_by, if◌then◌else◌}
 use Rattle.ds_names.specs.Endpoint.{IsEndpoint}
 use Rattle.rs_settings.specs.Settings.{SettingsRecord, IsSettings}
@@ -8,7 +8,7 @@ use Rattle.rs_core.specs.declared.state.Running.{Running}
 use Rattle.rs_core.specs.Slots.{SlotsRecord}
 use Rattle.rs_core.specs.State.{up_count}
 
--- the instance of a service: its generation was given, and its slot isn't below RS's first one
+-- A running instance: its generation was used, and its slot isn't below RS's first one.
 pub record IsRunning (first next : ℕ) (r : Running) : Type 0 where
   pub valid : IsEndpoint r.endpoint
   pub given : 0 < r.endpoint.generation
@@ -16,39 +16,39 @@ pub record IsRunning (first next : ℕ) (r : Running) : Type 0 where
   pub slot : first ≤ r.endpoint.slot
   pub failures : r.failures ≤ 1000
 
--- the state of a service: failures never pass a limit
+-- The state of a service has its parts in their ranges.
 abbrev pub IsState : ℕ → ℕ → State → Type 0
 IsState first next (Up r) = IsRunning first next r
 IsState first next (Waiting p) = p.failures ≤ 1000
 IsState first next Down = Unit {0}
 IsState first next GaveUp = Unit {0}
 
--- an instance of the service runs in the slot with the key
+-- Whether an instance of the service runs in the slot with the key.
 abbrev pub is_at : ℕ → ℕ → State → Bool
 is_at first key (Up r) = r.endpoint.slot == first + key
 is_at first key (Waiting p) = false
 is_at first key Down = false
 is_at first key GaveUp = false
 
--- 1 for a key that was given, 0 for another one
+-- 1 for a key that was ever taken, 0 for any other.
 abbrev pub times_given : ℕ → ℕ → ℕ
 times_given given key = if nat_lt key given then 1 else 0
 
 -- The slots fit the states: no slot is lost, and none has two instances.
 pub record SlotsFit (slots : SlotsRecord) (states : List State) : Type 0 where
-  -- a key that was given is free again, or one instance's; no other key is
+  -- a key that was ever taken is either free or has one instance; no other key is
   pub once : (key : ℕ) → count_by (λ k. k == key) slots.freed + count_by (is_at slots.first key) states ≡ times_given slots.given key
-  -- of the keys that were given, as many aren't free as services are up
+  -- of the keys ever taken, as many aren't free as services are up
   pub taken : length slots.freed + up_count states ≡ slots.given
-  -- no more keys were given than there are services
+  -- no more keys were ever taken than there are services
   pub few : slots.given ≤ length states
 
--- no generation of a first start, which is 1 to 2097152, or no first slot of so many: RS's slots are 16 to 1023
+-- The generation of the first start isn't 1 to 2097152, or the slots don't lie within 16 to 1023.
 abbrev pub IsOutOfRange : ℕ → ℕ → ℕ → Type 0
 IsOutOfRange slots next first = ((next < 1) ⊎ (2097152 < next)) ⊎ ((first < 16) ⊎ (1024 < first + slots))
 
--- settings in their ranges, a state for each service, the tick and the next generation in their ranges, each state so, and slots
--- that fit the states, of no more keys than the settings allow
+-- The settings, the tick and the next generation are in their ranges, each service has a state in its range, and the
+-- slots fit the states and the settings.
 pub record IsRs (settings : SettingsRecord) (states : List State) (tick next : ℕ) (slots : SlotsRecord) : Type 0 where
   pub checked : IsSettings settings
   pub count : length states ≡ length settings.services
@@ -58,23 +58,23 @@ pub record IsRs (settings : SettingsRecord) (states : List State) (tick next : �
   pub each : (i : ℕ) → i < length states → IsState slots.first next (slice_index_or states i Down)
   pub fit : SlotsFit slots states
   pub own : slots.given ≤ settings.slots
-  -- the system's own slots are below RS's, which are all slots of endpoints
+  -- RS's slots are above the system's own, and within an endpoint's range
   pub low : 16 ≤ slots.first
   pub high : slots.first + settings.slots ≤ 1024
 
--- no instance of the service runs in the slot with the key
+-- No instance of the service runs in the slot with the key.
 abbrev pub IsNotAt : ℕ → ℕ → State → Type 0
 IsNotAt first key (Up r) = r.endpoint.slot ≢ first + key
 IsNotAt first key (Waiting p) = Unit {0}
 IsNotAt first key Down = Unit {0}
 IsNotAt first key GaveUp = Unit {0}
 
--- where both services run, they run in two slots
+-- If both services run, they run in different slots.
 abbrev pub HaveTwoSlots : State → State → Type 0
 HaveTwoSlots (Up r) (Up q) = r.endpoint.slot ≢ q.endpoint.slot
 HaveTwoSlots _ _ = Unit {0}
 
--- the service runs no instance
+-- The service runs no instance.
 abbrev pub IsAtRest : State → Type 0
 IsAtRest (Up r) = ⊥
 IsAtRest (Waiting p) = p.failures ≤ 1000

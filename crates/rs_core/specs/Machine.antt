@@ -1,4 +1,4 @@
--- The restart machine: what an event asks, what is then done, and the state that it leaves.
+-- The restart machine: what an event calls for, what is then done, and the state after it.
 use Rattle.std.specs.Prelude.{ℕ, ◌+◌, ◌-◌, ◌^◌, min, true, nat_lt, List, [], ◌∷◌, ◌++◌, Option, Some, None, option_map, Result, Ok, Err, if◌then◌else◌}
 use Rattle.std.specs.Option.{option_or}
 use Rattle.ds_names.specs.Endpoint.{EndpointRecord, endpoint_of}
@@ -22,35 +22,35 @@ use Rattle.rs_core.specs.State.{RsRecord, state_at}
 use Rattle.rs_core.specs.Table.{on_up, on_stop, on_refresh, on_restart, on_death}
 use Rattle.rs_core.specs.Finding.{service_place}
 
--- ---- what is asked
+-- ---- what is called for
 
--- the deed, done to the service with this index
+-- The deed, for the service with this index.
 abbrev pub plan : Deed → ℕ → Plan
 plan deed place = record { place = place; deed = deed }
 
--- what the table asks, of the service with this index
+-- The table's answer, for the service with this index.
 abbrev pub planned : ℕ → Result Deed RsFault → Result (Option Plan) RsFault
 planned i (Ok deed) = Ok (Some (plan deed i))
 planned i (Err fault) = Err fault
 
--- what the table asks of the service with the label
+-- The table's answer for the service with the label.
 abbrev pub of_label : RsRecord → (State → Result Deed RsFault) → Option ℕ → Result (Option Plan) RsFault
 of_label s table None = Err UnknownLabel
 of_label s table (Some i) = planned i (table (state_at s i))
 
--- what is asked of the service that is up with the endpoint
+-- The deed for the service that is up under the endpoint.
 abbrev pub of_instance : Deed → Option ℕ → Result (Option Plan) RsFault
 of_instance deed None = Err OldEndpoint
 of_instance deed (Some i) = Ok (Some (plan deed i))
 
--- the first of these that is due: a missed heartbeat, which is a death of cause 4; a ping; a start after a wait
+-- The first of these that is due: a missed heartbeat, which is a death of cause 4; a ping; a start after a wait.
 abbrev pub due : RsRecord → ℕ → Option Plan
 due s tick =
     option_or (option_map (plan (Lose true)) (service_place s (sought.Missed tick)))
     (option_or (option_map (plan Ping) (service_place s (sought.Silent tick)))
     (option_map (plan Resume) (service_place s (sought.Rested tick))))
 
--- what the event asks: of one service, or nothing, or the fault that the table names
+-- What the event calls for: a deed, nothing, or the table's fault.
 abbrev pub asked : RsRecord → Event → ℕ → Result (Option Plan) RsFault
 asked s (events.Up label) tick = of_label s on_up (service_place s (sought.Label label))
 asked s (events.Stop label) tick = of_label s on_stop (service_place s (sought.Label label))
@@ -62,34 +62,34 @@ asked s events.Tick tick = Ok (due s tick)
 
 -- ---- what is done
 
--- the ticks before the start that answers failure k of a row: 1, 2, 4, 8, 16, and 32 from the sixth on
+-- The ticks to wait after failure k in a row: 1, 2, 4, 8, 16, and 32 from the sixth on.
 abbrev pub pause : ℕ → ℕ
 pause k = min (2 ^ (k - 1)) 32
 
--- after failure k of a row
+-- The state after failure k in a row.
 abbrev pub failed : ℕ → ℕ → ℕ → State
 failed limit tick k = if nat_lt limit k then GaveUp else Waiting (record { until = tick + pause k; failures = k })
 
--- the failures in a row; none of a service that is down or was given up
+-- The failures in a row; 0 for a service that is down or was given up.
 abbrev pub failures_of : State → ℕ
 failures_of (Up r) = r.failures
 failures_of (Waiting p) = p.failures
 failures_of Down = 0
 failures_of GaveUp = 0
 
--- an instance that starts now
+-- The state of an instance that starts now.
 abbrev pub started_at : EndpointRecord → ℕ → ℕ → State
 started_at endpoint tick failures = Up (record { endpoint = endpoint; beat = tick; ping = tick; failures = failures })
 
--- the endpoint of a start: the next generation, in the slot that is given next
+-- The endpoint of a start: the next generation, in the next slot.
 abbrev pub new_endpoint : RsRecord → EndpointRecord
 new_endpoint s = endpoint_of s.next (s.slots.first + next_key s.slots)
 
--- the endpoint of a start behind a stop: the slot that the stop freed is the one that is given next
+-- The endpoint of a start after a stop: the next generation, in the slot that the stop freed.
 abbrev pub same_slot : RsRecord → Running → EndpointRecord
 same_slot s r = endpoint_of s.next r.endpoint.slot
 
--- the state of a service that the deed is done to; where the deed is none for its state, which no event asks, it stays
+-- The state of a service after the deed. A deed that doesn't fit its state, which no event calls for, changes nothing.
 abbrev pub state_after : RsRecord → ℕ → Service → State → Deed → State
 state_after s tick service Down Begin = started_at (new_endpoint s) tick 0
 state_after s tick service GaveUp Begin = started_at (new_endpoint s) tick 0
@@ -102,7 +102,7 @@ state_after s tick service (Up r) Halt = Down
 state_after s tick service (Waiting p) Forget = Down
 state_after s tick service state _ = state
 
--- the actions of the deed
+-- The actions of the deed.
 abbrev pub actions_of : RsRecord → Service → State → Deed → List Action
 actions_of s service Down Begin = start_actions service.label (new_endpoint s)
 actions_of s service GaveUp Begin = start_actions service.label (new_endpoint s)
@@ -113,7 +113,7 @@ actions_of s service (Up r) Ping = actions.Ping r.endpoint ∷ []
 actions_of s service (Up r) Halt = stop_actions true service.label r.endpoint
 actions_of s service state _ = []
 
--- a start takes the next generation
+-- The next generation after the deed. A start takes one.
 abbrev pub next_after : RsRecord → State → Deed → ℕ
 next_after s Down Begin = s.next + 1
 next_after s GaveUp Begin = s.next + 1
@@ -121,7 +121,8 @@ next_after s (Waiting p) Resume = s.next + 1
 next_after s (Up r) Replace = s.next + 1
 next_after s state _ = s.next
 
--- a start takes the slot that is given next, and a stop frees that of its instance; a start behind a stop takes that one again
+-- The slots after the deed. A start takes the next slot, a stop frees its instance's, and a start after a stop takes
+-- that one again.
 abbrev pub slots_after : RsRecord → State → Deed → SlotsRecord
 slots_after s Down Begin = with_next_given s.slots
 slots_after s GaveUp Begin = with_next_given s.slots

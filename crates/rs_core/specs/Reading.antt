@@ -1,4 +1,4 @@
--- What is read of RS between two events.
+-- What callers read from RS between events.
 use Rattle.std.specs.Prelude.{◌≡◌, ◌≢◌, ◌↔◌, ℕ, ◌+◌, ◌≤◌, ◌^◌, Bool, true, false, ◌||◌, nat_le, nat_lt, List, [], ◌∷◌, Option, Some, None, is_some, Result, Ok, Err, if◌then◌else◌}
 use Rattle.ds_names.specs.Endpoint.{EndpointRecord}
 use Rattle.ds_names.specs.declared.key.Key.{Key}
@@ -21,57 +21,59 @@ use Rattle.rs_core.specs.Step.{RsStep}
 
 -- ---- what is due
 
--- whether a heartbeat of the service is missed at the tick, a ping is due, or its wait is over
+-- Whether, at the tick, a heartbeat of the service is missed, a ping is due, or its wait is over.
 abbrev pub is_due : ℕ → Service → State → Bool
 is_due tick service state =
-    is_sought (sought.Missed tick) service state || (is_sought (sought.Silent tick) service state || is_sought (sought.Rested tick) service state)
+    is_sought (sought.Missed tick) service state ||
+    (is_sought (sought.Silent tick) service state || is_sought (sought.Rested tick) service state)
 
--- whether this is so of some service
+-- Whether something is due for any service.
 abbrev pub any_due : ℕ → List Service → List State → Bool
 any_due tick (service ∷ services) (state ∷ states) = is_due tick service state || any_due tick services states
 any_due tick _ _ = false
 
--- whether the tick is this first one or a later one; no tick is, where there is no first one
+-- Whether the tick is this first one or later. Without a first one, no tick is.
 abbrev pub is_from : Option ℕ → ℕ → Bool
 is_from None tick = false
 is_from (Some first) tick = nat_le first tick
 
--- the test holds from this first tick on, and at no earlier tick
+-- The test holds from this first tick on, and at no earlier one.
 abbrev pub IsFrom : (ℕ → Bool) → Option ℕ → Type 0
 IsFrom test first = (tick : ℕ) → tick ≤ 2 ^ 62 → test tick ≡ is_from first tick
 
--- a tick that isn't refused has actions just where something is due
+-- A law: a tick that isn't refused has actions exactly if something is due.
 abbrev pub TicksActWhenDue : Type 0
-TicksActWhenDue = (s t : RsRecord) (tick : ℕ) (actions : List Action) → RsStep s Tick tick actions t → (is_some (due s tick) ≡ true) ↔ (actions ≢ [])
+TicksActWhenDue =
+    (s t : RsRecord) (tick : ℕ) (actions : List Action) → RsStep s Tick tick actions t → (is_some (due s tick) ≡ true) ↔ (actions ≢ [])
 
 -- ---- a service that is given up
 
--- whether the deed makes RS give up the service: its instance fails once more than its limit
+-- Whether the deed makes RS give up the service: its instance fails once more than its limit.
 abbrev pub gives_up : Deed → Service → State → Bool
 gives_up (Lose kill) service (Up r) = nat_lt service.limit (r.failures + 1)
 gives_up _ _ _ = false
 
--- the service that is given up by what an event asks
+-- The service that is given up by what an event calls for.
 abbrev pub given_up_in : RsRecord → Result (Option Plan) RsFault → Option ℕ
 given_up_in s (Ok (Some p)) = if gives_up p.deed (service_at s p.place) (state_at s p.place) then Some p.place else None
 given_up_in s _ = None
 
--- the index of the service that RS gives up at the event, where no fault stands against the event
+-- The index of the service that RS gives up at the event, if no fault applies to the event.
 abbrev pub given_up : RsRecord → Event → ℕ → Option ℕ
 given_up s event tick = given_up_in s (asked s event tick)
 
--- a step gives up this service, and no other
+-- A law: a step gives up exactly this service.
 abbrev pub StepsGiveUp : Type 0
 StepsGiveUp = (s t : RsRecord) (event : Event) (tick : ℕ) (actions : List Action) → RsStep s event tick actions t →
     (i : ℕ) → (given_up s event tick ≡ Some i) ↔ ((state_at t i ≡ GaveUp) × (state_at s i ≢ GaveUp))
 
 -- ---- instances
 
--- the index of the service that runs under the endpoint
+-- The index of the service that runs under the endpoint.
 abbrev pub place_of_instance : RsRecord → EndpointRecord → Option ℕ
 place_of_instance s endpoint = service_place s (sought.Instance endpoint)
 
--- whether the service with this index declares the key
+-- Whether the service with this index declares the key.
 abbrev pub declares_at : RsRecord → Option ℕ → Key → Bool
 declares_at s None key = false
 declares_at s (Some i) key = is_declared (service_at s i) key

@@ -11,41 +11,41 @@ use Rattle.rs_core.specs.declared.event.Event.{Event}
 use Rattle.rs_core.specs.State.{RsRecord}
 use Rattle.rs_core.specs.Step.{RsStep}
 
--- the actions are those of a step at some event and tick
+-- The actions are those of a step at some event and tick.
 abbrev pub RsActs : RsRecord → List Action → RsRecord → Type 0
 RsActs s actions t = (event : Event) × (tick : ℕ) × RsStep s event tick actions t
 
--- steps one after another, each with its actions
+-- A run: steps in order, each with its actions.
 abbrev pub RsRun : RsRecord → List (List Action) → RsRecord → Type 0
 RsRun = Path RsActs
 
--- the endpoint, of a start
+-- The endpoint that the action starts, if it is a start.
 abbrev pub start_of : Action → Option EndpointRecord
 start_of (Start label endpoint) = Some endpoint
 start_of _ = None
 
--- the endpoints that are started
+-- The endpoints that are started.
 abbrev pub starts : List Action → List EndpointRecord
 starts = filter_map start_of
 
--- the change, of an offer
+-- The change that the action offers, if it is an offer.
 abbrev pub offer_of : Action → Option ChangeRecord
 offer_of (Offer change) = Some change
 offer_of _ = None
 
--- the label changes that are offered
+-- The label changes that are offered.
 abbrev pub offers : List Action → List ChangeRecord
 offers = filter_map offer_of
 
--- each generation is above those before it, none is below low, and all are below high
+-- Each generation is above those before it, none is below `low`, and all are below `high`.
 abbrev pub AreRising : ℕ → List EndpointRecord → ℕ → Type 0
 AreRising low [] high = low ≤ high
 AreRising low (e ∷ es) high = (low ≤ e.generation) × AreRising (e.generation + 1) es high
 
--- each start's generation is above those of all earlier ones
+-- A law: each start's generation is above those of all earlier starts.
 abbrev pub StartsRise : Type 0
 StartsRise = (s t : RsRecord) (steps : List (List Action)) → RsRun s steps t → AreRising s.next (flat_map starts steps) t.next
 
--- the label changes of a run are single-numbered: no two of them contradict each other
+-- A law: the label changes of a run are single-numbered; no two of them contradict each other.
 abbrev pub LabelsAreSingleNumbered : Type 0
 LabelsAreSingleNumbered = (s t : RsRecord) (steps : List (List Action)) → RsRun s steps t → IsSingleNumbered (flat_map offers steps)

@@ -1,4 +1,4 @@
--- What one step of the restart machine says of instances and of their labels.
+-- What one step of the restart machine says about instances and their labels.
 use Rattle.std.specs.Prelude.{◌≡◌, ◌⊎◌, ℕ, ◌+◌, ◌<◌, ◌≤◌, false, List, [], length, Option, Some, None, Contains}
 use Rattle.std.specs.List.{AllByRecursion}
 use Rattle.ds_names.specs.Endpoint.{EndpointRecord}
@@ -19,44 +19,45 @@ use Rattle.rs_core.specs.Step.{RsStep}
 
 -- ---- labels
 
--- the label of the service with this index
+-- The label of the service with this index.
 abbrev pub label_at : RsRecord → ℕ → List ℕ
 label_at s i = (service_at s i).label
 
--- the index of the service with the label
+-- The index of the service with the label.
 abbrev pub place_of_label : RsRecord → List ℕ → Option ℕ
 place_of_label s label = service_place s (sought.Label label)
 
--- a service that is found by a label has it
+-- A law: a service that is found by a label has that label.
 abbrev pub LabelsAreFound : Type 0
-LabelsAreFound = (s : RsRecord) (label : List ℕ) (i : ℕ) → place_of_label s label ≡ Some i → (i < length s.settings.services) × (label_at s i ≡ label)
+LabelsAreFound =
+    (s : RsRecord) (label : List ℕ) (i : ℕ) → place_of_label s label ≡ Some i → (i < length s.settings.services) × (label_at s i ≡ label)
 
 -- ---- a step
 
--- an instance that began: of the service with this index, under this endpoint
+-- An instance that began: the index of its service, and its endpoint.
 pub record Begun : Type 0 where
   pub place : ℕ
   pub endpoint : EndpointRecord
 
--- the instance of these two
+-- The instance of this service and endpoint.
 abbrev pub begun_at : ℕ → EndpointRecord → Begun
 begun_at place endpoint = record { place = place; endpoint = endpoint }
 
--- what began has the next generation, one that is left, and the one above it is next then; where nothing began, it stays
+-- The next generation after the step: one more if an instance began, which took the old one, else unchanged.
 abbrev pub IsNextAfter : ℕ → Option Begun → ℕ → Type 0
 IsNextAfter next None after = after ≡ next
 IsNextAfter next (Some b) after = (b.endpoint.generation ≡ next) × (after ≡ next + 1) × (next ≤ 2097151)
 
--- the change puts the label of what began
+-- The change puts the label of the instance that began.
 abbrev pub IsPutOf : RsRecord → Option Begun → ChangeRecord → Type 0
 IsPutOf s None c = ⊥
 IsPutOf s (Some b) c = c ≡ label_put (label_at s b.place) b.endpoint
 
--- the change takes back the label of an instance that ran
+-- The change ends the label of an instance that ran.
 abbrev pub IsGoneOf : RsRecord → ChangeRecord → Type 0
 IsGoneOf s c = (i : ℕ) × (r : Running) × (state_at s i ≡ Up r) × (c ≡ label_gone (label_at s i) r.endpoint.generation)
 
--- the instance of the service ran before, or began
+-- The service's instance ran before, or began.
 abbrev pub RanOrBegan : State → Option Begun → ℕ → EndpointRecord → Type 0
 RanOrBegan old begun i endpoint = ((q : Running) × (old ≡ Up q) × (q.endpoint ≡ endpoint)) ⊎ (begun ≡ Some (begun_at i endpoint))
 
@@ -64,23 +65,23 @@ RanOrBegan old begun i endpoint = ((q : Running) × (old ≡ Up q) × (q.endpoin
 pub record StepSays (s : RsRecord) (actions : List Action) (t : RsRecord) : Type 0 where
   pub settings : t.settings ≡ s.settings
   pub count : length t.states ≡ length s.states
-  -- a kill, a label taken back, a sweep, a start and a label put are the most
+  -- at most a kill, a label ended, a sweep, a start and a label put
   pub few : length actions ≤ 5
-  -- no copy of an action takes memory
+  -- copying an action takes no memory
   pub in_place : AllByRecursion IsActionInPlace actions
   pub begun : Option Begun
   pub next : IsNextAfter s.next begun t.next
-  -- the label of what began is put, and else only labels of what ran are taken back
+  -- the label of the instance that began is put; otherwise only labels of instances that ran are ended
   pub put : (b : Begun) → begun ≡ Some b → Contains (offers actions) (label_put (label_at s b.place) b.endpoint)
   pub offered : (c : ChangeRecord) → Contains (offers actions) c → IsPutOf s begun c ⊎ IsGoneOf s c
-  -- whatever runs then ran before or began
+  -- whatever runs after the step ran before it or began in it
   pub runs : (i : ℕ) (r : Running) → state_at t i ≡ Up r → RanOrBegan (state_at s i) begun i r.endpoint
 
--- every step says so
+-- A law: every step says so.
 abbrev pub StepsSay : Type 0
 StepsSay = (s t : RsRecord) (event : Event) (tick : ℕ) (actions : List Action) → RsStep s event tick actions t → StepSays s actions t
 
--- a step at an event that asks for no actions has none
+-- A law: a step at an event that calls for no actions has none.
 abbrev pub QuietStepsAreEmpty : Type 0
 QuietStepsAreEmpty = (s t : RsRecord) (event : Event) (tick : ℕ) (actions : List Action) →
     RsStep s event tick actions t → asks has_actions (asked s event tick) ≡ false → actions ≡ []

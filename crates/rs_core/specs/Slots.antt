@@ -1,27 +1,29 @@
--- Process slots: which are free again, and which is given next.
+-- Process slots: which are free, and which is taken next.
 use Rattle.std.specs.Prelude.{ℕ, ◌+◌, List, [], ◌∷◌, refl}
 use Rattle.std.specs.Coded.{Coded, code_by, coded×, coded_ℕ, coded_list}
 
--- the slot with key 0; the keys that are free again, that freed last in front; and how many keys were given: all below that
+-- RS's slots: the slot with key 0, the freed keys with the last one first, and how many keys were ever taken, all below
+-- that number.
 pub record SlotsRecord : Type 0 where
   pub first : ℕ
   pub freed : List ℕ
   pub given : ℕ
 
--- the record of these parts
+-- The record of these parts.
 abbrev pub slots_from : ℕ → List ℕ → ℕ → SlotsRecord
 slots_from first freed given = record { first = first; freed = freed; given = given }
 
--- no key was given yet
+-- Slots of which none was taken.
 abbrev pub new_slots : ℕ → SlotsRecord
 new_slots first = slots_from first [] 0
 
--- slots are stored as the pair of their parts
+-- Slots, coded as the tuple of their parts.
 abbrev pub slots_code : Coded SlotsRecord
 slots_code =
-    code_by (ℕ × (List ℕ × ℕ)) (coded× coded_ℕ (coded× (coded_list coded_ℕ) coded_ℕ)) (λ s. (s.first, (s.freed, s.given))) (λ p. slots_from p.0 p.1.0 p.1.1) (λ _. refl)
+    code_by (ℕ × (List ℕ × ℕ)) (coded× coded_ℕ (coded× (coded_list coded_ℕ) coded_ℕ)) (λ s. (s.first, (s.freed, s.given)))
+    (λ p. slots_from p.0 p.1.0 p.1.1) (λ _. refl)
 
--- the key that is given next: that freed last, and where none is free again the first that was never given
+-- The key that is taken next: the last one freed, or else the first never taken.
 abbrev pub next_of : List ℕ → ℕ → ℕ
 next_of [] given = given
 next_of (key ∷ freed) given = key
@@ -29,7 +31,7 @@ next_of (key ∷ freed) given = key
 abbrev pub next_key : SlotsRecord → ℕ
 next_key s = next_of s.freed s.given
 
--- the slots once that key is given
+-- The slots after that key was taken.
 abbrev pub giving : ℕ → List ℕ → ℕ → SlotsRecord
 giving first [] given = slots_from first [] (given + 1)
 giving first (key ∷ freed) given = slots_from first freed given
@@ -37,6 +39,6 @@ giving first (key ∷ freed) given = slots_from first freed given
 abbrev pub with_next_given : SlotsRecord → SlotsRecord
 with_next_given s = giving s.first s.freed s.given
 
--- the slots once the key is free again
+-- The slots after the key was freed.
 abbrev pub with_freed : SlotsRecord → ℕ → SlotsRecord
 with_freed s key = slots_from s.first (key ∷ s.freed) s.given

@@ -1,4 +1,4 @@
-//! What RS does.
+//! The actions of RS.
 
 ghost use Rattle.std.specs.Prelude.{◌≡◌, ◌<◌, ◌≢◌, ◌++◌, ◌∷◌, [], length, slice_get, OnOk, IfErr, OnErr, IfOk, IsOk};
 ghost use Rattle.std.specs.Option.{option_copied};
@@ -11,23 +11,23 @@ use ds_names::{Endpoint, Generation, Key, Kind, Name, NoRoom, Version};
 use std::alloc::{AllocFailed, Global};
 use std::marker::Model;
 
-/// One thing that RS does.
+/// One action of RS.
 #[derive(Debug, Drop)]
 pub enum Action {
     /// Kill the process.
     Kill(Endpoint),
     /// Start the service under the endpoint.
     Start(Name, Endpoint),
-    /// Ask the process whether it lives.
+    /// Ping the process: ask whether it is alive.
     Ping(Endpoint),
-    /// Give the change to the data store: a label, or that it is gone.
+    /// Offer the change to the data store: a label, or a label's tombstone.
     Offer(Change),
-    /// Have the data store end what a dead instance published: raise the floor.
+    /// Have the data store end what a dead instance published, by raising this floor.
     Sweep(Floor),
 }
 
 impl Action {
-    /// The same action again. The copy takes memory only for an offer of a text or of bytes, which RS never makes.
+    /// Returns a copy. Takes memory only for the offer of a text or a blob, which RS never makes.
     pub fn copy(&self, alloc: Global) -> Result<Action, NoRoom>
         ensures same { IfOk result (λ action. action ≡ self.now) }
         ensures in_place { IsActionInPlace self.now → IsOk result }
@@ -42,7 +42,7 @@ impl Action {
     }
 }
 
-/// What RS does, in order.
+/// Actions in order.
 #[derive(Debug, Drop)]
 pub struct Actions {
     actions: Vec<Action>,
@@ -58,7 +58,7 @@ impl Model for Actions {
 }
 
 impl Actions {
-    /// A list of no actions. It takes no memory.
+    /// Returns an empty list. Takes no memory.
     pub fn new(alloc: Global) -> Actions
         ensures { result ≡ [] }
     {
@@ -67,7 +67,7 @@ impl Actions {
         }
     }
 
-    /// Adds an action at the end. Where there is no room, the list is unchanged and the error gives the action back.
+    /// Appends an action. If memory runs out, the list is unchanged and the error returns the action.
     pub fn push(&mut self, action: Action) -> Result<(), AllocFailed<Action>>
         ensures ok { OnOk result (self.new ≡ self.old ++ action ∷ []) }
         ensures err { OnErr result (self.new ≡ self.old) }
@@ -76,21 +76,21 @@ impl Actions {
         self.actions.push(action)
     }
 
-    /// How many actions it has.
+    /// Returns how many actions there are.
     pub fn len(&self) -> usize
         ensures { result ≡ length self.now }
     {
         self.actions.len()
     }
 
-    /// The action at an index from 0, `None` behind the last one.
+    /// Returns the action at an index from 0, or `None` past the end.
     pub fn get(&self, index: usize) -> Option<&Action>
         ensures { option_copied result ≡ slice_get self.now index }
     {
         self.actions.get(index)
     }
 
-    /// The same actions again, in the same order. The copy of none takes no memory.
+    /// Returns a copy, in the same order. Takes no memory if the list is empty.
     pub fn copy(&self, alloc: Global) -> Result<Actions, NoRoom>
         ensures same { IfOk result (λ actions. actions ≡ self.now) }
         ensures room { OnErr result (self.now ≢ []) }
@@ -103,7 +103,7 @@ impl Actions {
     }
 }
 
-// The change that publishes a label.
+// Returns the change that publishes a label.
 fn label_put(label: Name, endpoint: Endpoint) -> Change
     requires other { label ≢ rs_name }
     requires given { 0 < endpoint.generation }
@@ -121,7 +121,7 @@ fn label_put(label: Name, endpoint: Endpoint) -> Change
     Change::from_parts(key, Name::rs(), version, Body::Put(Value::Label(endpoint)))
 }
 
-// The change that takes it back.
+// Returns the change that ends a label.
 fn label_gone(label: Name, generation: Generation) -> Change
     requires other { label ≢ rs_name }
     requires given { 0 < generation }
@@ -139,7 +139,7 @@ fn label_gone(label: Name, generation: Generation) -> Change
     Change::from_parts(key, Name::rs(), version, Body::Gone)
 }
 
-// Adds what starts an instance.
+// Appends the actions that start an instance.
 pub(crate) fn add_start(
     actions: &mut Actions,
     label: Name,
@@ -154,7 +154,7 @@ pub(crate) fn add_start(
     Ok(())
 }
 
-// Adds what stops one.
+// Appends the actions that stop an instance.
 pub(crate) fn add_stop(
     actions: &mut Actions,
     kill: bool,

@@ -1,4 +1,4 @@
-//! What an event asks of a service, by the service's state.
+//! What an event calls for, by the state of the service that it is about.
 
 ghost use Rattle.std.specs.Prelude.{◌≡◌};
 ghost use Rattle.rs_core.specs.Table.{on_up, on_stop, on_refresh, on_restart, on_label, on_death};
@@ -10,25 +10,25 @@ use crate::state::State;
 /// What is done to a service.
 #[derive(Clone, Copy)]
 pub(crate) enum Deed {
-    /// Start it, its failures forgotten.
+    /// Start it with no failures.
     Begin,
-    /// Start it, its failures kept.
+    /// Start it with the failures that it has.
     Resume,
     /// Stop its instance.
     Halt,
-    /// Stop its instance and start another at once, its failures kept.
+    /// Stop its instance and start another at once, with the failures that it has.
     Replace,
-    /// Its instance failed; true where a process is left that has to be killed.
+    /// Handle the failure of its instance. True if the process may be left and has to be killed.
     Lose(bool),
-    /// Stop its wait.
+    /// End its wait.
     Forget,
     /// Note a heartbeat.
     Hear,
-    /// Ask its instance whether it lives.
+    /// Ping its instance.
     Ping,
 }
 
-/// What is done, and to which service of the settings.
+/// A deed, and the index in the settings of the service that it is done to.
 #[derive(Clone, Copy)]
 pub(crate) struct Plan {
     pub place: usize,
@@ -74,7 +74,7 @@ fn on_restart(state: &State) -> Result<Deed, RsFault>
     }
 }
 
-// What an event with a label asks.
+// Returns what an event with a label calls for.
 pub(crate) fn on_label(event: &Event, state: &State) -> Result<Deed, RsFault>
     ensures { result ≡ on_label event.now state.now }
 {
@@ -86,7 +86,7 @@ pub(crate) fn on_label(event: &Event, state: &State) -> Result<Deed, RsFault>
     }
 }
 
-// What a death by a cause asks.
+// Returns what a death of this cause calls for.
 pub(crate) fn on_death(cause: u64) -> Deed
     ensures { result ≡ on_death cause }
 {

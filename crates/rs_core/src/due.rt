@@ -1,4 +1,4 @@
-//! The tick from which on something is due.
+//! The first tick at which something is due.
 
 ghost use Rattle.std.specs.Prelude.{◌≡◌, ℕ, ◌<◌, ◌≤◌, ◌-◌, ◌^◌, ◌||◌, nat_le, length};
 ghost use Rattle.rs_core.specs.Reading.{any_due, is_due, is_from, IsFrom};
@@ -6,7 +6,7 @@ ghost use Rattle.rs_core.specs.Reading.{any_due, is_due, is_from, IsFrom};
 use crate::state::State;
 use rs_settings::{Service, Services};
 
-// The earlier of two ticks, of which there may be none.
+// Returns the earlier of two ticks, either of which may be missing.
 fn earlier(a: Option<u64>, b: Option<u64>) -> Option<u64>
     ensures { (tick : ℕ) → is_from result tick ≡ (is_from a tick || is_from b tick) }
 {
@@ -17,7 +17,7 @@ fn earlier(a: Option<u64>, b: Option<u64>) -> Option<u64>
     }
 }
 
-// The first tick that is `wait` ticks after another one.
+// Returns the tick that is `wait` ticks after another one, or `None` if it is too large.
 fn later(tick: u64, wait: u64) -> Option<u64>
     requires { 0 < wait }
     ensures { IsFrom (λ t. nat_le wait (t - tick)) result }
@@ -25,7 +25,7 @@ fn later(tick: u64, wait: u64) -> Option<u64>
     tick.checked_add(wait)
 }
 
-// The first tick at which something is due of a service.
+// Returns the first tick at which something is due for a service.
 fn due_of(service: &Service, state: &State) -> Option<u64>
     ensures { IsFrom (λ tick. is_due tick service.now state.now) result }
 {
@@ -42,7 +42,7 @@ fn due_of(service: &Service, state: &State) -> Option<u64>
     }
 }
 
-/// The first tick at which something is due of some service.
+/// Returns the first tick at which something is due for any service.
 pub(crate) fn first_due(services: &Services, states: &[State]) -> Option<u64>
     requires { length states.now ≡ length services.now }
     ensures { IsFrom (λ tick. any_due tick services.now states.now) result }

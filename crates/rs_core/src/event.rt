@@ -2,9 +2,9 @@
 
 use ds_names::{Endpoint, Name};
 
-/// What RS is asked by an administrator, or told.
+/// What an administrator asks of RS, or what RS is notified of.
 ///
-/// `Up`, `Stop`, `Refresh` and `Restart` are what MINIX 3's `service` command asks for a label (`up`, `down`,
+/// `Up`, `Stop`, `Refresh` and `Restart` are what MINIX 3's `service` command requests for a label (`up`, `down`,
 /// `refresh`, `restart`).
 #[derive(Clone, Copy, Debug)]
 pub enum Event {
@@ -16,11 +16,11 @@ pub enum Event {
     Refresh(Name),
     /// Start a service that waits or was given up.
     Restart(Name),
-    /// An instance died. The causes are numbered by this project: 1 exit or panic, 2 CPU or MMU exception, 3 killed
+    /// An instance died. The numbers of causes are of this project: 1 exit or panic, 2 CPU or MMU exception, 3 killed
     /// by a user, 4 missing heartbeat, 5 complaint by another component, 6 dynamic update.
     Death(Endpoint, u64),
-    /// An instance says that it lives.
+    /// An instance reports that it is alive.
     Beat(Endpoint),
-    /// Time passed. To be repeated with one tick until it gives no actions.
+    /// Time passed. Repeat it with the same tick until it returns no actions.
     Tick,
 }

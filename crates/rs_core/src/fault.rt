@@ -1,11 +1,11 @@
-//! Why RS refuses an event, or settings.
+//! Why RS refuses an event, or can't begin.
 
 use thiserror::Error;
 
-/// Why an event is refused. The causes stand in the order in which they are judged.
+/// Why an event is refused, in the order of judgement.
 #[derive(Clone, Copy, Debug, PartialEq, Eq, Error)]
 pub enum RsFault {
-    /// The tick is below that of the last event that wasn't refused.
+    /// The tick is below that of the last accepted event.
     #[error("the tick is below the last one")]
     TickBack,
     /// The tick is above 2^62.
@@ -32,7 +32,7 @@ pub enum RsFault {
     /// As many services are up as there are slots, and the event stops none.
     #[error("no slot is free")]
     NoSlot,
-    /// Memory is wanting.
+    /// RS is out of memory for the actions.
     #[error("out of memory")]
     NoRoom,
 }
@@ -40,10 +40,10 @@ pub enum RsFault {
 /// Why RS can't begin.
 #[derive(Clone, Copy, Debug, PartialEq, Eq, Error)]
 pub enum NewFault {
-    /// The next generation isn't 1 to 2097152.
+    /// The next generation, or the first slot, is out of its range.
     #[error("the next generation is out of its range")]
     OutOfRange,
-    /// Memory is wanting.
+    /// The states can't be allocated.
     #[error("out of memory")]
     NoRoom,
 }

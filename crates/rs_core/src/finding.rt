@@ -1,4 +1,4 @@
-//! Which service an event means.
+//! Which service an event is about.
 
 ghost use Rattle.std.specs.Prelude.{◌≡◌, ◌<◌, ◌*◌, ◌-◌, nat_le, length, IfSome};
 ghost use Rattle.rs_core.specs.Finding.{when_up, when_waiting, is_sought, first_sought};
@@ -8,7 +8,7 @@ use crate::state::State;
 use ds_names::{Endpoint, Name};
 use rs_settings::{Service, Services};
 
-/// A service is sought by its label, by its endpoint, or because something is due at a tick.
+/// How a service is looked up: by label, by endpoint, or by what is due at a tick.
 #[derive(Clone, Copy)]
 pub(crate) enum Sought {
     Label(Name),
@@ -75,7 +75,7 @@ fn is_sought(what: &Sought, service: &Service, state: &State) -> bool
     }
 }
 
-// The first service that is sought.
+// Returns the first matching service.
 pub(crate) fn place_of(what: &Sought, services: &Services, states: &[State]) -> Option<usize>
     requires { length states.now ≡ length services.now }
     ensures value { result ≡ first_sought what.now 0 services.now states.now }

@@ -1,4 +1,4 @@
-//! What stands against an event or a deed.
+//! Faults against an event or a deed.
 
 ghost use Rattle.std.specs.Prelude.{◌≡◌};
 ghost use Rattle.rs_core.specs.Judging.{has_actions, is_bad_cause, takes_generation, takes_slot};
@@ -15,21 +15,21 @@ pub(crate) fn is_bad_cause(event: &Event) -> bool
     }
 }
 
-// Whether the deed takes a generation.
+// Returns whether the deed takes a generation.
 pub(crate) fn takes_generation(deed: Deed) -> bool
     ensures { result ≡ takes_generation deed }
 {
     matches!(deed, Deed::Begin | Deed::Resume | Deed::Replace)
 }
 
-// Whether the deed takes a slot and frees none.
+// Returns whether the deed takes a slot and frees none.
 pub(crate) fn takes_slot(deed: Deed) -> bool
     ensures { result ≡ takes_slot deed }
 {
     matches!(deed, Deed::Begin | Deed::Resume)
 }
 
-// Whether the deed has actions, whose list takes memory.
+// Returns whether the deed has actions, whose list takes memory.
 pub(crate) fn has_actions(deed: Deed) -> bool
     ensures { result ≡ has_actions deed }
 {

@@ -1,9 +1,9 @@
-//! The reincarnation server (RS): which services run, under which endpoints, and what follows from each event.
+//! The reincarnation server (RS): which services run, under which endpoints, and what each event leads to.
 //!
-//! RS of MINIX 3 starts drivers and servers, learns of their deaths, asks them whether they live, and restarts them
-//! with a binary back-off until a limit (Herder and others, DSN 2007; Tanenbaum and Woodhull, third edition). Here are
-//! its decisions alone, as a machine: events go in, actions come out. The numbers of causes, the limits and the order
-//! of refusals are of this project.
+//! MINIX 3's RS starts drivers and servers, learns of their deaths, pings them, and restarts them with a binary
+//! back-off up to a limit (Herder and others, DSN 2007; Tanenbaum and Woodhull, third edition). This crate has only its
+//! decisions, as a machine: events go in, actions come out. The numbers of causes, the limits and the order of refusals
+//! are of this project.
 #![tactic(auto)]
 
 mod action;

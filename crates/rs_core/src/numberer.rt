@@ -1,4 +1,4 @@
-//! Numbers of a process's changes.
+//! Numbers for a process's changes.
 
 ghost use Rattle.std.specs.Prelude.{◌≡◌, ◌≤◌, ◌<◌, ◌+◌, nat_lt, IfOk, OnErr};
 ghost use Rattle.rs_core.specs.Numbering.{numberer, Gives};
@@ -7,12 +7,12 @@ use ds_names::{Generation, Version};
 use std::marker::Model;
 use thiserror::Error;
 
-/// All sequence numbers of the generation are given.
+/// The generation has no sequence number left.
 #[derive(Clone, Copy, Debug, PartialEq, Eq, Error)]
 #[error("all sequence numbers are spent")]
 pub struct SeqSpent;
 
-/// Gives the versions of one generation's changes (of this project), each number once.
+/// Numbers the changes of one generation, each number once. Of this project.
 #[derive(Debug, Drop)]
 pub struct Numberer {
     generation: Generation,
@@ -32,35 +32,36 @@ impl Model for Numberer {
 }
 
 impl Numberer {
-    /// Numbers of a generation, from `seq` on.
+    /// Returns the numberer of a generation that begins at `seq`.
     pub fn of(generation: Generation, seq: u32) -> Numberer
         ensures { result ≡ numberer generation seq }
     {
         Numberer { generation, seq }
     }
 
-    /// The same numbers again, for one who judges before he draws: of the two, one is then let go.
+    /// Returns a copy, for a caller that judges before it takes a number: use only one of the two.
     pub fn copy(&self) -> Numberer
         ensures { result ≡ self.now }
     {
         Numberer::of(self.generation, self.seq)
     }
 
-    /// The generation whose numbers it gives.
+    /// Returns the generation of its versions.
     pub fn generation(&self) -> Generation
         ensures { result ≡ self.now.generation }
     {
         self.generation
     }
 
-    /// Whether all numbers are given, so that `next` would be refused.
+    /// Returns whether no number is left, so that `next` would fail.
     pub fn is_spent(&self) -> bool
         ensures { result ≡ nat_lt 4294967294 self.now.next }
     {
         self.seq > 4294967294
     }
 
-    /// The next version. SeqSpent behind number 4294967294, since no put has the greatest number. It takes no memory.
+    /// Returns the next version. Fails with SeqSpent after number 4294967294, since no put has the greatest number.
+    /// Takes no memory.
     pub fn next(&mut self) -> Result<Version, SeqSpent>
         ensures given { IfOk result (Gives self.old self.new) }
         ensures spent { OnErr result (4294967294 < self.old.next) }

@@ -1,4 +1,4 @@
-//! RS itself.
+//! The reincarnation server itself.
 
 ghost use Rattle.std.specs.Prelude.{◌≡◌, ◌≢◌, ℕ, ◌<◌, ◌≤◌, [], option_map, ◌↔◌, ◌⊎◌, IsErrOf, length, replicate};
 ghost use Rattle.std.specs.Prelude.{None, Some, true, IfOk, IfErr, IfSome, OnErr};
@@ -27,7 +27,7 @@ use rs_settings::{Service, Settings};
 use std::alloc::{AllocError, Global};
 use std::marker::Model;
 
-/// RS: what it knows of each service, and the process slots that its instances have.
+/// RS: what it knows about each service, and its process slots.
 #[derive(Drop)]
 pub struct Rs {
     alloc: Global,
@@ -55,9 +55,9 @@ impl Model for Rs {
 }
 
 impl Rs {
-    /// RS before any event: every service is down. `next` is the generation of the first start; OutOfRange unless it
-    /// is 1 to 2097152. NoRoom comes after it, and only where there is a service: RS without any takes no memory. The first slot
-    /// is 16.
+    /// Returns RS before any event: every service is down. `next` is the generation of the first start, and the first
+    /// slot is 16. Refuses as OutOfRange unless `next` is 1 to 2097152, then as NoRoom. RS without services takes no
+    /// memory.
     pub fn new(alloc: Global, settings: Settings, next: u32) -> Result<Rs, NewFault>
         ensures value { IfOk result (λ rs. rs ≡ rs_of settings (replicate (length settings.services) State.Down) 0 next (new_slots 16)) }
         ensures range { IsErrOf result NewFault.OutOfRange ↔ (next < 1 ⊎ 2097152 < next) }
@@ -67,9 +67,10 @@ impl Rs {
         Rs::from_slot(alloc, settings, next, 16)
     }
 
-    /// Like `new`, for RS whose slots begin at `first`. OutOfRange also where `first` is below 16, or the last slot above 1023.
+    /// As `new`, with slots from `first` on. Also refuses as OutOfRange if `first` is below 16, or the last slot above
+    /// 1023.
     ///
-    /// Two hosts whose slots are apart never give two instances one endpoint.
+    /// Two hosts whose slots don't overlap never use the same endpoint.
     pub fn from_slot(
         alloc: Global,
         settings: Settings,
@@ -96,10 +97,11 @@ impl Rs {
         })
     }
 
-    /// One event at a tick: what RS does then, in order. A refused event changes nothing, the tick included.
+    /// Handles one event at a tick, and returns the actions, in order. A refused event changes nothing, not even the
+    /// tick.
     ///
-    /// NoRoom comes behind every other fault, and only for an event that has actions: not for a heartbeat, the end of a
-    /// wait by `Stop`, or a tick at which nothing is due.
+    /// NoRoom is reported after every other fault, and only for an event that has actions: not for a heartbeat, for a
+    /// `Stop` that ends a wait, or for a tick at which nothing is due.
     pub fn event(&mut self, event: Event, tick: u64) -> Result<Actions, RsFault>
         ensures step { IfOk result (λ actions. RsStep self.old event tick actions self.new) }
         ensures refused { IfErr result (λ fault. fault ≢ RsFault.NoRoom → refusal self.old event tick ≡ Some fault) }
@@ -117,7 +119,7 @@ impl Rs {
         }
     }
 
-    /// What RS knows of the service with the label. `None` where no service has it.
+    /// Returns what RS knows about the service with the label, or `None` if there is no such service.
     pub fn state(&self, label: &Name) -> Option<State>
         ensures { result ≡ option_map (state_at self.now) (place_of_label self.now label.now) }
     {
@@ -127,7 +129,7 @@ impl Rs {
         }
     }
 
-    /// The index in the settings of the service with the label. `None` where no service has it.
+    /// Returns the index in the settings of the service with the label, or `None` if there is no such service.
     pub fn place_of(&self, label: &Name) -> Option<usize>
         ensures value { result ≡ place_of_label self.now label.now }
         ensures within { IfSome result (λ i. i < length self.now.states) }
@@ -137,14 +139,15 @@ impl Rs {
         self.place(Sought::Label(*label))
     }
 
-    /// What stands against an event at a tick: `event` is then refused by it, and else for want of memory alone.
+    /// Returns the first fault that applies to an event at a tick. `event` is refused by it; without one, only by lack
+    /// of memory.
     pub fn refusal(&self, event: &Event, tick: u64) -> Option<RsFault>
         ensures { result ≡ refusal self.now event.now tick }
     {
         self.judge(event, tick).err()
     }
 
-    /// The generation that the next start takes: 1 to 2097152, the last of which no start gets.
+    /// Returns the generation of the next start, 1 to 2097152. No start gets 2097152.
     pub fn next_generation(&self) -> u32
         ensures value { result ≡ self.now.next }
         ensures some { 1 ≤ self.now.next }
@@ -153,10 +156,11 @@ impl Rs {
         self.next
     }
 
-    /// The key of the slot that the next start takes, unless it stops an instance itself: the first slot has key 0.
+    /// Returns the key of the slot that the next start takes, unless that start replaces an instance. The first slot
+    /// has key 0.
     ///
-    /// It is one of the settings' slots just where fewer services are up than there are slots. No running service has that
-    /// slot, and no two of them have one slot.
+    /// The slot is one of the settings' slots exactly if fewer services are up than there are slots. No running service
+    /// is in it, and no two running services share a slot.
     pub fn next_key(&self) -> usize
         ensures value { result ≡ next_key self.now.slots }
         ensures within { (result < self.now.settings.slots) ↔ (up_count self.now.states < self.now.settings.slots) }
@@ -166,7 +170,7 @@ impl Rs {
         self.slots.next_key()
     }
 
-    /// The settings.
+    /// Returns the settings.
     pub fn settings(&self) -> &Settings
         ensures value { result.now ≡ self.now.settings }
         ensures settings { IsSettings self.now.settings }
@@ -174,7 +178,7 @@ impl Rs {
         &self.settings
     }
 
-    // The service that is meant.
+    // Returns the index of the service that is looked up.
     fn place(&self, what: Sought) -> Option<usize>
         ensures value { result ≡ service_place self.now what }
         ensures within { IfSome result (λ i. i < length self.now.states) }
@@ -202,7 +206,7 @@ impl Rs {
     }
 }
 
-// The states of so many services that are down. Where there are none, it takes no memory.
+// Returns `count` states, all down. Takes no memory for none.
 fn all_down(alloc: Global, count: usize) -> Result<Vec<State>, AllocError>
     ensures down { IfOk result (λ states. states.items ≡ replicate count State.Down) }
     ensures room { OnErr result (0 < count) }

@@ -8,14 +8,14 @@ use std::marker::Model;
 
 /// RS's process slots, by their keys: the first slot has key 0.
 ///
-/// The slot that was freed last is given first, and where none is free again, the first that was never given. So the keys that
-/// were given are no more than ever ran at once, and no call takes memory.
+/// The slot that was freed last is taken first. If none is free, the first one never used is taken. So at most as many
+/// keys are used as services ever ran at once. No call takes memory.
 #[derive(Drop)]
 pub(crate) struct Slots {
     first: u16,
-    // The keys that are free again, that freed last at the end: at most 64 services run.
+    // The freed keys, the last one freed at the end. At most 64 services run.
     freed: ArrayVec<usize, 64>,
-    // How many keys were given, all below this.
+    // How many keys were ever taken; all of them are below this.
     given: usize,
 }
 
@@ -31,7 +31,7 @@ impl Model for Slots {
 }
 
 impl Slots {
-    /// No slot was given.
+    /// Returns slots of which none was taken.
     pub fn new(first: u16) -> Slots
         ensures { result ≡ new_slots first }
     {
@@ -42,14 +42,14 @@ impl Slots {
         }
     }
 
-    /// The slot with key 0.
+    /// Returns the slot with key 0.
     pub fn first(&self) -> u16
         ensures { result ≡ self.now.first }
     {
         self.first
     }
 
-    /// The key that is given next.
+    /// Returns the key that is taken next.
     pub fn next_key(&self) -> usize
         ensures { result ≡ next_key self.now }
     {
@@ -59,7 +59,7 @@ impl Slots {
         }
     }
 
-    /// Gives the key.
+    /// Takes that key.
     pub fn give(&mut self)
         requires { next_key self.old < 1008 }
         ensures { self.new ≡ with_next_given self.old }
@@ -69,7 +69,7 @@ impl Slots {
         }
     }
 
-    /// The key is free again.
+    /// Frees the key.
     pub fn free(&mut self, key: usize)
         requires { length self.old.freed < 64 }
         ensures { self.new ≡ with_freed self.old key }

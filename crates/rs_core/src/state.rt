@@ -1,4 +1,4 @@
-//! What RS knows of a service.
+//! What RS knows about a service.
 
 ghost use Rattle.std.specs.Prelude.{◌≡◌, ◌<◌, ◌≤◌, ◌+◌, ◌^◌};
 ghost use Rattle.ds_names.specs.Endpoint.{endpoint_of};
@@ -15,21 +15,21 @@ pub struct Running {
     pub beat: u64,
     /// The tick of its last ping, or of its start.
     pub ping: u64,
-    /// How often the service failed in a row before it.
+    /// How many times in a row the service failed before it.
     pub failures: u32,
 }
 
 /// A wait for the next start.
 #[derive(Clone, Copy, Debug, PartialEq, Eq)]
 pub struct Pause {
-    /// The tick from which on it is over.
+    /// The tick at which it is over.
     pub until: u64,
-    /// How often the service failed in a row.
+    /// How many times in a row the service failed.
     pub failures: u32,
 }
 
-/// What RS knows of a service: it was never started or was stopped, it runs, it failed and waits, or it failed more
-/// often than its limit.
+/// What RS knows about a service: it is down (never started, or stopped), it runs, it failed and waits, or it failed
+/// more often than its limit.
 #[derive(Clone, Copy, Debug, PartialEq, Eq)]
 pub enum State {
     Down,
@@ -38,7 +38,7 @@ pub enum State {
     GaveUp,
 }
 
-// The ticks before the start that answers failure k of a row.
+// Returns the ticks to wait after failure k in a row.
 fn wait_after(k: u32) -> u64
     requires { 1 ≤ k }
     ensures value { result ≡ pause k }
@@ -54,7 +54,7 @@ fn wait_after(k: u32) -> u64
     }
 }
 
-// The state of a service after failure k of a row.
+// Returns the state of a service after failure k in a row.
 pub(crate) fn failed(limit: u32, tick: u64, k: u32) -> State
     requires some { 1 ≤ k }
     requires limit { limit ≤ 1000 }
@@ -72,7 +72,7 @@ pub(crate) fn failed(limit: u32, tick: u64, k: u32) -> State
     }
 }
 
-// The endpoint of a generation in a slot.
+// Returns the endpoint of a generation and a slot.
 pub(crate) fn endpoint_at(generation: u32, slot: u16) -> Endpoint
     requires generation { generation ≤ 2097151 }
     requires slot { slot ≤ 1023 }

@@ -31,7 +31,9 @@ none_before share before (s ∷ ss) j d h l = elim (cases_Bool (list_any (share 
   | inr f ↦ at j l f (λ k lk. none_before share (before ++ s ∷ []) ss k d (rw f at h) lk)
 ]
   where
-    at : (j : ℕ) → j < length (s ∷ ss) → list_any (share s) before ≡ false → ((k : ℕ) → k < length ss → list_any (share (get_or ss k d)) ((before ++ s ∷ []) ++ take k ss) ≡ false) → list_any (share (get_or (s ∷ ss) j d)) (before ++ take j (s ∷ ss)) ≡ false
+    at : (j : ℕ) → j < length (s ∷ ss) → list_any (share s) before ≡ false →
+        ((k : ℕ) → k < length ss → list_any (share (get_or ss k d)) ((before ++ s ∷ []) ++ take k ss) ≡ false) →
+        list_any (share (get_or (s ∷ ss) j d)) (before ++ take j (s ∷ ss)) ≡ false
     at zero l here later = subst (λ (z : List Service). list_any (share s) z ≡ false) (sym (append-nil before)) here
     at (suc k) l here later = subst (λ (z : List Service). list_any (share (get_or ss k d)) z ≡ false) (append_assoc before (s ∷ []) (take k ss)) (later k (omega arith))
 
@@ -69,7 +71,7 @@ repeats-less a b (m ∷ ms) le h = rw absent (repeats-less (a ++ m ∷ []) (b ++
     more : (n : List ℕ) → has_name (a ++ m ∷ []) n ≡ true → has_name (b ++ m ∷ []) n ≡ true
     more n t = has_name-append b (m ∷ []) n ∙ wider (has_name a n) (has_name b n) (has_name (m ∷ []) n) (le n) (sym (has_name-append a (m ∷ []) n) ∙ t)
 
--- the names of service j are new behind some names, among which are those of all services before it
+-- the names of service j are new after some names, among which are those of all services before it
 abbrev AreNew : List (List ℕ) → List Service → ℕ → Service → Type 0
 AreNew before ss j d = (b : List (List ℕ)) × (repeats (before ++ b) (get_or ss j d).publishes ≡ false) × ((i : ℕ) (n : List ℕ) → i < j → has_name (get_or ss i d).publishes n ≡ true → has_name (before ++ b) n ≡ true)
 

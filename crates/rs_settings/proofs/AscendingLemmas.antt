@@ -116,7 +116,8 @@ module _ {X : Type 0} (text : X → List ℕ) where
       by_side k d l (inr above) = differ x (text (get_or xs k d)) Greater refl (higher k d above l)
 
   -- at that place it keeps the order
-  pub ascending-insert : (xs : List X) (i : ℕ) (y : X) → i ≤ length xs → AreAscending text xs → IsPartitionPoint (λ z. slice_cmp nat_cmp (text z) (text y) ≡ Less) (λ z. slice_cmp nat_cmp (text z) (text y) ≡ Greater) xs i → AreAscending text (insert xs i y)
+  pub ascending-insert : (xs : List X) (i : ℕ) (y : X) → i ≤ length xs → AreAscending text xs →
+      IsPartitionPoint (λ z. slice_cmp nat_cmp (text z) (text y) ≡ Less) (λ z. slice_cmp nat_cmp (text z) (text y) ≡ Greater) xs i → AreAscending text (insert xs i y)
   ascending-insert xs i y le rise (lower, higher) a b d below l = by_place a b below (omega (arith, length-insert xs i y le)) (where_is b i) (where_is a i)
     where
       where_is : (k i : ℕ) → (k < i) ⊎ ((k ≡ i) ⊎ ((m : ℕ) × (k ≡ m + 1) × (i ≤ m)))
@@ -134,12 +135,20 @@ module _ {X : Type 0} (text : X → List ℕ) where
       turned : (p q : List ℕ) → slice_cmp nat_cmp p q ≡ Greater → slice_cmp nat_cmp q p ≡ Less
       turned p q e = nat_list_cmp_total.antisymm q p ∙ ap ordering_reverse e
 
-      by_place : (a b : ℕ) → a < b → b < length xs + 1 → (b < i) ⊎ ((b ≡ i) ⊎ ((m : ℕ) × (b ≡ m + 1) × (i ≤ m))) → (a < i) ⊎ ((a ≡ i) ⊎ ((m : ℕ) × (a ≡ m + 1) × (i ≤ m))) → slice_cmp nat_cmp (text (get_or (insert xs i y) a d)) (text (get_or (insert xs i y) b d)) ≡ Less
+      by_place : (a b : ℕ) → a < b → b < length xs + 1 → (b < i) ⊎ ((b ≡ i) ⊎ ((m : ℕ) × (b ≡ m + 1) × (i ≤ m))) → (a < i) ⊎ ((a ≡ i) ⊎ ((m : ℕ) × (a ≡ m + 1) × (i ≤ m))) →
+          slice_cmp nat_cmp (text (get_or (insert xs i y) a d)) (text (get_or (insert xs i y) b d)) ≡ Less
       by_place a b below l (inl bi) ai = rw (get_or-insert_below xs i y d a (omega arith) le, get_or-insert_below xs i y d b bi le) (rise a b d below (omega arith))
-      by_place a b below l (inr (inl be)) ai = subst (λ k. slice_cmp nat_cmp (text (get_or (insert xs i y) a d)) (text (get_or (insert xs i y) k d)) ≡ Less) (sym be) (rw (get_or-insert_below xs i y d a (omega arith) le, get_or-insert_at xs i y d le) (lower a d (omega arith) (omega arith)))
-      by_place a b below l (inr (inr (m, e, im))) (inl ai) = subst (λ k. slice_cmp nat_cmp (text (get_or (insert xs i y) a d)) (text (get_or (insert xs i y) k d)) ≡ Less) (sym e) (rw (get_or-insert_below xs i y d a ai le, get_or-insert_above xs i y d m im le) (rise a m d (omega arith) (omega arith)))
-      by_place a b below l (inr (inr (m, e, im))) (inr (inl ae)) = subst (λ k. slice_cmp nat_cmp (text (get_or (insert xs i y) a d)) (text (get_or (insert xs i y) k d)) ≡ Less) (sym e) (subst (λ k. slice_cmp nat_cmp (text (get_or (insert xs i y) k d)) (text (get_or (insert xs i y) (m + 1) d)) ≡ Less) (sym ae) (rw (get_or-insert_at xs i y d le, get_or-insert_above xs i y d m im le) (turned (text (get_or xs m d)) (text y) (higher m d im (omega arith)))))
-      by_place a b below l (inr (inr (m, e, im))) (inr (inr (n, f, in_))) = subst (λ k. slice_cmp nat_cmp (text (get_or (insert xs i y) a d)) (text (get_or (insert xs i y) k d)) ≡ Less) (sym e) (subst (λ k. slice_cmp nat_cmp (text (get_or (insert xs i y) k d)) (text (get_or (insert xs i y) (m + 1) d)) ≡ Less) (sym f) (rw (get_or-insert_above xs i y d n in_ le, get_or-insert_above xs i y d m im le) (rise n m d (omega arith) (omega arith))))
+      by_place a b below l (inr (inl be)) ai = subst (λ k. slice_cmp nat_cmp (text (get_or (insert xs i y) a d)) (text (get_or (insert xs i y) k d)) ≡ Less) (sym be)
+          (rw (get_or-insert_below xs i y d a (omega arith) le, get_or-insert_at xs i y d le) (lower a d (omega arith) (omega arith)))
+      by_place a b below l (inr (inr (m, e, im))) (inl ai) = subst (λ k. slice_cmp nat_cmp (text (get_or (insert xs i y) a d)) (text (get_or (insert xs i y) k d)) ≡ Less) (sym e)
+          (rw (get_or-insert_below xs i y d a ai le, get_or-insert_above xs i y d m im le) (rise a m d (omega arith) (omega arith)))
+      by_place a b below l (inr (inr (m, e, im))) (inr (inl ae)) = subst (λ k. slice_cmp nat_cmp (text (get_or (insert xs i y) a d)) (text (get_or (insert xs i y) k d)) ≡ Less)
+          (sym e) (subst (λ k. slice_cmp nat_cmp (text (get_or (insert xs i y) k d)) (text (get_or (insert xs i y) (m + 1) d)) ≡ Less) (sym ae)
+          (rw (get_or-insert_at xs i y d le, get_or-insert_above xs i y d m im le) (turned (text (get_or xs m d)) (text y) (higher m d im (omega arith)))))
+      by_place a b below l (inr (inr (m, e, im))) (inr (inr (n, f, in_))) = subst
+          (λ k. slice_cmp nat_cmp (text (get_or (insert xs i y) a d)) (text (get_or (insert xs i y) k d)) ≡ Less) (sym e)
+          (subst (λ k. slice_cmp nat_cmp (text (get_or (insert xs i y) k d)) (text (get_or (insert xs i y) (m + 1) d)) ≡ Less) (sym f)
+          (rw (get_or-insert_above xs i y d n in_ le, get_or-insert_above xs i y d m im le) (rise n m d (omega arith) (omega arith))))
 
 -- names that are the same are looked up alike
 pub has_name-same : (names : List (List ℕ)) (m n : List ℕ) → is_same n m ≡ true → has_name names n ≡ has_name names m

@@ -13,8 +13,19 @@ list_any-map : {X Y : Type 0} (test : Y → Bool) (f : X → Y) (xs : List X) �
 list_any-map test f [] = refl
 list_any-map test f (x ∷ xs) = ap (λ b. test (f x) || b) (list_any-map test f xs)
 
-first_clash-step : (share : Service → Service → Bool) (ds : List Draft) (i : ℕ) (d : Draft) → i < length ds → first_clash share (map service_of_draft (take i ds)) (map service_of_draft (drop i ds)) ≡ cond (list_any (λ e. share (service_of_draft (get_or ds i d)) (service_of_draft e)) (take i ds)) (Some i) (first_clash share (map service_of_draft (take (i + 1) ds)) (map service_of_draft (drop (i + 1) ds)))
-first_clash-step share ds i d h = rw (drop_more ds i d h, take_more ds i d h, map-append service_of_draft (take i ds) (get_or ds i d ∷ []), list_any-map (share (service_of_draft (get_or ds i d))) service_of_draft (take i ds), length-map (take i ds) service_of_draft, length-take-le i ds (omega arith))
+first_clash-step : (share : Service → Service → Bool) (ds : List Draft) (i : ℕ) (d : Draft) → i < length ds →
+    first_clash share (map service_of_draft (take i ds)) (map service_of_draft (drop i ds)) ≡ cond
+    (list_any (λ e. share (service_of_draft (get_or ds i d)) (service_of_draft e)) (take i ds)) (Some i)
+    (first_clash share (map service_of_draft (take (i + 1) ds)) (map service_of_draft (drop (i + 1) ds)))
+first_clash-step share ds i d h = rw (
+  drop_more ds i d h,
+  take_more ds i d h,
+  map-append service_of_draft (take i ds) (get_or ds i d ∷ []),
+  list_any-map
+      (share (service_of_draft (get_or ds i d))) service_of_draft (take i ds),
+  length-map (take i ds) service_of_draft,
+  length-take-le i ds (omega arith),
+)
 
 module _ (share : Service → Service → Bool) (ds : List Draft) (i : ℕ) (d : Draft) (l : i < length ds) (is : d ≡ get_or ds i d)
     (so : first_clash share (map service_of_draft (take i ds)) (map service_of_draft (drop i ds)) ≡ first_clash share [] (map service_of_draft ds)) where
@@ -26,7 +37,8 @@ module _ (share : Service → Service → Bool) (ds : List Draft) (i : ℕ) (d :
   first_clash-here h = sym (rw (clashes true h) at (first_clash-step share ds i d l)) ∙ so
 
   -- a service that doesn't
-  pub first_clash-past : list_any (λ e. share (service_of_draft d) (service_of_draft e)) (take i ds) ≡ false → first_clash share (map service_of_draft (take (i + 1) ds)) (map service_of_draft (drop (i + 1) ds)) ≡ first_clash share [] (map service_of_draft ds)
+  pub first_clash-past : list_any (λ e. share (service_of_draft d) (service_of_draft e)) (take i ds) ≡ false →
+      first_clash share (map service_of_draft (take (i + 1) ds)) (map service_of_draft (drop (i + 1) ds)) ≡ first_clash share [] (map service_of_draft ds)
   first_clash-past h = sym (rw (clashes false h) at (first_clash-step share ds i d l)) ∙ so
 
 pub first_clash-end : (share : Service → Service → Bool) (ds : List Draft) (i : ℕ) → length ds ≤ i → first_clash share (map service_of_draft (take i ds)) (map service_of_draft (drop i ds)) ≡ None
@@ -52,7 +64,9 @@ repeats-alike a b (n ∷ ns) h = rw (h n, repeats-alike (a ++ n ∷ []) (b ++ n 
 taken : (vs : List Value) (i : ℕ) (d : Value) → i < length vs → map text_in_value (take (i + 1) vs) ≡ map text_in_value (take i vs) ++ text_in_value (get_or vs i d) ∷ []
 taken vs i d l = ap (map text_in_value) (take_more vs i d l) ∙ map-append text_in_value (take i vs) (get_or vs i d ∷ [])
 
-repeats-step : (before : List (List ℕ)) (vs : List Value) (i : ℕ) (d : Value) → i < length vs → repeats before (map text_in_value (drop i vs)) ≡ (has_name before (text_in_value (get_or vs i d)) || repeats (before ++ text_in_value (get_or vs i d) ∷ []) (map text_in_value (drop (i + 1) vs)))
+repeats-step : (before : List (List ℕ)) (vs : List Value) (i : ℕ) (d : Value) → i < length vs →
+    repeats before (map text_in_value (drop i vs)) ≡
+    (has_name before (text_in_value (get_or vs i d)) || repeats (before ++ text_in_value (get_or vs i d) ∷ []) (map text_in_value (drop (i + 1) vs)))
 repeats-step before vs i d l = rw (drop_more vs i d l)
 
 module _ (base seen : List (List ℕ)) (vs : List Value) (i : ℕ) (d : Value) (l : i < length vs)
@@ -64,7 +78,9 @@ module _ (base seen : List (List ℕ)) (vs : List Value) (i : ℕ) (d : Value) (
 
   -- a name that is new
   pub repeats-past : has_name seen (text_in_value (get_or vs i d)) ≡ false → repeats (base ++ map text_in_value (take (i + 1) vs)) (map text_in_value (drop (i + 1) vs)) ≡ repeats base (map text_in_value vs)
-  repeats-past new = rw (taken vs i d l) (ap (λ z. repeats z (map text_in_value (drop (i + 1) vs))) (sym (append_assoc base (map text_in_value (take i vs)) (text_in_value (get_or vs i d) ∷ []))) ∙ sym (rw (sym (same (text_in_value (get_or vs i d))) ∙ new) at (repeats-step (base ++ map text_in_value (take i vs)) vs i d l)) ∙ so)
+  repeats-past new = rw (taken vs i d l) (ap (λ z. repeats z (map text_in_value (drop (i + 1) vs)))
+      (sym (append_assoc base (map text_in_value (take i vs)) (text_in_value (get_or vs i d) ∷ []))) ∙
+      sym (rw (sym (same (text_in_value (get_or vs i d))) ∙ new) at (repeats-step (base ++ map text_in_value (take i vs)) vs i d l)) ∙ so)
 
   or_false : (b : Bool) → b || false ≡ b
   or_false true = refl
@@ -78,8 +94,9 @@ module _ (base seen : List (List ℕ)) (vs : List Value) (i : ℕ) (d : Value) (
       ∙ ap (λ z. has_name z n) (append_assoc base (map text_in_value (take i vs)) (text_in_value (get_or vs i d) ∷ []))
       ∙ ap (λ z. has_name (base ++ z) n) (sym (taken vs i d l))
 
--- behind the last name
-pub repeats-end : (base : List (List ℕ)) (vs : List Value) (i : ℕ) → length vs ≤ i → repeats (base ++ map text_in_value (take i vs)) (map text_in_value (drop i vs)) ≡ repeats base (map text_in_value vs) → repeats base (map text_in_value vs) ≡ false
+-- past the last name
+pub repeats-end : (base : List (List ℕ)) (vs : List Value) (i : ℕ) → length vs ≤ i →
+    repeats (base ++ map text_in_value (take i vs)) (map text_in_value (drop i vs)) ≡ repeats base (map text_in_value vs) → repeats base (map text_in_value vs) ≡ false
 repeats-end base vs i past so = sym so ∙ rw (drop_all i vs past) refl
 
 -- all that these services publish
@@ -94,7 +111,9 @@ published-append (d ∷ ds) es = ap (λ z. (service_of_draft d).publishes ++ z) 
 pub published-more : (ds : List Draft) (i : ℕ) (d : Draft) → i < length ds → published (take (i + 1) ds) ≡ published (take i ds) ++ (service_of_draft (get_or ds i d)).publishes
 published-more ds i d l = ap published (take_more ds i d l) ∙ published-append (take i ds) (get_or ds i d ∷ []) ∙ ap (λ z. published (take i ds) ++ z) (append-nil (service_of_draft (get_or ds i d)).publishes)
 
-first_repeat-step : (before : List (List ℕ)) (n : ℕ) (ds : List Draft) (i : ℕ) (d : Draft) → i < length ds → first_repeat before n (map service_of_draft (drop i ds)) ≡ cond (repeats before (service_of_draft (get_or ds i d)).publishes) (Some n) (first_repeat (before ++ (service_of_draft (get_or ds i d)).publishes) (n + 1) (map service_of_draft (drop (i + 1) ds)))
+first_repeat-step : (before : List (List ℕ)) (n : ℕ) (ds : List Draft) (i : ℕ) (d : Draft) → i < length ds →
+    first_repeat before n (map service_of_draft (drop i ds)) ≡ cond (repeats before (service_of_draft (get_or ds i d)).publishes) (Some n)
+    (first_repeat (before ++ (service_of_draft (get_or ds i d)).publishes) (n + 1) (map service_of_draft (drop (i + 1) ds)))
 first_repeat-step before n ds i d l = rw (drop_more ds i d l)
 
 module _ (seen : List (List ℕ)) (ds : List Draft) (i : ℕ) (d : Draft) (l : i < length ds)
@@ -118,6 +137,6 @@ module _ (seen : List (List ℕ)) (ds : List Draft) (i : ℕ) (d : Draft) (l : i
       ∙ sym (has_name-append (published (take i ds)) (service_of_draft (get_or ds i d)).publishes n)
       ∙ ap (λ z. has_name z n) (sym (published-more ds i d l))
 
--- behind the last service
+-- past the last service
 pub first_repeat-end : (ds : List Draft) (i : ℕ) → length ds ≤ i → first_repeat (published (take i ds)) i (map service_of_draft (drop i ds)) ≡ first_repeat [] 0 (map service_of_draft ds) → first_repeat [] 0 (map service_of_draft ds) ≡ None
 first_repeat-end ds i past so = sym so ∙ rw (drop_all i ds past) refl

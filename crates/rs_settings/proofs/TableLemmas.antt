@@ -1,4 +1,4 @@
--- The tables of a document, one after the other.
+-- The tables of a document, in order.
 use Rattle.std.proofs.Common.{◌≡◌, ◌≢◌, ℕ, ◌<◌, ◌≤◌, ◌&&◌, true, false, nat_le, List, [], ◌∷◌, ◌++◌, length, get_or, drop, ◌+◌, map, Some, None, refl, sym, subst, ap, ◌∙◌, arith, inl, inr, zero, suc, length-append}
 use Rattle.std.specs.List.{All, list_all}
 use Rattle.std.proofs.lemmas.List.Elements.{All-append}
@@ -23,19 +23,24 @@ use Rattle.rs_settings.specs.Service.{service_from, services_in, go_on}
 use Rattle.rs_settings.specs.Settings.{document, settings_in, TakesMemory}
 use Rattle.rs_settings.proofs.ValueLemmas.{item_count-view}
 
-services_in-step : (before : List Service) (vs : List Value) (i : ℕ) (d : Value) → i < length vs → services_in before (items_view (drop i vs)) ≡ go_on (λ s. services_in (before ++ s ∷ []) (items_view (drop (i + 1) vs))) (service_from (length before) (as_table (view (get_or vs i d))))
+services_in-step : (before : List Service) (vs : List Value) (i : ℕ) (d : Value) → i < length vs →
+    services_in before (items_view (drop i vs)) ≡ go_on (λ s. services_in (before ++ s ∷ []) (items_view (drop (i + 1) vs)))
+    (service_from (length before) (as_table (view (get_or vs i d))))
 services_in-step before vs i d h = rw (items_view-drop vs i d h)
 
--- behind the last table
+-- past the last table
 pub services_in-end : (before : List Service) (vs : List Value) (i : ℕ) → length vs ≤ i → services_in before (items_view (drop i vs)) ≡ Ok before
 services_in-end before vs i h = rw (drop_all i vs h)
 
 -- one more table that is a service
-pub services_in-more : (before : List Service) (vs : List Value) (i : ℕ) (d : Value) (s : Service) (r : Result (List Service) SettingsFault) → i < length vs → services_in before (items_view (drop i vs)) ≡ r → service_from (length before) (as_table (view (get_or vs i d))) ≡ Ok s → services_in (before ++ s ∷ []) (items_view (drop (i + 1) vs)) ≡ r
+pub services_in-more : (before : List Service) (vs : List Value) (i : ℕ) (d : Value) (s : Service) (r : Result (List Service) SettingsFault) → i < length vs →
+    services_in before (items_view (drop i vs)) ≡ r → service_from (length before) (as_table (view (get_or vs i d))) ≡ Ok s →
+    services_in (before ++ s ∷ []) (items_view (drop (i + 1) vs)) ≡ r
 services_in-more before vs i d s r l so e = sym (services_in-step before vs i d l ∙ rw e refl) ∙ so
 
 -- a table that has a fault
-pub services_in-fault : (before : List Service) (vs : List Value) (i : ℕ) (d : Value) (f : SettingsFault) (r : Result (List Service) SettingsFault) → i < length vs → services_in before (items_view (drop i vs)) ≡ r → service_from (length before) (as_table (view (get_or vs i d))) ≡ Err f → r ≡ Err f
+pub services_in-fault : (before : List Service) (vs : List Value) (i : ℕ) (d : Value) (f : SettingsFault) (r : Result (List Service) SettingsFault) → i < length vs →
+    services_in before (items_view (drop i vs)) ≡ r → service_from (length before) (as_table (view (get_or vs i d))) ≡ Err f → r ≡ Err f
 services_in-fault before vs i d f r l so e = sym so ∙ services_in-step before vs i d l ∙ rw e refl
 
 table_first : (d : Data) (ds : Items) → is_some (as_table d) && are_tables ds ≡ are_tables (item d ds)
@@ -92,7 +97,7 @@ each-at P f [] k x all l e = absurd (omega arith)
 each-at P f (y ∷ ys) zero x all l e = moved (λ z. P (f z)) y x e (all zero (f x) (omega arith))
 each-at P f (y ∷ ys) (suc k) x all l e = each-at P f ys k x (λ j d m. all (suc j) d (omega arith)) (omega arith) e
 
--- a list with an element at an index is not empty, nor is what is made of it
+-- a list with an element at an index isn't empty, nor is what is built from it
 pub some-at : {X : Type 0} (xs : List X) (k : ℕ) → k < length xs → xs ≢ []
 some-at [] k l = absurd (omega arith)
 some-at (x ∷ xs) k l = λ e. cc

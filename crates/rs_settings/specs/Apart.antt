@@ -1,20 +1,22 @@
--- What no two services of settings have in common, said of any two of them.
+-- What no two services of settings share, stated for any two of them.
 use Rattle.std.specs.Prelude.{◌≡◌, ℕ, ◌<◌, Bool, true, false, List, [], length, slice_index_or}
 use Rattle.rs_settings.specs.declared.service.Service.{Service}
 use Rattle.rs_settings.specs.Shared.{share_label, share_unit, has_name, repeats}
 use Rattle.rs_settings.specs.Settings.{SettingsRecord, IsSettings}
 
--- no two of the services share it
+-- No two of the services share it.
 abbrev pub AreDistinct : (Service → Service → Bool) → List Service → Type 0
-AreDistinct share services = (i j : ℕ) (d : Service) → i < j → j < length services → share (slice_index_or services j d) (slice_index_or services i d) ≡ false
+AreDistinct share services =
+    (i j : ℕ) (d : Service) → i < j → j < length services → share (slice_index_or services j d) (slice_index_or services i d) ≡ false
 
--- labels differ, units differ within their table, and a name is published by one service, once
+-- Labels differ, units of one kind differ, and each name is published by one service, once.
 pub record AreApart (services : List Service) : Type 0 where
   pub labels : AreDistinct share_label services
   pub units : AreDistinct share_unit services
-  pub publishers : (i j : ℕ) (d : Service) (name : List ℕ) → i < j → j < length services → has_name (slice_index_or services i d).publishes name ≡ true → has_name (slice_index_or services j d).publishes name ≡ false
+  pub publishers : (i j : ℕ) (d : Service) (name : List ℕ) → i < j → j < length services →
+      has_name (slice_index_or services i d).publishes name ≡ true → has_name (slice_index_or services j d).publishes name ≡ false
   pub once : (i : ℕ) (d : Service) → i < length services → repeats [] (slice_index_or services i d).publishes ≡ false
 
--- the services of settings share nothing
+-- A law: the services of settings share nothing.
 abbrev pub ServicesAreApart : Type 0
 ServicesAreApart = (s : SettingsRecord) → IsSettings s → AreApart s.services

@@ -1,4 +1,4 @@
--- A service that is judged, its published names still in the document.
+-- A judged service whose published names are still in the document.
 use Rattle.std.specs.Prelude.{ℕ, Bool, List, [], map, unwrap_or}
 use Rattle.toml.specs.Data.{as_str}
 use Rattle.toml.specs.View.{view}
@@ -9,15 +9,22 @@ use Rattle.rs_settings.specs.declared.shared.Mark.{Mark}
 use Rattle.rs_settings.specs.declared.shared.Mark.TheVariants.{Label, Unit}
 use Rattle.rs_settings.specs.Shared.{share_label, share_unit}
 
--- the bytes of a string, none of another value
+-- The bytes of a string, or none for any other value.
 abbrev pub text_in_value : Value → List ℕ
 text_in_value value = unwrap_or (as_str (view value)) []
 
--- the service that a draft becomes
+-- The service that a draft becomes.
 abbrev pub service_of_draft : Draft → Service
-service_of_draft d = record { label = d.label; class = d.class; unit = d.unit; period = d.period; limit = d.limit; publishes = map text_in_value d.publishes.now }
+service_of_draft d = record {
+  label = d.label;
+  class = d.class;
+  unit = d.unit;
+  period = d.period;
+  limit = d.limit;
+  publishes = map text_in_value d.publishes.now;
+}
 
--- what the two services may not share
+-- Whether the two services share the mark.
 abbrev pub share_by : Mark → Service → Service → Bool
 share_by Label = share_label
 share_by Unit = share_unit

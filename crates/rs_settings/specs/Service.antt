@@ -1,4 +1,4 @@
--- What a table of the settings says of a service, or the first thing that is wrong with it.
+-- The service that a table of the settings describes, or the table's first fault.
 use Rattle.std.specs.Prelude.{ℕ, Bool, false, not, ◌&&◌, ◌||◌, is_none, List, [], ◌∷◌, ◌++◌, length, codes, Option, Some, None, option_and_then, ok_or, Result, Ok, Err, if◌then◌else◌}
 use Rattle.toml.specs.Data.{Data, Items, no_items, item, Members, get_member, as_table}
 use Rattle.rs_settings.specs.declared.class.Class.{Class}
@@ -9,30 +9,35 @@ use Rattle.rs_settings.specs.declared.fault.SettingsFault.{SettingsFault}
 use Rattle.rs_settings.specs.Fault.{at_top, at_service}
 use Rattle.rs_settings.specs.Values.{is_same, keys_pass, number_or, label_in_data, names_or, class_in, is_server, unit_in}
 
--- a field that a service may have
+-- Whether a service may have the field.
 abbrev pub is_service_field : List ℕ → Bool
-is_service_field key = is_same key (codes "label") || is_same key (codes "class") || is_same key (codes "unit") || is_same key (codes "period") || is_same key (codes "limit") || is_same key (codes "publishes")
+is_service_field key =
+    is_same key (codes "label") || is_same key (codes "class") || is_same key (codes "unit") || is_same key (codes "period") || is_same key
+    (codes "limit") || is_same key (codes "publishes")
 
--- a class that could be read, and is `server`
+-- Whether there is a class, and it is `server`.
 abbrev pub is_server_class : Option Class → Bool
 is_server_class None = false
 is_server_class (Some class) = is_server class
 
--- the value is the word `server`
+-- Whether the value is the word `server`.
 abbrev pub names_server : Option Data → Bool
 names_server None = false
 names_server (Some value) = is_server_class (class_in value)
 
--- a label, a class or a unit is missing; a server needs no unit
+-- Whether a label, a class or a unit is missing. A server needs no unit.
 abbrev pub lacks_field : Members → Bool
-lacks_field fields = is_none (get_member (codes "label") fields) || is_none (get_member (codes "class") fields) || (is_none (get_member (codes "unit") fields) && not (names_server (get_member (codes "class") fields)))
+lacks_field fields =
+    is_none (get_member (codes "label") fields) || is_none (get_member (codes "class") fields) ||
+    (is_none (get_member (codes "unit") fields) && not (names_server (get_member (codes "class") fields)))
 
--- the service of these parts, where each of them could be read
+-- The service of these parts, if each of them could be read.
 abbrev pub service_of : Option (List ℕ) → Option Class → Option (Option ℕ) → Option ℕ → Option ℕ → Option (List (List ℕ)) → Option Service
-service_of (Some label) (Some class) (Some unit) (Some period) (Some limit) (Some publishes) = Some (record { label = label; class = class; unit = unit; period = period; limit = limit; publishes = publishes })
+service_of (Some label) (Some class) (Some unit) (Some period) (Some limit) (Some publishes) =
+    Some (record { label = label; class = class; unit = unit; period = period; limit = limit; publishes = publishes })
 service_of _ _ _ _ _ _ = None
 
--- the service of these fields, where each value is in its range
+-- The service of these fields, if each value is in its range.
 abbrev pub values_in : Members → Option Service
 values_in fields =
     let class = option_and_then class_in (get_member (codes "class") fields) in
@@ -44,29 +49,30 @@ values_in fields =
     (number_or 0 0 1000 (get_member (codes "limit") fields))
     (names_or (get_member (codes "publishes") fields))
 
--- the service of these fields, or the first thing that is wrong: a field that no service has, then one that is missing, then a value
+-- The service of these fields, or the first fault: an unknown field, then a missing one, then a bad value.
 abbrev pub service_in : Members → Result Service SettingsCause
 service_in fields =
     if not (keys_pass is_service_field fields) then Err UnknownField
     else if lacks_field fields then Err Missing
     else ok_or (values_in fields) OutOfRange
 
--- with the index of the service that has the fault
+-- The result with the index of the service that has the fault.
 abbrev pub indexed : ℕ → Result Service SettingsCause → Result Service SettingsFault
 indexed index (Ok service) = Ok service
 indexed index (Err cause) = Err (at_service cause index)
 
--- the service of an item of the array; that each item is a table is judged at the top
+-- The service of an item of the array. The top has already judged that each item is a table.
 abbrev pub service_from : ℕ → Option Members → Result Service SettingsFault
 service_from index None = Err (at_top OutOfRange)
 service_from index (Some fields) = indexed index (service_in fields)
 
--- the rest is read only behind a service that has no fault
+-- The result of the rest, which is read only if this service has no fault.
 abbrev pub go_on : (Service → Result (List Service) SettingsFault) → Result Service SettingsFault → Result (List Service) SettingsFault
 go_on rest (Ok service) = rest service
 go_on rest (Err fault) = Err fault
 
--- the services of these items behind those read before, or the fault of the first that has one
+-- The services read before and those of these items, or the fault of the first bad one.
 abbrev pub services_in : List Service → Items → Result (List Service) SettingsFault
 services_in before no_items = Ok before
-services_in before (item value rest) = go_on (λ service. services_in (before ++ service ∷ []) rest) (service_from (length before) (as_table value))
+services_in before (item value rest) =
+    go_on (λ service. services_in (before ++ service ∷ []) rest) (service_from (length before) (as_table value))

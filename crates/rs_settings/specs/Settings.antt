@@ -1,4 +1,4 @@
--- The settings that a text stands for, or its first fault: a function of the document that `toml` reads.
+-- The settings of a text, or its first fault, as a function of the document that `toml` reads.
 use Rattle.std.specs.Prelude.{◌≡◌, ◌≢◌, ℕ, ◌≤◌, Bool, true, false, not, ◌&&◌, ◌||◌, nat_le, All, List, [], length, codes, Option, Some, None, option_and_then, Result, Ok, Err, if◌then◌else◌}
 use Rattle.std.specs.Str.{IsUtf8, is_utf8}
 use Rattle.toml.specs.Data.{Data, Items, no_items, Members, get_member, as_array}
@@ -14,95 +14,96 @@ use Rattle.rs_settings.specs.Values.{is_same, keys_pass, item_count, number_or, 
 use Rattle.rs_settings.specs.Service.{services_in}
 use Rattle.rs_settings.specs.Shared.{shared_fault}
 
--- how many process slots there are, and the services in their order
+-- Settings: the number of process slots, and the services in order.
 pub record SettingsRecord : Type 0 where
   pub slots : ℕ
   pub services : List Service
 
--- the settings of so many slots and these services
+-- The settings of these slots and services.
 abbrev pub settings : ℕ → List Service → SettingsRecord
 settings slots services = record { slots = slots; services = services }
 
--- the document that a text is: what `toml` reads, if the text is UTF-8
+-- The document of a text: what `toml` reads, if the text is UTF-8.
 unfoldable pub document : List ℕ → Option Members
 document text = if is_utf8 text then parse_document text else None
 
--- a field that may stand at the top
+-- Whether the field may be at the top.
 abbrev pub is_top_field : List ℕ → Bool
 is_top_field key = is_same key (codes "slots") || is_same key (codes "service")
 
--- at most 64 tables
+-- The items, if they are at most 64 tables.
 abbrev pub tables_of : Items → Option Items
 tables_of items = if nat_le (item_count items) 64 && are_tables items then Some items else None
 
--- an array of such tables, and no tables where the field isn't there
+-- The tables of an array, or none if there is no such field.
 abbrev pub tables_or : Option Data → Option Items
 tables_or None = Some no_items
 tables_or (Some value) = option_and_then tables_of (as_array value)
 
--- the settings, unless the services have a fault together
+-- The settings, unless the services together have a fault.
 abbrev pub unless_shared : ℕ → List Service → Option SettingsFault → Result SettingsRecord SettingsFault
 unless_shared slots services None = Ok (settings slots services)
 unless_shared slots services (Some fault) = Err fault
 
--- a fault of one service comes before those that services have together
+-- The settings, or a fault. A fault of one service comes before those of services together.
 abbrev pub with_services : ℕ → Result (List Service) SettingsFault → Result SettingsRecord SettingsFault
 with_services slots (Ok services) = unless_shared slots services (shared_fault services)
 with_services slots (Err fault) = Err fault
 
--- the settings of so many slots and the services of these tables
+-- The settings of these slots and the services in these tables.
 abbrev pub settings_from : ℕ → Items → Result SettingsRecord SettingsFault
 settings_from slots tables = with_services slots (services_in [] tables)
 
--- both values at the top are judged before any service
+-- The settings, or a fault. Both values at the top are judged before any service.
 abbrev pub with_top : Option ℕ → Option Items → Result SettingsRecord SettingsFault
 with_top (Some slots) (Some tables) = settings_from slots tables
 with_top (Some slots) None = Err (at_top OutOfRange)
 with_top None tables = Err (at_top OutOfRange)
 
--- the settings of a document, or its first fault: an unknown field, then a value at the top, then the services, each and together
+-- The settings of a document, or its first fault: an unknown field, then a value at the top, then the services, each
+-- and together.
 abbrev pub settings_in : Members → Result SettingsRecord SettingsFault
 settings_in doc =
     if not (keys_pass is_top_field doc) then Err (at_top UnknownField)
     else with_top (number_or 64 1 1008 (get_member (codes "slots") doc)) (tables_or (get_member (codes "service") doc))
 
--- no document is the first fault of all
+-- The settings, or a fault, of which BadToml is the first.
 abbrev pub settings_of_document : Option Members → Result SettingsRecord SettingsFault
 settings_of_document None = Err (at_top BadToml)
 settings_of_document (Some doc) = settings_in doc
 
--- the settings of a text, or its first fault
+-- The settings of a text, or its first fault.
 abbrev pub settings_of : List ℕ → Result SettingsRecord SettingsFault
 settings_of text = settings_of_document (document text)
 
 -- ---- what takes memory
 
--- the settings take memory for their services, where they have some
+-- The settings take memory for their services, if they have any.
 abbrev pub TakesMemory : Result SettingsRecord SettingsFault → Type 0
 TakesMemory (Ok s) = s.services ≢ []
 TakesMemory (Err fault) = ⊥
 
--- the settings of so many slots and these tables take memory
+-- The settings of these slots and tables take memory.
 abbrev pub TablesTakeMemory : ℕ → Items → Type 0
 TablesTakeMemory slots tables = TakesMemory (settings_from slots tables)
 
--- the text may take memory: it is UTF-8, and has more than white space and comments
+-- The text may take memory: it is UTF-8, and has more than white space and comments.
 abbrev pub MayTakeMemory : List ℕ → Type 0
 MayTakeMemory text = IsUtf8 text × (¬ IsBlank text)
 
 -- ---- what settings keep
 
--- a server has no unit, another service one of 0 to 255
+-- A server has no unit; any other service has one of 0 to 255.
 abbrev pub HasUnit : Bool → Option ℕ → Type 0
 HasUnit server None = server ≡ true
 HasUnit server (Some n) = (server ≡ false) × (n ≤ 255)
 
--- at most 64 names
+-- At most 64 names.
 pub record ArePublished (names : List (List ℕ)) : Type 0 where
   pub count : length names ≤ 64
   pub each : All IsName names
 
--- each part of the service is in its range
+-- Each part of the service is in its range.
 pub record IsService (s : Service) : Type 0 where
   pub label : IsName s.label
   pub other : s.label ≢ rs_name
@@ -111,7 +112,7 @@ pub record IsService (s : Service) : Type 0 where
   pub limit : s.limit ≤ 1000
   pub publishes : ArePublished s.publishes
 
--- each part of the settings is in its range, and the services share nothing
+-- Each part of the settings is in its range, and the services share nothing.
 pub record IsSettings (s : SettingsRecord) : Type 0 where
   pub some : 1 ≤ s.slots
   pub slots : s.slots ≤ 1008

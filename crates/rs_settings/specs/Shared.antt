@@ -10,52 +10,52 @@ use Rattle.rs_settings.specs.declared.fault.SettingsFault.{SettingsFault}
 use Rattle.rs_settings.specs.Fault.{at_service}
 use Rattle.rs_settings.specs.Values.{is_same}
 
--- a network service has a port; block and character services have majors
+-- Whether the class's units are ports. Those of block and character services are majors.
 abbrev pub is_network : Class → Bool
 is_network Network = true
 is_network Block = false
 is_network Character = false
 is_network Server = false
 
--- both are numbers, and one number; a server has none
+-- Whether both have the same number. A server has none.
 abbrev pub is_same_number : Option ℕ → Option ℕ → Bool
 is_same_number (Some m) (Some n) = m == n
 is_same_number _ _ = false
 
--- both hold or neither does
+-- Whether both are true or both are false.
 abbrev pub is_same_bool : Bool → Bool → Bool
 is_same_bool true b = b
 is_same_bool false true = false
 is_same_bool false false = true
 
--- the two have one label
+-- Whether the two have the same label.
 abbrev pub share_label : Service → Service → Bool
 share_label s t = is_same s.label t.label
 
--- the two have one major, or one port
+-- Whether the two have the same major, or the same port.
 abbrev pub share_unit : Service → Service → Bool
 share_unit s t = is_same_bool (is_network s.class) (is_network t.class) && is_same_number s.unit t.unit
 
--- the index of the first service that shares something with one before it
+-- The index of the first service that shares something with one before it.
 abbrev pub first_clash : (Service → Service → Bool) → List Service → List Service → Option ℕ
 first_clash share before [] = None
 first_clash share before (s ∷ rest) = if list_any (share s) before then Some (length before) else first_clash share (before ++ s ∷ []) rest
 
--- the name is among these
+-- Whether the name is among these.
 abbrev pub has_name : List (List ℕ) → List ℕ → Bool
 has_name names name = list_any (is_same name) names
 
--- one of the names is among those before it
+-- Whether one of the names is among those before it.
 abbrev pub repeats : List (List ℕ) → List (List ℕ) → Bool
 repeats before [] = false
 repeats before (name ∷ rest) = has_name before name || repeats (before ++ name ∷ []) rest
 
--- the index of the first service that publishes a name which was published before, by another one or by itself
+-- The index of the first service that publishes a name published before, by another service or by itself.
 abbrev pub first_repeat : List (List ℕ) → ℕ → List Service → Option ℕ
 first_repeat before i [] = None
 first_repeat before i (s ∷ rest) = if repeats before s.publishes then Some i else first_repeat (before ++ s.publishes) (i + 1) rest
 
--- the first fault that the services have together: each cause is judged over all of them before the next one
+-- The first fault of the services together. Each cause is judged for all of them before the next one.
 abbrev pub shared_fault : List Service → Option SettingsFault
 shared_fault services =
     option_or (option_map (at_service TwoLabels) (first_clash share_label [] services))

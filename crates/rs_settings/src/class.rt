@@ -4,9 +4,9 @@ ghost use Rattle.std.specs.Prelude.{◌≡◌};
 ghost use Rattle.rs_settings.specs.Values.{is_server};
 ghost use Rattle.rs_settings.specs.Shared.{is_network};
 
-/// What a service drives: a block device, a character device, a network device, or none.
+/// What a service drives: block devices, character devices, network devices, or none.
 ///
-/// MINIX 3 has block and character drivers behind major numbers, network drivers behind ports, and servers.
+/// MINIX 3 has block and character drivers, found by major numbers, network drivers, found by ports, and servers.
 #[derive(Clone, Copy, Debug, PartialEq, Eq)]
 pub enum Class {
     Block,

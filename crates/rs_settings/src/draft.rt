@@ -1,4 +1,4 @@
-//! A service as the document has it: judged, and not copied yet.
+//! Services that are judged while their names are still in the document.
 
 ghost use Rattle.std.specs.Prelude.{◌≡◌, ◌≢◌, ◌≤◌, [], All, map, Ok, Err, length, codes, option_map, IfOk, IfErr, IfSome};
 ghost use Rattle.std.specs.Option.{option_and_then};
@@ -19,7 +19,7 @@ use arrayvec::ArrayVec;
 use ds_names::Name;
 use toml::{Table, Value};
 
-/// A service whose published names, each of them a name, still stand in the document.
+/// A judged service. Its published names are still in the document; each is a name.
 #[derive(Clone, Copy)]
 pub(crate) struct Draft<'a> {
     pub label: Name,
@@ -43,7 +43,7 @@ impl Default for Draft<'_> {
     }
 }
 
-// Some name: the label of a draft that nobody wrote.
+// Returns some name: the label of a default draft, which nobody reads.
 fn any_name() -> Name {
     match Name::read(b"-") {
         Ok(name) => name,
@@ -60,7 +60,7 @@ fn names_server(table: &Table) -> bool
     }
 }
 
-// Whether a field is missing that a service has to have.
+// Returns whether a required field is missing.
 fn lacks_field(table: &Table) -> bool
     ensures { result ≡ lacks_field (table_view table.now) }
 {
@@ -88,7 +88,7 @@ fn label_field(table: &Table) -> Option<Name>
     }
 }
 
-// The service of the fields, where each value is in its range.
+// Returns the service of the fields, if each value is in its range.
 fn values(table: &Table) -> Option<Draft<'_>>
     ensures value { option_map service_of_draft result ≡ values_in (table_view table.now) }
     ensures service { IfSome result (λ draft. IsService (service_of_draft draft)) }
@@ -109,7 +109,7 @@ fn values(table: &Table) -> Option<Draft<'_>>
     })
 }
 
-// The service of a table, or the first thing that is wrong with it.
+// Returns the service of a table, or its first fault.
 fn draft_of(table: &Table) -> Result<Draft<'_>, SettingsCause>
     ensures read { IfOk result (λ draft. service_in (table_view table.now) ≡ Ok (service_of_draft draft)) }
     ensures refused { IfErr result (λ cause. service_in (table_view table.now) ≡ Err cause) }
@@ -128,7 +128,7 @@ fn draft_of(table: &Table) -> Result<Draft<'_>, SettingsCause>
     }
 }
 
-// The service of an item with its index, or its first fault.
+// Returns the service of an item with this index, or its first fault.
 fn draft_at(index: usize, item: &Value) -> Result<Draft<'_>, SettingsFault>
     ensures read { IfOk result (λ draft. service_from index (as_table (view item.now)) ≡ Ok (service_of_draft draft)) }
     ensures refused { IfErr result (λ fault. service_from index (as_table (view item.now)) ≡ Err fault) }
@@ -144,7 +144,7 @@ fn draft_at(index: usize, item: &Value) -> Result<Draft<'_>, SettingsFault>
     }
 }
 
-// The services of the items, or the fault of the first that has one.
+// Returns the services of the items, or the fault of the first bad one.
 pub(crate) fn drafts(items: &[Value]) -> Result<ArrayVec<Draft<'_>, 64>, SettingsFault>
     requires { length items.now ≤ 64 }
     ensures read { IfOk result (λ drafts. services_in [] (items_view items.now) ≡ Ok (map service_of_draft drafts.items)) }

@@ -5,36 +5,36 @@ ghost use Rattle.rs_settings.specs.Fault.{at_top, at_service};
 
 use thiserror::Error;
 
-/// Why a settings text is refused.
+/// Why a settings text is refused, in the order of judgement.
 ///
-/// The causes stand in the order in which they are judged. BadToml, and then an UnknownField and an OutOfRange that
-/// have no index, are of the text as a whole. UnknownField, Missing and OutOfRange with an index are judged of each
-/// service in turn; the next three of all services together. NoRoom comes last, but may come for want of memory to
-/// read the TOML itself, in the place of BadToml.
+/// BadToml, and then UnknownField and OutOfRange without an index, are judged for the whole text. UnknownField, Missing
+/// and OutOfRange with an index are judged for each service, in order. TwoLabels, TwoUnits and SharedName are judged
+/// for all services together. NoRoom comes last; but memory for reading the TOML may also run out in the place of
+/// BadToml.
 #[derive(Clone, Copy, Debug, PartialEq, Eq, Error)]
 pub enum SettingsCause {
-    /// The text is no TOML document; bytes that aren't UTF-8 are none.
+    /// The text isn't a TOML document in UTF-8.
     #[error("no TOML document")]
     BadToml,
-    /// A field has a name that isn't known.
+    /// A field's name isn't known.
     #[error("an unknown field")]
     UnknownField,
-    /// A service lacks its label, its class or its unit.
+    /// A service lacks its label, class or unit.
     #[error("a field is missing")]
     Missing,
-    /// A value is of another type, or out of its range.
+    /// A value has another type, or is out of its range.
     #[error("a value out of its range")]
     OutOfRange,
-    /// Two services have one label.
+    /// Two services have the same label.
     #[error("a label of two services")]
     TwoLabels,
-    /// Two services have one major, or one port.
+    /// Two services have the same major number, or the same port.
     #[error("a unit of two services")]
     TwoUnits,
     /// A name is published by two services, or twice by one.
     #[error("a name published twice")]
     SharedName,
-    /// Memory is wanting.
+    /// Memory ran out.
     #[error("out of memory")]
     NoRoom,
 }
@@ -44,19 +44,20 @@ pub enum SettingsCause {
 #[error("{cause}")]
 pub struct SettingsFault {
     pub cause: SettingsCause,
-    /// The service that has it, counted from 0 in the order of the text. Of a fault between two services, the second.
+    /// The service with the fault, counted from 0 in the order of the text. For a fault between two services, the
+    /// second one.
     pub index: Option<usize>,
 }
 
 impl SettingsFault {
-    // The fault of the text as a whole.
+    // Returns a fault of the whole text.
     pub(crate) fn at_top(cause: SettingsCause) -> SettingsFault
         ensures { result ≡ at_top cause }
     {
         SettingsFault { cause, index: None }
     }
 
-    // The fault of the service with this index.
+    // Returns a fault of the service with this index.
     pub(crate) fn at_service(cause: SettingsCause, index: usize) -> SettingsFault
         ensures { result ≡ at_service cause index }
     {

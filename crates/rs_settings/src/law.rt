@@ -2,8 +2,8 @@
 
 ghost use Rattle.rs_settings.specs.Apart.{ServicesAreApart};
 
-/// The law of settings: no two services have one label, no two one unit of a table, and a name is published by one
-/// service, once.
+/// A law: no two services have the same label or the same unit of one kind, and each name is published by one service,
+/// once.
 pub fn services_are_apart()
     ensures { ServicesAreApart }
 {}

@@ -1,9 +1,8 @@
-//! Settings: what a system administrator tells the reincarnation server (RS) of its services.
+//! Settings: what an administrator tells the reincarnation server (RS) about its services.
 //!
-//! RS of MINIX 3 is told of each driver and server: its label, what it drives, how often it is to be asked whether it
-//! lives, and how often it is restarted (Tanenbaum and Woodhull, third edition; Herder and others, DSN 2007). That
-//! this is a TOML document, with these fields and ranges, is of this project. A document is read whole, or refused
-//! by its first fault.
+//! MINIX 3's RS is given, for each driver and server, its label, what it drives, how often to check that it is alive,
+//! and how often to restart it (Tanenbaum and Woodhull, third edition; Herder and others, DSN 2007). The TOML document,
+//! its fields and their ranges are of this project. A document is read whole, or refused by its first fault.
 #![tactic(auto)]
 
 mod class;

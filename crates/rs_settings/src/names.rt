@@ -23,7 +23,7 @@ impl Model for Names {
 }
 
 impl Names {
-    /// A list of no names. It takes no memory.
+    /// Returns an empty list. Takes no memory.
     pub(crate) fn new(alloc: Global) -> Names
         ensures { result ≡ [] }
     {
@@ -32,7 +32,7 @@ impl Names {
         }
     }
 
-    /// Adds a name at the end. Where there is no room, the list is unchanged and the error gives the name back.
+    /// Appends a name. If memory runs out, the list is unchanged and the error returns the name.
     pub fn push(&mut self, name: Name) -> Result<(), AllocFailed<Name>>
         ensures ok { OnOk result (self.new ≡ self.old ++ name ∷ []) }
         ensures err { OnErr result (self.new ≡ self.old) }
@@ -41,14 +41,14 @@ impl Names {
         self.names.push(name)
     }
 
-    /// How many names it has.
+    /// Returns how many names there are.
     pub fn len(&self) -> usize
         ensures { result ≡ length self.now }
     {
         self.names.len()
     }
 
-    /// The name at an index from 0, `None` behind the last one.
+    /// Returns the name at an index from 0, or `None` past the end.
     pub fn get(&self, index: usize) -> Option<&Name>
         ensures { option_copied result ≡ slice_get self.now index }
     {
@@ -67,7 +67,7 @@ impl Names {
         false
     }
 
-    /// The same names again, in the same order.
+    /// Returns a copy. Fails only if memory runs out.
     pub fn copy(&self, alloc: Global) -> Result<Names, NoRoom>
         ensures { IfOk result (λ names. names ≡ self.now) }
     {

@@ -1,4 +1,4 @@
-//! The names that were published so far, kept in order so that a further one is soon looked up.
+//! The names published so far, in order, so that a lookup is a binary search.
 
 ghost use Rattle.std.specs.Prelude.{◌≡◌, ℕ, List, ◌≤◌, ◌<◌, ◌+◌, [], ◌∷◌, ◌||◌, not, length};
 ghost use Rattle.rs_settings.specs.Values.{is_same};
@@ -7,10 +7,10 @@ ghost use Rattle.rs_settings.specs.Shared.{has_name};
 use arrayvec::ArrayVec;
 use std::marker::Model;
 
-/// As many names as 64 services may publish, 64 each.
+/// The most names that 64 services can publish, 64 each.
 pub(crate) const MOST: usize = 4096;
 
-/// Names in ascending order, each of them once. They stand in place: no call takes memory.
+/// Distinct names in ascending order, kept in place: no call takes memory.
 #[derive(Drop)]
 pub(crate) struct Seen<'a> {
     names: ArrayVec<&'a str, 4096>,
@@ -28,7 +28,7 @@ impl<'a> Model for Seen<'a> {
 }
 
 impl<'a> Seen<'a> {
-    /// No names.
+    /// Returns an empty set.
     pub fn new() -> Seen<'a>
         ensures { result ≡ [] }
     {
@@ -37,7 +37,7 @@ impl<'a> Seen<'a> {
         }
     }
 
-    /// Adds a name, and says whether it is new.
+    /// Adds a name, and returns whether it is new.
     pub fn add(&mut self, name: &'a str) -> bool
         requires { length self.old < MOST }
         ensures added { result ≡ not (has_name self.old name.now) }

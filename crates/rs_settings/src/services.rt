@@ -24,7 +24,7 @@ impl Model for Services {
 }
 
 impl Services {
-    /// A list of no services. It takes no memory.
+    /// Returns an empty list. Takes no memory.
     pub(crate) fn new(alloc: Global) -> Services
         ensures { result ≡ [] }
     {
@@ -33,7 +33,7 @@ impl Services {
         }
     }
 
-    /// Adds a service at the end. Where there is no room, the list is unchanged and the error gives the service back.
+    /// Appends a service. If memory runs out, the list is unchanged and the error returns the service.
     pub fn push(&mut self, service: Service) -> Result<(), AllocFailed<Service>>
         ensures ok { OnOk result (self.new ≡ self.old ++ service ∷ []) }
         ensures err { OnErr result (self.new ≡ self.old) }
@@ -42,21 +42,21 @@ impl Services {
         self.services.push(service)
     }
 
-    /// How many services it has.
+    /// Returns how many services there are.
     pub fn len(&self) -> usize
         ensures { result ≡ length self.now }
     {
         self.services.len()
     }
 
-    /// The service at an index from 0, `None` behind the last one.
+    /// Returns the service at an index from 0, or `None` past the end.
     pub fn get(&self, index: usize) -> Option<&Service>
         ensures { option_copied result ≡ slice_get self.now index }
     {
         self.services.get(index)
     }
 
-    /// The same services again, in the same order.
+    /// Returns a copy, in the same order. Fails only if memory runs out.
     pub fn copy(&self, alloc: Global) -> Result<Services, NoRoom>
         ensures { IfOk result (λ services. services ≡ self.now) }
     {

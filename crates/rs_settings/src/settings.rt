@@ -26,9 +26,9 @@ use std::marker::Model;
 use toml::value::Array;
 use toml::{Table, Value};
 
-/// What RS is told: how many process slots it may use, 1 to 1008, and its services, 64 at most.
+/// Settings of RS: how many process slots it may use, 1 to 1008, and at most 64 services.
 ///
-/// No two of the services have one label, no two one major number or one port, and no name is published twice.
+/// No two services have the same label, major number or port, and no name is published twice.
 #[derive(Debug, Drop)]
 pub struct Settings {
     slots: u32,
@@ -53,7 +53,7 @@ impl Model for Settings {
 }
 
 impl Settings {
-    /// How many process slots RS may use, 1 to 1008.
+    /// Returns how many process slots RS may use, 1 to 1008.
     pub fn slots(&self) -> u32
         ensures value { result ≡ self.now.slots }
         ensures settings { IsSettings self.now }
@@ -61,7 +61,7 @@ impl Settings {
         self.slots
     }
 
-    /// The services, in the order of the text.
+    /// Returns the services, in the order of the text.
     pub fn services(&self) -> &Services
         ensures value { result.now ≡ self.now.services }
         ensures settings { IsSettings self.now }
@@ -69,7 +69,7 @@ impl Settings {
         &self.services
     }
 
-    /// The same settings again.
+    /// Returns a copy. Fails only if memory runs out.
     pub fn copy(&self, alloc: Global) -> Result<Settings, NoRoom>
         ensures { IfOk result (λ settings. settings ≡ self.now) }
     {
@@ -86,7 +86,7 @@ fn are_tables(items: &Array) -> bool
     items.iter().all(|item| item.is_table())
 }
 
-// Whether these are at most 64 tables.
+// Returns whether these are at most 64 tables.
 fn are_few_tables(items: &Array) -> bool
     ensures value { result ≡ (nat_le (item_count (array_view items.now)) 64 && are_tables (array_view items.now)) }
     ensures count { IsTrue result → length items.now.items ≤ 64 }
@@ -94,7 +94,7 @@ fn are_few_tables(items: &Array) -> bool
     items.len() <= 64 && are_tables(items)
 }
 
-// The tables of an array of at most 64 tables.
+// Returns the tables of an array of at most 64 tables.
 fn tables(value: &Value) -> Option<&Array>
     ensures value { option_map (λ v. array_view v.now) result ≡ option_and_then tables_of (as_array (view value.now)) }
     ensures count { IfSome result (λ v. length v.now.items ≤ 64) }
@@ -111,7 +111,7 @@ fn tables(value: &Value) -> Option<&Array>
     }
 }
 
-// The name with the bytes of a text that is one.
+// Returns the name of a text that is one.
 fn name_of(text: &str) -> Name
     requires { IsName text.now }
     ensures { result ≡ text.now }
@@ -122,7 +122,7 @@ fn name_of(text: &str) -> Name
     }
 }
 
-// The names that the items are.
+// Returns the names in the items.
 fn names(alloc: Global, items: &[Value]) -> Result<Names, NoRoom>
     requires { All IsName (map text_in_value items.now) }
     ensures { IfOk result (λ names. names ≡ map text_in_value items.now) }
@@ -134,7 +134,7 @@ fn names(alloc: Global, items: &[Value]) -> Result<Names, NoRoom>
     Ok(names)
 }
 
-// The service that a draft is, out of the document.
+// Copies a draft's service out of the document.
 fn service(alloc: Global, draft: &Draft<'_>) -> Result<Service, NoRoom>
     requires { IsService (service_of_draft draft.now) }
     ensures { IfOk result (λ service. service ≡ service_of_draft draft.now) }
@@ -161,7 +161,7 @@ fn services(alloc: Global, drafts: &[Draft<'_>]) -> Result<Services, NoRoom>
     Ok(services)
 }
 
-// The settings of the services of tables. All faults are judged before memory is taken.
+// Returns the settings of the services in the tables. All faults are judged before memory is taken.
 fn of_tables(alloc: Global, slots: u32, tables: &[Value]) -> Result<Settings, SettingsFault>
     requires some { 1 ≤ slots }
     requires slots { slots ≤ 1008 }
@@ -183,8 +183,8 @@ fn of_tables(alloc: Global, slots: u32, tables: &[Value]) -> Result<Settings, Se
     }
 }
 
-/// Reads the settings of a TOML document. NoRoom comes only where the document has no fault and some service, and has
-/// no index.
+/// Reads the settings of a TOML document, or finds its first fault. NoRoom comes only if the document has no fault and
+/// at least one service; it has no index.
 pub fn read_table(alloc: Global, table: &Table) -> Result<Settings, SettingsFault>
     ensures read { IfOk result (λ settings. settings_in (table_view table.now) ≡ Ok settings) }
     ensures refused { IfErr result (λ fault. fault.cause ≢ SettingsCause.NoRoom → settings_in (table_view table.now) ≡ Err fault) }
@@ -208,7 +208,7 @@ pub fn read_table(alloc: Global, table: &Table) -> Result<Settings, SettingsFaul
     of_tables(alloc, slots, items)
 }
 
-// The settings of a text that is UTF-8, or its first fault.
+// Reads the settings of a UTF-8 text, or finds its first fault.
 fn read_text(alloc: Global, text: &str) -> Result<Settings, SettingsFault>
     ensures read { IfOk result (λ settings. settings_of text.now ≡ Ok settings) }
     ensures refused { IfErr result (λ fault. fault.cause ≢ SettingsCause.NoRoom → settings_of text.now ≡ Err fault) }
@@ -229,9 +229,9 @@ fn read_text(alloc: Global, text: &str) -> Result<Settings, SettingsFault>
 
 /// Reads the settings of a text, or finds its first fault.
 ///
-/// What is read is a function of the text, which has to be one TOML document in UTF-8. NoRoom may come in the place of
-/// BadToml, for want of memory to read the TOML; what the settings take comes last, behind every other fault. NoRoom has
-/// no index, and never comes for bytes that aren't UTF-8, nor for a text of white space and comments alone.
+/// The result depends only on the text, which has to be one TOML document in UTF-8, and on memory. Memory for reading
+/// the TOML may run out in the place of BadToml; memory for the settings runs out only after every other fault. NoRoom
+/// has no index. It never comes for bytes that aren't UTF-8, nor for a text of only white space and comments.
 pub fn read(alloc: Global, text: &[u8]) -> Result<Settings, SettingsFault>
     ensures read { IfOk result (λ settings. settings_of text.now ≡ Ok settings) }
     ensures refused { IfErr result (λ fault. fault.cause ≢ SettingsCause.NoRoom → settings_of text.now ≡ Err fault) }

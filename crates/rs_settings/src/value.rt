@@ -15,7 +15,7 @@ use ds_names::Name;
 use toml::value::Array;
 use toml::{Table, Value};
 
-// The value of a field.
+// Returns the value of a field.
 pub(crate) fn field<'a>(table: &'a Table, name: &str) -> Option<&'a Value>
     ensures { option_map (λ v. view v.now) result ≡ get_member name.now (table_view table.now) }
 {
@@ -37,14 +37,14 @@ fn is_top_field(key: &str) -> bool
     key == "slots" || key == "service"
 }
 
-// Whether a service may have each of the fields.
+// Returns whether a service may have each of the fields.
 pub(crate) fn has_service_fields(table: &Table) -> bool
     ensures { result ≡ keys_pass is_service_field (table_view table.now) }
 {
     table.keys().all(|key| is_service_field(key.as_str()))
 }
 
-// Whether each of the fields may stand at the top.
+// Returns whether each of the fields may be at the top.
 pub(crate) fn has_top_fields(table: &Table) -> bool
     ensures { result ≡ keys_pass is_top_field (table_view table.now) }
 {
@@ -64,7 +64,7 @@ fn number_within(number: i64, low: u32, high: u32) -> Option<u32>
     None
 }
 
-// A whole number from low to high.
+// Returns an integer from `low` to `high`.
 fn number(value: &Value, low: u32, high: u32) -> Option<u32>
     ensures value { result ≡ number_in low high (view value.now) }
     ensures range { IfSome result (λ n. (low ≤ n) × (n ≤ high)) }
@@ -75,7 +75,7 @@ fn number(value: &Value, low: u32, high: u32) -> Option<u32>
     }
 }
 
-// A field with such a number; another one where it isn't there.
+// Returns a field's integer in the range, or `missing` if there is no such field.
 pub(crate) fn number_field(
     table: &Table,
     name: &str,
@@ -102,7 +102,7 @@ fn name_of(text: &str) -> Option<Name>
     }
 }
 
-// A string that is a name.
+// Returns the name in a string.
 pub(crate) fn name(value: &Value) -> Option<Name>
     ensures value { result ≡ name_in (view value.now) }
     ensures name { IfSome result IsName }
@@ -113,7 +113,7 @@ pub(crate) fn name(value: &Value) -> Option<Name>
     }
 }
 
-// A name other than `rs`.
+// Returns the name in a string, unless it is `rs`.
 pub(crate) fn label(value: &Value) -> Option<Name>
     ensures value { result ≡ label_in_data (view value.now) }
     ensures name { IfSome result IsName }
@@ -131,7 +131,7 @@ pub(crate) fn label(value: &Value) -> Option<Name>
     }
 }
 
-// Whether each item is a name.
+// Returns whether each item is a name.
 fn are_names(items: &[Value]) -> bool
     ensures value { each_of name_in (items_view items.now) ≡ (if result then Some (map text_in_value items.now) else None) }
     ensures names { IsTrue result → All IsName (map text_in_value items.now) }
@@ -139,7 +139,7 @@ fn are_names(items: &[Value]) -> bool
     items.iter().all(|item| name(item).is_some())
 }
 
-// The names of an array of at most 64.
+// Returns the names of an array of at most 64.
 fn names_of(items: &Array) -> Option<&[Value]>
     ensures value { option_map (λ names. map text_in_value names.now) result ≡ names_of (array_view items.now) }
     ensures names { IfSome result (λ names. ArePublished (map text_in_value names.now)) }
@@ -154,7 +154,7 @@ fn names_of(items: &Array) -> Option<&[Value]>
     }
 }
 
-// A field with at most 64 names, in place; none of them where it isn't there.
+// Returns a field's names, at most 64, in place, or none if there is no such field.
 pub(crate) fn names_field<'a>(table: &'a Table, name: &str) -> Option<&'a [Value]>
     ensures value { option_map (λ names. map text_in_value names.now) result ≡ names_or (get_member name.now (table_view table.now)) }
     ensures names { IfSome result (λ names. ArePublished (map text_in_value names.now)) }
@@ -168,7 +168,7 @@ pub(crate) fn names_field<'a>(table: &'a Table, name: &str) -> Option<&'a [Value
     }
 }
 
-// The text of a string, an empty one of another value.
+// Returns the text of a string, or an empty text for any other value.
 pub(crate) fn text_of(value: &Value) -> &str
     ensures { result.now ≡ text_in_value value.now }
 {
@@ -190,7 +190,7 @@ fn class_of(word: &str) -> Option<Class>
     }
 }
 
-// A string that names a class.
+// Returns the class that a string names.
 pub(crate) fn class(value: &Value) -> Option<Class>
     ensures { result ≡ class_in (view value.now) }
 {
@@ -200,7 +200,7 @@ pub(crate) fn class(value: &Value) -> Option<Class>
     }
 }
 
-// The unit of a service of the class.
+// Returns the unit of a service of the class.
 pub(crate) fn unit_field(table: &Table, name: &str, class: Class) -> Option<Option<u8>>
     ensures value { result ≡ unit_in class (get_member name.now (table_view table.now)) }
     ensures unit { IfSome result (HasUnit (is_server class)) }

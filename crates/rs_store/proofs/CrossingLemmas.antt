@@ -1,4 +1,4 @@
--- RS and its store may cross threads: the store may, and the rest is plain data and lists of it.
+-- RS and its store may cross threads: the store may, and the rest is plain data and lists.
 use denote.Param.Send.{IsSend, IsSync, sendable}
 use denote.Param.SendFields.{declared_send, declared_sync}
 use Rattle.std.proofs.Crossing.{crosses, send, sync}

@@ -1,4 +1,4 @@
--- What a history of RS and its store is to each of the two.
+-- A history of RS and its store, as a history of each.
 use Rattle.std.proofs.Common.{◌≡◌, ℕ, Bool, cond, List, [], ◌∷◌, ◌++◌, Option, Some, None, Result, Ok, refl, sym, ap, subst, ◌∙◌, append_assoc, append-nil}
 use Rattle.std.specs.Prelude.{filter}
 use Rattle.std.specs.List.{flat_map}
@@ -207,13 +207,13 @@ by_rs_join : (es fs : List (Entry Command Reply)) → by_rs_in (es ++ fs) ≡ by
 by_rs_join es fs =
     ap (λ (l : List Command). filter is_by_rs l) (map-append (λ (e : Entry Command Reply). e.command) es fs) ∙ filter-append is_by_rs (commands_of es) (commands_of fs)
 
--- a command for a change of RS's has RS as its caller
+-- a command for RS's own change has RS as its caller
 asked_one : (n : ℕ) (key : Key) (version : Version) (body : Body) (r : Reply)
     → by_rs_in (entry n (asking_for (endpoint_of 0 2) key version body) r ∷ []) ≡ asking_for (endpoint_of 0 2) key version body ∷ []
 asked_one n key version (Put v) r = refl
 asked_one n key version Gone r = refl
 
--- so has a command for an action
+-- so does a command for an action
 asked_by_rs : (n : ℕ) (x : Action) (r : Option Reply) (a b : ContentRecord) → TurnFor a (command_of x) r b → by_rs_in (entry_if n (command_of x) r) ≡ commands (x ∷ [])
 asked_by_rs n (Kill e) None a b h = refl
 asked_by_rs n (Start l e) None a b h = refl
@@ -239,7 +239,7 @@ all_by_rs n (x ∷ acts) (r ∷ rs) a b h =
 all_by_rs n [] (r ∷ rs) a b h = absurd h
 all_by_rs n (x ∷ acts) [] a b h = absurd h
 
--- what is so of one turn
+-- the law for one turn
 abbrev RsIsAlone : ℕ → RsCommand → RsReply → Type 0
 RsIsAlone n command reply = by_rs_in (entries_by n command reply) ≡ flat_map commands (actions_in reply)
 

@@ -4,7 +4,7 @@ use Rattle.ds_names.specs.Endpoint.{is_rs}
 use Rattle.ds_machine.specs.declared.command.Command.{Command}
 use Rattle.ds_machine.specs.declared.command.Command.TheVariants.{Publish, Delete, Sweep}
 
--- whether the command's caller is RS; only these three have a caller
+-- Whether the command's caller is RS; only these three commands have a caller.
 abbrev pub is_by_rs : Command → Bool
 is_by_rs (Publish caller key version value overwrite) = is_rs caller
 is_by_rs (Delete caller key version) = is_rs caller

@@ -24,63 +24,65 @@ use Rattle.rs_store.specs.Turns.{RsTurn}
 
 -- ---- the store's part
 
--- the entry of a command and its reply, where there are both, by the pass of the turn
+-- The entry of a command and its reply, if there are both, in this pass.
 abbrev pub entry_if : ℕ → Option Command → Option Reply → List (Entry Command Reply)
 entry_if n (Some command) (Some reply) = entry n command reply ∷ []
 entry_if n _ _ = []
 
--- so for each action
+-- The entries of all actions.
 abbrev pub entries_for : ℕ → List Action → List (Option Reply) → List (Entry Command Reply)
 entries_for n (action ∷ actions) (reply ∷ replies) = entry_if n (command_of action) reply ++ entries_for n actions replies
 entries_for n _ _ = []
 
--- the store's turns in one turn of both
+-- The store's turns in one turn of both.
 abbrev pub entries_by : ℕ → RsCommand → RsReply → List (Entry Command Reply)
 entries_by n (Ask command) (Replied reply) = entry n command reply ∷ []
 entries_by n (Tell event tick) (Acted actions replies given) = entries_for n actions replies
 entries_by n _ _ = []
 
--- the store's turns in a history
+-- The store's turns in a history.
 abbrev pub store_entries : List (Entry RsCommand RsReply) → List (Entry Command Reply)
 store_entries es = flat_map (λ (e : Entry RsCommand RsReply). entries_by e.pass e.command e.reply) es
 
--- they are a history of the store
+-- A law: they are a history of the store.
 abbrev pub StoreTurnsRun : Type 0
-StoreTurnsRun = (es : List (Entry RsCommand RsReply)) (old new : PairRecord) → Run RsTurn old es new → Run Turn old.store (store_entries es) new.store
+StoreTurnsRun =
+    (es : List (Entry RsCommand RsReply)) (old new : PairRecord) → Run RsTurn old es new → Run Turn old.store (store_entries es) new.store
 
 -- ---- RS's part
 
--- the actions of one turn
+-- The actions of one turn.
 abbrev pub actions_in : RsReply → List (List Action)
 actions_in (Acted actions replies given) = actions ∷ []
 actions_in _ = []
 
--- the actions of a history, for each event that wasn't refused
+-- The actions of a history, for each event that wasn't refused.
 abbrev pub actions_by : List (Entry RsCommand RsReply) → List (List Action)
 actions_by es = flat_map (λ (e : Entry RsCommand RsReply). actions_in e.reply) es
 
--- once RS has begun, they are a run of RS
+-- A law: once RS has begun, they are a run of RS.
 abbrev pub RsTurnsRun : Type 0
 RsTurnsRun = (es : List (Entry RsCommand RsReply)) (old new : PairRecord) (rs : RsRecord) → old.services ≡ Some rs → Run RsTurn old es new →
     (t : RsRecord) × (new.services ≡ Some t) × RsRun rs (actions_by es) t
 
--- from before RS began on, no two of the label changes that it offers contradict each other
+-- A law: from before RS began, no two label changes that it offers contradict each other.
 abbrev pub HistoriesKeepLabels : Type 0
 HistoriesKeepLabels = (es : List (Entry RsCommand RsReply)) (old new : PairRecord) → old.services ≡ None → Run RsTurn old es new →
     IsSingleNumbered (flat_map offers (actions_by es))
 
--- once RS has begun, the commands to the store with RS as their caller are those of RS's actions, in their order
+-- A law: once RS has begun, the store's commands with RS as their caller are those of RS's actions, in order.
 abbrev pub RsAloneIsRs : Type 0
-RsAloneIsRs = (es : List (Entry RsCommand RsReply)) (old new : PairRecord) (rs : RsRecord) → old.services ≡ Some rs → Run RsTurn old es new →
+RsAloneIsRs =
+    (es : List (Entry RsCommand RsReply)) (old new : PairRecord) (rs : RsRecord) → old.services ≡ Some rs → Run RsTurn old es new →
     filter is_by_rs (commands_of (store_entries es)) ≡ flat_map commands (actions_by es)
 
 -- ---- what replies settle
 
--- from each state that the first content stands for, the other two stand for one state
+-- From each state that the first content stands for, the other two stand for one state.
 abbrev pub StandAlike : ContentRecord → ContentRecord → ContentRecord → Type 0
 StandAlike old a b = (s : State) → ContentStands old s → (t : State) × ContentStands a t × ContentStands b t
 
--- commands and their replies settle what RS knows after a history, and the state of the store
+-- A law: commands and their replies settle what RS knows after a history, and the state of the store.
 abbrev pub PairsSettle : Type 0
 PairsSettle = (es : List (Entry RsCommand RsReply)) (old a b : PairRecord) → Run RsTurn old es a → Run RsTurn old es b →
     (a.services ≡ b.services) × StandAlike old.store a.store b.store

@@ -9,6 +9,5 @@ pub record PairRecord : Type 0 where
   -- the content of the store
   pub store : ContentRecord
 
--- the record of these parts
 abbrev pub pair_of : Option RsRecord → ContentRecord → PairRecord
 pair_of services store = record { services = services; store = store }

@@ -26,12 +26,12 @@ use Rattle.rs_store.specs.declared.call.RsReply.TheVariants.{Replied, NotAllowed
 
 -- ---- a client's command
 
--- whether a client may not send the command: RS has begun, and is the command's caller
+-- Whether a client may not send the command: RS has begun, and is the command's caller.
 abbrev pub passes_for_rs : Option RsRecord → Command → Bool
 passes_for_rs None command = false
 passes_for_rs (Some rs) command = is_by_rs command
 
--- the store takes a turn; or the command is barred, and the store is unchanged
+-- The store takes a turn; or the command is refused, and the store is unchanged.
 abbrev pub ClientTurn : Option RsRecord → ContentRecord → Command → RsReply → ContentRecord → Type 0
 ClientTurn services old command (Replied reply) new = (passes_for_rs services command ≡ false) × Turn old command reply new
 ClientTurn services old command NotAllowed new = (passes_for_rs services command ≡ true) × (new ≡ old)
@@ -39,11 +39,12 @@ ClientTurn services old command _ new = ⊥
 
 -- ---- a beginning
 
--- RS just after it began: every service is down, the first start has the generation `next`, and its slots begin at `first`
+-- RS just after its beginning: every service is down, the first start has the generation `next`, and its slots begin at
+-- `first`.
 abbrev pub begun_from : SettingsRecord → ℕ → ℕ → RsRecord
 begun_from settings next first = rs_of settings (replicate (length settings.services) Down) 0 next (new_slots first)
 
--- RS begins; or it doesn't, where a number is out of its range, or memory runs out for settings with a service
+-- RS begins; or it doesn't, since a number is out of range, or memory runs out for settings with a service.
 abbrev pub BeginsFirst : SettingsRecord → ℕ → ℕ → RsReply → Option RsRecord → Type 0
 BeginsFirst settings next first (Begun services slots) new =
     (¬ IsOutOfRange settings.slots next first) × (services ≡ length settings.services) × (slots ≡ settings.slots)
@@ -53,21 +54,21 @@ BeginsFirst settings next first (NotBegun new_faults.NoRoom) new =
     (¬ IsOutOfRange settings.slots next first) × (settings.services ≢ []) × (new ≡ None)
 BeginsFirst settings next first _ new = ⊥
 
--- once RS has begun, every further beginning is refused
+-- Once RS has begun, every further beginning is refused.
 abbrev pub BeginTurn : Option RsRecord → SettingsRecord → ℕ → ℕ → RsReply → Option RsRecord → Type 0
 BeginTurn None settings next first reply new = BeginsFirst settings next first reply new
 BeginTurn (Some rs) settings next first reply new = (reply ≡ Exists) × (new ≡ Some rs)
 
 -- ---- the store's turns for actions
 
--- the store takes a turn for the command, if there is one, and this is its reply
+-- The store takes a turn for the command, if there is one, and this is its reply.
 abbrev pub TurnFor : ContentRecord → Option Command → Option Reply → ContentRecord → Type 0
 TurnFor old None None new = new ≡ old
 TurnFor old (Some command) (Some reply) new = Turn old command reply new
 TurnFor old None (Some reply) new = ⊥
 TurnFor old (Some command) None new = ⊥
 
--- so for each of the actions, in their order
+-- As `TurnFor`, for each of the actions in order.
 abbrev pub TurnsFor : ContentRecord → List Action → List (Option Reply) → ContentRecord → Type 0
 TurnsFor old [] [] new = new ≡ old
 TurnsFor old (action ∷ actions) (reply ∷ replies) new =
@@ -77,7 +78,7 @@ TurnsFor old (action ∷ actions) [] new = ⊥
 
 -- ---- an event
 
--- the reply before RS has begun: no service is known
+-- The reply before RS has begun: no service is known.
 abbrev pub before_beginning : Event → RsReply
 before_beginning (Up label) = Refused UnknownLabel
 before_beginning (Stop label) = Refused UnknownLabel
@@ -87,25 +88,26 @@ before_beginning (Death endpoint cause) = Refused OldEndpoint
 before_beginning (Beat endpoint) = Refused OldEndpoint
 before_beginning Tick = Acted [] [] None
 
--- the first fault that stands against the event; or none does, the event has actions, and memory runs out
+-- The first fault against the event; or there is none, the event has actions, and memory runs out.
 abbrev pub RsRefuses : RsRecord → Event → ℕ → RsFault → Type 0
 RsRefuses rs event tick NoRoom = (refusal rs event tick ≡ None) × (asks has_actions (asked rs event tick) ≡ true)
 RsRefuses rs event tick fault = refusal rs event tick ≡ Some fault
 
--- RS steps, the store takes its turns for the actions, and the service that RS gave up is named; or RS refuses the event, and nothing
--- changes
+-- RS steps, the store takes its turns for the actions, and the reply names the service that RS gave up; or RS refuses
+-- the event, and nothing changes.
 abbrev pub RsServes : Event → ℕ → RsRecord → ContentRecord → RsReply → Option RsRecord → ContentRecord → Type 0
 RsServes event tick rs old (Acted actions replies given) after new =
-    ((t : RsRecord) × RsStep rs event tick actions t × (after ≡ Some t)) × TurnsFor old actions replies new × (given ≡ given_up rs event tick)
+    ((t : RsRecord) × RsStep rs event tick actions t × (after ≡ Some t)) × TurnsFor old actions replies new ×
+    (given ≡ given_up rs event tick)
 RsServes event tick rs old (Refused fault) after new = RsRefuses rs event tick fault × (after ≡ Some rs) × (new ≡ old)
 RsServes event tick rs old _ after new = ⊥
 
--- the same, where RS may not have begun
+-- The turn of an event, whether or not RS has begun.
 abbrev pub EventTurn : Event → ℕ → Option RsRecord → ContentRecord → RsReply → Option RsRecord → ContentRecord → Type 0
 EventTurn event tick None old reply after new = (reply ≡ before_beginning event) × (after ≡ None) × (new ≡ old)
 EventTurn event tick (Some rs) old reply after new = RsServes event tick rs old reply after new
 
--- the empty list has room for the replies to the event's actions, of which there are five at most
+-- The empty list has room for the replies to the event's actions, at most five.
 pub record HasRoomFor (rs : RsRecord) (event : Event) (tick : ℕ) (replies : List (Option Reply)) (capacity : ℕ) : Type 0 where
   pub none : replies ≡ []
   pub room : (asks has_actions (asked rs event tick) ≡ false) ⊎ (5 ≤ capacity)

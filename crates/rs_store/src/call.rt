@@ -42,8 +42,8 @@ pub enum RsReply {
     Exists,
     /// Why RS didn't begin.
     NotBegun(NewFault),
-    /// The actions of RS in their order, and for each of them the store's reply: `None` for a kill, a start and a ping, which
-    /// are no commands to the store. `given_up` is the index in the settings of the service that RS gave up by them.
+    /// RS's actions in order, and the store's reply to each: `None` for a kill, a start and a ping, which aren't
+    /// commands to the store. `given_up` is the index in the settings of the service that RS gave up by them.
     Acted {
         actions: Actions,
         replies: Replies,
@@ -54,7 +54,7 @@ pub enum RsReply {
 }
 
 impl RsReply {
-    /// Returns the mask of the subscriptions to which a notice is owed, by all of the store's replies together.
+    /// Returns the mask of the subscriptions that are owed a notice, by all of the store's replies together.
     pub fn owed(&self) -> u128
         ensures { result ≡ owed_in self.now }
     {
@@ -66,7 +66,7 @@ impl RsReply {
     }
 }
 
-// The mask of all of the replies together.
+// Returns the mask of all of the replies together.
 fn owed_by_all(replies: &[Option<Reply>]) -> u128
     ensures { result ≡ owed_by_all replies.now }
 {
@@ -77,7 +77,7 @@ fn owed_by_all(replies: &[Option<Reply>]) -> u128
     owed
 }
 
-// The mask of a reply, if there is one.
+// Returns the mask of a reply, or 0 if there is none.
 fn owed_by_one(reply: &Option<Reply>) -> u128
     ensures { result ≡ owed_by_one reply.now }
 {

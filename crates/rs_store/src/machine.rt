@@ -1,4 +1,4 @@
-//! RS and its store as the machine of a desk.
+//! RS and its store as a desk's machine.
 
 ghost use Rattle.rs_store.specs.Laws.{HistoriesKeepLabels, PairsSettle, RsAloneIsRs, RsTurnsRun, StoreTurnsRun};
 
@@ -35,9 +35,10 @@ impl Machine for RsStore {
 
 /// The laws of histories of RS and its store.
 ///
-/// The store's part of a history is a history of the store: the clients' commands and those of RS's actions, in one order. RS's
-/// part is a run of RS. No two label changes that RS offers in a history contradict each other. Once RS has begun, the commands
-/// with RS as their caller are those of its actions, and no others. The replies settle the state after a history.
+/// The store's part of a history, which is the clients' commands and those of RS's actions in one order, is a history
+/// of the store. RS's part is a run of RS. No two label changes that RS offers contradict each other. Once RS has
+/// begun, the commands with RS as their caller are exactly those of its actions. The replies settle the state after a
+/// history.
 pub fn pairs_take_turns()
     ensures store { StoreTurnsRun }
     ensures services { RsTurnsRun }

@@ -43,7 +43,7 @@ impl Model for RsStore {
 }
 
 impl RsStore {
-    /// Opens a store of 128 subscriptions and 4096 keys, beside which RS hasn't begun. Refuses what `Store::open` refuses.
+    /// Opens a store of 128 subscriptions and 4096 keys, before RS has begun. Refuses what `Store::open` refuses.
     pub fn open(alloc: Global, incarnation: u64, first: u64, ring: u32) -> Result<RsStore, Refusal>
         ensures opened { IfOk result (λ p. ContentStands p.store (opening incarnation first ring larger)) }
         ensures fits { OnOk result (IsRing ring × (first ≤ last_place)) }
@@ -58,7 +58,7 @@ impl RsStore {
         })
     }
 
-    /// Answers a command, by one turn of the machine.
+    /// Answers a command, in one turn of the machine.
     pub fn answer(&mut self, command: RsCommand) -> RsReply
         ensures { RsTurn self.old command result self.new }
     {
@@ -79,14 +79,14 @@ impl RsStore {
         }
     }
 
-    /// The store, for every read of it that changes nothing.
+    /// Returns the store, for reads.
     pub fn store(&self) -> &Store
         ensures { result.now ≡ self.now.store }
     {
         &self.store
     }
 
-    /// RS, for every read of it; `None` before it has begun.
+    /// Returns RS, for reads; `None` before it has begun.
     pub fn services(&self) -> Option<&Rs>
         ensures { option_copied result ≡ self.now.services }
     {

@@ -6,7 +6,7 @@ ghost use Rattle.std.specs.Option.{option_copied};
 use ds_machine::Reply;
 use std::marker::Model;
 
-/// The store's reply to each of some actions, in their order: `None` for an action that is no command to the store.
+/// The store's reply to each of a list of actions, in order: `None` for an action that isn't a command to the store.
 #[derive(Drop)]
 pub struct Replies {
     replies: Vec<Option<Reply>>,
@@ -29,21 +29,21 @@ impl Replies {
         Replies { replies }
     }
 
-    /// All of the replies.
+    /// Returns all of the replies.
     pub fn as_slice(&self) -> &[Option<Reply>]
         ensures { result.now ≡ self.now }
     {
         &self.replies
     }
 
-    /// Returns how many actions they answer.
+    /// Returns the number of actions that they answer.
     pub fn len(&self) -> usize
         ensures { result ≡ length self.now }
     {
         self.replies.len()
     }
 
-    /// The store's reply to the action at an index from 0. `None` past the end.
+    /// Returns the store's reply to the action at an index from 0; `None` past the end.
     pub fn get(&self, index: usize) -> Option<&Option<Reply>>
         ensures { option_copied result ≡ slice_get self.now index }
     {

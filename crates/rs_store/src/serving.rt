@@ -19,11 +19,11 @@ use rs_settings::Settings;
 use rs_to_store::command_of;
 use std::alloc::Global;
 
-/// The most actions of one event: a kill, a label taken back, a sweep, a start and a label put.
+/// The most actions of one event: a kill, a tombstone of a label, a sweep, a start and a label's put.
 const MOST_ACTIONS: usize = 5;
 
-/// Passes a client's command to the store. Once RS has begun, a command with RS as its caller is refused as NotAllowed, before any
-/// other cause, and the store is unchanged.
+/// Passes a client's command to the store. Once RS has begun, refuses a command with RS as its caller as NotAllowed,
+/// before any other cause, and leaves the store unchanged.
 pub fn ask(services: &Option<Rs>, store: &mut Store, command: Command) -> RsReply
     ensures { ClientTurn services.now store.old command result store.new }
 {
@@ -33,12 +33,12 @@ pub fn ask(services: &Option<Rs>, store: &mut Store, command: Command) -> RsRepl
     RsReply::Replied(turn(store, command))
 }
 
-/// Begins RS with settings: every service is down, the first start has the generation `next`, and its slots begin at `first`. Of a
-/// system with one RS these are 1 and 16. A later run continues at the generation that the earlier one had next; two hosts that
-/// exchange what they hold have slots apart.
+/// Begins RS with settings: every service is down, the first start has the generation `next`, and its slots begin at
+/// `first`. A system with one RS uses 1 and 16. A later run continues at the earlier run's next generation. Two hosts
+/// that exchange entries use disjoint slots.
 ///
-/// Refusals in their order: Exists, where RS has begun; OutOfRange, where `next` isn't 1 to 2097152, `first` is below 16, or the
-/// last slot above 1023; NoRoom, and only where the settings have a service. A refused beginning changes nothing.
+/// Refusals in order: Exists if RS has begun; OutOfRange if `next` isn't 1 to 2097152, `first` is below 16, or the last
+/// slot is above 1023; NoRoom, only if the settings have a service. A refused beginning changes nothing.
 pub fn begin(
     alloc: Global,
     services: &mut Option<Rs>,
@@ -64,10 +64,11 @@ pub fn begin(
     }
 }
 
-/// Gives RS an event at a tick, and passes the label changes and the sweeps of its actions to the store, in their order.
+/// Passes an event to RS at a tick, and its label changes and sweeps to the store, in order.
 ///
-/// A refused event changes neither RS nor the store. NoRoom comes after every other fault, and only for an event that has actions.
-/// Before RS has begun an event finds no service: a label is unknown, an endpoint is old, and a tick has no actions.
+/// A refused event changes neither RS nor the store. NoRoom comes after every other fault, and only for an event that
+/// has actions. Before RS has begun an event finds no service: a label is unknown, an endpoint is old, and a tick has
+/// no actions.
 pub fn serve(
     alloc: Global,
     services: &mut Option<Rs>,
@@ -98,8 +99,8 @@ pub fn serve(
     }
 }
 
-// A list with room for the replies to the actions of an event, reserved before RS steps: after the step nothing may be lost. An
-// event without actions takes no memory.
+// Returns a list with room for the replies to an event's actions; `None` if memory runs out. It is reserved before RS
+// steps, since nothing may be lost after the step. An event without actions takes no memory.
 fn room_for(alloc: Global, rs: &Rs, event: &Event, tick: u64) -> Option<Vec<Option<Reply>>>
     ensures room { IfSome result (λ replies. HasRoomFor rs.now event.now tick replies.items (vec_capacity replies)) }
     ensures wanted { IfNone result (asks has_actions (asked rs.now event.now tick) ≡ true) }
@@ -113,7 +114,7 @@ fn room_for(alloc: Global, rs: &Rs, event: &Event, tick: u64) -> Option<Vec<Opti
     }
 }
 
-// The refusal of an event for which memory ran out: the first fault that stands against it, or else NoRoom.
+// Returns the refusal of an event for which memory ran out: the first fault against it, or else NoRoom.
 fn out_of_room(rs: &Rs, event: &Event, tick: u64) -> RsFault
     requires { asks has_actions (asked rs.now event.now tick) ≡ true }
     ensures { RsRefuses rs.now event.now tick result }
@@ -124,7 +125,7 @@ fn out_of_room(rs: &Rs, event: &Event, tick: u64) -> RsFault
     }
 }
 
-// The reply to an event before RS has begun.
+// Returns the reply to an event before RS has begun.
 fn without_settings(alloc: Global, event: &Event) -> RsReply
     ensures { result ≡ reply_without event.now }
 {
@@ -141,7 +142,7 @@ fn without_settings(alloc: Global, event: &Event) -> RsReply
     }
 }
 
-// Passes the actions to the store, in their order. The list has room for the replies.
+// Passes the actions to the store, in order. The list has room for the replies.
 fn pass_on(store: &mut Store, actions: &Actions, replies: &mut Vec<Option<Reply>>)
     requires in_place { AllByRecursion IsActionInPlace actions.now }
     requires room { length actions.now ≤ vec_capacity replies.old }
@@ -156,7 +157,7 @@ fn pass_on(store: &mut Store, actions: &Actions, replies: &mut Vec<Option<Reply>
     }
 }
 
-// The store's turn for an action, if the action is a command to it.
+// Runs the store's turn for an action, if it is a command to the store.
 fn turn_for(store: &mut Store, action: &Action) -> Option<Reply>
     requires { IsActionInPlace action.now }
     ensures { TurnFor store.old (command_for action.now) result store.new }
@@ -165,7 +166,7 @@ fn turn_for(store: &mut Store, action: &Action) -> Option<Reply>
     Some(turn(store, command))
 }
 
-// One turn of the store.
+// Runs one turn of the store.
 fn turn(store: &mut Store, command: Command) -> Reply
     ensures { Turn store.old command result store.new }
 {

@@ -1,4 +1,4 @@
--- How a driver table follows a map, label after label.
+-- How a driver table follows a map, label by label.
 use Rattle.std.proofs.Common.{◌≡◌, ◌≢◌, ℕ, zero, suc, ◌+◌, ◌≤◌, ◌||◌, Bool, true, false, List, [], ◌∷◌, ◌++◌, length, take, drop, Option, Some, None, Result, Ok, Err, refl, ap, sym, ◌∙◌, subst, inl, inr, arith, append_assoc, append-nil}
 use Rattle.std.specs.List.{slice_get, AllByRecursion}
 use Rattle.std.specs.Option.{option_map}
@@ -48,7 +48,7 @@ module _ (h : Holding) (sound : IsSound h) where
       by None e None f = refl
       by (Some c) e None f = absurd (key_missing (held_items h) key c f (change_in h key c e) (sym (sound.own key c e)))
 
--- the first ones and the next one
+-- the first i elements and the next one
 take_at_get : {X : Type 0} (xs : List X) (i : ℕ) (x : X) → slice_get xs i ≡ Some x → take (i + 1) xs ≡ take i xs ++ x ∷ []
 take_at_get xs i x e = take_more xs i x (slice_get_within xs i x e) ∙ ap (λ y. take i xs ++ y ∷ []) (get_or_from_slice_get xs i x x e)
 
@@ -87,12 +87,12 @@ has_label_at (u ∷ units) (suc index) label e = by (is_same_name label u.1.labe
     by false h = h
 
 module _ (t : DriverTable) (label : List ℕ) (state : Option EndpointRecord) (has : has_label t.units label ≡ true) where
-  -- a state that is old is an OldEndpoint
+  -- an old state is refused as OldEndpoint
   old_refused : is_old (newest t.states label) (endpoint_now t.states label) state ≡ true → changing t label state ≡ (Err OldEndpoint, t)
   old_refused old = ap (λ (b : Bool). changed_so t label state b (is_old (newest t.states label) (endpoint_now t.states label) state) (is_same_state (endpoint_now t.states label) state)) has
       ∙ ap (λ (b : Bool). changed_so t label state true b (is_same_state (endpoint_now t.states label) state)) old
 
-  -- another one is taken
+  -- another state is accepted
   new_taken : is_old (newest t.states label) (endpoint_now t.states label) state ≡ false → (moves : List Move) × (u : DriverTable) × (changing t label state ≡ (Ok moves, u))
   new_taken new = (
     _,
@@ -101,7 +101,7 @@ module _ (t : DriverTable) (label : List ℕ) (state : Option EndpointRecord) (h
         ∙ ap (λ (b : Bool). changed_so t label state true b (is_same_state (endpoint_now t.states label) state)) new,
   )
 
--- ---- follows, one behind the other
+-- ---- follows in sequence
 pub follows_on : (held : List Item) (front back : List (List ℕ)) (t mid u : DriverTable) (done later : List (List Move)) (fault : Option TableFault) → Follows held front t done None mid → Follows held back mid later fault u
     → Follows held (front ++ back) t (done ++ later) fault u
 follows_on held [] back t mid u done later fault f g =
@@ -111,7 +111,7 @@ follows_on held (label ∷ front) back t mid u done later fault (inl (rest, e, f
     inl (rest ++ later, ap (λ (z : List (List Move)). z ++ later) e ∙ append_assoc round rest later, follows_on held front back (taking t label (news_of held t label)).1 mid u rest later fault f g)
 follows_on held (label ∷ front) back t mid u done later fault (inr ends) g = absurd (let n : None ≡ Some NoRoom = ends.fault_is in cc)
 
--- one label is followed by its round
+-- one label, followed by its round
 one_label : (held : List Item) (t : DriverTable) (label : List ℕ) → Follows held (label ∷ []) t (taking t label (news_of held t label)).0 None (taking t label (news_of held t label)).1
 one_label held t label = inl ([], sym (append-nil _), (refl, refl, refl))
 
@@ -128,7 +128,7 @@ more_labels : (label : List ℕ) (labels : List (List ℕ)) (entries : List Entr
 more_labels label labels [] all = tt
 more_labels label labels (entry ∷ entries) ((name, state, there, is), all) = ((name, state, Contains-tail label labels name there, is), more_labels label labels entries all)
 
--- a label that is passed over, and one with a round, in front of a run
+-- a label that is passed over, and one with a round, before a run
 before_run : (label : List ℕ) (labels : List (List ℕ)) (t u : DriverTable) (state : Option EndpointRecord) (later : List (List Move)) (out : Result (List Move) TableFault × DriverTable) → changing t label state ≡ out
     → IsRunOf labels (as_round t out).1 later u → IsRunOf (label ∷ labels) t ((as_round t out).0 ++ later) u
 before_run label labels t u state later (Err fault, mid) is r = record { entries = r.entries; run = r.run; rounds_are = r.rounds_are; of_labels = more_labels label labels r.entries r.of_labels }
@@ -178,13 +178,13 @@ follows_end_for_room held (label ∷ labels) t u rounds fault (inr ends) = (
   },
 )
 
--- what is told by the newest generation that was read
+-- the news by the newest generation that the code read
 pub news_read : (held : List Item) (t : DriverTable) (label : List ℕ) (newest_now : Option ℕ) (r : Option (Option EndpointRecord)) → r ≡ told newest_now (held_at held (label_key label))
     → newest_now ≡ newest t.states label → r ≡ news_of held t label
 news_read held t label newest_now r e n = e ∙ ap (λ (m : Option ℕ). told m (held_at held (label_key label))) n
 
 -- ---- the walk
--- the labels before the index were followed, by rounds behind those before, to a table that the value stands for now
+-- the labels before the index were followed, with their rounds appended, to a table that the value stands for now
 pub record Walked (held : List Item) (t : DriverTable) (before : List (List Move)) (index : ℕ) (now : TableRecord) (rounds : List (List Move)) : Type 0 where
   pub at : DriverTable
   pub done : List (List Move)
@@ -195,7 +195,7 @@ pub record Walked (held : List Item) (t : DriverTable) (before : List (List Move
 abbrev pub AllWalked : List Item → TableRecord → List (List Move) → ℕ → TableRecord → List (List Move) → Type 0
 AllWalked held old before index now rounds = (t : DriverTable) → TableStands old t → Walked held t before index now rounds
 
--- what the walk leads to
+-- the result of the walk
 abbrev pub Reaches : List Item → DriverTable → List (List Move) → TableRecord → List (List Move) → Option TableFault → Type 0
 Reaches held t before now rounds fault = (u : DriverTable) × (later : List (List Move)) × (rounds ≡ before ++ later) × Follows held (labels_of t) t later fault u × TableStands now u
 
@@ -206,7 +206,7 @@ module _ (held : List Item) (t : DriverTable) (before : List (List Move)) (index
   pub units_still : w.at.units ≡ t.units
   units_still = (follows_keep_units held (take index (labels_of t)) t w.at w.done None w.followed).0
 
-  -- all labels were followed
+  -- the walk ends: all labels were followed
   pub walk_ends : length t.units ≤ index → Reaches held t before now rounds None
   walk_ends l = (w.at, w.done, w.rounds_are, subst (λ (z : List (List ℕ)). Follows held z t w.done None w.at) (take_all index (labels_of t) many) w.followed, w.stands)
     where
@@ -232,7 +232,7 @@ module _ (held : List Item) (t : DriverTable) (before : List (List Move)) (index
     has : has_label w.at.units label ≡ true
     has = has_label_at w.at.units index label (sym at)
 
-    -- the label's round is done
+    -- the walk continues after the label's round
     goes_on : (next : TableRecord) (after : List (List Move)) → after ≡ rounds ++ (taking w.at label news).0 → TableStands next (taking w.at label news).1 → Walked held t before (index + 1) next after
     goes_on next after e st = record {
       at = (taking w.at label news).1;
@@ -243,7 +243,7 @@ module _ (held : List Item) (t : DriverTable) (before : List (List Move)) (index
       stands = st;
     }
 
-    -- memory is wanting for it
+    -- the walk stops: memory ran out at the label
     stops : (taking w.at label news).0 ≢ [] → Reaches held t before now rounds (Some NoRoom)
     stops some = (
       w.at,
@@ -255,7 +255,7 @@ module _ (held : List Item) (t : DriverTable) (before : List (List Move)) (index
       w.stands,
     )
 
-    -- ---- the same by what the code has
+    -- ---- the same, by what the code has
     module _ (r : Option (Option EndpointRecord)) (is : r ≡ news) where
       pub nothing_told : r ≡ None → Walked held t before (index + 1) now rounds
       nothing_told e = goes_on now rounds (sym (append-nil rounds) ∙ ap (λ (n : Option (Option EndpointRecord)). rounds ++ (taking w.at label n).0) none)
@@ -287,12 +287,12 @@ module _ (held : List Item) (t : DriverTable) (before : List (List Move)) (index
                 let p = by_answer (Ok other, u) q in
                 goes_on next after (f ∙ (ap (λ (m : List Move). rounds ++ m ∷ []) same ∙ ap (λ (p : List (List Move) × DriverTable). rounds ++ p.0) p)) (subst (λ (p : List (List Move) × DriverTable). TableStands next p.1) p st)
 
-        -- ---- where the state isn't old
+        -- ---- a state that isn't old
         module _ (new : false ≡ is_old (newest w.at.states label) (endpoint_now w.at.states label) state) where
           taken : (moves : List Move) × (u : DriverTable) × (changing w.at label state ≡ (Ok moves, u))
           taken = new_taken w.at label state has (sym new)
 
-          -- memory is wanting for the state
+          -- memory ran out for the state
           pub wants_room : (next : TableRecord) (after : List (List Move)) (fault : TableFault) → next ≡ now → after ≡ rounds → fault ≡ NoRoom → Reaches held t before next after (Some fault)
           wants_room next after fault v e f = subst (λ (x : TableFault). Reaches held t before next after (Some x)) (sym f) (subst (λ (x : List (List Move)). Reaches held t before next x (Some NoRoom)) (sym e)
               (subst (λ (x : TableRecord). Reaches held t before x rounds (Some NoRoom)) (sym v) (stops round)))
@@ -300,7 +300,7 @@ module _ (held : List Item) (t : DriverTable) (before : List (List Move)) (index
               round : (taking w.at label news).0 ≢ []
               round = subst (λ (p : List (List Move) × DriverTable). p.0 ≢ []) (by_answer (Ok taken.0, taken.1) taken.2) (λ n. absurd (let k : taken.0 ∷ [] ≡ [] = n in cc))
 
-          -- no other fault comes
+          -- no other fault is possible
           only_room : (fault : TableFault) → IsAnswer (changing w.at label state).0 (Err fault) → fault ≡ NoRoom
           only_room fault a = by fault (subst (λ (p : Result (List Move) TableFault × DriverTable). IsAnswer p.0 (Err fault)) taken.2 a)
             where

@@ -1,4 +1,4 @@
--- The front of a list that a loop has gone through.
+-- The front of a list that a loop has walked.
 use Rattle.std.proofs.Common.{◌≡◌, ℕ, ◌+◌, ◌≤◌, min, take, arith, List, [], ◌∷◌, ◌++◌, length, Some, sym, ap, ◌∙◌}
 use Rattle.std.specs.List.{slice_get}
 use Rattle.std.proofs.lemmas.List.{length-take, take_more}

@@ -14,41 +14,44 @@ use Rattle.driver_tables.specs.Changed.{changing}
 use Rattle.driver_tables.specs.Stands.{TableRecord, TableStands}
 use Rattle.rs_to_store.specs.News.{told}
 
--- the labels of a table's units, in order of assignment
 abbrev pub labels_of : DriverTable → List (List ℕ)
 labels_of t = map (λ (u : ℕ × Driver). u.1.label) t.units
 
--- what a map that holds these items tells a table of a label
+-- The news of a label for a table, from a map that holds these items.
 abbrev pub news_of : List Item → DriverTable → List ℕ → Option (Option EndpointRecord)
 news_of held t label = told (newest t.states label) (held_at held (label_key label))
 
--- an answer with moves is a round, and leaves the table after it; an OldEndpoint is passed over
+-- An answer with moves is a round, and leaves the table after it; an OldEndpoint is passed over.
 abbrev pub as_round : DriverTable → Result (List Move) TableFault × DriverTable → List (List Move) × DriverTable
 as_round t (Ok moves, u) = (moves ∷ [], u)
 as_round t (Err old, u) = ([], t)
 
--- what a table makes of what it is told of a label: a round of moves, or none; and the table after it
+-- What the news of a label brings: a round of moves, or none; and the table after it.
 abbrev pub taking : DriverTable → List ℕ → Option (Option EndpointRecord) → List (List Move) × DriverTable
 taking t label None = ([], t)
 taking t label (Some state) = as_round t (changing t label state)
 
--- memory was wanting for a label that has a round, which ends the follow before it
-pub record EndsForRoom (t : DriverTable) (round : List (List Move)) (rounds : List (List Move)) (fault : Option TableFault) (u : DriverTable) : Type 0 where
+-- Memory ran out at a label that has a round, and the follow ended before that label.
+pub record EndsForRoom (t : DriverTable) (round : List (List Move)) (rounds : List (List Move)) (fault : Option TableFault)
+    (u : DriverTable) : Type 0 where
   pub some : round ≢ []
   pub rounds_are : rounds ≡ []
   pub fault_is : fault ≡ Some NoRoom
   pub table_is : u ≡ t
 
--- a table takes what a map that holds these items tells of each of the labels: first the round of the first label, if it has one,
--- and then those of the others; or memory is wanting
+-- A table takes the news of each label, from a map that holds these items: the first label's round, if it has one,
+-- comes before the rounds of the others; or memory runs out.
 abbrev pub Follows : List Item → List (List ℕ) → DriverTable → List (List Move) → Option TableFault → DriverTable → Type 0
 Follows held [] t rounds fault u = (rounds ≡ []) × (fault ≡ None) × (u ≡ t)
 Follows held (label ∷ labels) t rounds fault u =
-    ((later : List (List Move)) × (rounds ≡ (taking t label (news_of held t label)).0 ++ later) × Follows held labels (taking t label (news_of held t label)).1 later fault u)
+    ((later : List (List Move)) × (rounds ≡ (taking t label (news_of held t label)).0 ++ later) ×
+    Follows held labels (taking t label (news_of held t label)).1 later fault u)
     ⊎ EndsForRoom t (taking t label (news_of held t label)).0 rounds fault u
 
--- the table followed a map that holds these items, by rounds behind those before, until this ended it, or to its end; either way
--- the value is of the table that took these rounds
+-- The table followed a map that holds these items: its rounds are appended to those before, and `fault` is what ended
+-- it, if anything did; either way the new value stands for the table that took these rounds.
 abbrev pub HasFollowed : List Item → TableRecord → TableRecord → List (List Move) → List (List Move) → Option TableFault → Type 0
 HasFollowed held old new before after fault =
-    (t : DriverTable) → TableStands old t → (u : DriverTable) × (rounds : List (List Move)) × (after ≡ before ++ rounds) × Follows held (labels_of t) t rounds fault u × TableStands new u
+    (t : DriverTable) → TableStands old t →
+    (u : DriverTable) × (rounds : List (List Move)) × (after ≡ before ++ rounds) × Follows held (labels_of t) t rounds fault u ×
+    TableStands new u

@@ -1,4 +1,4 @@
-//! What is asked of a store for a change, and for an action of RS.
+//! Commands to a store, for a change and for an action of RS.
 
 ghost use Rattle.std.specs.Prelude.{◌≡◌};
 ghost use Rattle.ds_names.specs.Endpoint.{endpoint_of};
@@ -11,8 +11,8 @@ use ds_machine::Command;
 use ds_names::{Endpoint, Key, Version};
 use rs_core::Action;
 
-/// What a caller asks of a store for a change of its own: a Publish for a put, over what is live too, and a Delete for a
-/// tombstone. It takes no memory.
+/// Returns the command with which a caller makes a change of its own: for a put a Publish that overwrites, for a
+/// tombstone a Delete. It takes no memory.
 pub fn asking(caller: Endpoint, key: &Key, version: &Version, body: Body) -> Command
     ensures { result ≡ asking_for caller key.now version.now body }
 {
@@ -33,10 +33,10 @@ pub fn asking(caller: Endpoint, key: &Key, version: &Version, body: Body) -> Com
     }
 }
 
-/// What an action of RS asks of a store, from RS's own endpoint: the change that it offers, or the sweep of a floor. `None` for
-/// a kill, a start and a ping, which are no store's affair.
+/// Returns the command of an action, with RS's endpoint as its caller: it makes the offered change, or sweeps up to a
+/// floor. `None` for a kill, a start and a ping, which don't concern a store.
 ///
-/// RS offers labels alone, a copy of which takes no memory.
+/// It takes no memory, since RS offers labels only.
 pub fn command_of(action: &Action) -> Option<Command>
     requires { IsActionInPlace action.now }
     ensures { result ≡ command_of action.now }
@@ -57,7 +57,7 @@ pub fn command_of(action: &Action) -> Option<Command>
     }
 }
 
-// The same body again, where that takes no memory.
+// Returns a copy of a body that can be copied without memory.
 fn body_again(body: &Body) -> Body
     requires { IsBodyInPlace body.now }
     ensures { result ≡ body.now }

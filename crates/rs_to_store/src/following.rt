@@ -7,13 +7,14 @@ use crate::news::told;
 use driver_tables::{Drivers, Moves, TableFault};
 use ds_submap::SubMap;
 
-/// A server's table takes what a map tells of its labels, in the order in which its units were assigned. The moves of each label
-/// that it is told something of are a round, and come behind the rounds before. It gives what ended that, if anything did.
+/// Follows a map: the table takes what the map tells of its labels, in order of assignment of its units. Each label of
+/// which it takes a state adds one round, the moves that follow, to `rounds`. Returns what ended the follow early, if
+/// anything did.
 ///
-/// A label of which the map holds no change is passed over, and so is a tombstone of an epoch below the newest generation that
-/// the table knows of the label, and a state that is an OldEndpoint. Any other tombstone says that there is no driver now.
-/// NoRoom ends it at a label that has a round, and what was followed is kept: the rounds before it stand, and the table has taken
-/// them.
+/// Passes over a label of which the map holds no change, a tombstone whose epoch is below the newest generation that
+/// the table knows of the label, and a state that is an OldEndpoint. Any other tombstone means that the label has no
+/// driver now. Only NoRoom ends a follow, at a label that has a round; the earlier rounds are kept, and the table has
+/// taken them.
 pub fn follow<T: Drivers>(
     table: &mut T,
     map: &SubMap,

@@ -10,8 +10,8 @@ use ds_entry::{Body, Change, Value};
 use ds_names::{Endpoint, Generation, Key, Kind, Name};
 use ds_submap::SubMap;
 
-// What a map tells of a label that had this newest generation: the endpoint of its driver now, or that there is none. Nothing
-// where it holds no change of the label, or an old tombstone. It takes no memory.
+// Returns the state that a map tells of a label whose newest generation is `newest`: its driver's endpoint now, or that
+// it has no driver. `None` if the map holds no change of the label, or an old tombstone. It takes no memory.
 pub(crate) fn told(
     map: &SubMap,
     label: &Name,
@@ -30,7 +30,7 @@ pub(crate) fn told(
     }
 }
 
-// What a change tells of its label.
+// Returns the state that a change tells of its label.
 fn told_by(change: &Change, newest: Option<Generation>) -> Option<Option<Endpoint>>
     ensures { result ≡ told_by newest change.now }
 {
@@ -42,7 +42,7 @@ fn told_by(change: &Change, newest: Option<Generation>) -> Option<Option<Endpoin
     }
 }
 
-// Whether a generation is below the newest, if there is one.
+// Returns whether a generation is below the newest, if there is a newest.
 fn is_below(generation: Generation, newest: Option<Generation>) -> bool
     ensures { result ≡ is_below_newest newest generation }
 {

@@ -1,4 +1,4 @@
--- What a line asks of a store or lets happen, by what it isn't.
+-- The store command and the event of a line, for all other lines.
 use Rattle.std.proofs.Common.{◌≡◌, ◌≢◌, None, refl}
 use Rattle.ds_replica.specs.declared.event.Side.{Side}
 use Rattle.script_commands.specs.Command.{store_command}
@@ -13,7 +13,7 @@ asks_nothing (Offer item) offer store = absurd (offer item refl)
 asks_nothing (Store asked) offer store = absurd (store asked refl)
 asks_nothing _ offer store = refl
 
--- a line that is no event of the world's own
+-- a line without an event of the world's own
 pub record IsAsking (command : ScriptCommand) : Type 0 where
   pub map : (query : _) → command ≢ Map query
   pub clear : (map : _) → command ≢ Clear map

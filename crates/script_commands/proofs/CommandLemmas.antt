@@ -1,4 +1,4 @@
--- A command's line: its word, and what the command takes behind it.
+-- A command's line: its word, and what follows it.
 use Rattle.std.specs.Prelude.{◌==◌, ◌&&◌, if◌then◌else◌}
 use Rattle.std.proofs.Common.{◌≡◌, ◌≢◌, ℕ, suc, ◌+◌, ◌-◌, ◌≤◌, Bool, true, false, List, [], ◌∷◌, ◌++◌, length, refl, sym, ap, subst, ◌∙◌, arith, append_assoc, append-nil, length-append}
 use Rattle.std.specs.List.{All, list_all}
@@ -41,7 +41,7 @@ picks : (w : CommandWord) → picked (text_of w) all_words ≡ w
 picks words.Offer = refl
 picks w = refl
 
--- words that are spelled alike are one
+-- words that are spelled alike are the same
 pub same_word : (v w : CommandWord) → text_of v ≡ text_of w → v ≡ w
 same_word v w same = sym (picks v) ∙ ap (λ (t : List ℕ). picked t all_words) same ∙ picks w
 
@@ -52,30 +52,30 @@ text_is word = refl
 word_is : (command : ScriptCommand) → list_all is_ascii_alphanumeric (word_of command) ≡ true
 word_is command = text_is (command_word command)
 
--- a word that is no command's stands where no command's does
+-- a text that is no command's word is at the front of no command's line
 pub other_word_only : (line text rest : List ℕ) → list_all is_ascii_alphanumeric text ≡ true → Begins is_ascii_alphanumeric line text rest
     → ((w : CommandWord) → text ≢ text_of w) → (w : CommandWord) (more : List ℕ) → ¬ Begins is_ascii_alphanumeric line (text_of w) more
 other_word_only line text rest is begins other w more h = other w (part_one Word line text (text_of w) rest more is (text_is w) begins h).0
 
--- two words at one front are one
+-- two words at one front are the same
 pub one_word : (command : ScriptCommand) (line word r s : List ℕ) → list_all is_ascii_alphanumeric word ≡ true
     → Begins is_ascii_alphanumeric line (word_of command) r → Begins is_ascii_alphanumeric line word s → (word_of command ≡ word) × (r ≡ s)
 one_word command line word r s is first second = part_one Word line (word_of command) word r s (word_is command) is first second
 
--- ---- the line's word stands at its front
+-- ---- the line's word is at its front
 
 pub word_begins : (command : ScriptCommand) (line : List ℕ) → line ≡ texts (command_parts command)
     → Begins is_ascii_alphanumeric line (word_of command) (texts (behind_word command))
 word_begins command line is = record { parts = is; ends = command_parted command }
 
--- and it ends with its one newline
+-- the line ends with its one newline
 pub command_ends : (command : ScriptCommand) → IsCommand command → EndsLine (texts (command_parts command))
 command_ends command is =
     ends_behind (part Word (word_of command)) (behind_word command) (unbroken_word (word_of command) (word_is command)) (behind_ends command is)
 
 -- ---- the line can't be read
 
--- no command's word stands at the front
+-- no command's word is at the front
 pub unknown_word : (line : List ℕ) → ((w : CommandWord) (rest : List ℕ) → ¬ Begins is_ascii_alphanumeric line (text_of w) rest) → IsCommandFault line 0
 unknown_word line other =
     record {
@@ -91,7 +91,7 @@ unknown_word line other =
       };
     }
 
--- what can be read ends behind the word
+-- the readable part ends after the word
 line_breaks : (line rest at : List ℕ) (w : CommandWord) → Begins is_ascii_alphanumeric line (text_of w) rest → Breaks (taken_by w) rest at
     → IsCommandFault line (length line - length at)
 line_breaks line rest at w begins s =
@@ -151,7 +151,7 @@ one_newline (a ∷ before) behind (f ∷ front) none same =
     let rest : front ++ 10 ∷ [] ≡ before ++ 10 ∷ behind = cc in
     one_newline before behind front (All-tail (λ (b : ℕ). b ≢ 10) f front none) rest
 
--- the command is all of the line
+-- the command is the whole line
 pub whole_line : (line rest after : List ℕ) (w : CommandWord) (command : ScriptCommand) → EndsLine line
     → Begins is_ascii_alphanumeric line (text_of w) rest → Found (taken_by w) command rest after
     → IsCommand command × (line ≡ texts (command_parts command))

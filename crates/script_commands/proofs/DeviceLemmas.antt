@@ -1,4 +1,4 @@
--- Devices: one is missing where it has to stand, or it is read.
+-- Devices: one is missing, or it is read.
 use Rattle.std.proofs.Common.{◌≡◌, ◌≢◌, ℕ, suc, ◌<◌, List, ◌∷◌, length, refl, arith}
 use Rattle.driver_tables.specs.declared.file_table.FileClass.{FileClass}
 use Rattle.driver_tables.specs.declared.file_table.FileClass.TheVariants.{Block}
@@ -18,7 +18,7 @@ use Rattle.script_commands.proofs.OneLemmas.{one_behind, one_view}
 use Rattle.script_commands.proofs.OpenLemmas.{Apart}
 use Rattle.script_commands.proofs.ServicePieceLemmas.{server_fixed, server_one, class_one, unit_fixed, unit_one}
 
--- ---- a server, and what its word says of what stands behind
+-- ---- a server, and what follows its word
 
 abbrev pub device_rest : Server → Piece
 device_rest File = behind a_unit (λ (_ : ℕ). a_class)
@@ -62,14 +62,14 @@ device_goes : Goes a_server device_rest
 device_goes File can = ((0, Block), (omega arith, tt))
 device_goes Net can = (0, omega arith)
 
--- ---- where one can't be read
+-- ---- a device can't be read
 
 -- the server is missing
 pub device_server_stops : (stop : PartFault) (bytes : List ℕ) → stop ≢ NoRoom → StopsIn a_server stop bytes → StopsIn a_device stop bytes
 device_server_stops stop bytes room s =
     view_stops served a_device device_view stop bytes (first_stops a_server device_rest 2 stop bytes server_fixed device_goes room s)
 
--- behind a server what it is to have is missing
+-- what has to follow a server is missing
 behind_server : (server : Server) (stop : PartFault) (bytes r : List ℕ) → Found a_server server bytes r → StopsIn (device_rest server) stop r → StopsIn a_device stop bytes
 behind_server server stop bytes r found s =
     view_stops served a_device device_view stop bytes (then_stops a_server device_rest 2 stop server bytes r server_fixed server_one found s)
@@ -88,7 +88,7 @@ device_class_stops major stop bytes r t found number s =
 pub device_port_stops : (stop : PartFault) (bytes r : List ℕ) → Found a_server Net bytes r → StopsIn a_unit stop r → StopsIn a_device stop bytes
 device_port_stops stop bytes r found s = behind_server Net stop bytes r found s
 
--- ---- one is read
+-- ---- a device is read
 
 pub device_file_found : (major : ℕ) (class : FileClass) (bytes r t rest : List ℕ) → Found a_server File bytes r → Found a_unit major r t → Found a_class class t rest → Found a_device (devices.File major class) bytes rest
 unfolding device_of
@@ -108,7 +108,7 @@ rest_one Net = unit_one
 pub device_one : One a_device
 device_one = one_view served a_device device_view (one_behind a_server device_rest server_one rest_one) device_back
 
--- two servers at one front are one
+-- two servers at one front are the same
 no_two : (bytes r s : List ℕ) → Found a_server Net bytes r → ¬ Found a_server File bytes s
 no_two bytes r s net file = let same : File ≡ Net = (server_one Net File bytes r s net file).0 in absurd (cc)
 
@@ -121,6 +121,6 @@ devices_apart (devices.Net port) (devices.File major class) bytes r after f can 
     no_two bytes f.front.2.0 h.2.0 (record { can = tt; front = (f.front.0, f.front.1, (f.front.2.0, f.front.2.1, refl)) })
     (record { can = tt; front = (h.0, h.1, (h.2.0, h.2.1, refl)) })
 
--- where a device stands, no longer one goes on
+-- no device extends another at the same front
 pub device_apart : Apart a_device
 device_apart = devices_apart

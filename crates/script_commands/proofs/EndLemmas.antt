@@ -1,4 +1,4 @@
--- A command's line ends with its one newline: nothing that a slot has before it holds another.
+-- A command's line ends with its one newline, and no slot before the last has one.
 use Rattle.std.proofs.Common.{◌≡◌, ◌≢◌, ℕ, ◌^◌, ◌<◌, true, inl, inr, List, [], ◌∷◌, ◌++◌, Option, None, Some, refl, sym, subst, arith}
 use Rattle.std.specs.List.{list_all}
 use Rattle.std.specs.Char.{is_ascii_alphanumeric}
@@ -70,7 +70,7 @@ unbroken_holder : (holder : Holder) → IsHolder holder → Unbroken (holder_wor
 unbroken_holder (holders.Store side) can = unbroken_word (side_word side) (side_is_word side)
 unbroken_holder (holders.Map map) can = unbroken_one 109 (decimal map) (λ same. omega (arith, same)) (unbroken_decimal map can)
 
--- ---- parts
+-- ---- parts without a newline
 
 -- none of them has a newline
 abbrev AreUnbroken : List Part → Type 0
@@ -122,7 +122,7 @@ text_unbroken : (text : List ℕ) → Unbroken text → AreUnbroken (text_parts 
 text_unbroken [] can = tt
 text_unbroken (b ∷ text) can = (one_byte b (All-head (λ (x : ℕ). x ≢ 10) b text can), text_unbroken text (All-tail (λ (x : ℕ). x ≢ 10) b text can))
 
--- what a slot before others has
+-- the contents of a slot before others
 slot_unbroken : (k : Kind) (s : Slot) (x : (piece_of k s).Of) → IsInner s → (piece_of k s).Can x → AreUnbroken ((piece_of k s).parts x)
 slot_unbroken k slots.Item i inner can = absurd (inner tt)
 slot_unbroken k slots.Caller e inner can = one (endpoint_text e) (unbroken_endpoint e can)
@@ -155,7 +155,7 @@ slot_unbroken k slots.Unit n inner can = number n (omega (arith, can))
 slot_unbroken k slots.End x inner can = absurd (inner tt)
 slot_unbroken k s n inner can = number n can
 
--- what the last one has
+-- the contents of the last slot
 last_ends : (k : Kind) (s : Slot) (x : (piece_of k s).Of) → IsLast s → (piece_of k s).Can x → EndsLine (texts ((piece_of k s).parts x))
 last_ends k slots.Item i last can = ends_behind_space (item_parts i) (item_ends i can)
 last_ends k slots.Value v last can =

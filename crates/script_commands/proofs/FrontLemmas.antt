@@ -1,4 +1,4 @@
--- Lines that are read by their word, with a space behind it.
+-- Lines that are read by their word, with a space after it.
 use Rattle.std.proofs.Common.{◌≡◌, ◌≢◌, ℕ, ◌-◌, ◌≤◌, List, ◌∷◌, length, drop, Result, Ok, Err, refl, sym, ap, subst, ◌∙◌, arith}
 use Rattle.std.proofs.Math.Seq.{drop-append_seam}
 use Rattle.std.specs.Char.{is_ascii_alphanumeric}
@@ -37,7 +37,7 @@ pub reads_front : (w : CommandWord) (line bytes : List ℕ) (command : ScriptCom
 reads_front w line bytes command ends front takes =
     whole_line line bytes _ w command ends front (takes_row w bytes (Ok command) takes).1
 
--- what is read of such a line where it is the first one is read of it on a later one
+-- what is read of such a line as the first one is read of it as a later one
 pub front_later : (w : CommandWord) (line bytes : List ℕ) (result : Result ScriptCommand CommandFault) → w ≢ words.Ring
     → Begins is_ascii_alphanumeric line (text_of w) bytes → ReadsCommand line result → ReadsLater line result
 front_later w line bytes result other front reads =
@@ -45,7 +45,7 @@ front_later w line bytes result other front reads =
     (λ after ring. other (same_word w words.Ring (part_one Word line (text_of w) (text_of words.Ring) bytes after (text_is w) refl front ring).0))
     reads
 
--- ---- or it can't be
+-- ---- or it can't be read
 
 pub stop_fits : (line : List ℕ) (left : ℕ) → StopsBehindWord line (BadPart left) → left ≤ length line
 stop_fits line left (w, bytes, front, takes) =

@@ -1,4 +1,4 @@
--- The lines of items, one more at a time.
+-- The lines of items, one by one.
 use Rattle.std.proofs.Common.{◌≡◌, ◌≢◌, ℕ, zero, suc, ◌<◌, None, List, [], ◌∷◌, ◌++◌, length, take, Some, ap, arith}
 use Rattle.std.specs.List.{slice_get}
 use Rattle.std.proofs.lemmas.Option.{same_Some}

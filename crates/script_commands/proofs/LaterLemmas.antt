@@ -1,4 +1,4 @@
--- Lines behind the first one of a script: what is read there, and what isn't.
+-- Later lines of a script.
 use Rattle.std.proofs.Common.{◌≡◌, ◌≢◌, ℕ, zero, suc, List, Result, Ok, Err, refl, subst, arith}
 use Rattle.std.specs.Char.{is_ascii_alphanumeric}
 use Rattle.ds_names.specs.Run.{Begins}
@@ -36,7 +36,7 @@ ring_is_bad line rest begins =
       };
     }
 
--- ---- it is another
+-- ---- the line's word is another
 
 other_word : (command : ScriptCommand) (line rest : List ℕ) → ((after : List ℕ) → ¬ Begins is_ascii_alphanumeric line (text_of words.Ring) after) → Begins is_ascii_alphanumeric line (word_of command) rest → command_word command ≢ words.Ring
 other_word command line rest other begins same = other rest (subst (λ (w : CommandWord). Begins is_ascii_alphanumeric line (text_of w) rest) same begins)

@@ -1,4 +1,4 @@
--- A line is one command's only.
+-- A line is that of one command only.
 use Rattle.std.proofs.Common.{◌≡◌, ℕ, List, [], length, refl, subst, append-nil}
 use Rattle.ds_line.specs.Part.{texts}
 use Rattle.ds_line.specs.FaultPlace.{Stand}

@@ -1,4 +1,4 @@
--- The lines that have an item behind their word.
+-- Lines with an item after their word.
 use Rattle.std.proofs.Common.{◌≡◌, ◌≢◌, ℕ, ◌-◌, ◌≤◌, List, ◌∷◌, ◌++◌, length, take, drop, Option, None, Some, Ok, Err, refl, sym, ap, subst, ◌∙◌, arith, take-append-drop}
 use Rattle.ds_entry.specs.Item.{IsItem}
 use Rattle.ds_entry.specs.declared.item.Item.{Item}
@@ -39,7 +39,7 @@ no_item bytes text place space fault =
       omega (arith, fault.first.begins),
     )
 
--- the item can't be read, or there is no room for it
+-- the item can't be read, or memory runs out for it
 offer_stops : (bytes : List ℕ) (stop : PartFault) → (stop ≡ NoRoom → ItemWantsRoom bytes) → StopsIn an_item stop bytes
     → TakesRow words.Offer bytes (Err stop)
 unfolding TakesRow
@@ -59,7 +59,7 @@ offer_no_item bytes text place space fault =
 pub place_fits : (text : List ℕ) (place : ℕ) → IsItemFault text place → place ≤ length text
 place_fits text place fault = omega (arith, fault.first.begins)
 
--- an item that is spelled out stands there
+-- an item is readable from its parts
 pub item_stands : (i : Item) (rest : List ℕ) → AllStand (item_parts i) rest
 item_stands (Changed c) rest = change_stands c rest
 item_stands (Floored f) rest = floor_stands f rest
@@ -81,7 +81,7 @@ offer_found bytes text i n space line is =
     let found = item_found bytes text (drop n text) i space line (sym (take-append-drop n text) ∙ ap (λ (t : List ℕ). t ++ drop n text) is) in
     (Ok i, drop n text, finds (ItemWantsRoom bytes) found, refl)
 
--- there is no room for it
+-- memory runs out for the item
 pub offer_no_room : (bytes text : List ℕ) → bytes ≡ 32 ∷ text → LineTakesRoom text → TakesRow words.Offer bytes (Err NoRoom)
 offer_no_room bytes text space room =
     let found = item_found bytes text room.rest (Changed room.change) space room.line room.front in

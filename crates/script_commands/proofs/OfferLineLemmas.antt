@@ -1,4 +1,4 @@
--- Lines of offers, whose item is read into a place.
+-- Lines of offers, whose item is written to a place.
 use Rattle.std.proofs.Common.{ℕ, List, Option, None, Some, Result, Ok, Err}
 use Rattle.std.specs.Char.{is_ascii_alphanumeric}
 use Rattle.ds_names.specs.Run.{Begins}

@@ -1,4 +1,4 @@
--- Pieces of which two at one front are one.
+-- Pieces that are unique at a front.
 use Rattle.std.proofs.Common.{◌≡◌, ℕ, List, length, drop, refl, sym, ap, subst, ◌∙◌, length-append}
 use Rattle.ds_names.specs.declared.kind.Kind.{Kind}
 use Rattle.ds_line.specs.Part.{Part}
@@ -10,7 +10,7 @@ use Rattle.ds_line.proofs.ApartLemmas.{value_one}
 use Rattle.ds_line.proofs.PieceLemmas.{behind, One, one_by, stand_split, Views, after_byte}
 use Rattle.script_commands.specs.Pieces.{a_value, an_end}
 
--- one piece, and behind it another
+-- one piece, followed by another
 pub one_behind : (p : Piece) (q : p.Of → Piece) → One p → ((a : p.Of) → One (q a)) → One (behind p q)
 one_behind p q one two a b bytes r s fa fb =
     let ta = stand_split (length ((behind p q).parts a)) (length ((q a.0).parts a.1)) (p.parts a.0) ((q a.0).parts a.1) bytes r (length-append (p.parts a.0) ((q a.0).parts a.1)) fa.front in
@@ -24,18 +24,19 @@ one_behind p q one two a b bytes r s fa fb =
     (ap (λ (z : (q a.0).Of). pair a.0 z) second.0, second.1))
     b.1 fb.can.1 (subst (λ (m : List ℕ). Stand (length ((q b.0).parts b.1)) ((q b.0).parts b.1) m s) first.1 tb.2)
 
--- a byte, and behind it the piece
+-- a byte, followed by the piece
 pub one_byte : (n : ℕ) (p : Piece) → One p → One (after_byte n p)
 one_byte n p one a b bytes r s fa fb =
     let same : fb.front.0 ≡ fa.front.0 = ap (drop 1) (sym fb.front.1.parts ∙ fa.front.1.parts) in
     one a b fa.front.0 r s (record { can = fa.can; front = fa.front.2 }) (record { can = fb.can; front = subst (λ (m : List ℕ). Stand (length (p.parts b)) (p.parts b) m s) same fb.front.2 })
 
--- the same things under another view
+-- the same contents under another view
 pub one_view : (p q : Piece) (v : Views p q) → One p → ((b : q.Of) (can : q.Can b) → v.to (v.from b can).0 ≡ b) → One q
 one_view p q v one back a b bytes r s fa fb =
     let xa = v.from a fa.can in
     let xb = v.from b fb.can in
-    let e = one xa.0 xb.0 bytes r s (record { can = xa.1; front = subst (λ (x : List Part). Stand (length x) x bytes r) (sym xa.2) fa.front }) (record { can = xb.1; front = subst (λ (x : List Part). Stand (length x) x bytes s) (sym xb.2) fb.front }) in
+    let e = one xa.0 xb.0 bytes r s (record { can = xa.1; front = subst (λ (x : List Part). Stand (length x) x bytes r) (sym xa.2) fa.front })
+    (record { can = xb.1; front = subst (λ (x : List Part). Stand (length x) x bytes s) (sym xb.2) fb.front }) in
     (sym (back b fb.can) ∙ ap v.to e.0 ∙ back a fa.can, e.1)
 
 pub end_one : One an_end

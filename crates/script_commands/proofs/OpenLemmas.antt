@@ -8,15 +8,15 @@ use Rattle.ds_line.specs.declared.part_fault.PartFault.TheVariants.{BadPart, NoR
 use Rattle.ds_line.proofs.PieceLemmas.{One, Goes, behind, stand_split, both_found, stand_wider, stand_cut, stand_join}
 use Rattle.ds_line.proofs.PlaceLemmas.{fewer}
 
--- ---- parts that stand in a row
+-- ---- parts in sequence
 
--- ---- one piece, and behind it another
+-- ---- one piece, followed by another
 
--- where all parts of one stand, no longer one goes on
+-- no such piece extends another at the same front
 abbrev pub Apart : Piece → Type 0
 Apart p = (a b : p.Of) (bytes r after : List ℕ) → Found p a bytes r → p.Can b → length (p.parts a) < length (p.parts b) → ¬ Stand (suc (length (p.parts a))) (p.parts b) bytes after
 
--- what can be read ends within the first of two pieces
+-- the readable part ends within the first of two pieces
 open_first : (p : Piece) (q : p.Of → Piece) (bytes rest : List ℕ) → Goes p q → Breaks p bytes rest → Breaks (behind p q) bytes rest
 open_first p q bytes rest goes s =
     let next = goes s.thing s.can in
@@ -37,7 +37,7 @@ open_first p q bytes rest goes s =
           s.none x.0 two.0 can.0 two.1;
     }
 
--- what stands behind the first piece, stands behind the one that is there
+-- what follows the first piece follows the one that is there
 behind_same : (p : Piece) (q : p.Of → Piece) (a : p.Of) (bytes r rest : List ℕ) → One p → Found p a bytes r → (s : Breaks (q a) r rest) (x : (b : p.Of) × (q b).Of) (mid after : List ℕ) (k : ℕ) → p.Can x.0 → (q x.0).Can x.1
     → Stand (length (p.parts x.0)) (p.parts x.0) bytes mid → Stand k ((q x.0).parts x.1) mid after → length (p.parts x.0) + k ≡ suc (length (p.parts a) + s.count) → ⊥
 behind_same p q a bytes r rest one found s x mid after k can_p can_q first second eq =
@@ -47,7 +47,7 @@ behind_same p q a bytes r rest one found s x mid after k can_p can_q first secon
     subst (λ (b : p.Of). (y : (q b).Of) → (q b).Can y → Stand (suc s.count) ((q b).parts y) r after → ⊥) (sym same.0) (λ y is st. s.most y after is st) x.1 can_q
     (subst (λ (n : ℕ). Stand n ((q x.0).parts x.1) r after) count (subst (λ (b : List ℕ). Stand k ((q x.0).parts x.1) b after) same.1 second))
 
--- what can be read ends within the second, behind a first one that is there
+-- the readable part ends within the second, after a first one
 open_then : (p : Piece) (q : p.Of → Piece) (a : p.Of) (bytes r rest : List ℕ) → Apart p → One p → Found p a bytes r → Breaks (q a) r rest → Breaks (behind p q) bytes rest
 open_then p q a bytes r rest apart one found s =
     record {
@@ -73,7 +73,7 @@ open_then p q a bytes r rest apart one found s =
           (subst (λ (b : List ℕ). Stand (length ((q x.0).parts x.1)) ((q x.0).parts x.1) b after) same.1 two.2);
     }
 
--- behind a first piece that is there, what can be read ends no sooner than it
+-- after a first piece, the readable part ends no earlier than that piece
 pub first_counts : (p : Piece) (q : p.Of → Piece) (a : p.Of) (b : (q a).Of) (bytes r rest : List ℕ) → Found p a bytes r → (q a).Can b → (s : Breaks (behind p q) bytes rest) → length (p.parts a) ≤ s.count
 first_counts p q a b bytes r rest found can s =
     elim (cases_lt s.count (length (p.parts a))) [
@@ -83,7 +83,7 @@ first_counts p q a b bytes r rest found can s =
       | inr le ↦ le
     ]
 
--- ---- what readers say
+-- ---- as readers state it
 
 pub open_first_stops : (p : Piece) (q : p.Of → Piece) (stop : PartFault) (bytes : List ℕ) → Goes p q → stop ≢ NoRoom → StopsIn p stop bytes → StopsIn (behind p q) stop bytes
 open_first_stops p q (BadPart left) bytes goes room s = (s.0, open_first p q bytes s.0 goes s.1, s.2)

@@ -1,4 +1,4 @@
--- Each piece of a line: it is missing where it has to stand, or it is read.
+-- Each piece of a line: it is missing, or it is read.
 use Rattle.std.proofs.Common.{◌≡◌, ◌≢◌, ℕ, ◌<◌, ◌≤◌, ◌^◌, Bool, true, false, List, [], ◌∷◌, length, get_or, refl, sym, ap, subst, ◌∙◌, arith}
 use Rattle.std.specs.Char.{is_ascii_digit, is_ascii_alphanumeric}
 use Rattle.std.specs.Fmt.{decimal}
@@ -22,9 +22,9 @@ use Rattle.ds_line.proofs.PieceLemmas.{behind, Fixed, One, one_by, Views, view_s
 use Rattle.script_commands.specs.Pieces.{an_endpoint, an_initial, a_mode, a_name, a_kind, a_key, a_generation, a_seq, a_version, a_number, a_place, a_kinds, a_value, ValueWantsRoom, initial_word, mode_word}
 use Rattle.ds_line.proofs.LastValueLemmas.{some_value_of}
 
--- ---- a byte, and behind it one part
+-- ---- a byte, followed by one part
 
--- what a reader of one part of the class says of things whose parts are these
+-- the piece of one part of the class
 abbrev pub one_part : (T : Type 0) → (T → Type 0) → (T → Part) → Piece
 one_part T Can of = record { Of = T; Can = Can; parts = λ x. of x ∷ [] }
 
@@ -32,8 +32,9 @@ one_part T Can of = record { Of = T; Can = Can; parts = λ x. of x ∷ [] }
 pub no_byte : (b : ℕ) (p : Piece) (some : p.Of) (stop : PartFault) (bytes : List ℕ) → p.Can some → stop ≡ BadPart (length bytes) → ((rest : List ℕ) → bytes ≢ b ∷ rest) → StopsIn (after_byte b p) stop bytes
 no_byte b p some stop bytes can at none = stops_from (after_byte b p) stop bytes bytes at (byte_missing b p some bytes can none)
 
--- behind the byte the part is missing
-pub no_part : (b : ℕ) (T : Type 0) (Can : T → Type 0) (of : T → Part) (some : T) (stop : PartFault) (bytes r : List ℕ) → Can some → bytes ≡ b ∷ r → stop ≡ BadPart (length r) → ((x : T) (rest : List ℕ) → Can x → ¬ Begins (run_of (of x).class) r (of x).text rest)
+-- the part after the byte is missing
+pub no_part : (b : ℕ) (T : Type 0) (Can : T → Type 0) (of : T → Part) (some : T) (stop : PartFault) (bytes r : List ℕ) → Can some → bytes ≡ b ∷ r → stop ≡ BadPart (length r) →
+    ((x : T) (rest : List ℕ) → Can x → ¬ Begins (run_of (of x).class) r (of x).text rest)
     → StopsIn (after_byte b (one_part T Can of)) stop bytes
 no_part b T Can of some stop bytes r can is at none =
     byte_stops b (one_part T Can of) stop bytes r is (stops_from (one_part T Can of) stop r r at (part_missing (one_part T Can of) of (λ x. []) some r (λ x. refl) can none))
@@ -43,7 +44,7 @@ no_part b T Can of some stop bytes r can is at none =
 abbrev endpoint_part : EndpointRecord → Part
 endpoint_part e = part Endpoint (endpoint_text e)
 
--- what stands behind the space
+-- what follows the space
 abbrev pub endpoint_rest : Piece
 endpoint_rest = one_part EndpointRecord IsEndpoint endpoint_part
 
@@ -71,7 +72,8 @@ modes_one false false same = refl
 abbrev pub mode_part : Bool → Part
 mode_part overwrite = part Word (mode_word overwrite)
 
-pub no_mode : (stop : PartFault) (bytes r word rest : List ℕ) → bytes ≡ 32 ∷ r → stop ≡ BadPart (length r) → list_all is_ascii_alphanumeric word ≡ true → Begins is_ascii_alphanumeric r word rest → ((overwrite : Bool) → word ≢ mode_word overwrite)
+pub no_mode : (stop : PartFault) (bytes r word rest : List ℕ) → bytes ≡ 32 ∷ r → stop ≡ BadPart (length r) → list_all is_ascii_alphanumeric word ≡ true →
+    Begins is_ascii_alphanumeric r word rest → ((overwrite : Bool) → word ≢ mode_word overwrite)
     → StopsIn a_mode stop bytes
 no_mode stop bytes r word rest is at all begins other =
     no_part 32 Bool (λ _. Unit {0}) mode_part true stop bytes r tt is at
@@ -95,7 +97,8 @@ initials_one false false same = refl
 abbrev pub initial_part : Bool → Part
 initial_part initial = part Word (initial_word initial)
 
-pub no_initial : (stop : PartFault) (bytes r word rest : List ℕ) → bytes ≡ 32 ∷ r → stop ≡ BadPart (length r) → list_all is_ascii_alphanumeric word ≡ true → Begins is_ascii_alphanumeric r word rest → ((initial : Bool) → word ≢ initial_word initial)
+pub no_initial : (stop : PartFault) (bytes r word rest : List ℕ) → bytes ≡ 32 ∷ r → stop ≡ BadPart (length r) → list_all is_ascii_alphanumeric word ≡ true →
+    Begins is_ascii_alphanumeric r word rest → ((initial : Bool) → word ≢ initial_word initial)
     → StopsIn an_initial stop bytes
 no_initial stop bytes r word rest is at all begins other =
     no_part 32 Bool (λ _. Unit {0}) initial_part true stop bytes r tt is at
@@ -184,7 +187,8 @@ pub no_kinds : (stop : PartFault) (bytes r : List ℕ) → bytes ≡ 32 ∷ r �
 no_kinds stop bytes r is at none = no_part 32 ℕ (λ n. (0 < n) × (n ≤ 15)) number_part 1 stop bytes r (omega arith, omega arith) is at (λ n rest can. none n rest can.1)
 
 -- the number names no kind
-pub kinds_zero : (stop : PartFault) (bytes r after : List ℕ) (number : ℕ) → bytes ≡ 32 ∷ r → stop ≡ BadPart (length r) → Begins is_ascii_digit r (decimal number) after → number ≤ 15 → ¬ ((0 < number) × (number ≤ 15)) → StopsIn a_kinds stop bytes
+pub kinds_zero : (stop : PartFault) (bytes r after : List ℕ) (number : ℕ) → bytes ≡ 32 ∷ r → stop ≡ BadPart (length r) → Begins is_ascii_digit r (decimal number) after →
+    number ≤ 15 → ¬ ((0 < number) × (number ≤ 15)) → StopsIn a_kinds stop bytes
 kinds_zero stop bytes r after number is at begins most zero =
     no_part 32 ℕ (λ n. (0 < n) × (n ≤ 15)) number_part 1 stop bytes r (omega arith, omega arith) is at
     (λ n rest can there.
@@ -219,7 +223,8 @@ pub version_one : One a_version
 version_one =
     one_by a_version (λ a b is_a is_b. (refl, λ _. (refl, λ _. (refl, λ _. (refl, λ _. tt)))))
     (λ a is. (refl, ((a.epoch, omega (arith, is.epoch), refl), (refl, ((a.seq, omega (arith, is.seq), refl), tt)))))
-    (λ a b is_a is_b same. version_is a b (decimal_injective a.epoch b.epoch (omega (arith, is_a.epoch)) (omega (arith, is_b.epoch)) (ap (text_at 1) same)) (decimal_injective a.seq b.seq (omega (arith, is_a.seq)) (omega (arith, is_b.seq)) (ap (text_at 3) same)))
+    (λ a b is_a is_b same. version_is a b (decimal_injective a.epoch b.epoch (omega (arith, is_a.epoch)) (omega (arith, is_b.epoch)) (ap (text_at 1) same))
+    (decimal_injective a.seq b.seq (omega (arith, is_a.seq)) (omega (arith, is_b.seq)) (ap (text_at 3) same)))
 
 -- ---- values
 
@@ -227,11 +232,11 @@ pub value_stops : (kind : Kind) (stop : PartFault) (bytes : List ℕ) → StopsV
 value_stops kind (BadPart left) bytes s = s
 value_stops kind NoRoom bytes s = (s.0, s.1, s.2)
 
--- what can't be read isn't wanting of room
+-- a bad part isn't out of memory
 pub no_want : (stop : PartFault) (left : ℕ) → stop ≡ BadPart left → stop ≢ NoRoom
 no_want stop left is room = let same : BadPart left ≡ NoRoom = sym is ∙ room in cc
 
--- there is no room for the value
+-- memory runs out for the value
 pub value_wants : (kind : Kind) (stop : PartFault) (bytes r1 r2 r3 : List ℕ) → bytes ≡ 32 ∷ r1 → r1 ≡ 61 ∷ r2 → r2 ≡ 32 ∷ r3 → StopsValue kind stop r3 → stop ≡ NoRoom → ValueWantsRoom kind bytes
 value_wants kind stop bytes r1 r2 r3 is1 is2 is3 s room =
     let k = subst (λ (x : PartFault). StopsValue kind x r3) room s in (
@@ -241,7 +246,7 @@ value_wants kind stop bytes r1 r2 r3 is1 is2 is3 s room =
       k.3,
     )
 
--- the value is missing, or there is no room for it
+-- the value is missing, or memory runs out for it
 pub behind_mark : (kind : Kind) (stop : PartFault) (bytes r1 r2 r3 : List ℕ) → bytes ≡ 32 ∷ r1 → r1 ≡ 61 ∷ r2 → r2 ≡ 32 ∷ r3 → StopsIn (last_value kind) stop r3 → StopsIn (a_value kind) stop bytes
 behind_mark kind stop bytes r1 r2 r3 is1 is2 is3 s =
     byte_stops 32 (after_byte 61 (after_byte 32 (last_value kind))) stop bytes r1 is1 (byte_stops 61 (after_byte 32 (last_value kind)) stop r1 r2 is2 (byte_stops 32 (last_value kind) stop r2 r3 is3 s))

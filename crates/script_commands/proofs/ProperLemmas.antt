@@ -1,4 +1,4 @@
--- What the lines of commands ask is in its ranges.
+-- The parts of lines' events are in their ranges.
 use Rattle.std.proofs.Common.{◌≡◌, [], ◌∷◌, Option, None, Some, refl, subst}
 use Rattle.std.proofs.lemmas.Option.{same_Some}
 use Rattle.ds_machine.specs.declared.command.Command.{Command}
@@ -15,7 +15,7 @@ use Rattle.script_commands.specs.Proper.{LinesAreProper}
 use Rattle.script_commands.specs.declared.command.ScriptCommand.{ScriptCommand}
 use Rattle.script_commands.specs.declared.command.ScriptCommand.TheVariants.{Offer, Store, Map, Clear, Restart, Deliver}
 
--- what a store is asked
+-- the store command
 pub line_proper : (c : ScriptCommand) (command : Command) → IsCommand c → store_command c ≡ Some command → IsProper command
 line_proper (Offer i) command is e = subst IsProper (same_Some (Merge (i ∷ [])) command e) (one_item i is)
 line_proper (Store (Publish caller key version value overwrite)) command is e =

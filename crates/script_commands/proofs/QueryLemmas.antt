@@ -31,9 +31,9 @@ unbroken_at : (front more : List ℕ) (b : ℕ) → IsUnbroken (front ++ b ∷ m
 unbroken_at [] more b is = All-head (λ (x : ℕ). x ≢ 10) b more is
 unbroken_at (f ∷ front) more b is = unbroken_at front more b (All-tail (λ (x : ℕ). x ≢ 10) f (front ++ b ∷ more) is)
 
--- ---- what is written between the quotes
+-- ---- what is between the quotes
 
--- a byte is written by one byte or two
+-- a byte takes one or two bytes between quotes
 pub byte_shorter : (b : ℕ) (r s : List ℕ) → r ≡ escaped_byte b ++ s → length s < length r
 byte_shorter b r s is =
     elim (shape b) [
@@ -41,7 +41,7 @@ byte_shorter b r s is =
       | inr x ↦ (let e : r ≡ b ∷ s = is ∙ ap (λ (t : List ℕ). t ++ s) x.0 in omega (arith, ap length e))
     ]
 
--- so much of a text is written, and the rest comes behind
+-- a prefix of a quoted text, followed by the rest
 abbrev pub IsBegun : List ℕ → List ℕ → Type 0
 IsBegun written rest = (done : List ℕ) × IsUnbroken done × (written ≡ escaped done ++ rest)
 
@@ -62,7 +62,7 @@ rest_fits written rest begun = omega (arith, ap length begun.2, length-append (e
 pub no_opening : (bytes : List ℕ) → ((rest : List ℕ) → bytes ≢ 34 ∷ rest) → (text rest : List ℕ) → IsUnbroken text → bytes ≢ quoted text ++ rest
 no_opening bytes none text rest is same = none (escaped text ++ 34 ∷ rest) (same ∙ unquoted text rest)
 
--- neither the closing quote nor a byte stands behind what is read
+-- neither the closing quote nor another byte follows what is read
 pub no_closing : (bytes written rest : List ℕ) → bytes ≡ 34 ∷ written → IsBegun written rest → ((b : ℕ) (s : List ℕ) → b ≢ 10 → rest ≢ escaped_byte b ++ s) → ((s : List ℕ) → rest ≢ 34 ∷ s)
     → (text after : List ℕ) → IsUnbroken text → bytes ≢ quoted text ++ after
 no_closing bytes written rest opens begun no_byte no_quote text after is same =
@@ -72,9 +72,9 @@ no_closing bytes written rest opens begun no_byte no_quote text after is same =
       | inr y ↦ no_byte y.0 (escaped y.1 ++ 34 ∷ after) (unbroken_at begun.0 y.1 y.0 (subst IsUnbroken y.2 is)) y.3
     ]
 
--- ---- the text that is written
+-- ---- the text of these bytes
 
--- the front of a text, and what is left of it is written in the rest
+-- a prefix of a text, whose rest is in the remaining bytes
 abbrev pub IsLeft : List ℕ → List ℕ → List ℕ → Type 0
 IsLeft written text rest = (left : List ℕ) × IsUnbroken left × (rest ≡ escaped left) × (written ≡ escaped (text ++ left))
 
@@ -112,7 +112,7 @@ unfolding unescaped
 unescaped_all [] = refl
 unescaped_all (b ∷ text) = first_unescaped b (escaped text) ∙ ap (λ (t : List ℕ). b ∷ t) (unescaped_all text)
 
--- a text is what is written so
+-- a text is that of its bytes between quotes
 pub unescaped_is : (written text : List ℕ) → written ≡ escaped text → unescaped written ≡ text
 unescaped_is written text is = ap unescaped is ∙ unescaped_all text
 

@@ -1,4 +1,4 @@
--- Ranges of pages: one is missing where it has to stand, or it is read.
+-- Ranges of pages: one is missing, or it is read.
 use Rattle.std.proofs.Common.{◌≡◌, ◌≢◌, ℕ, suc, zero, ◌<◌, ◌≤◌, ◌^◌, List, [], ◌∷◌, ◌++◌, length, Option, None, Some, is_some, IfSome, IfNone, IsTrue, Bool, refl, sym, ap, subst, ◌∙◌, drop, arith}
 use Rattle.std.specs.Char.{is_ascii_digit, is_ascii_alphanumeric}
 use Rattle.std.specs.Fmt.{decimal}
@@ -30,7 +30,7 @@ no_key_is : IsName no_key
 unfolding is_name_byte
 no_key_is = record { some = omega arith; limit = omega arith; allowed = refl }
 
--- ---- what stands behind the name
+-- ---- what follows the name
 
 abbrev MayFollow : List ℕ → Option Kind → Type 0
 MayFollow name None = name ≡ no_key
@@ -40,7 +40,7 @@ abbrev follow_parts : Option Kind → ℕ → List Part
 follow_parts None max = space ∷ part Number (decimal max) ∷ []
 follow_parts (Some kind) max = space ∷ part Word (kind_word kind) ∷ space ∷ part Number (decimal max) ∷ []
 
--- a kind, if the name is a key's, and how many changes
+-- a kind, if the name is a key's, and the most changes
 abbrev pub a_follow : List ℕ → Piece
 a_follow name = record {
   Of = Option Kind × ℕ;
@@ -101,21 +101,21 @@ no_both bytes r s kind max most word number =
     let two = first_of bytes (decimal max) s number.parts some in
     omega (arith, one, two, high_first kind, (value_more (decimal max) 0 some (digits_decimal own max fits)).1)
 
--- the rest behind one byte is one
+-- the rest after one byte is unique
 byte_same : (b : ℕ) (bytes r s : List ℕ) → bytes ≡ b ∷ r → bytes ≡ b ∷ s → r ≡ s
 byte_same b bytes r s x y = ap (drop 1) (sym x ∙ y)
 
--- a kind and a number never stand at one place
+-- a kind and a number are never at one place
 not_both : (kind : Kind) (max : ℕ) (bytes r s : List ℕ) → Found a_kind kind bytes r → Found a_number max bytes s → ⊥
 not_both kind max bytes r s word number =
     let same : word.front.0 ≡ number.front.0 = byte_same 32 bytes word.front.0 number.front.0 word.front.1.parts number.front.1.parts in
     no_both number.front.0 word.front.2.0 number.front.2.0 kind max number.can (subst (λ (t : List ℕ). Begins is_ascii_alphanumeric t (kind_word kind) word.front.2.0) same word.front.2.1) number.front.2.1
 
--- a space and the kind's word stand where more parts do
+-- a space and the kind's word come next if more parts do
 kind_of_more : (k : ℕ) (kind : Kind) (max : ℕ) (bytes rest : List ℕ) → Stand (suc (suc k)) (follow_parts (Some kind) max) bytes rest → (r : List ℕ) × Found a_kind kind bytes r
 kind_of_more k kind max bytes rest h = (h.2.0, record { can = tt; front = (h.0, h.1, (h.2.0, h.2.1, refl)) })
 
--- ---- behind `-`, where no kind stands
+-- ---- after `-`, without a kind
 
 abbrev pub NoKind : List ℕ → Type 0
 NoKind bytes = (kind : Kind) (rest : List ℕ) → ¬ Found a_kind kind bytes rest
@@ -142,12 +142,12 @@ max_breaks name bytes rest is none s =
       none = λ x after can h. max_none name bytes after none s.none x can h;
     }
 
--- the number behind `-` is missing
+-- the number after `-` is missing
 pub follow_max_stops : (name : List ℕ) (stop : PartFault) (bytes : List ℕ) → name ≡ no_key → NoKind bytes → stop ≢ NoRoom → StopsIn a_number stop bytes → StopsIn (a_follow name) stop bytes
 follow_max_stops name (BadPart left) bytes is none room s = (s.0, max_breaks name bytes s.0 is none s.1, s.2)
 follow_max_stops name NoRoom bytes is none room s = absurd (room refl)
 
--- ---- a kind has to stand there
+-- ---- a kind is needed
 
 abbrev with_kind : Piece
 with_kind = behind a_kind (λ (_ : Kind). a_number)
@@ -171,11 +171,11 @@ missing_kind : (stop : PartFault) (bytes : List ℕ) → stop ≢ NoRoom → Sto
 missing_kind (BadPart left) bytes room s = λ kind rest found. s.1.none kind rest tt found.front
 missing_kind NoRoom bytes room s = absurd (room refl)
 
--- the kind of a name that isn't `-`, or has one behind it, is missing
+-- the kind is missing, after a name that isn't `-` or has a kind after it
 pub follow_kind_stops : (name : List ℕ) (stop : PartFault) (bytes : List ℕ) → (name ≡ no_key → NoKind bytes → ⊥) → stop ≢ NoRoom → StopsIn a_kind stop bytes → StopsIn (a_follow name) stop bytes
 follow_kind_stops name stop bytes other room s = kind_missing name stop bytes (λ is. other is (missing_kind stop bytes room s)) room s
 
--- ---- a kind stands there, and the number behind it is missing
+-- ---- a kind is there, and the number after it is missing
 
 behind_most : (name bytes after : List ℕ) (k : ℕ) → 2 ≤ k → ((x : with_kind.Of) (end : List ℕ) → with_kind.Can x → ¬ Stand (suc k) (with_kind.parts x) bytes end)
     → (x : Option Kind × ℕ) → (a_follow name).Can x → Stand (suc k) ((a_follow name).parts x) bytes after → ⊥
@@ -203,7 +203,7 @@ pub follow_behind_stops : (name : List ℕ) (kind : Kind) (stop : PartFault) (by
 follow_behind_stops name kind (BadPart left) bytes r found room s = (s.0, behind_breaks name bytes r s.0 kind found s.1, s.2)
 follow_behind_stops name kind NoRoom bytes r found room s = absurd (room refl)
 
--- ---- what the reader of a range finds
+-- ---- the reader of a range
 
 -- the name is missing
 pub range_name_stops : (stop : PartFault) (bytes : List ℕ) → stop ≢ NoRoom → StopsIn a_name stop bytes → StopsIn a_range stop bytes
@@ -213,12 +213,13 @@ range_name_stops stop bytes room s = view_stops named a_range range_view stop by
 pub range_follow_stops : (name : List ℕ) (stop : PartFault) (bytes r : List ℕ) → Found a_name name bytes r → StopsIn (a_follow name) stop r → StopsIn a_range stop bytes
 range_follow_stops name stop bytes r found s = view_stops named a_range range_view stop bytes (then_stops a_name a_follow 2 stop name bytes r name_fixed name_one found s)
 
-pub key_found : (name : List ℕ) (kind : Kind) (max : ℕ) (bytes r1 r2 rest : List ℕ) → Found a_name name bytes r1 → Found a_kind kind r1 r2 → Found a_number max r2 rest → Found a_range (Some (record { name = name; kind = kind }), max) bytes rest
+pub key_found : (name : List ℕ) (kind : Kind) (max : ℕ) (bytes r1 r2 rest : List ℕ) → Found a_name name bytes r1 → Found a_kind kind r1 r2 → Found a_number max r2 rest →
+    Found a_range (Some (record { name = name; kind = kind }), max) bytes rest
 key_found name kind max bytes r1 r2 rest f1 f2 f3 =
     let both = both_found a_kind (λ _. a_number) kind max r1 r2 rest f2 f3 in
     view_found named a_range range_view (name, (Some kind, max)) bytes rest (both_found a_name a_follow name (Some kind, max) bytes r1 rest f1 (record { can = (tt, f3.can); front = both.front }))
 
--- ---- two ranges at one place are one
+-- ---- two ranges at one place are the same
 
 follows_one : (name : List ℕ) (a b : Option Kind × ℕ) (bytes r s : List ℕ) → Found (a_follow name) a bytes r → Found (a_follow name) b bytes s → (b ≡ a) × (s ≡ r)
 follows_one name (None, m) (None, n) bytes r s fa fb =
@@ -250,7 +251,7 @@ ranges_apart (None, m) (Some key, n) bytes r after f can lt h =
 ranges_apart (Some key, m) (None, n) bytes r after f can lt h = omega (arith, lt)
 ranges_apart (Some key, m) (Some other, n) bytes r after f can lt h = omega (arith, lt)
 
--- where a range stands, no longer one goes on
+-- no range extends another at the same front
 pub range_apart : Apart a_range
 range_apart = ranges_apart
 

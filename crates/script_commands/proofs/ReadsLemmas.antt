@@ -1,4 +1,4 @@
--- What the readers of pieces answer where they end.
+-- The answers of pieces' readers where they end.
 use Rattle.std.proofs.Common.{◌≡◌, ◌≢◌, ℕ, List, ◌∷◌, length, Result, Ok, Err, sym, subst, ◌∙◌}
 use Rattle.std.specs.Result.{IsErrAnd}
 use Rattle.ds_line.specs.Piece.{Piece, Found, StopsIn}
@@ -13,7 +13,7 @@ pub finds : (Wants : Type 0) {p : Piece} {thing : p.Of} {bytes rest : List ℕ} 
 unfolding ReadsOr
 finds Wants f = record { found = f; stop = tt; room = tt }
 
--- it can't be read, or wants room
+-- it can't be read, or memory runs out
 pub misses : {Wants : Type 0} (p : Piece) (bytes rest : List ℕ) {stop : PartFault} → (stop ≡ NoRoom → Wants) → StopsIn p stop bytes
     → ReadsOr Wants p bytes (Err stop) rest
 unfolding ReadsOr
@@ -24,14 +24,14 @@ pub misses_at : (p : Piece) (bytes rest : List ℕ) {stop : PartFault} {left : �
     → Reads p bytes (Err stop) rest
 misses_at p bytes rest {stop} {left} at s = misses p bytes rest (no_want stop left at) s
 
--- a `?` ends the reader there
+-- a `?` ends the reader
 pub exits : {Wants : Type 0} (p : Piece) (bytes rest : List ℕ) (result : Result p.Of PartFault) {stop : PartFault}
     → IsErrAnd result (λ (it : PartFault). it ≡ stop) → (stop ≡ NoRoom → Wants) → StopsIn p stop bytes → ReadsOr Wants p bytes result rest
 exits p bytes rest (Ok thing) exit room s = absurd exit
 exits p bytes rest (Err it) exit room s =
     misses p bytes rest (λ is. room (sym exit ∙ is)) (subst (λ (x : PartFault). StopsIn p x bytes) (sym exit) s)
 
--- where the byte before the piece is missing
+-- the byte before the piece is missing
 pub exits_byte : (n : ℕ) (p : Piece) (some : p.Of) → p.Can some → {bytes : List ℕ} (rest : List ℕ) (result : Result p.Of PartFault) {stop : PartFault}
     → IsErrAnd result (λ (it : PartFault). it ≡ stop) → stop ≡ BadPart (length bytes) → ((behind : List ℕ) → bytes ≢ n ∷ behind)
     → Reads (after_byte n p) bytes result rest

@@ -1,4 +1,4 @@
--- What the reader of a line answers, where it reads its slots one behind the other.
+-- The answer of a line's reader, which reads its slots in order.
 use Rattle.std.proofs.Common.{◌≡◌, ◌≢◌, ℕ, ◌⊎◌, inl, inr, List, [], ◌∷◌, Result, Ok, Err, refl, sym, subst}
 use Rattle.std.specs.Result.{IsErrAnd, MatchResult}
 use Rattle.ds_names.specs.declared.kind.Kind.{Kind}
@@ -22,15 +22,15 @@ use Rattle.script_commands.proofs.OpenLemmas.{open_first_stops, open_then_stops}
 use Rattle.script_commands.proofs.SlotLemmas.{slot_one, IsInner, slot_apart}
 use Rattle.script_commands.proofs.TableLemmas.{taken_by, IsRow, row_first, slots_are, row_some, line_found, line_stops}
 
--- ---- what of a row takes memory
+-- ---- the memory of a row
 
--- what the slot has takes memory
+-- the contents of the slot take memory
 abbrev IsBig : (k : Kind) (s : Slot) → (piece_of k s).Of → Type 0
 IsBig k slots.Item i = ¬ IsItemInPlace i
 IsBig k slots.Value value = ¬ IsInPlace value
 IsBig k s x = ⊥
 
--- and so does what the last slot of a row has
+-- as do those of the last slot of a row
 abbrev EndsBig : (k : Kind) (ss : List Slot) → (row_of k ss).Of → Type 0
 EndsBig k [] x = ⊥
 EndsBig k (s ∷ []) x = IsBig k s x
@@ -52,16 +52,16 @@ big_stands k slots.Item bytes wants = wants
 big_stands k slots.Value bytes wants = wants
 big_stands k s bytes wants = absurd wants
 
--- ---- what reading a row comes to
+-- ---- the result of reading a row
 
--- all that it has stands there
+-- all of its contents are there
 record Filled (k : Kind) (ss : List Slot) (bytes : List ℕ) (done : (row_of k ss).Of → Type 0) : Type 0 where
   fields : (row_of k ss).Of
   rest : List ℕ
   found : Found (row_of k ss) fields bytes rest
   told : done fields
 
--- or it can't be read from some part on, or there is no room for what it has last
+-- or they can't be read from some part on, or memory runs out for the last one
 record Broken (k : Kind) (ss : List Slot) (bytes : List ℕ) (failed : PartFault → Type 0) : Type 0 where
   stop : PartFault
   at : StopsIn (row_of k ss) stop bytes
@@ -76,7 +76,7 @@ last_comes k s bytes done failed (Ok x) rest reads told = inl (record { fields =
 last_comes k s bytes done failed (Err stop) rest reads told =
     inr (record { stop = stop; at = reads.stop; big = λ is. big_stands k s bytes (reads.room is); told = told })
 
--- behind a slot that is read
+-- after a slot that is read
 behind_comes : (k : Kind) (s t : Slot) (ss : List Slot) (bytes rest : List ℕ) (x : (piece_of k s).Of)
     (done : (row_of k (s ∷ t ∷ ss)).Of → Type 0) (failed : PartFault → Type 0) → IsInner s → Found (piece_of k s) x bytes rest
     → Filled (kind_after k s x) (t ∷ ss) rest (λ y. done (x, y)) ⊎ Broken (kind_after k s x) (t ∷ ss) rest failed
@@ -127,29 +127,29 @@ row_comes k (s ∷ t ∷ ss) bytes done failed row reads =
     first_comes k s t ss bytes done failed first.0 reads.0 reads.1 reads.2 _
     (λ x more. row_comes (kind_after k s x) (t ∷ ss) reads.1 (λ y. done (x, y)) failed first.1 more) reads.3
 
--- ---- what the reader of a line answers
+-- ---- the answer of a line's reader
 
--- of what its word's commands take
+-- for the commands of its word
 abbrev pub TakesCommand : CommandWord → List ℕ → Result ScriptCommand PartFault → Type 0
 TakesCommand w bytes (Ok command) = (rest : List ℕ) × Found (taken_by w) command bytes rest
 TakesCommand w bytes (Err (BadPart left)) = StopsIn (taken_by w) (BadPart left) bytes
 TakesCommand w bytes (Err NoRoom) =
     (command : ScriptCommand) × (rest : List ℕ) × Found (taken_by w) command bytes rest × CommandTakesMemory command
 
--- the reader answers why
+-- the reader answers the reason
 answers_stop : (w : CommandWord) (bytes : List ℕ) (result : Result ScriptCommand PartFault) (stop : PartFault)
     → IsErrAnd result (λ (it : PartFault). it ≡ stop) → TakesCommand w bytes (Err stop) → TakesCommand w bytes result
 answers_stop w bytes (Ok command) stop exit takes = absurd exit
 answers_stop w bytes (Err it) stop exit takes = subst (λ (x : PartFault). TakesCommand w bytes (Err x)) (sym exit) takes
 
--- the reader answers the command, or that there is no room for it
+-- the reader answers the command, or that memory ran out for it
 answers_command : (w : CommandWord) (bytes after : List ℕ) (result : Result ScriptCommand PartFault) (command : ScriptCommand)
     → Found (taken_by w) command bytes after → GivesCommand command result → TakesCommand w bytes result
 answers_command w bytes after (Ok given) command f same = (after, subst (λ (x : ScriptCommand). Found (taken_by w) x bytes after) same f)
 answers_command w bytes after (Err it) command f big =
     subst (λ (x : PartFault). TakesCommand w bytes (Err x)) (sym big.0) (command, after, f, big.1)
 
--- the line can't be read, or there is no room for what its command says
+-- the line can't be read, or memory runs out for its command
 stops_line : (w : CommandWord) (bytes : List ℕ) (stop : PartFault) → StopsIn (line_of w) stop bytes
     → (stop ≡ NoRoom → (x : (line_of w).Of) × (rest : List ℕ) × Found (line_of w) x bytes rest × EndsBig U32 (slots_of w) x)
     → TakesCommand w bytes (Err stop)

@@ -1,4 +1,4 @@
--- Scopes: one is missing where it has to stand, or it is read.
+-- Scopes: one is missing, or it is read.
 use Rattle.std.proofs.Common.{◌≡◌, ◌≢◌, ℕ, suc, ◌<◌, ◌≤◌, List, [], ◌∷◌, ◌++◌, length, get_or, drop, refl, sym, ap, ◌∙◌, arith}
 use Rattle.std.specs.Fmt.{decimal}
 use Rattle.ds_line.specs.Part.{Part, part, byte, Number, Quoted}
@@ -21,15 +21,15 @@ use Rattle.script_commands.proofs.QueryLemmas.{pattern_fixed, pattern_one}
 use Rattle.script_commands.proofs.OneLemmas.{one_behind}
 use Rattle.script_commands.proofs.OpenLemmas.{Apart, first_counts}
 
--- what stands behind the space
+-- what follows the space
 abbrev pub scope_rest : Piece
 scope_rest = record { Of = Scope; Can = IsScope; parts = scope_parts }
 
--- a pattern, and the mask of some kinds
+-- a pattern, and a mask of kinds
 abbrev pub a_query : Piece
 a_query = behind a_pattern (λ (_ : List ℕ). a_kinds)
 
--- ---- neither `*` nor a pattern stands there
+-- ---- neither `*` nor a pattern is there
 
 abbrev first_part : Scope → Part
 first_part All = byte 42
@@ -43,7 +43,7 @@ starts : (scope : Scope) → scope_parts scope ≡ first_part scope ∷ more_par
 starts All = refl
 starts (Under query) = refl
 
--- ---- `*` and a pattern never stand at one place
+-- ---- `*` and a pattern are never at one place
 
 abbrev second_byte : List ℕ → ℕ
 second_byte bytes = get_or bytes 1 0
@@ -51,17 +51,18 @@ second_byte bytes = get_or bytes 1 0
 star_no_quote : (bytes r t : List ℕ) → bytes ≡ 32 ∷ 42 ∷ r → bytes ≢ 32 ∷ 34 ∷ t
 star_no_quote bytes r t star quote = omega (arith, ap second_byte star, ap second_byte quote)
 
--- `*` behind a space
+-- `*` after a space
 star_stands : (bytes rest : List ℕ) → Stand 2 (space ∷ byte 42 ∷ []) bytes rest → bytes ≡ 32 ∷ 42 ∷ rest
 star_stands bytes rest h = h.1.parts ∙ ap (λ (t : List ℕ). 32 ∷ t) (h.2.1.parts ∙ ap (λ (t : List ℕ). 42 ∷ t) h.2.2)
 
--- a pattern behind a space
+-- a pattern after a space
 quote_stands : (text bytes mid rest : List ℕ) → bytes ≡ 32 ∷ mid → mid ≡ quoted text ++ rest → (t : List ℕ) × (bytes ≡ 32 ∷ 34 ∷ t)
 quote_stands text bytes mid rest space_is quote_is = ((escaped text ++ 34 ∷ []) ++ rest, space_is ∙ ap (λ (t : List ℕ). 32 ∷ t) quote_is)
 
--- ---- the kinds are missing behind a pattern
+-- ---- the kinds after a pattern are missing
 
-query_most : (bytes after : List ℕ) (k : ℕ) → 2 ≤ k → ((x : a_query.Of) (end : List ℕ) → a_query.Can x → ¬ Stand (suc k) (a_query.parts x) bytes end) → (scope : Scope) → IsScope scope → Stand (suc k) (space ∷ scope_parts scope) bytes after → ⊥
+query_most : (bytes after : List ℕ) (k : ℕ) → 2 ≤ k → ((x : a_query.Of) (end : List ℕ) → a_query.Can x → ¬ Stand (suc k) (a_query.parts x) bytes end) → (scope : Scope) →
+    IsScope scope → Stand (suc k) (space ∷ scope_parts scope) bytes after → ⊥
 query_most bytes after k two most All can h = omega (arith, two, count_fits (suc k) (space ∷ byte 42 ∷ []) bytes after h)
 query_most bytes after k two most (Under query) can h = most (query.text, query.kinds) after (can.text, (can.some, can.limit)) h
 
@@ -116,7 +117,8 @@ scopes_one (Under p) (Under q) bytes r s fa fb =
 pub scope_one : One a_scope
 scope_one = scopes_one
 
-scopes_apart : (a b : Scope) (bytes r after : List ℕ) → Found a_scope a bytes r → IsScope b → length (space ∷ scope_parts a) < length (space ∷ scope_parts b) → Stand (suc (length (space ∷ scope_parts a))) (space ∷ scope_parts b) bytes after → ⊥
+scopes_apart : (a b : Scope) (bytes r after : List ℕ) → Found a_scope a bytes r → IsScope b → length (space ∷ scope_parts a) < length (space ∷ scope_parts b) →
+    Stand (suc (length (space ∷ scope_parts a))) (space ∷ scope_parts b) bytes after → ⊥
 scopes_apart All All bytes r after f can lt h = omega (arith, lt)
 scopes_apart All (Under q) bytes r after f can lt h =
     let quote = quote_stands q.text bytes h.0 h.2.0 h.1.parts h.2.1.parts in
@@ -124,6 +126,6 @@ scopes_apart All (Under q) bytes r after f can lt h =
 scopes_apart (Under p) All bytes r after f can lt h = omega (arith, lt)
 scopes_apart (Under p) (Under q) bytes r after f can lt h = omega (arith, lt)
 
--- where a scope stands, no longer one goes on
+-- no scope extends another at the same front
 pub scope_apart : Apart a_scope
 scope_apart = scopes_apart

@@ -1,4 +1,4 @@
--- Each piece of a line to services or driver tables, but for devices: it is missing where it has to stand, or it is read.
+-- The pieces of lines for RS and driver tables, except devices: each is missing, or it is read.
 use Rattle.std.specs.Prelude.{◌==◌, if◌then◌else◌}
 use Rattle.std.proofs.Common.{◌≡◌, ◌≢◌, ℕ, zero, suc, ◌+◌, ◌-◌, ◌≤◌, true, List, [], ◌∷◌, ◌++◌, length, get_or, take, drop, refl, sym, ap, subst, ◌∙◌, arith, append_assoc, take-append-drop, length-drop, add-one}
 use Rattle.std.specs.Char.{is_ascii_digit, is_ascii_alphanumeric}
@@ -31,7 +31,7 @@ use Rattle.script_commands.proofs.PieceLemmas.{one_part, no_part, number_part}
 
 -- ---- the rest of a line
 
--- what stands behind the space
+-- what follows the space
 abbrev pub text_rest : Piece
 text_rest = record { Of = List ℕ; Can = IsUnbroken; parts = λ (text : List ℕ). text_parts text ++ newline ∷ [] }
 
@@ -43,7 +43,7 @@ text_spelled : (t bytes r : List ℕ) → Stand (length (text_rest.parts t)) (te
 text_spelled [] bytes r h = h.1.parts ∙ ap (λ (t : List ℕ). 10 ∷ t) h.2
 text_spelled (b ∷ t) bytes r h = h.1.parts ∙ ap (λ (t : List ℕ). b ∷ t) (text_spelled t h.0 r h.2)
 
--- the first newline parts a line from the rest in one way
+-- the first newline separates a line from the rest in one way only
 first_newline : (t u r s : List ℕ) → IsUnbroken t → IsUnbroken u → t ++ 10 ∷ r ≡ u ++ 10 ∷ s → (u ≡ t) × (s ≡ r)
 first_newline [] [] r s is_t is_u same = (refl, ap (drop 1) (sym same))
 first_newline [] (c ∷ u) r s is_t is_u same = absurd (All-head (λ (b : ℕ). b ≢ 10) c u is_u (ap (λ (l : List ℕ). get_or l 0 0) (sym same)))
@@ -59,7 +59,7 @@ texts_one t u bytes r s fa fb = first_newline t u r s fa.can fb.can (sym (text_s
 pub text_one : One a_text
 text_one = one_byte 32 text_rest texts_one
 
--- no more bytes of a text stand there than there are
+-- no more bytes of a text are there than there are bytes
 stand_fits : (k : ℕ) (t bytes after : List ℕ) → Stand k (text_parts t ++ newline ∷ []) bytes after → k ≤ length bytes
 stand_fits zero t bytes after h = omega arith
 stand_fits (suc zero) [] bytes after h = omega (arith, ap length h.1.parts)
@@ -85,11 +85,11 @@ text_breaks r is =
       none = λ t after can h. newline_within t after (subst IsUnbroken (text_spelled t r after h) is);
     }
 
--- no newline stands behind the space
+-- no newline follows the space
 pub no_newline : (stop : PartFault) (bytes r : List ℕ) → bytes ≡ 32 ∷ r → stop ≡ BadPart 0 → IsUnbroken r → StopsIn a_text stop bytes
 no_newline stop bytes r is at unbroken = byte_stops 32 text_rest stop bytes r is (stops_from text_rest stop r [] at (text_breaks r unbroken))
 
--- the first newline stands behind so many bytes
+-- the first newline comes after n bytes
 pub text_found : (bytes r : List ℕ) (n : ℕ) → bytes ≡ 32 ∷ r → BreaksAt r n → Found a_text (take n r) bytes (take (length r - (n + 1)) (drop (n + 1) r))
 text_found bytes r n is b =
     let spread : r ≡ take n r ++ 10 ∷ drop (suc n) r =
@@ -106,7 +106,7 @@ word_part T word x = part Word (word x)
 abbrev pub a_word : (T : Type 0) → (T → List ℕ) → Piece
 a_word T word = one_part T (λ _. Unit {0}) (word_part T word)
 
--- another word stands there
+-- another word is there
 pub no_word : (T : Type 0) (word_of : T → List ℕ) (some : T) (stop : PartFault) (bytes r word rest : List ℕ) → ((x : T) → list_all is_ascii_alphanumeric (word_of x) ≡ true) → bytes ≡ 32 ∷ r → stop ≡ BadPart (length r)
     → list_all is_ascii_alphanumeric word ≡ true → Begins is_ascii_alphanumeric r word rest → ((x : T) → word ≢ word_of x) → StopsIn (after_byte 32 (a_word T word_of)) stop bytes
 no_word T word_of some stop bytes r word rest are is at all begins other =
@@ -118,7 +118,7 @@ words_one T word_of are same =
     one_by (after_byte 32 (a_word T word_of)) (λ a b is_a is_b. (refl, λ _. (refl, λ _. tt))) (λ a is. (refl, (are a, tt)))
     (λ a b is_a is_b parts. same a b (ap (text_at 1) parts))
 
--- ---- what RS is asked
+-- ---- requests
 
 pub request_is_word : (request : Request) → list_all is_ascii_alphanumeric (request_word request) ≡ true
 request_is_word Up = refl
@@ -126,7 +126,7 @@ request_is_word Down = refl
 request_is_word Refresh = refl
 request_is_word Restart = refl
 
--- what the word asks
+-- the request of a word
 abbrev request_at : List ℕ → Request
 request_at word = if length word == 2 then Up else (if length word == 4 then Down else (if get_or word 2 0 == 102 then Refresh else Restart))
 

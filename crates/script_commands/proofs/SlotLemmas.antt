@@ -1,4 +1,4 @@
--- Each slot of the table: something fits it, two of it at one front are one, and where one stands no longer one goes on.
+-- Each slot of the table: some contents fit it, they are unique at a front, and none extends another.
 use Rattle.std.proofs.Common.{ℕ, false, [], None, refl, sym, ◌∙◌, arith}
 use Rattle.ds_names.specs.Endpoint.{endpoint_of}
 use Rattle.ds_names.specs.Name.{rs_name}
@@ -64,7 +64,7 @@ item_one i j bytes r s first second =
 
 -- ---- slots
 
--- something fits the slot
+-- some contents fit the slot
 pub some_of : (k : Kind) (s : Slot) → (x : (piece_of k s).Of) × (piece_of k s).Can x
 some_of k slots.Item = (some_item, some_item_is)
 some_of k slots.Caller = (endpoint_of 0 0, endpoint_is)
@@ -91,7 +91,7 @@ some_of k slots.Server = (NetServer, tt)
 some_of k slots.End = (tt, tt)
 some_of k s = (0, omega arith)
 
--- two of it at one front are one
+-- its contents are unique at a front
 pub slot_one : (k : Kind) (s : Slot) → One (piece_of k s)
 slot_one k slots.Item = one_byte 32 item_rest item_one
 slot_one k slots.Caller = endpoint_one
@@ -137,7 +137,7 @@ IsInner s = ¬ IsLast s
 fixed_apart : (p : Piece) (n : ℕ) → Fixed p n → Apart p
 fixed_apart p n fixed a b bytes r after f can lt h = omega (arith, lt, fixed a, fixed b)
 
--- where one stands no longer one goes on
+-- none of its contents extends another
 pub slot_apart : (k : Kind) (s : Slot) → IsInner s → Apart (piece_of k s)
 slot_apart k slots.Item inner = absurd (inner tt)
 slot_apart k slots.Key inner = fixed_apart a_key 4 (λ x. refl)

@@ -1,4 +1,4 @@
--- What a command takes stands where its parts are spelled out, and begins with a space or a newline.
+-- The contents of a command's slots are readable from their parts, and begin with a space or a newline.
 use Rattle.std.proofs.Common.{◌≡◌, ℕ, ◌⊎◌, inl, inr, List, [], ◌∷◌, ◌++◌, length, codes, Option, None, Some, refl, sym, ap, subst, ◌∙◌, append_assoc, append-nil, length-append}
 use Rattle.std.specs.Bool.{IsFalse}
 use Rattle.std.specs.Char.{is_ascii_alphanumeric}
@@ -70,7 +70,7 @@ before c text (p ∷ ps) (inr e) h =
     subst (λ (q : Part). AllStand (q ∷ ps) [] → AllStand (part c text ∷ q ∷ ps) []) (sym e) (part_stands (part c text) (newline ∷ ps) []
     (ends_at_newline c)) h
 
--- a part behind a space
+-- a part after a space
 spaced : (c : Class) (text : List ℕ) (more : List Part) → Parted more → AllStand more [] → AllStand (space ∷ part c text ∷ more) []
 spaced c text more parted h = byte_stands 32 (part c text ∷ more) [] (before c text more parted h)
 

@@ -18,23 +18,23 @@ use Rattle.script_commands.specs.Table.{slots_of, piece_of, kind_after, row_of, 
 use Rattle.script_commands.proofs.OneLemmas.{one_behind, one_view}
 use Rattle.script_commands.proofs.SlotLemmas.{some_of, slot_one, IsLast, IsInner}
 
--- ---- the command of a word and of what its slots have
+-- ---- the command of a word and of its slots' contents
 
--- it is one, of that word, whose slots have that
+-- it is a command of that word, with those contents
 pub made : (w : CommandWord) (x : (line_of w).Of) → (line_of w).Can x → IsCommand (command_in w x) × (row_for (command_in w x) ≡ (w, x))
 made words.Offer x can = (can, refl)
 made w x can = (can, refl)
 
--- ---- what the slots of a command have
+-- ---- the contents of a command's slots
 
--- which are the word's
+-- they are of the word's slots
 record Row (m : ScriptCommand) (w : CommandWord) : Type 0 where
   fields : (line_of w).Of
   can : (line_of w).Can fields
   parts : (line_of w).parts fields ≡ behind_word m
   back : command_in w fields ≡ m
 
--- they are such as the slots may have, and make the command
+-- they are valid, and make the command
 pub fields_fit : (m : ScriptCommand) → IsCommand m → (line_of (command_word m)).Can (fields_of m) × (command_in (command_word m) (fields_of m) ≡ m)
 fields_fit (Offer i) is = (is, refl)
 fields_fit (Store (Merge items)) is = absurd is
@@ -45,11 +45,11 @@ word_row w m is same =
     let fit = fields_fit m is in
     subst (λ (v : CommandWord). Row m v) same (record { fields = fields_of m; can = fit.0; parts = refl; back = fit.1 })
 
--- what the commands of a word take
+-- the contents of a word's commands
 abbrev pub taken_by : CommandWord → Piece
 taken_by w = record { Of = ScriptCommand; Can = λ (m : ScriptCommand). IsCommand m × (command_word m ≡ w); parts = behind_word }
 
--- the commands of a word are what its slots may have
+-- they are what its slots may hold
 view_of : (w : CommandWord) → Views (line_of w) (taken_by w)
 view_of w = record {
   to = command_in w;
@@ -58,7 +58,7 @@ view_of w = record {
   from = λ m is. let r = word_row w m is.0 is.1 in (r.fields, r.can, r.parts);
 }
 
--- what the slots make is a line of the word's, and where none stands they say why
+-- the slots' contents are a line of the word's; if there is no such line, the slots say why
 pub line_found : (w : CommandWord) (x : (line_of w).Of) (bytes rest : List ℕ) → Found (line_of w) x bytes rest
     → Found (taken_by w) (command_in w x) bytes rest
 unfolding view_of
@@ -91,7 +91,7 @@ pub slots_are : (w : CommandWord) → IsRow (slots_of w)
 slots_are words.Offer = tt
 slots_are w = tt
 
--- something fits the row
+-- some contents fit the row
 pub row_some : (k : Kind) (ss : List Slot) → (x : (row_of k ss).Of) × (row_of k ss).Can x
 row_some k [] = (tt, tt)
 row_some k (s ∷ []) = some_of k s
@@ -103,7 +103,7 @@ row_one k (s ∷ []) = slot_one k s
 row_one k (s ∷ t ∷ ss) = one_behind (piece_of k s) (λ (x : (piece_of k s).Of). row_of (kind_after k s x) (t ∷ ss)) (slot_one k s)
     (λ x. row_one (kind_after k s x) (t ∷ ss))
 
--- two commands of a word at one front are one
+-- two commands of a word at one front are the same
 pub word_one : (w : CommandWord) → One (taken_by w)
 unfolding view_of
 word_one w = one_view (line_of w) (taken_by w) (view_of w) (row_one U32 (slots_of w)) (λ m is. (word_row w m is.0 is.1).back)

@@ -1,4 +1,4 @@
--- The words of commands: each has its place among all of them.
+-- The words of commands, each at its place among all of them.
 use Rattle.std.specs.Prelude.{◌==◌}
 use Rattle.std.proofs.Common.{◌≡◌, ◌≢◌, ℕ, ◌+◌, ◌<◌, ◌≤◌, Bool, true, false, List, length, take, get_or, refl, sym, subst, ◌∙◌, arith}
 use Rattle.std.specs.List.{All}
@@ -51,11 +51,11 @@ at_place : (w : Word) → get_or all_words (place w) words.Show ≡ w
 at_place words.Offer = refl
 at_place w = refl
 
--- a text that is another than the word's
+-- a text that isn't the word's
 abbrev pub IsOther : List ℕ → Word → Type 0
 IsOther text w = text ≢ text_of w
 
--- a text that was another than the words before one, and is another than that one's
+-- a text that is none of the words before one, and isn't that one
 pub other_too : (text spelled : List ℕ) (ws : List Word) (same : Bool) (i : ℕ) (d : Word) → ws ≡ all_words → i < length ws
     → All (IsOther text) (take i all_words) → spelled ≡ text_of (get_or ws i d) → same ≡ pointwise ◌==◌ text spelled → same ≡ false
     → All (IsOther text) (take (i + 1) all_words)
@@ -65,7 +65,7 @@ other_too text spelled ws same i d is lt others spells tells differs =
     subst (λ (l : List Word). All (IsOther text) (take (i + 1) l)) is (All-more (IsOther text) ws i d lt
     (subst (λ (l : List Word). All (IsOther text) (take i l)) (sym is) others) other)
 
--- a text that is another than those of all words is no word's
+-- a text that is none of the words is no word's
 pub none_is : (text : List ℕ) (ws : List Word) (n : ℕ) → ws ≡ all_words → length ws ≤ n → All (IsOther text) (take n all_words)
     → (w : Word) → text ≢ text_of w
 none_is text ws n is le others w =

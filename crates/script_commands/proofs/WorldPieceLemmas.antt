@@ -1,4 +1,4 @@
--- Each piece of a world's lines: it is missing where it has to stand, or it is read.
+-- The pieces of a world's lines: each is missing, or it is read.
 use Rattle.std.proofs.Common.{◌≡◌, ◌≢◌, ℕ, ◌<◌, ◌≤◌, ◌^◌, Bool, true, false, ◌||◌, List, [], ◌∷◌, ◌++◌, length, get_or, drop, Option, None, Some, IfNone, refl, sym, ap, ◌∙◌, arith, append-nil}
 use Rattle.std.specs.Char.{is_ascii_digit, is_ascii_uppercase, is_ascii_lowercase, is_ascii_alphanumeric}
 use Rattle.std.specs.Fmt.{decimal}
@@ -24,12 +24,12 @@ use Rattle.script_commands.specs.WorldPieces.{a_ring, a_side, a_holder, a_count}
 use Rattle.script_commands.proofs.PieceLemmas.{one_part, no_part, number_part}
 use Rattle.script_commands.proofs.OneLemmas.{one_byte}
 
--- ---- how many changes a journal has room for
+-- ---- the number of items that a journal keeps
 
 pub no_ring : (stop : PartFault) (bytes r : List ℕ) → bytes ≡ 32 ∷ r → stop ≡ BadPart (length r) → ((n : ℕ) (rest : List ℕ) → n ≤ 4096 → ¬ Begins is_ascii_digit r (decimal n) rest) → StopsIn a_ring stop bytes
 no_ring stop bytes r is at none = no_part 32 ℕ (λ n. (0 < n) × (n ≤ 4096)) number_part 1 stop bytes r (omega arith, omega arith) is at (λ n rest can. none n rest can.1)
 
--- there is room for none
+-- it is 0
 pub ring_zero : (stop : PartFault) (bytes r after : List ℕ) (number : ℕ) → bytes ≡ 32 ∷ r → stop ≡ BadPart (length r) → Begins is_ascii_digit r (decimal number) after → number ≡ 0 → StopsIn a_ring stop bytes
 ring_zero stop bytes r after number is at begins zero =
     no_part 32 ℕ (λ n. (0 < n) × (n ≤ 4096)) number_part 1 stop bytes r (omega arith, omega arith) is at
@@ -70,7 +70,7 @@ no_side stop bytes r word rest is at all begins other =
 pub side_one : One a_side
 side_one = one_by a_side (λ a b is_a is_b. (refl, λ _. (refl, λ _. tt))) (λ a is. (refl, (side_is_word a, tt))) (λ a b is_a is_b same. sides_one a b (ap (text_at 1) same))
 
--- ---- whom a message is given to
+-- ---- the holder of a delivery
 
 one_of_three : (a b c : Bool) → a ≡ true → ((a || b) || c) ≡ true
 one_of_three true b c h = refl
@@ -100,7 +100,8 @@ holders_one (Map a) (Map b) is_a is_b same = ap Map (decimal_injective a b is_a 
 abbrev pub holder_part : Holder → Part
 holder_part holder = part Word (holder_word holder)
 
-pub no_holder : (stop : PartFault) (bytes r word rest : List ℕ) → bytes ≡ 32 ∷ r → stop ≡ BadPart (length r) → list_all is_ascii_alphanumeric word ≡ true → Begins is_ascii_alphanumeric r word rest → ((holder : Holder) → IsHolder holder → word ≢ holder_word holder)
+pub no_holder : (stop : PartFault) (bytes r word rest : List ℕ) → bytes ≡ 32 ∷ r → stop ≡ BadPart (length r) → list_all is_ascii_alphanumeric word ≡ true →
+    Begins is_ascii_alphanumeric r word rest → ((holder : Holder) → IsHolder holder → word ≢ holder_word holder)
     → StopsIn a_holder stop bytes
 no_holder stop bytes r word rest is at all begins other =
     no_part 32 Holder IsHolder holder_part (Store A) stop bytes r tt is at
@@ -113,39 +114,41 @@ pub if_none : {X P : Type 0} (r : Option X) → P → IfNone r P
 if_none None p = p
 if_none (Some x) p = tt
 
--- the word has an `m`, but no number behind it
+-- the word has an `m`, but no number after it
 pub no_map_number : (word digits : List ℕ) → word ≡ 109 ∷ digits → ((n : ℕ) (rest : List ℕ) → n ≤ 18446744073709551615 → ¬ Begins is_ascii_digit digits (decimal n) rest) → (map : ℕ) → map < 2 ^ 64 → word ≢ 109 ∷ decimal map
 no_map_number word digits is none map most same =
     none map [] (omega (arith, most)) (record { parts = ap (drop 1) (sym is ∙ same) ∙ sym (append-nil (decimal map)); ends = tt })
 
--- more stands behind the number
+-- more comes after the number
 pub map_not_all : (word digits rest : List ℕ) (number : ℕ) → word ≡ 109 ∷ digits → Begins is_ascii_digit digits (decimal number) rest → number ≤ 18446744073709551615 → rest ≢ [] → (map : ℕ) → map < 2 ^ 64 → word ≢ 109 ∷ decimal map
 map_not_all word digits rest number is begins limit more map most same =
     more (part_one Number digits (decimal number) (decimal map) rest [] (number, omega (arith, limit), refl) (map, most, refl) begins (record { parts = ap (drop 1) (sym is ∙ same) ∙ sym (append-nil (decimal map)); ends = tt })).1
 
--- the word names no side and no map
+-- the word names neither a side nor a map
 pub names_none : (word : List ℕ) → ((side : Side) → word ≢ side_word side) → ((map : ℕ) → map < 2 ^ 64 → word ≢ 109 ∷ decimal map) → (holder : Holder) → IsHolder holder → word ≢ holder_word holder
 names_none word no_side no_map (Store side) is same = no_side side same
 names_none word no_side no_map (Map map) is same = no_map map is same
 
--- ---- how many items of it
+-- ---- the number of items to deliver
 
 pub front_first : (t rest r : List ℕ) (b : ℕ) → t ++ rest ≡ b ∷ r → 0 < length t → first_byte t ≡ b
 front_first [] rest r b same some = absurd (omega (arith, some))
 front_first (c ∷ t) rest r b same some = ap first_byte same
 
--- no number begins with another byte than a digit
+-- no number begins with a byte that isn't a digit
 pub no_digit : (bytes r rest : List ℕ) (b n : ℕ) → bytes ≡ b ∷ r → b < 48 → n < 2 ^ 64 → ¬ Begins is_ascii_digit bytes (decimal n) rest
 no_digit bytes r rest b n is low most begins =
     let some = decimal_nonempty n most in
     let first = front_first (decimal n) rest r b (sym begins.parts ∙ is) some in
     omega (arith, first, low, (value_more (decimal n) 0 some (digits_decimal own n most)).0)
 
-count_none : (r : List ℕ) → ((rest : List ℕ) → r ≢ 42 ∷ rest) → ((n : ℕ) (rest : List ℕ) → n ≤ 4294967295 → ¬ Begins is_ascii_digit r (decimal n) rest) → (x : Option ℕ) (rest : List ℕ) → IsCount x → Begins (run_of (count_part x).class) r (count_part x).text rest → ⊥
+count_none : (r : List ℕ) → ((rest : List ℕ) → r ≢ 42 ∷ rest) → ((n : ℕ) (rest : List ℕ) → n ≤ 4294967295 → ¬ Begins is_ascii_digit r (decimal n) rest) →
+    (x : Option ℕ) (rest : List ℕ) → IsCount x → Begins (run_of (count_part x).class) r (count_part x).text rest → ⊥
 count_none r star number None rest can begins = star rest begins.parts
 count_none r star number (Some n) rest can begins = number n rest (omega (arith, can)) begins
 
-pub no_count : (stop : PartFault) (bytes r : List ℕ) → bytes ≡ 32 ∷ r → stop ≡ BadPart (length r) → ((rest : List ℕ) → r ≢ 42 ∷ rest) → ((n : ℕ) (rest : List ℕ) → n ≤ 4294967295 → ¬ Begins is_ascii_digit r (decimal n) rest) → StopsIn a_count stop bytes
+pub no_count : (stop : PartFault) (bytes r : List ℕ) → bytes ≡ 32 ∷ r → stop ≡ BadPart (length r) → ((rest : List ℕ) → r ≢ 42 ∷ rest) →
+    ((n : ℕ) (rest : List ℕ) → n ≤ 4294967295 → ¬ Begins is_ascii_digit r (decimal n) rest) → StopsIn a_count stop bytes
 no_count stop bytes r is at star number = no_part 32 (Option ℕ) IsCount count_part None stop bytes r tt is at (λ x rest can begins. count_none r star number x rest can begins)
 
 abbrev count_rest : Piece

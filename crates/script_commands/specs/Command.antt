@@ -15,7 +15,7 @@ use Rattle.script_commands.specs.declared.word.Word.TheVariants as words
 use Rattle.script_commands.specs.Table.{slots_of, line_of, RowTakesMemory}
 use Rattle.script_commands.specs.Words.{text_of}
 
--- The word of a command, and what its slots have. No line is a Merge: its row is arbitrary.
+-- The word of a command, and the contents of its slots. No line is a Merge, so its row is arbitrary.
 abbrev pub row_for : ScriptCommand → (word : CommandWord) × (line_of word).Of
 row_for (Offer i) = (words.Offer, i)
 row_for Show = (words.Show, tt)
@@ -48,77 +48,78 @@ row_for (Follow map) = (words.Follow, (map, tt))
 row_for (Submit server id unit map) = (words.Submit, (server, (id, (unit, (map, tt)))))
 row_for (Reply server endpoint id) = (words.Reply, (server, (endpoint, (id, tt))))
 
--- its word
+-- Its word.
 abbrev pub command_word : ScriptCommand → CommandWord
 command_word command = (row_for command).0
 
--- what its slots have
+-- The contents of its slots.
 abbrev pub fields_of : (command : ScriptCommand) → (line_of (command_word command)).Of
 fields_of command = (row_for command).1
 
--- the text of its word
+-- The text of its word.
 abbrev pub word_of : ScriptCommand → List ℕ
 word_of command = text_of (command_word command)
 
--- the parts after the word, slot by slot
+-- The parts after the word, slot by slot.
 abbrev pub behind_word : ScriptCommand → List Part
 behind_word command = (line_of (command_word command)).parts (fields_of command)
 
--- the parts of a command's line: its word, and what its slots have
+-- The parts of a command's line: its word, and the contents of its slots.
 abbrev pub command_parts : ScriptCommand → List Part
 command_parts command = part Word (word_of command) ∷ behind_word command
 
--- What a command takes is valid, slot by slot. But for an offer, the rules of labels and of sequence numbers aren't judged here: the
--- store judges what is published. A Merge is no line's.
+-- The contents of the command's slots are valid. Only an offer's item must keep the rules of labels and of sequence
+-- numbers here; the store judges what is published. No line is a Merge.
 abbrev pub IsCommand : ScriptCommand → Type 0
 IsCommand (Store (Merge items)) = ⊥
 IsCommand command = (line_of (command_word command)).Can (fields_of command)
 
--- the command has a text, a blob or a pattern, and one of settings some bytes of them
+-- The command has a text, a blob, a pattern or bytes of settings.
 abbrev pub CommandTakesMemory : ScriptCommand → Type 0
 CommandTakesMemory command = RowTakesMemory U32 (slots_of (command_word command)) (fields_of command)
 
--- the command that the line sends to a store, if it sends one: an offer is a Merge of one item
+-- The command that the line sends to a store, if any: an offer is a Merge of one item.
 abbrev pub store_command : ScriptCommand → Option Command
 store_command (Offer i) = Some (Merge (i ∷ []))
 store_command (Store command) = Some command
 store_command _ = None
 
--- whether the line is an offer, the only line whose store command needs a list
+-- Whether the line is an offer, the only line whose store command needs a list.
 abbrev pub is_offer : ScriptCommand → Bool
 is_offer (Offer i) = true
 is_offer _ = false
 
--- ---- a line with its newline, where some of the commands may stand
+-- ---- a line with its newline, where some commands are allowed
 
--- the bytes are the line of no such command, and the first part of one that can't be read begins at the place
+-- The bytes are the line of no allowed command, and their first bad part begins at the place.
 pub record IsFaultAmong (May : ScriptCommand → Type 0) (bytes : List ℕ) (place : ℕ) : Type 0 where
   pub none : (command : ScriptCommand) → May command → bytes ≢ texts (command_parts command)
   pub first : IsFaultPlace May command_parts bytes place
 
--- what the reader of a line, newline included, answers: there is no room for texts, blobs, patterns and settings alone
+-- The answer of a line's reader, newline included; memory can run out only for texts, blobs, patterns and settings.
 abbrev pub ReadsAs : (ScriptCommand → Type 0) → List ℕ → Result ScriptCommand CommandFault → Type 0
 ReadsAs May bytes (Ok command) = May command × (bytes ≡ texts (command_parts command))
 ReadsAs May bytes (Err (BadLine place expected)) = IsFaultAmong May bytes place
-ReadsAs May bytes (Err NoRoom) = (command : ScriptCommand) × May command × (bytes ≡ texts (command_parts command)) × CommandTakesMemory command
+ReadsAs May bytes (Err NoRoom) =
+    (command : ScriptCommand) × May command × (bytes ≡ texts (command_parts command)) × CommandTakesMemory command
 
--- the bytes are no command's line
+-- The bytes aren't a command's line.
 abbrev pub IsCommandFault : List ℕ → ℕ → Type 0
 IsCommandFault bytes place = IsFaultAmong IsCommand bytes place
 
--- each command may stand there
+-- As `ReadsAs`, for any command.
 abbrev pub ReadsCommand : List ℕ → Result ScriptCommand CommandFault → Type 0
 ReadsCommand bytes result = ReadsAs IsCommand bytes result
 
 -- ---- lines
 
--- the line, without its newline, is the command's, which may stand there
+-- The line, without its newline, is that of the command, which is allowed.
 pub record IsLineAs (May : ScriptCommand → Type 0) (command : ScriptCommand) (line : List ℕ) : Type 0 where
   pub written : May command
   pub text : with_newline line ≡ texts (command_parts command)
   pub short : length line ≤ 4096
 
--- a line above 4096 bytes is bad there, whatever it holds
+-- A line above 4096 bytes is bad at place 4096, whatever it holds.
 abbrev pub IsBadLineAs : (ScriptCommand → Type 0) → List ℕ → ℕ → Type 0
 IsBadLineAs May line place = ((4096 < length line) × (place ≡ 4096)) ⊎ ((length line ≤ 4096) × IsFaultAmong May (with_newline line) place)
 
@@ -128,7 +129,8 @@ IsLineOf command line = IsLineAs IsCommand command line
 abbrev pub IsBadLine : List ℕ → ℕ → Type 0
 IsBadLine line place = IsBadLineAs IsCommand line place
 
--- why a line isn't read: it is bad, or it is a command's, and there is no room for its text, blob, pattern or settings
+-- Why a line isn't read: it is bad, or it is a command's, and memory ran out for the command's text, blob, pattern or
+-- settings.
 abbrev pub IsCommandLineFault : CommandFault → List ℕ → Type 0
 IsCommandLineFault (BadLine place expected) line = IsBadLine line place
 IsCommandLineFault NoRoom line = (command : ScriptCommand) × IsLineOf command line × CommandTakesMemory command

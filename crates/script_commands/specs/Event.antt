@@ -1,4 +1,4 @@
--- What a line lets happen in a world.
+-- The world event of a line.
 use Rattle.std.specs.Prelude.{Option, None, Some}
 use Rattle.ds_machine.specs.declared.command.Command.{Command}
 use Rattle.ds_replica.specs.declared.event.Event.{Event}
@@ -8,13 +8,13 @@ use Rattle.script_commands.specs.Command.{store_command}
 use Rattle.script_commands.specs.declared.command.ScriptCommand.{ScriptCommand}
 use Rattle.script_commands.specs.declared.command.ScriptCommand.TheVariants.{Map, Clear, Restart, Deliver}
 
--- the store of the side is asked, if anything is asked
+-- The event that sends a command to the store of the side, if there is a command.
 abbrev pub asked_of : Side → Option Command → Option Event
 asked_of side None = None
 asked_of side (Some command) = Some (events.Ask side command)
 
--- The event that a line is in a world whose store of the side is asked: a map is made or cleared, items are delivered, a
--- store is restarted, or the store of the side is asked what the line asks of a store. Other lines let nothing happen.
+-- The line's event in a world: a map is made or cleared, items are delivered, a store is restarted, or the store of the
+-- side gets the line's store command; other lines have none.
 abbrev pub event_of : Side → ScriptCommand → Option Event
 event_of side (Map query) = Some (events.NewMap query)
 event_of side (Clear map) = Some (events.ClearMap map)

@@ -1,4 +1,4 @@
--- Lines that are read by their word: the word is known, and what stands behind it is read.
+-- Lines whose word is known and of which the rest is read.
 use Rattle.std.specs.Prelude.{◌≡◌, ℕ, List, ◌∷◌, ◌++◌, Err}
 use Rattle.std.specs.Char.{is_ascii_alphanumeric}
 use Rattle.ds_names.specs.Run.{Begins}
@@ -7,11 +7,11 @@ use Rattle.script_commands.specs.declared.word.Word.{Word}
 use Rattle.script_commands.specs.Row.{TakesRow}
 use Rattle.script_commands.specs.Words.{text_of}
 
--- the word stands at the front of the line, and a space comes behind it
+-- The word is at the front of the line, with a space after it.
 abbrev pub HasWord : Word → List ℕ → Type 0
 HasWord w line = (rest : List ℕ) × (line ≡ text_of w ++ 32 ∷ rest)
 
--- a word stands at the front, and what comes behind it can't be read, for this reason
+-- A word is at the front, and the reader of what follows stops with this fault.
 abbrev pub StopsBehindWord : List ℕ → PartFault → Type 0
 StopsBehindWord line stop =
     (w : Word) × (bytes : List ℕ) × Begins is_ascii_alphanumeric line (text_of w) bytes × TakesRow w bytes (Err stop)

@@ -1,4 +1,4 @@
--- What the lines of commands ask is in its ranges.
+-- The parts of lines' events are in their ranges.
 use Rattle.std.specs.Prelude.{◌≡◌, Some}
 use Rattle.ds_replica.specs.declared.event.Event.{Event}
 use Rattle.ds_replica.specs.declared.event.Side.{Side}
@@ -7,7 +7,7 @@ use Rattle.script_commands.specs.Command.{IsCommand}
 use Rattle.script_commands.specs.Event.{event_of}
 use Rattle.script_commands.specs.declared.command.ScriptCommand.{ScriptCommand}
 
--- the event of a line names only what is in its ranges, and of items only changes and floors that keep their rules
+-- A law: a line's event has its parts in their ranges, and its items are changes and floors that keep their rules.
 abbrev pub LinesAreProper : Type 0
 LinesAreProper =
     (command : ScriptCommand) (side : Side) (event : Event) → IsCommand command → event_of side command ≡ Some event → IsProperEvent event

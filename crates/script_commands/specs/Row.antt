@@ -1,4 +1,4 @@
--- What the reader of a line answers: it reads the slots of the line's word, one behind the other.
+-- The answer of a line's reader, which reads the slots of the line's word in order.
 use Rattle.std.specs.Prelude.{◌≡◌, List, [], ◌∷◌, ℕ, Result, Ok, Err, MatchResult, IsErrAnd}
 use Rattle.ds_names.specs.declared.kind.Kind.{Kind}
 use Rattle.ds_names.specs.declared.kind.Kind.TheVariants.{U32}
@@ -20,7 +20,7 @@ use Rattle.script_commands.specs.Pieces.{ValueWantsRoom}
 use Rattle.script_commands.specs.Reads.{ReadsOr}
 use Rattle.script_commands.specs.Table.{an_item, slots_of, piece_of, kind_after, row_of, line_of}
 
--- ---- the command of a word and of what stands in its slots
+-- ---- the command of a word and of its slots' contents
 
 abbrev pub command_in : (w : Word) → (line_of w).Of → ScriptCommand
 command_in words.Offer x = Offer x
@@ -55,18 +55,18 @@ command_in words.Reply x = Reply x.0 x.1.0 x.1.1.0
 
 -- ---- slot by slot
 
--- an item that takes memory stands there
+-- An item that takes memory comes next.
 abbrev pub ItemWantsRoom : List ℕ → Type 0
 ItemWantsRoom bytes = (i : Item) × (rest : List ℕ) × Found an_item i bytes rest × ¬ IsItemInPlace i
 
--- what stands there where there is no room for what the slot has
+-- What comes next if memory runs out for the slot.
 abbrev pub slot_wants : Kind → Slot → List ℕ → Type 0
 slot_wants k slots.Item bytes = ItemWantsRoom bytes
 slot_wants k slots.Value bytes = ValueWantsRoom k bytes
 slot_wants k s bytes = ⊥
 
--- The slots are read in their order, up to the first that can't be read. Where there is none, `done` holds of what they have;
--- else `failed` does, of why that one can't be read.
+-- The slots are read in order, up to the first bad one. If there is none, `done` holds of their contents; else `failed`
+-- holds of the reason.
 abbrev pub ReadsRow : (k : Kind) (ss : List Slot) → List ℕ → ((row_of k ss).Of → Type 0) → (PartFault → Type 0) → Type 0
 ReadsRow k [] bytes done failed = done tt
 ReadsRow k (s ∷ []) bytes done failed =
@@ -76,12 +76,13 @@ ReadsRow k (s ∷ t ∷ ss) bytes done failed =
     (r : Result (piece_of k s).Of PartFault) × (rest : List ℕ) × ReadsOr (slot_wants k s bytes) (piece_of k s) bytes r rest
     × MatchResult r (λ x. ReadsRow (kind_after k s x) (t ∷ ss) rest (λ y. done (x, y)) failed) failed
 
--- the command is answered, or there is no room for what it says
+-- The answer is the command, or memory ran out for it.
 abbrev pub GivesCommand : ScriptCommand → Result ScriptCommand PartFault → Type 0
 GivesCommand command (Ok given) = command ≡ given
 GivesCommand command (Err stop) = (stop ≡ NoRoom) × CommandTakesMemory command
 
--- the reader of a word's line reads its slots, and answers the command that they make, or why the first of them can't be read
+-- The reader of a word's line reads its slots, and answers the command that they make, or why the first bad one can't
+-- be read.
 unfoldable pub TakesRow : Word → List ℕ → Result ScriptCommand PartFault → Type 0
 TakesRow w bytes result =
     ReadsRow U32 (slots_of w) bytes (λ (x : (line_of w).Of). GivesCommand (command_in w x) result)

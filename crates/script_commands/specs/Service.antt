@@ -1,4 +1,4 @@
--- The words of lines to services and driver tables: what RS is asked, the servers, the classes of devices, and devices.
+-- The words of lines for RS and driver tables: requests, servers, classes of devices, and devices.
 use Rattle.std.specs.Prelude.{ℕ, ◌≤◌, List, [], ◌∷◌, codes, map}
 use Rattle.std.specs.Fmt.{decimal}
 use Rattle.driver_tables.specs.declared.file_table.FileClass.{FileClass}
@@ -12,34 +12,34 @@ use Rattle.script_commands.specs.declared.service.Request.TheVariants.{Up, Down,
 use Rattle.script_commands.specs.declared.service.Server.{Server}
 use Rattle.script_commands.specs.declared.service.Server.TheVariants as servers
 
--- `up`, `down`, `refresh` or `restart`
+-- `up`, `down`, `refresh` or `restart`.
 abbrev pub request_word : Request → List ℕ
 request_word Up = codes "up"
 request_word Down = codes "down"
 request_word Refresh = codes "refresh"
 request_word Restart = codes "restart"
 
--- `file` or `net`
+-- `file` or `net`.
 abbrev pub server_word : Server → List ℕ
 server_word servers.File = codes "file"
 server_word servers.Net = codes "net"
 
--- `block` or `character`
+-- `block` or `character`.
 abbrev pub class_word : FileClass → List ℕ
 class_word Block = codes "block"
 class_word Character = codes "character"
 
--- a file server's device by its major number and its class, a network server's by its port
+-- A file server's device by its major number and its class, a network server's by its port.
 abbrev pub device_parts : Device → List Part
 device_parts (devices.File major class) =
     part Word (server_word servers.File) ∷ space ∷ part Number (decimal major) ∷ space ∷ part Word (class_word class) ∷ []
 device_parts (devices.Net port) = part Word (server_word servers.Net) ∷ space ∷ part Number (decimal port) ∷ []
 
--- its number is at most 255
+-- Its number is at most 255.
 abbrev pub IsDevice : Device → Type 0
 IsDevice (devices.File major class) = major ≤ 255
 IsDevice (devices.Net port) = port ≤ 255
 
--- Each byte of a text that goes on to the end of its line is a part of its own: whatever it is, it can be read.
+-- One part for each byte of a text that extends to the end of its line: any byte can be read.
 abbrev pub text_parts : List ℕ → List Part
 text_parts text = map byte text

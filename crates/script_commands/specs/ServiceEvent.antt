@@ -1,4 +1,4 @@
--- What a line tells RS.
+-- The RS event of a line.
 use Rattle.std.specs.Prelude.{ℕ, List, Option, None, Some}
 use Rattle.rs_core.specs.declared.event.Event.{Event}
 use Rattle.rs_core.specs.declared.event.Event.TheVariants as events
@@ -7,14 +7,14 @@ use Rattle.script_commands.specs.declared.service.Request.TheVariants as request
 use Rattle.script_commands.specs.declared.command.ScriptCommand.{ScriptCommand}
 use Rattle.script_commands.specs.declared.command.ScriptCommand.TheVariants.{Service, Death, Beat, Tick}
 
--- what RS is asked for the service of a label
+-- The event of a request for the service of a label.
 abbrev pub request_event : Request → List ℕ → Event
 request_event requests.Up label = events.Up label
 request_event requests.Down label = events.Stop label
 request_event requests.Refresh label = events.Refresh label
 request_event requests.Restart label = events.Restart label
 
--- the event that a line is for RS, and its tick; other lines are none
+-- The line's event for RS, with its tick; other lines have none.
 abbrev pub service_event_of : ScriptCommand → Option (Event × ℕ)
 service_event_of (Service request label tick) = Some (request_event request label, tick)
 service_event_of (Death endpoint cause tick) = Some (events.Death endpoint cause, tick)

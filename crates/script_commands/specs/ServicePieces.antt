@@ -1,4 +1,4 @@
--- What the readers of the pieces of lines to services and driver tables find.
+-- The pieces of lines for RS and driver tables, as their readers find them.
 use Rattle.std.specs.Prelude.{ℕ, ◌≤◌, List, [], ◌∷◌, ◌++◌}
 use Rattle.std.specs.Fmt.{decimal}
 use Rattle.driver_tables.specs.declared.file_table.FileClass.{FileClass}
@@ -11,11 +11,10 @@ use Rattle.script_commands.specs.declared.service.Device.{Device}
 use Rattle.script_commands.specs.declared.service.Request.{Request}
 use Rattle.script_commands.specs.declared.service.Server.{Server}
 
--- the rest of the line, with its newline
+-- The rest of the line, with its newline.
 abbrev pub a_text : Piece
 a_text = record { Of = List ℕ; Can = IsUnbroken; parts = λ (text : List ℕ). space ∷ (text_parts text ++ newline ∷ []) }
 
--- what RS is asked for a service
 abbrev pub a_request : Piece
 a_request = record {
   Of = Request;
@@ -23,7 +22,6 @@ a_request = record {
   parts = λ (request : Request). space ∷ part Word (request_word request) ∷ [];
 }
 
--- a server
 abbrev pub a_server : Piece
 a_server = record {
   Of = Server;
@@ -31,7 +29,7 @@ a_server = record {
   parts = λ (server : Server). space ∷ part Word (server_word server) ∷ [];
 }
 
--- the class of a file server's device
+-- The class of a file server's device.
 abbrev pub a_class : Piece
 a_class = record {
   Of = FileClass;
@@ -39,10 +37,9 @@ a_class = record {
   parts = λ (class : FileClass). space ∷ part Word (class_word class) ∷ [];
 }
 
--- a major number or a port
+-- A major number or a port.
 abbrev pub a_unit : Piece
 a_unit = record { Of = ℕ; Can = λ (n : ℕ). n ≤ 255; parts = λ (n : ℕ). space ∷ part Number (decimal n) ∷ [] }
 
--- what a driver drives
 abbrev pub a_device : Piece
 a_device = record { Of = Device; Can = IsDevice; parts = λ (device : Device). space ∷ device_parts device }

@@ -1,4 +1,4 @@
--- The grammar of commands as a table: for each word what stands behind it, slot by slot.
+-- The grammar of commands as a table: for each word, the slots after it.
 use Rattle.std.specs.Prelude.{◌≢◌, List, [], ◌∷◌, ◌++◌}
 use Rattle.ds_names.specs.declared.kind.Kind.{Kind}
 use Rattle.ds_names.specs.declared.kind.Kind.TheVariants.{U32}
@@ -18,7 +18,7 @@ use Rattle.script_commands.specs.Scope.{a_scope, ScopeTakesMemory}
 use Rattle.script_commands.specs.ServicePieces.{a_device, a_request, a_server, a_text, a_unit}
 use Rattle.script_commands.specs.WorldPieces.{a_ring, a_side, a_holder, a_count}
 
--- what stands behind a word
+-- The slots after a word.
 abbrev pub slots_of : Word → List Slot
 slots_of words.Offer = slots.Item ∷ []
 slots_of words.Show = slots.End ∷ []
@@ -50,11 +50,11 @@ slots_of words.Follow = slots.Map ∷ slots.End ∷ []
 slots_of words.Submit = slots.Server ∷ slots.Id ∷ slots.Unit ∷ slots.Map ∷ slots.End ∷ []
 slots_of words.Reply = slots.Server ∷ slots.Endpoint ∷ slots.Id ∷ slots.End ∷ []
 
--- an item, which ends with its newline
+-- An item, which ends with its newline.
 abbrev pub an_item : Piece
 an_item = record { Of = Item; Can = IsItem; parts = λ (i : Item). space ∷ item_parts i }
 
--- what a slot has, where the key that was read last is of the kind
+-- The piece of a slot, after a key of the kind.
 abbrev pub piece_of : Kind → Slot → Piece
 piece_of k slots.Item = an_item
 piece_of k slots.Caller = an_endpoint
@@ -91,12 +91,12 @@ piece_of k slots.Id = a_place
 piece_of k slots.Unit = a_unit
 piece_of k slots.End = an_end
 
--- the kind of the key that was read last, behind what the slot has
+-- The kind of the last key, after the slot.
 abbrev pub kind_after : (k : Kind) (s : Slot) → (piece_of k s).Of → Kind
 kind_after k slots.Key key = key.kind
 kind_after k s x = k
 
--- one piece, and behind it another, which may depend on what the first one says
+-- One piece, followed by another, which may depend on the first.
 abbrev pub and_then : (p : Piece) → (p.Of → Piece) → Piece
 and_then p q = record {
   Of = (a : p.Of) × (q a).Of;
@@ -104,18 +104,18 @@ and_then p q = record {
   parts = λ x. p.parts x.0 ++ (q x.0).parts x.1;
 }
 
--- what a row of slots has, one behind the other; a row is never empty
+-- The pieces of a row of slots, in order; a row is never empty.
 abbrev pub row_of : Kind → List Slot → Piece
 row_of k [] = an_end
 row_of k (s ∷ []) = piece_of k s
 row_of k (s ∷ t ∷ ss) = and_then (piece_of k s) (λ (x : (piece_of k s).Of). row_of (kind_after k s x) (t ∷ ss))
 
--- What stands behind the word. No value stands before a key, so any kind will do at its start.
+-- The piece after the word. No value comes before a key, so any kind will do at its start.
 abbrev pub line_of : Word → Piece
 line_of w = row_of U32 (slots_of w)
 
--- What a row has takes memory. One of its slots can, at most: an item, a value or the text of settings, which end the line; or
--- a pattern or a scope.
+-- Whether the contents of a row take memory. At most one of its slots can: an item, a value or the text of settings,
+-- which end the line, or a pattern or a scope.
 abbrev pub RowTakesMemory : (k : Kind) (ss : List Slot) → (row_of k ss).Of → Type 0
 RowTakesMemory k [] x = ⊥
 RowTakesMemory k (slots.Item ∷ []) i = ¬ IsItemInPlace i

@@ -1,9 +1,9 @@
--- The words that commands begin with.
+-- The words of commands.
 use Rattle.std.specs.Prelude.{ℕ, List, [], ◌∷◌, codes}
 use Rattle.script_commands.specs.declared.word.Word.{Word}
 use Rattle.script_commands.specs.declared.word.Word.TheVariants as words
 
--- the text of a command's word
+-- The text of a command's word.
 abbrev pub text_of : Word → List ℕ
 text_of words.Offer = codes "offer"
 text_of words.Show = codes "show"
@@ -35,7 +35,7 @@ text_of words.Follow = codes "follow"
 text_of words.Submit = codes "submit"
 text_of words.Reply = codes "reply"
 
--- the words, each once, those first that scripts have most of
+-- The words, each once, the most frequent ones first.
 abbrev pub all_words : List Word
 all_words =
     words.Offer ∷ words.Publish ∷ words.Retrieve ∷ words.Check ∷ words.NameOf ∷ words.Deliver ∷ words.Since ∷ words.Page ∷ words.Show
@@ -43,7 +43,7 @@ all_words =
     ∷ words.Restart ∷ words.Snapshot ∷ words.Settings ∷ words.Service ∷ words.Death ∷ words.Beat ∷ words.Tick ∷ words.Assign
     ∷ words.Follow ∷ words.Submit ∷ words.Reply ∷ []
 
--- the word is of a command to a world
+-- Whether the word is of a line for a world.
 abbrev pub IsOfWorld : Word → Type 0
 IsOfWorld words.Ring = Unit {0}
 IsOfWorld words.Side = Unit {0}
@@ -55,7 +55,7 @@ IsOfWorld words.Snapshot = Unit {0}
 IsOfWorld words.Page = Unit {0}
 IsOfWorld _ = ⊥
 
--- the word is of a command to services or driver tables
+-- Whether the word is of a line for RS or driver tables.
 abbrev pub IsOfServices : Word → Type 0
 IsOfServices words.Settings = Unit {0}
 IsOfServices words.Service = Unit {0}

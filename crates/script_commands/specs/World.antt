@@ -1,4 +1,4 @@
--- The words of a world: of whom a message is given to.
+-- The words of a world: the holders of a delivery.
 use Rattle.std.specs.Prelude.{ℕ, ◌<◌, ◌^◌, List, ◌∷◌, Option, None, Some}
 use Rattle.std.specs.Fmt.{decimal}
 use Rattle.ds_line.specs.Part.{Part, part, byte, Number}
@@ -6,22 +6,22 @@ use Rattle.ds_replica.specs.declared.event.Holder.{Holder}
 use Rattle.ds_replica.specs.declared.event.Holder.TheVariants.{Store, Map}
 use Rattle.store_answers.specs.Outcome.{side_word}
 
--- a side's word, or `m` and the number of a map
+-- A side's word, or `m` and the number of a map.
 abbrev pub holder_word : Holder → List ℕ
 holder_word (Store side) = side_word side
 holder_word (Map map) = 109 ∷ decimal map
 
--- the number of a map is below 2^64
+-- The map's number is below 2^64.
 abbrev pub IsHolder : Holder → Type 0
 IsHolder (Store side) = Unit {0}
 IsHolder (Map map) = map < 2 ^ 64
 
--- `*`, or how many items
+-- `*`, or the number of items.
 abbrev pub count_part : Option ℕ → Part
 count_part None = byte 42
 count_part (Some n) = part Number (decimal n)
 
--- the number of items is below 2^32
+-- The number of items is below 2^32.
 abbrev pub IsCount : Option ℕ → Type 0
 IsCount None = Unit {0}
 IsCount (Some n) = n < 2 ^ 32

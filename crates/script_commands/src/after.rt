@@ -1,4 +1,4 @@
-//! Where a page begins, and how many changes it has, as lines write it.
+//! The range of a page in a line: the key after which it begins, and the most changes.
 
 #![tactic(auto, unfolding(crate::specs::Reads::ReadsOr))]
 
@@ -14,8 +14,8 @@ use ds_line::{Expected, PartFault, kind_at};
 use ds_names::{Key, Name, read_byte};
 
 impl Rest<'_> {
-    /// Reads behind which key a page begins, or `-` for none, and how many changes it has at most. A `-` before a kind is the
-    /// name of a key, and so is one before another byte of a name.
+    /// Reads a page's range: the key after which it begins, or `-` for the first page, and the most changes. A `-`
+    /// before a kind, or before another byte of a name, belongs to a name.
     pub fn range(&mut self) -> Result<(Option<Key>, u32), PartFault>
         ensures { Reads a_range self.old.bytes.now result self.new.bytes.now }
     {
@@ -29,7 +29,7 @@ impl Rest<'_> {
         Ok((Some(Key { name, kind }), max))
     }
 
-    // Whether a space and the word of a kind come next.
+    // Returns whether a space and the word of a kind come next.
     fn is_before_kind(&self) -> bool
         ensures { IsTrue result ↔ ((kind : Kind) × (rest : List ℕ) × Found a_kind kind self.now.bytes.now rest) }
     {
@@ -40,7 +40,7 @@ impl Rest<'_> {
     }
 }
 
-// Whether a name is `-`, which stands for no key.
+// Returns whether a name is `-`, which means no key.
 fn is_dash(name: &Name) -> bool
     ensures { IsTrue result ↔ (name.now ≡ no_key) }
 {

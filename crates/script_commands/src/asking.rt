@@ -1,4 +1,4 @@
-//! What a line asks of a store.
+//! The store command of a line.
 
 ghost use Rattle.std.specs.Prelude.{◌≡◌, ◌∷◌, [], true, IfOk, OnErr};
 ghost use Rattle.ds_machine.specs.declared.command.Command.TheVariants as commands;
@@ -11,8 +11,8 @@ use ds_names::NoRoom;
 use std::alloc::Global;
 
 impl ScriptCommand {
-    /// Returns the command that the line sends to a store, or `None` for a line that sends none. An `offer` is a Merge of
-    /// one item. NoRoom: out of memory for the list of that item.
+    /// Returns the command that the line sends to a store; `None` if it sends none. An `offer` is a Merge of one item.
+    /// Refuses NoRoom if the list of that item can't be allocated.
     pub fn into_store_command(self, alloc: Global) -> Result<Option<Command>, NoRoom>
         ensures command { IfOk result (λ command. command ≡ store_command self) }
         ensures room { OnErr result (is_offer self ≡ true) }
@@ -25,7 +25,6 @@ impl ScriptCommand {
     }
 }
 
-// A Merge of one item.
 fn merge_of(alloc: Global, item: Item) -> Result<Command, NoRoom>
     ensures { IfOk result (λ command. command ≡ commands.Merge (item ∷ [])) }
 {

@@ -8,14 +8,14 @@ use ds_names::{Endpoint, Name};
 use ds_pattern::Query;
 use ds_replica::{Holder, Side};
 
-/// One line of a script, with its parts.
+/// One line of a script, parsed.
 #[derive(Drop)]
 pub enum ScriptCommand {
     /// `offer ITEM`: merges the item, a change or a floor, into what is held.
     Offer(Item),
-    /// `show`: prints the puts that are held.
+    /// `show`: prints the held puts.
     Show,
-    /// `all`: prints all that is held, floors and tombstones too.
+    /// `all`: prints everything held, including floors and tombstones.
     All,
     /// Sends a command to the store:
     ///
@@ -30,10 +30,10 @@ pub enum ScriptCommand {
     /// - `snapshot SCOPE`
     /// - `page SCOPE AFTER MAX`
     ///
-    /// SCOPE is a pattern and kinds, or `*` for all keys. AFTER is a key, `NAME KIND`, or `-` for the first page. No line is
-    /// a `Merge`: an `offer` merges one item.
+    /// SCOPE is a pattern and kinds, or `*` for all keys. AFTER is a key, `NAME KIND`, or `-` for the first page. No
+    /// line is a `Merge`: an `offer` merges one item.
     Store(Command),
-    /// `map PATTERN KINDS`: makes a map, which takes over what is delivered to it.
+    /// `map PATTERN KINDS`: makes a map, which takes what is delivered to it.
     Map {
         query: Query,
     },
@@ -41,12 +41,12 @@ pub enum ScriptCommand {
     Entries {
         map: u64,
     },
-    /// `ring N`: the journals of both stores keep the last N items that took effect, 1 to 4096. It stands on the first line
-    /// alone, of which `read_line_behind` knows.
+    /// `ring N`: the journals of both stores keep the last N items that took effect, 1 to 4096. Only a script's first
+    /// line may be this one; `read_line_behind` sees to it.
     Ring {
         ring: u32,
     },
-    /// `side a` or `side b`: what follows is asked of the store of this side.
+    /// `side a` or `side b`: later lines go to the store of this side.
     Side {
         side: Side,
     },
@@ -54,60 +54,61 @@ pub enum ScriptCommand {
     Clear {
         map: u64,
     },
-    /// `restart a INCARNATION`, or `b` for `a`: the store of the side is opened again, empty, as this incarnation.
+    /// `restart a INCARNATION`, or `b` for `a`: reopens the store of the side, empty, as this incarnation.
     Restart {
         side: Side,
         incarnation: u64,
     },
-    /// `deliver K HOLDER COUNT`: gives a store, `a` or `b`, or a map, `mJ`, the first items of a message; `*` for all, which is
-    /// `None`.
+    /// `deliver K HOLDER COUNT`: delivers the first COUNT items of a message to a store, `a` or `b`, or to a map, `mJ`.
+    /// COUNT `*` is `None`: all items.
     Deliver {
         message: u64,
         holder: Holder,
         count: Option<u32>,
     },
-    /// `settings REST`: tells RS of its services. REST is the rest of the line, any bytes, as a settings text.
+    /// `settings REST`: gives RS its settings. REST is the rest of the line, any bytes, as a settings text.
     Settings {
         text: SettingsText,
     },
-    /// `service up LABEL TICK`, or `down`, `refresh` or `restart` for `up`: asks RS for a service.
+    /// `service up LABEL TICK`, or `down`, `refresh` or `restart` for `up`: sends RS a request for a service.
     Service {
         request: Request,
         label: Name,
         tick: u64,
     },
-    /// `death ENDPOINT CAUSE TICK`: tells RS that an instance died.
+    /// `death ENDPOINT CAUSE TICK`: reports to RS that an instance died.
     Death {
         endpoint: Endpoint,
         cause: u64,
         tick: u64,
     },
-    /// `beat ENDPOINT TICK`: tells RS that an instance lives.
+    /// `beat ENDPOINT TICK`: reports to RS that an instance lives.
     Beat {
         endpoint: Endpoint,
         tick: u64,
     },
-    /// `tick TICK`: tells RS that time passed.
+    /// `tick TICK`: reports to RS that time passed.
     Tick {
         tick: u64,
     },
-    /// `assign file MAJOR block LABEL`, or `character` for `block`, or `assign net PORT LABEL`: gives a device its driver.
+    /// `assign file MAJOR block LABEL`, or `character` for `block`, or `assign net PORT LABEL`: assigns a driver to a
+    /// device.
     Assign {
         device: Device,
         label: Name,
     },
-    /// `follow J`: both tables follow what a map has of their drivers.
+    /// `follow J`: both tables follow a map.
     Follow {
         map: u64,
     },
-    /// `submit file ID UNIT J`, or `net` for `file`: a table follows a map, and has a new request for a unit.
+    /// `submit file ID UNIT J`, or `net` for `file`: a table follows a map, and takes a new request for a unit.
     Submit {
         server: Server,
         id: u64,
         unit: u8,
         map: u64,
     },
-    /// `reply file ENDPOINT ID`, or `net` for `file`: a driver answers a request of a table.
+    /// `reply file ENDPOINT ID`, or `net` for `file`: a table takes a driver's reply to a request.
     Reply {
         server: Server,
         endpoint: Endpoint,

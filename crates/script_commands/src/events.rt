@@ -1,4 +1,4 @@
-//! What a line lets happen in a world.
+//! The world event of a line.
 
 ghost use Rattle.std.specs.Prelude.{◌≡◌, true, IfOk, OnErr};
 ghost use Rattle.script_commands.specs.Command.{is_offer};
@@ -11,9 +11,9 @@ use ds_replica::{Event, Side};
 use std::alloc::Global;
 
 impl ScriptCommand {
-    /// The event that the line is in a world whose store of this side is asked: what the line asks of a store is asked of
-    /// that one. `None` for the lines that let nothing happen there: `show`, `all`, `entries`, `ring`, `side`, and those to
-    /// services and driver tables. NoRoom: out of memory for the list of an `offer`'s one item.
+    /// Returns the line's event in a world; a store command goes to the store of `side`. `None` for a line without an
+    /// event there: `show`, `all`, `entries`, `ring`, `side`, and those for RS and driver tables. Refuses NoRoom if the
+    /// list of an `offer`'s one item can't be allocated.
     pub fn into_event(self, alloc: Global, side: Side) -> Result<Option<Event>, NoRoom>
         ensures event { IfOk result (λ event. event ≡ event_of side self) }
         ensures room { OnErr result (is_offer self ≡ true) }
@@ -38,7 +38,7 @@ impl ScriptCommand {
     }
 }
 
-// The event that the store of the side is asked a command, if there is one.
+// Returns the event that sends a command to the store of the side, if there is a command.
 fn asked(side: Side, command: Option<Command>) -> Option<Event>
     ensures { result ≡ asked_of side command }
 {
@@ -48,7 +48,7 @@ fn asked(side: Side, command: Option<Command>) -> Option<Event>
     }
 }
 
-// The same number of items.
+// Returns the same count, as a `usize`.
 fn widened(count: Option<u32>) -> Option<usize>
     ensures { result ≡ count }
 {

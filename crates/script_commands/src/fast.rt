@@ -1,7 +1,8 @@
-//! Fast readers, for the lines that most scripts consist of: an offer's, a publication's and a retrieval's.
+//! Fast readers for the lines that most scripts consist of: `offer`, `publish` and `retrieve`.
 //!
-//! Each promises what `read_line` and `read_line_behind` promise, of the lines of one word. It returns the parts of the command
-//! rather than a `ScriptCommand`, which has room for any command and would be copied from each reader to the one above it.
+//! Each promises, for the lines of one word, what `read_line` and `read_line_behind` promise. It returns the parts of
+//! the command rather than a `ScriptCommand`, which is as large as the largest command and would be copied from each
+//! reader to its caller.
 
 ghost use Rattle.std.specs.Prelude.{◌↔◌, IsTrue};
 ghost use Rattle.line_io.specs.Lines.{EndsLine};
@@ -18,7 +19,7 @@ use ds_line::Expected;
 use ds_names::{Endpoint, Key, Version};
 use std::alloc::Global;
 
-/// The parts of a `publish`: the caller, the key, the version, the value, and whether a live value may be replaced.
+/// The parts of a `publish`. `overwrite` is whether a live value may be replaced.
 #[derive(Drop)]
 pub struct Publication {
     pub caller: Endpoint,
@@ -33,7 +34,7 @@ pub struct Publication {
 pub fn is_offer(line: &[u8]) -> bool
     ensures { IsTrue result ↔ IsOffer line.now }
 {
-    // Byte by byte: the first one tells most other words, and nothing is called.
+    // Byte by byte: the first byte rules out most other words, and nothing is called.
     matches!(line, [b'o', b'f', b'f', b'e', b'r', b' ', ..])
 }
 
@@ -56,7 +57,7 @@ pub fn is_retrieve(line: &[u8]) -> bool
     )
 }
 
-/// Reads the line of an offer, newline included, and puts its item into the caller's place.
+/// Reads an `offer` line, newline included, and writes its item to `slot`.
 #[inline(always)]
 pub fn fast_offer(alloc: Global, line: &[u8], slot: &mut Option<Item>) -> Result<(), CommandFault>
     requires line { EndsLine line.now }
@@ -75,7 +76,7 @@ pub fn fast_offer(alloc: Global, line: &[u8], slot: &mut Option<Item>) -> Result
     }
 }
 
-/// Reads the line of a publication, newline included.
+/// Reads a `publish` line, newline included.
 #[inline(always)]
 pub fn fast_publish(alloc: Global, line: &[u8]) -> Result<Publication, CommandFault>
     requires line { EndsLine line.now }
@@ -94,7 +95,7 @@ pub fn fast_publish(alloc: Global, line: &[u8]) -> Result<Publication, CommandFa
     }
 }
 
-/// Reads the line of a retrieval, newline included, and returns its key.
+/// Reads a `retrieve` line, newline included, and returns its key.
 #[inline(always)]
 pub fn fast_retrieve(line: &[u8]) -> Result<Key, CommandFault>
     requires line { EndsLine line.now }

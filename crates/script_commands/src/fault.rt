@@ -1,4 +1,4 @@
-//! Why a line is no command's.
+//! Why a line can't be read.
 
 ghost use Rattle.std.specs.Prelude.{Err};
 ghost use Rattle.line_io.specs.Lines.{EndsLine};
@@ -8,11 +8,11 @@ ghost use Rattle.script_commands.specs.Front.{StopsBehindWord};
 use ds_line::{Expected, PartFault};
 use thiserror::Error;
 
-/// Why the command of a line isn't read.
+/// Why a line can't be read as a command.
 #[derive(Clone, Copy, Debug, Error)]
 pub enum CommandFault {
-    /// The line is no command's. The first part of one that can't be read, which is the one that was expected, begins
-    /// at `place`, a byte counted from 0.
+    /// The line isn't a command. Its first bad part begins at `place`, a byte counted from 0; `expected` is the part
+    /// that was expected there.
     #[error("the line can't be read from byte {place} on")]
     BadLine { place: usize, expected: Expected },
     /// Out of memory.
@@ -20,7 +20,8 @@ pub enum CommandFault {
     NoRoom,
 }
 
-/// Why a line isn't read that begins with a command's word: what comes behind the word stops so, at the part that was expected.
+/// Returns the fault of a line that begins with a command's word and whose reader stopped after it, at the part that
+/// was expected.
 #[inline(always)]
 pub(crate) fn fault_behind_word(line: &[u8], stop: PartFault, expected: Expected) -> CommandFault
     requires line { EndsLine line.now }

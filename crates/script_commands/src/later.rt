@@ -1,4 +1,4 @@
-//! The lines of a script, the first one and those behind it.
+//! The first line of a script, and the later ones.
 
 ghost use Rattle.std.specs.Prelude.{◌≡◌, ◌≢◌, ◌↔◌, ℕ, List, IsTrue};
 ghost use Rattle.std.specs.Char.{is_ascii_alphanumeric};
@@ -15,9 +15,9 @@ use crate::reading::read_line;
 use ds_line::{Expected, word_at};
 use std::alloc::Global;
 
-/// Reads the command of a line that has so many before it in its script, and comes with its newline and has no other: the
-/// first one as `read_line`, and each behind it so too, but that `ring` is an unknown word there, so that such a line is bad
-/// at place 0, whatever else it holds.
+/// Reads the command of a line that has `before` lines before it in its script. The line ends with its newline and has
+/// no other. Like `read_line`, but `ring` is a word of the first line only: on a later line it is unknown, so that line
+/// is bad at place 0.
 #[inline(always)]
 pub fn read_line_behind(
     alloc: Global,
@@ -37,8 +37,8 @@ pub fn read_line_behind(
     read_line(alloc, line)
 }
 
-// Whether the word of a line is `ring`. The word is read only if its bytes begin the line: most lines begin with others, and
-// `read_line` reads their word anyway.
+// Returns whether a line's word is `ring`. It reads the word only if these bytes begin the line: most lines begin
+// otherwise, and `read_line` reads their word anyway.
 fn has_ring(line: &[u8]) -> bool
     ensures { IsTrue result ↔ ((rest : List ℕ) × Begins is_ascii_alphanumeric line.now (text_of words.Ring) rest) }
 {

@@ -1,13 +1,12 @@
-//! The words of scripts and traces: commands on lines.
+//! The language of scripts and traces: one command on each line.
 //!
-//! A line is one command with what it takes: `offer ITEM` merges a change or a floor, as a replica that is told of it would;
-//! `publish`, `delete`, `sweep`, `retrieve` and `nameof` ask for what a process or RS asks of MINIX 3's data store, and
-//! `subscribe` and `check` what a subscriber asks for; `since`, `snapshot` and `page` what another replica asks for;
-//! `show` and `all` ask for what is held, `map` and `entries` for a map of a query and what stands in it. In a world of two
-//! stores `ring` says how much their journals keep, `side` which of them is asked, and `deliver`, `clear` and `restart` make
-//! what can happen there. `settings` tells RS of its services, `service`, `death`, `beat` and `tick` ask and tell it what
-//! happens to them; `assign`, `follow`, `submit` and `reply` are for the driver tables of two servers. The lines are of this
-//! project.
+//! `offer ITEM` merges a change or a floor, as a message from another replica would. `publish`, `delete`, `sweep`,
+//! `retrieve` and `nameof` are commands of processes and of RS to MINIX 3's data store, `subscribe` and `check` those
+//! of a subscriber, `since`, `snapshot` and `page` those of another replica. `show` and `all` print what is held; `map`
+//! and `entries` make a map of a query and print it. In a world of two stores `ring` sets the size of their journals,
+//! `side` chooses one of them, and `deliver`, `clear` and `restart` are the world's own events. `settings` gives RS its
+//! settings; `service`, `death`, `beat` and `tick` are its events. `assign`, `follow`, `submit` and `reply` are for the
+//! driver tables of two servers. The lines are of this project.
 #![tactic(auto)]
 
 mod after;

@@ -1,4 +1,4 @@
-//! What the lines of each command have behind their word.
+//! Readers of the rest of a line, one for each command's word.
 
 #![tactic(auto, unfolding(crate::specs::Row::TakesRow))]
 
@@ -17,7 +17,6 @@ use ds_machine::Command;
 use ds_names::{Key, read_byte};
 use std::alloc::Global;
 
-/// Reads what follows `show`.
 pub(crate) fn show_at(rest: &mut Rest) -> Result<ScriptCommand, PartFault>
     ensures { TakesRow words.Show rest.old.bytes.now result }
 {
@@ -25,7 +24,6 @@ pub(crate) fn show_at(rest: &mut Rest) -> Result<ScriptCommand, PartFault>
     Ok(ScriptCommand::Show)
 }
 
-/// Reads what follows `all`.
 pub(crate) fn all_at(rest: &mut Rest) -> Result<ScriptCommand, PartFault>
     ensures { TakesRow words.All rest.old.bytes.now result }
 {
@@ -33,7 +31,6 @@ pub(crate) fn all_at(rest: &mut Rest) -> Result<ScriptCommand, PartFault>
     Ok(ScriptCommand::All)
 }
 
-/// Reads what follows `offer`.
 pub(crate) fn offer_at(alloc: Global, rest: &mut Rest) -> Result<ScriptCommand, PartFault>
     ensures { TakesRow words.Offer rest.old.bytes.now result }
 {
@@ -45,7 +42,7 @@ pub(crate) fn offer_at(alloc: Global, rest: &mut Rest) -> Result<ScriptCommand, 
     }
 }
 
-/// Reads what follows `offer` into its caller's place.
+/// Reads what follows `offer`, and writes the item to `slot`.
 #[inline(always)]
 pub(crate) fn item_at(
     alloc: Global,
@@ -68,7 +65,6 @@ pub(crate) fn item_at(
     }
 }
 
-/// Reads what follows `publish`.
 pub(crate) fn publish_at(alloc: Global, rest: &mut Rest) -> Result<ScriptCommand, PartFault>
     ensures { TakesRow words.Publish rest.old.bytes.now result }
 {
@@ -88,7 +84,7 @@ pub(crate) fn publish_at(alloc: Global, rest: &mut Rest) -> Result<ScriptCommand
     }))
 }
 
-/// Reads what follows `publish`, and gives its parts by themselves.
+/// Reads what follows `publish`, and returns its parts.
 #[inline(always)]
 pub(crate) fn publication_at(alloc: Global, rest: &mut Rest) -> Result<Publication, PartFault>
     ensures { TakesRow words.Publish rest.old.bytes.now (publish_read result) }
@@ -107,7 +103,6 @@ pub(crate) fn publication_at(alloc: Global, rest: &mut Rest) -> Result<Publicati
     })
 }
 
-/// Reads what follows `delete`.
 pub(crate) fn delete_at(rest: &mut Rest) -> Result<ScriptCommand, PartFault>
     ensures { TakesRow words.Delete rest.old.bytes.now result }
 {
@@ -122,7 +117,6 @@ pub(crate) fn delete_at(rest: &mut Rest) -> Result<ScriptCommand, PartFault>
     }))
 }
 
-/// Reads what follows `sweep`.
 pub(crate) fn sweep_at(rest: &mut Rest) -> Result<ScriptCommand, PartFault>
     ensures { TakesRow words.Sweep rest.old.bytes.now result }
 {
@@ -137,7 +131,6 @@ pub(crate) fn sweep_at(rest: &mut Rest) -> Result<ScriptCommand, PartFault>
     }))
 }
 
-/// Reads what follows `retrieve`.
 pub(crate) fn retrieve_at(rest: &mut Rest) -> Result<ScriptCommand, PartFault>
     ensures { TakesRow words.Retrieve rest.old.bytes.now result }
 {
@@ -145,7 +138,7 @@ pub(crate) fn retrieve_at(rest: &mut Rest) -> Result<ScriptCommand, PartFault>
     Ok(ScriptCommand::Store(Command::Retrieve { key }))
 }
 
-/// Reads what follows `retrieve`, and gives its key by itself.
+/// Reads what follows `retrieve`, and returns its key.
 #[inline(always)]
 pub(crate) fn retrieved_at(rest: &mut Rest) -> Result<Key, PartFault>
     ensures { TakesRow words.Retrieve rest.old.bytes.now (retrieve_read result) }
@@ -155,7 +148,6 @@ pub(crate) fn retrieved_at(rest: &mut Rest) -> Result<Key, PartFault>
     Ok(key)
 }
 
-/// Reads what follows `nameof`.
 pub(crate) fn nameof_at(rest: &mut Rest) -> Result<ScriptCommand, PartFault>
     ensures { TakesRow words.NameOf rest.old.bytes.now result }
 {
@@ -164,7 +156,6 @@ pub(crate) fn nameof_at(rest: &mut Rest) -> Result<ScriptCommand, PartFault>
     Ok(ScriptCommand::Store(Command::NameOf { endpoint }))
 }
 
-/// Reads what follows `subscribe`.
 pub(crate) fn subscribe_at(alloc: Global, rest: &mut Rest) -> Result<ScriptCommand, PartFault>
     ensures { TakesRow words.Subscribe rest.old.bytes.now result }
 {
@@ -185,7 +176,6 @@ pub(crate) fn subscribe_at(alloc: Global, rest: &mut Rest) -> Result<ScriptComma
     }))
 }
 
-/// Reads what follows `check`.
 pub(crate) fn check_at(rest: &mut Rest) -> Result<ScriptCommand, PartFault>
     ensures { TakesRow words.Check rest.old.bytes.now result }
 {
@@ -195,7 +185,6 @@ pub(crate) fn check_at(rest: &mut Rest) -> Result<ScriptCommand, PartFault>
     Ok(ScriptCommand::Store(Command::Check { sub, max }))
 }
 
-/// Reads what follows `map`.
 pub(crate) fn map_at(alloc: Global, rest: &mut Rest) -> Result<ScriptCommand, PartFault>
     ensures { TakesRow words.Map rest.old.bytes.now result }
 {
@@ -208,7 +197,6 @@ pub(crate) fn map_at(alloc: Global, rest: &mut Rest) -> Result<ScriptCommand, Pa
     Ok(ScriptCommand::Map { query })
 }
 
-/// Reads what follows `entries`.
 pub(crate) fn entries_at(rest: &mut Rest) -> Result<ScriptCommand, PartFault>
     ensures { TakesRow words.Entries rest.old.bytes.now result }
 {

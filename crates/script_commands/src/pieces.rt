@@ -1,4 +1,4 @@
-//! Readers of the pieces of a line.
+//! Readers of a line's pieces.
 
 #![tactic(auto, unfolding(crate::specs::Reads::ReadsOr))]
 
@@ -16,9 +16,8 @@ use ds_names::limits::LAST_GENERATION;
 use ds_names::{Endpoint, Generation, Key, Kind, Kinds, Name, Version, read_byte, read_decimal};
 use std::alloc::Global;
 
-/// What isn't read yet of a line. Each reader leaves out what it reads: a piece, and before it the byte that parts it
-/// from the piece before. It notes which part it reads next, so that where it stops, that is the part which can't be
-/// read.
+/// The unread rest of a line. Each reader takes a piece off its front, with the byte before it that separates it from
+/// the piece before. It records which part it reads next, so where it stops, that is the bad part.
 #[derive(Clone, Copy)]
 pub(crate) struct Rest<'a> {
     pub bytes: &'a [u8],
@@ -43,7 +42,6 @@ impl Rest<'_> {
         }
     }
 
-    /// Reads an endpoint.
     pub fn endpoint(&mut self, expected: Expected) -> Result<Endpoint, PartFault>
         ensures { Reads an_endpoint self.old.bytes.now result self.new.bytes.now }
     {
@@ -57,7 +55,7 @@ impl Rest<'_> {
         Ok(endpoint)
     }
 
-    /// Reads `new` or `over`, and gives whether it is `over`.
+    /// Reads `new` or `over`. Returns true for `over`.
     #[inline(always)]
     pub fn mode(&mut self) -> Result<bool, PartFault>
         ensures { Reads a_mode self.old.bytes.now result self.new.bytes.now }
@@ -72,7 +70,7 @@ impl Rest<'_> {
         Ok(overwrite)
     }
 
-    /// Reads `first` or `later`, and gives whether it is `first`.
+    /// Reads `first` or `later`. Returns true for `first`.
     pub fn initial(&mut self) -> Result<bool, PartFault>
         ensures { Reads an_initial self.old.bytes.now result self.new.bytes.now }
     {
@@ -86,7 +84,6 @@ impl Rest<'_> {
         Ok(initial)
     }
 
-    /// Reads a name.
     #[inline(always)]
     pub fn name(&mut self, expected: Expected) -> Result<Name, PartFault>
         ensures { Reads a_name self.old.bytes.now result self.new.bytes.now }
@@ -124,7 +121,6 @@ impl Rest<'_> {
         Ok(Key { name, kind })
     }
 
-    /// Reads a generation.
     pub fn generation(&mut self, expected: Expected) -> Result<Generation, PartFault>
         ensures { Reads a_generation self.old.bytes.now result self.new.bytes.now }
     {
@@ -189,7 +185,7 @@ impl Rest<'_> {
         Ok(number)
     }
 
-    /// Reads the mask of some kinds.
+    /// Reads a mask of kinds.
     pub fn kinds(&mut self) -> Result<Kinds, PartFault>
         ensures { Reads a_kinds self.old.bytes.now result self.new.bytes.now }
     {
@@ -230,7 +226,7 @@ impl Rest<'_> {
     }
 }
 
-// Whether a word is `over`, if it is `new` or `over`.
+// Returns true for `over`, false for `new`; `None` for another word.
 fn mode_of(word: &[u8]) -> Option<bool>
     ensures found { IfSome result (λ overwrite. word.now ≡ mode_word overwrite) }
     ensures none { IfNone result ((overwrite : Bool) → word.now ≢ mode_word overwrite) }
@@ -244,7 +240,7 @@ fn mode_of(word: &[u8]) -> Option<bool>
     }
 }
 
-// Whether a word is `first`, if it is `first` or `later`.
+// Returns true for `first`, false for `later`; `None` for another word.
 fn initial_of(word: &[u8]) -> Option<bool>
     ensures found { IfSome result (λ initial. word.now ≡ initial_word initial) }
     ensures none { IfNone result ((initial : Bool) → word.now ≢ initial_word initial) }

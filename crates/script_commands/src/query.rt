@@ -1,4 +1,4 @@
-//! Queries as lines write them: a pattern in quotes, and the mask of the kinds.
+//! Queries in a line: a pattern in quotes, and a mask of kinds.
 
 #![tactic(auto, unfolding(crate::specs::Reads::ReadsOr))]
 
@@ -16,8 +16,8 @@ use ds_pattern::{PatternText, Query};
 use std::alloc::Global;
 
 impl<'a> Rest<'a> {
-    /// Reads a pattern in quotes, and gives what is written between them: only where the whole line is read does the
-    /// pattern take memory.
+    /// Reads a pattern in quotes, and returns the bytes between them. The pattern is allocated only after the whole
+    /// line is read.
     pub fn pattern(&mut self) -> Result<&'a [u8], PartFault>
         ensures found { IfOk result (λ text. FindsPattern text.now self.old.bytes.now self.new.bytes.now) }
         ensures stop { IfErr result (λ stop. Reads a_pattern self.old.bytes.now (Err stop) self.new.bytes.now) }
@@ -32,8 +32,8 @@ impl<'a> Rest<'a> {
     }
 }
 
-/// The query of a pattern that is written so between its quotes, and of some kinds. NoRoom: out of memory for the
-/// pattern.
+/// Returns the query of a pattern, given by the bytes between its quotes, and of some kinds. Refuses NoRoom if the
+/// pattern can't be allocated.
 pub(crate) fn query_of(alloc: Global, written: &[u8], kinds: Kinds) -> Result<Query, NoRoom>
     requires { IsWrittenText written.now }
     ensures { IfOk result (λ query. written_query written.now kinds ≡ query) }
@@ -42,8 +42,8 @@ pub(crate) fn query_of(alloc: Global, written: &[u8], kinds: Kinds) -> Result<Qu
     Ok(Query { text, kinds })
 }
 
-// Reads one byte of a text as it stands in quotes: `\"` is a quote and `\\` a backslash, and each other byte but the
-// newline stands for itself.
+// Reads one byte of a quoted text: `\"` is a quote, `\\` a backslash, and every other byte except the newline is
+// itself.
 fn written_byte_at(bytes: &[u8]) -> Option<(u8, &[u8])>
     ensures found { IfSome result (λ r. bytes.now ≡ escaped_byte r.0 ++ r.1.now) }
     ensures valid { IfSome result (λ r. r.0 ≢ 10) }
@@ -64,8 +64,8 @@ fn written_byte_at(bytes: &[u8]) -> Option<(u8, &[u8])>
     }
 }
 
-// Reads the text in quotes at the front, and gives what is written between the quotes with what comes behind them.
-// `None` where no text without a newline is written there.
+// Reads the quoted text at the front. Returns the bytes between the quotes, and the rest. `None` if there is no quoted
+// text without a newline.
 pub(crate) fn quoted_at(bytes: &[u8]) -> Option<(&[u8], &[u8])>
     ensures found { IfSome result (λ r. (text : List ℕ) × IsUnbroken text × (r.0.now ≡ escaped text)
         × (bytes.now ≡ quoted text ++ r.1.now)) }
@@ -82,7 +82,7 @@ pub(crate) fn quoted_at(bytes: &[u8]) -> Option<(&[u8], &[u8])>
     Some((&written[..written.len() - rest.len()], behind))
 }
 
-// The text that is written so.
+// Returns the text of these bytes, with its escapes resolved.
 fn unescape(alloc: Global, written: &[u8]) -> Result<PatternText, NoRoom>
     requires { IsWrittenText written.now }
     ensures { IfOk result (λ text. unescaped written.now ≡ text) }

@@ -1,4 +1,4 @@
-//! Reading the lines of commands.
+//! Readers of whole lines.
 
 ghost use Rattle.std.specs.Prelude.{◌≡◌, ◌≤◌, ◌+◌, length, take, IfOk, IfErr};
 ghost use Rattle.line_io.specs.Lines.{EndsLine, IsUnbroken, with_newline};
@@ -23,10 +23,9 @@ use std::alloc::Global;
 
 /// Reads the command of a line, which comes without its newline and has none in it.
 ///
-/// Where the line is no command's it gives BadLine, with the place where the first part that can't be read begins, and
-/// that part; the newline is the last part. A line above 4096 bytes is bad at place 4096, whatever it holds. An unknown
-/// word is bad at place 0. NoRoom comes only where the line is a command's: only texts, blobs, patterns and some settings take
-/// memory.
+/// Refuses a line that isn't a command as BadLine, with the place and kind of its first bad part; the newline is the
+/// last part. A line above 4096 bytes is bad at place 4096, whatever it holds. An unknown word is bad at place 0.
+/// NoRoom is possible only for a command with a text, a blob, a pattern or settings.
 pub fn read_command(alloc: Global, line: &[u8]) -> Result<ScriptCommand, CommandFault>
     requires { IsUnbroken line.now }
     ensures found { IfOk result (λ command. IsLineOf command line.now) }
@@ -43,7 +42,7 @@ pub fn read_command(alloc: Global, line: &[u8]) -> Result<ScriptCommand, Command
     read_line(alloc, &block[..line.len() + 1])
 }
 
-// Writes a line, and a newline behind it, to the front of a block.
+// Writes a line and a newline to the front of a block.
 fn end_line(line: &[u8], block: &mut [u8; LONGEST_LINE + 1])
     requires { length line.now ≤ 4096 }
     ensures { take (length line.now + 1) block.new ≡ with_newline line.now }
@@ -52,7 +51,7 @@ fn end_line(line: &[u8], block: &mut [u8; LONGEST_LINE + 1])
     block[line.len()] = b'\n';
 }
 
-/// Reads the command of a line, which comes with its newline and has no other. How long it is, its caller judges.
+/// Reads the command of a line, which ends with its newline and has no other. The caller judges its length.
 #[inline(always)]
 pub fn read_line(alloc: Global, line: &[u8]) -> Result<ScriptCommand, CommandFault>
     requires { EndsLine line.now }

@@ -1,4 +1,4 @@
-//! Scopes as lines write them: `*`, or a query.
+//! Scopes in a line: `*`, or a query.
 
 #![tactic(auto, unfolding(crate::specs::Reads::ReadsOr))]
 
@@ -14,8 +14,8 @@ use ds_names::{Kinds, NoRoom, read_byte};
 use std::alloc::Global;
 
 impl<'a> Rest<'a> {
-    /// Reads `*`, or a pattern in quotes and the mask of some kinds, and gives what is written between the quotes with
-    /// the kinds, which are `None` for `*`: only where the whole line is read does the pattern take memory.
+    /// Reads `*`, or a pattern in quotes and a mask of kinds. Returns the bytes between the quotes, and the kinds,
+    /// which are `None` for `*`. The pattern is allocated only after the whole line is read.
     pub fn scope(&mut self) -> Result<(&'a [u8], Option<Kinds>), PartFault>
         ensures found { IfOk result (λ written. FindsScope written.0.now written.1 self.old.bytes.now self.new.bytes.now) }
         ensures stop { IfErr result (λ stop. Reads a_scope self.old.bytes.now (Err stop) self.new.bytes.now) }
@@ -35,7 +35,8 @@ impl<'a> Rest<'a> {
     }
 }
 
-/// The scope that is written so: of all keys where there are no kinds. NoRoom: out of memory for a pattern.
+/// Returns the scope of these bytes and kinds; without kinds it is that of all keys. Refuses NoRoom if the pattern
+/// can't be allocated.
 pub(crate) fn scope_of(alloc: Global, text: &[u8], kinds: Option<Kinds>) -> Result<Scope, NoRoom>
     requires { IsWrittenScope text.now kinds }
     ensures scope { IfOk result (λ scope. written_scope text.now kinds ≡ scope) }

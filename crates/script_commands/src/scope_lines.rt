@@ -1,4 +1,4 @@
-//! What the lines that have a scope have behind their word.
+//! Readers of the rest of a line with a scope, one for each word.
 
 #![tactic(auto, unfolding(crate::specs::Row::TakesRow))]
 
@@ -13,7 +13,6 @@ use ds_line::{Expected, PartFault};
 use ds_machine::Command;
 use std::alloc::Global;
 
-/// Reads what follows `since`.
 pub(crate) fn since_at(alloc: Global, rest: &mut Rest) -> Result<ScriptCommand, PartFault>
     ensures { TakesRow words.Since rest.old.bytes.now result }
 {
@@ -35,7 +34,6 @@ pub(crate) fn since_at(alloc: Global, rest: &mut Rest) -> Result<ScriptCommand, 
     Ok(ScriptCommand::Store(Command::Since { scope, cursor, max }))
 }
 
-/// Reads what follows `snapshot`.
 pub(crate) fn snapshot_at(alloc: Global, rest: &mut Rest) -> Result<ScriptCommand, PartFault>
     ensures { TakesRow words.Snapshot rest.old.bytes.now result }
 {
@@ -50,7 +48,6 @@ pub(crate) fn snapshot_at(alloc: Global, rest: &mut Rest) -> Result<ScriptComman
     Ok(ScriptCommand::Store(Command::Snapshot { scope }))
 }
 
-/// Reads what follows `page`.
 pub(crate) fn page_at(alloc: Global, rest: &mut Rest) -> Result<ScriptCommand, PartFault>
     ensures { TakesRow words.Page rest.old.bytes.now result }
 {

@@ -1,21 +1,21 @@
-//! What the lines to services and driver tables name.
+//! The parts of lines for RS and driver tables.
 
 use driver_tables::FileClass;
 
-/// What RS is asked for a service, as MINIX 3's `service` command asks it.
+/// A request to RS for a service, as of MINIX 3's `service` command.
 #[derive(Clone, Copy)]
 pub enum Request {
-    /// `up`: to start it.
+    /// `up`: start it.
     Up,
-    /// `down`: to stop it.
+    /// `down`: stop it.
     Down,
-    /// `refresh`: to stop it and start it again at once.
+    /// `refresh`: stop it, and start it again at once.
     Refresh,
-    /// `restart`: to start it where it waits or was given up.
+    /// `restart`: start it although it waits or was given up.
     Restart,
 }
 
-/// What a driver drives.
+/// The unit that a driver drives.
 #[derive(Clone, Copy)]
 pub enum Device {
     /// `file MAJOR block` or `file MAJOR character`: a major device of the file server.
@@ -24,7 +24,7 @@ pub enum Device {
     Net { port: u8 },
 }
 
-/// The server whose table is meant.
+/// The server whose table a line is for.
 #[derive(Clone, Copy)]
 pub enum Server {
     /// `file`: the file server.

@@ -1,4 +1,4 @@
-//! What a line tells RS.
+//! The RS event of a line.
 
 ghost use Rattle.std.specs.Prelude.{◌≡◌};
 ghost use Rattle.script_commands.specs.ServiceEvent.{request_event, service_event_of};
@@ -9,8 +9,7 @@ use ds_names::Name;
 use rs_core::Event;
 
 impl ScriptCommand {
-    /// The event that the line is for RS, and its tick. `None` for a line that is none: all but `service`, `death`, `beat` and
-    /// `tick`.
+    /// Returns the line's event for RS, with its tick. `None` unless it is a `service`, `death`, `beat` or `tick` line.
     pub fn service_event(&self) -> Option<(Event, u64)>
         ensures { result ≡ service_event_of self.now }
     {
@@ -32,7 +31,6 @@ impl ScriptCommand {
     }
 }
 
-// What RS is asked for the service of a label.
 fn request_event(request: Request, label: Name) -> Event
     ensures { result ≡ request_event request label }
 {

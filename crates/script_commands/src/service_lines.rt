@@ -1,4 +1,4 @@
-//! What the lines to RS have behind their word.
+//! Readers of the rest of a line for RS, one for each word.
 
 #![tactic(auto, unfolding(crate::specs::Row::TakesRow))]
 
@@ -11,7 +11,6 @@ use crate::settings_text::SettingsText;
 use ds_line::{Expected, PartFault};
 use std::alloc::Global;
 
-/// Reads what follows `settings`.
 pub(crate) fn settings_at(alloc: Global, rest: &mut Rest) -> Result<ScriptCommand, PartFault>
     ensures { TakesRow words.Settings rest.old.bytes.now result }
 {
@@ -22,7 +21,6 @@ pub(crate) fn settings_at(alloc: Global, rest: &mut Rest) -> Result<ScriptComman
     Ok(ScriptCommand::Settings { text })
 }
 
-/// Reads what follows `service`.
 pub(crate) fn service_at(rest: &mut Rest) -> Result<ScriptCommand, PartFault>
     ensures { TakesRow words.Service rest.old.bytes.now result }
 {
@@ -37,7 +35,6 @@ pub(crate) fn service_at(rest: &mut Rest) -> Result<ScriptCommand, PartFault>
     })
 }
 
-/// Reads what follows `death`.
 pub(crate) fn death_at(rest: &mut Rest) -> Result<ScriptCommand, PartFault>
     ensures { TakesRow words.Death rest.old.bytes.now result }
 {
@@ -52,7 +49,6 @@ pub(crate) fn death_at(rest: &mut Rest) -> Result<ScriptCommand, PartFault>
     })
 }
 
-/// Reads what follows `beat`.
 pub(crate) fn beat_at(rest: &mut Rest) -> Result<ScriptCommand, PartFault>
     ensures { TakesRow words.Beat rest.old.bytes.now result }
 {
@@ -62,7 +58,6 @@ pub(crate) fn beat_at(rest: &mut Rest) -> Result<ScriptCommand, PartFault>
     Ok(ScriptCommand::Beat { endpoint, tick })
 }
 
-/// Reads what follows `tick`.
 pub(crate) fn tick_at(rest: &mut Rest) -> Result<ScriptCommand, PartFault>
     ensures { TakesRow words.Tick rest.old.bytes.now result }
 {

@@ -1,4 +1,4 @@
-//! Readers of the pieces of lines to services and driver tables.
+//! Readers of the pieces of lines for RS and driver tables.
 
 #![tactic(auto, unfolding(crate::specs::Reads::ReadsOr))]
 
@@ -18,7 +18,7 @@ use ds_names::read_decimal;
 use line_io::newline_place;
 
 impl<'a> Rest<'a> {
-    /// Reads the rest of the line, its newline too, and gives what stands before that.
+    /// Reads the rest of the line with its newline, and returns what is before the newline.
     pub fn text(&mut self) -> Result<&'a [u8], PartFault>
         ensures found { IfOk result (λ text. Reads a_text self.old.bytes.now (Ok text.now) self.new.bytes.now) }
         ensures stop { IfErr result (λ stop. Reads a_text self.old.bytes.now (Err stop) self.new.bytes.now) }
@@ -33,7 +33,6 @@ impl<'a> Rest<'a> {
         Ok(text)
     }
 
-    /// Reads what RS is asked for a service.
     pub fn request(&mut self) -> Result<Request, PartFault>
         ensures { Reads a_request self.old.bytes.now result self.new.bytes.now }
     {
@@ -88,7 +87,7 @@ impl<'a> Rest<'a> {
         Ok(number as u8)
     }
 
-    /// Reads what a driver drives: a major device with its class, or a port.
+    /// Reads a device: a major device with its class, or a port.
     pub fn device(&mut self) -> Result<Device, PartFault>
         ensures { Reads a_device self.old.bytes.now result self.new.bytes.now }
     {
@@ -106,7 +105,6 @@ impl<'a> Rest<'a> {
     }
 }
 
-// What RS is asked for by a word.
 fn request_of(word: &[u8]) -> Option<Request>
     ensures found { IfSome result (λ request. word.now ≡ request_word request) }
     ensures none { IfNone result ((request : Request) → word.now ≢ request_word request) }
@@ -124,7 +122,6 @@ fn request_of(word: &[u8]) -> Option<Request>
     }
 }
 
-// The server that a word names.
 fn server_of(word: &[u8]) -> Option<Server>
     ensures found { IfSome result (λ server. word.now ≡ server_word server) }
     ensures none { IfNone result ((server : Server) → word.now ≢ server_word server) }
@@ -138,7 +135,6 @@ fn server_of(word: &[u8]) -> Option<Server>
     }
 }
 
-// The class of a major device that a word names.
 fn class_of(word: &[u8]) -> Option<FileClass>
     ensures found { IfSome result (λ class. word.now ≡ class_word class) }
     ensures none { IfNone result ((class : FileClass) → word.now ≢ class_word class) }

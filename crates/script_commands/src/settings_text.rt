@@ -1,4 +1,4 @@
-//! The text of settings on a line.
+//! The text of settings in a line.
 
 ghost use Rattle.std.specs.Prelude.{◌≡◌, ◌≢◌, [], IfOk, OnErr};
 
@@ -6,8 +6,8 @@ use ds_names::NoRoom;
 use std::alloc::Global;
 use std::marker::Model;
 
-/// What stands behind `settings` and a space: any bytes but a newline. Whether they are a settings text is judged by whoever
-/// reads them as one.
+/// The bytes after `settings` and a space: any bytes except a newline. Whether they are a settings text is judged when
+/// they are read as one.
 #[derive(Drop)]
 pub struct SettingsText {
     bytes: Vec<u8>,
@@ -22,7 +22,7 @@ impl Model for SettingsText {
 }
 
 impl SettingsText {
-    // A copy of the bytes. None takes no memory.
+    // Returns a copy of the bytes. A copy of no bytes takes no memory.
     pub(crate) fn of(alloc: Global, bytes: &[u8]) -> Result<SettingsText, NoRoom>
         ensures text { IfOk result (λ text. text ≡ bytes.now) }
         ensures room { OnErr result (bytes.now ≢ []) }
@@ -37,7 +37,7 @@ impl SettingsText {
         })
     }
 
-    /// Its bytes.
+    /// Returns the bytes.
     pub fn bytes(&self) -> &[u8]
         ensures { result.now ≡ self.now }
     {

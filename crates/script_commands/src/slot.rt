@@ -1,12 +1,12 @@
-//! What stands in one place of a line.
+//! The kinds of slots of a line.
 
-/// What stands in one place of a line, and which text that is. The names of the manual are these, in capitals, where no other
-/// is given. Before each but `End` stands a space.
+/// A slot of a line, and the text that fills it. Its name in the manual is its name here in capitals, unless another is
+/// given. A space comes before every slot except `End`.
 #[derive(Clone, Copy)]
 pub enum Slot {
     /// `CHANGE` or `FLOOR`: an item, with the newline of its line.
     Item,
-    /// An endpoint that asks.
+    /// The endpoint of the caller.
     Caller,
     /// `new` or `over`.
     Mode,
@@ -14,27 +14,27 @@ pub enum Slot {
     Key,
     /// `EPOCH.SEQ`: a version.
     Version,
-    /// `= VALUE`: a value of the kind of the key before it, with the newline behind it.
+    /// `= VALUE`: a value of the kind of the key before it, with the newline of its line.
     Value,
     /// The name of an owner.
     Owner,
     /// A generation, 0 to 2097151.
     Generation,
-    /// An endpoint that is asked about.
+    /// The endpoint of the instance or driver that the line is about.
     Endpoint,
     /// The number of a subscription, below 2^32.
     Sub,
     /// A pattern in quotes.
     Pattern,
-    /// The sum of some kinds, 1 to 15.
+    /// The sum of one or more kinds, 1 to 15.
     Kinds,
     /// `first` or `later`.
     Initial,
-    /// How many items are wanted at most, below 2^32.
+    /// The most items wanted, below 2^32.
     Max,
     /// `J`: the number of a map, below 2^64.
     Map,
-    /// `N`: how many items a journal keeps, 1 to 4096.
+    /// `N`: the number of items that a journal keeps, 1 to 4096.
     Ring,
     /// `a` or `b`.
     Side,
@@ -46,12 +46,12 @@ pub enum Slot {
     Message,
     /// `a`, `b`, or `mJ` for a map.
     Holder,
-    /// How many items are given, below 2^32, or `*` for all.
+    /// The number of items to deliver, below 2^32, or `*` for all.
     Count,
     /// `*`, or `PATTERN KINDS`.
     Scope,
-    /// `AFTER MAX`: behind which key a page begins, `NAME KIND` or `-`, and how many changes it has at most. They are one,
-    /// since what stands behind a `-` tells whether it is a name's.
+    /// `AFTER MAX`: the key after which a page begins, `NAME KIND` or `-`, and the most changes. They are one slot,
+    /// since what follows a `-` decides whether it is a name.
     Range,
     /// `REST`: the rest of the line, any bytes, with the newline of its line.
     Text,
@@ -63,8 +63,8 @@ pub enum Slot {
     Tick,
     /// The number of a cause of death, below 2^64.
     Cause,
-    /// `file MAJOR block`, `file MAJOR character`, or `net PORT`: what a driver drives. MAJOR and PORT are 0 to 255. They are
-    /// one, since the first word tells what stands behind it.
+    /// `file MAJOR block`, `file MAJOR character`, or `net PORT`: the unit of a driver. MAJOR and PORT are 0 to 255.
+    /// They are one slot, since the first word decides what follows it.
     Device,
     /// `file` or `net`.
     Server,

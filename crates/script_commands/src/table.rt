@@ -1,4 +1,4 @@
-//! The grammar of commands as a table: for each word, what stands behind it.
+//! The grammar of commands as a table: for each word, the slots after it.
 
 ghost use Rattle.std.specs.Prelude.{◌≡◌};
 ghost use Rattle.script_commands.specs.Table.{slots_of};
@@ -7,7 +7,7 @@ ghost use Rattle.script_commands.specs.Words.{IsOfServices, IsOfWorld};
 use crate::slot::Slot;
 use crate::word::Word;
 
-/// What stands behind a word, in its order.
+/// Returns the slots after a word, in order.
 pub fn slots_of(word: Word) -> &'static [Slot]
     ensures { result.now ≡ slots_of word }
 {
@@ -40,7 +40,7 @@ pub fn slots_of(word: Word) -> &'static [Slot]
     }
 }
 
-// What stands behind a word of a line to a world, or to services or driver tables.
+// Returns the slots after a word of a line for a world, for RS or for driver tables.
 fn slots_of_world(word: Word) -> &'static [Slot]
     ensures world { IsOfWorld word → result.now ≡ slots_of word }
     ensures services { IsOfServices word → result.now ≡ slots_of word }
@@ -64,7 +64,7 @@ fn slots_of_world(word: Word) -> &'static [Slot]
     }
 }
 
-// What stands behind a word of a line to services or driver tables.
+// Returns the slots after a word of a line for RS or driver tables.
 fn slots_of_services(word: Word) -> &'static [Slot]
     ensures { IsOfServices word → result.now ≡ slots_of word }
 {

@@ -1,4 +1,4 @@
-//! What the lines to driver tables have behind their word.
+//! Readers of the rest of a line for driver tables, one for each word.
 
 #![tactic(auto, unfolding(crate::specs::Row::TakesRow))]
 
@@ -9,7 +9,6 @@ use crate::command::ScriptCommand;
 use crate::pieces::Rest;
 use ds_line::{Expected, PartFault};
 
-/// Reads what follows `assign`.
 pub(crate) fn assign_at(rest: &mut Rest) -> Result<ScriptCommand, PartFault>
     ensures { TakesRow words.Assign rest.old.bytes.now result }
 {
@@ -19,7 +18,6 @@ pub(crate) fn assign_at(rest: &mut Rest) -> Result<ScriptCommand, PartFault>
     Ok(ScriptCommand::Assign { device, label })
 }
 
-/// Reads what follows `follow`.
 pub(crate) fn follow_at(rest: &mut Rest) -> Result<ScriptCommand, PartFault>
     ensures { TakesRow words.Follow rest.old.bytes.now result }
 {
@@ -28,7 +26,6 @@ pub(crate) fn follow_at(rest: &mut Rest) -> Result<ScriptCommand, PartFault>
     Ok(ScriptCommand::Follow { map })
 }
 
-/// Reads what follows `submit`.
 pub(crate) fn submit_at(rest: &mut Rest) -> Result<ScriptCommand, PartFault>
     ensures { TakesRow words.Submit rest.old.bytes.now result }
 {
@@ -45,7 +42,6 @@ pub(crate) fn submit_at(rest: &mut Rest) -> Result<ScriptCommand, PartFault>
     })
 }
 
-/// Reads what follows `reply`.
 pub(crate) fn reply_at(rest: &mut Rest) -> Result<ScriptCommand, PartFault>
     ensures { TakesRow words.Reply rest.old.bytes.now result }
 {

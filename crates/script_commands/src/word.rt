@@ -1,4 +1,4 @@
-//! The words that commands begin with.
+//! The words of commands.
 
 ghost use Rattle.std.specs.Prelude.{◌≡◌, ◌≢◌, ℕ, List, IfSome, IfNone};
 ghost use Rattle.std.specs.Char.{is_ascii_alphanumeric};
@@ -43,8 +43,8 @@ pub enum Word {
     Reply,
 }
 
-/// The command's word at the front, which is the longest run of letters and digits there, and what comes behind it. `None`
-/// where that run is no command's word.
+/// Returns the command's word at the front, and what follows it. The word is the longest run of letters and digits
+/// there; `None` if no command has that word.
 #[inline(always)]
 pub(crate) fn word_front(line: &[u8]) -> Option<(Word, &[u8])>
     ensures found { IfSome result (λ r. Begins is_ascii_alphanumeric line.now (text_of r.0) r.1.now) }
@@ -60,7 +60,8 @@ pub(crate) fn word_front(line: &[u8]) -> Option<(Word, &[u8])>
     Some((word, rest))
 }
 
-// The word at the front, if it is one of the three that scripts have most of and a space follows it. `None` says nothing.
+// Returns the word at the front, if it is one of the three most frequent ones and a space follows it. `None` decides
+// nothing.
 #[inline(always)]
 fn common_front(line: &[u8]) -> Option<(Word, &[u8])>
     ensures { IfSome result (λ r. Begins is_ascii_alphanumeric line.now (text_of r.0) r.1.now) }
@@ -76,7 +77,7 @@ fn common_front(line: &[u8]) -> Option<(Word, &[u8])>
     }
 }
 
-// The command's word that a text is.
+// Returns the word with this text.
 fn word_of(text: &[u8]) -> Option<Word>
     ensures found { IfSome result (λ word. text.now ≡ text_of word) }
     ensures none { IfNone result ((word : Word) → text.now ≢ text_of word) }
@@ -89,7 +90,7 @@ fn word_of(text: &[u8]) -> Option<Word>
     None
 }
 
-// The words, each once, those first that scripts have most of.
+// Returns the words, each once, the most frequent ones first.
 fn all_words() -> &'static [Word]
     ensures { result.now ≡ all_words }
 {
@@ -126,7 +127,6 @@ fn all_words() -> &'static [Word]
     ]
 }
 
-// The text of a word.
 fn text_of(word: Word) -> &'static [u8]
     ensures { result.now ≡ text_of word }
 {

@@ -1,4 +1,4 @@
-//! How the reply to a line is worded.
+//! The wording of a line's reply.
 
 ghost use Rattle.std.specs.Prelude.{◌≡◌};
 ghost use Rattle.script_commands.specs.Wording.{wording};
@@ -7,7 +7,7 @@ use crate::command::ScriptCommand;
 use store_answers::Wording;
 
 impl ScriptCommand {
-    /// How a Merge that the line asks for is answered.
+    /// Returns how the reply to the line's Merge is worded.
     pub fn wording(&self) -> Wording
         ensures { result ≡ wording self.now }
     {

@@ -1,4 +1,4 @@
-//! What the lines of a world have behind their word.
+//! Readers of the rest of a line of a world, one for each word.
 
 #![tactic(auto, unfolding(crate::specs::Row::TakesRow))]
 
@@ -9,7 +9,6 @@ use crate::command::ScriptCommand;
 use crate::pieces::Rest;
 use ds_line::{Expected, PartFault};
 
-/// Reads what follows `ring`.
 pub(crate) fn ring_at(rest: &mut Rest) -> Result<ScriptCommand, PartFault>
     ensures { TakesRow words.Ring rest.old.bytes.now result }
 {
@@ -18,7 +17,6 @@ pub(crate) fn ring_at(rest: &mut Rest) -> Result<ScriptCommand, PartFault>
     Ok(ScriptCommand::Ring { ring })
 }
 
-/// Reads what follows `side`.
 pub(crate) fn side_at(rest: &mut Rest) -> Result<ScriptCommand, PartFault>
     ensures { TakesRow words.Side rest.old.bytes.now result }
 {
@@ -27,7 +25,6 @@ pub(crate) fn side_at(rest: &mut Rest) -> Result<ScriptCommand, PartFault>
     Ok(ScriptCommand::Side { side })
 }
 
-/// Reads what follows `clear`.
 pub(crate) fn clear_at(rest: &mut Rest) -> Result<ScriptCommand, PartFault>
     ensures { TakesRow words.Clear rest.old.bytes.now result }
 {
@@ -36,7 +33,6 @@ pub(crate) fn clear_at(rest: &mut Rest) -> Result<ScriptCommand, PartFault>
     Ok(ScriptCommand::Clear { map })
 }
 
-/// Reads what follows `restart`.
 pub(crate) fn restart_at(rest: &mut Rest) -> Result<ScriptCommand, PartFault>
     ensures { TakesRow words.Restart rest.old.bytes.now result }
 {
@@ -46,7 +42,6 @@ pub(crate) fn restart_at(rest: &mut Rest) -> Result<ScriptCommand, PartFault>
     Ok(ScriptCommand::Restart { side, incarnation })
 }
 
-/// Reads what follows `deliver`.
 pub(crate) fn deliver_at(rest: &mut Rest) -> Result<ScriptCommand, PartFault>
     ensures { TakesRow words.Deliver rest.old.bytes.now result }
 {

@@ -17,7 +17,7 @@ use ds_names::{read_byte, read_decimal};
 use ds_replica::{Holder, Side};
 
 impl Rest<'_> {
-    /// Reads how many changes a journal has room for.
+    /// Reads the number of items that a journal keeps.
     pub fn ring(&mut self) -> Result<u32, PartFault>
         ensures { Reads a_ring self.old.bytes.now result self.new.bytes.now }
     {
@@ -47,7 +47,7 @@ impl Rest<'_> {
         Ok(side)
     }
 
-    /// Reads a side, or a map's number behind an `m`.
+    /// Reads a side, or `m` and a map's number.
     pub fn holder(&mut self) -> Result<Holder, PartFault>
         ensures { Reads a_holder self.old.bytes.now result self.new.bytes.now }
     {
@@ -61,7 +61,7 @@ impl Rest<'_> {
         Ok(holder)
     }
 
-    /// Reads how many items are given, or `*`.
+    /// Reads the number of items to deliver, or `*`.
     pub fn count(&mut self) -> Result<Option<u32>, PartFault>
         ensures { Reads a_count self.old.bytes.now result self.new.bytes.now }
     {
@@ -79,7 +79,6 @@ impl Rest<'_> {
     }
 }
 
-// The side that a word names.
 fn side_of(word: &[u8]) -> Option<Side>
     ensures found { IfSome result (λ side. word.now ≡ side_word side) }
     ensures none { IfNone result ((side : Side) → word.now ≢ side_word side) }
@@ -93,7 +92,7 @@ fn side_of(word: &[u8]) -> Option<Side>
     }
 }
 
-// The map that a word names: its number behind an `m`.
+// Returns the map that a word names, by `m` and its number.
 fn map_of(word: &[u8]) -> Option<u64>
     ensures found { IfSome result (λ map. word.now ≡ 109 ∷ decimal map) }
     ensures none { IfNone result ((map : ℕ) → map < 2 ^ 64 → word.now ≢ 109 ∷ decimal map) }
@@ -103,7 +102,7 @@ fn map_of(word: &[u8]) -> Option<u64>
     if rest.is_empty() { Some(map) } else { None }
 }
 
-// Whom a word names: a side, or a map.
+// Returns the holder that a word names: a side, or a map.
 fn holder_of(word: &[u8]) -> Option<Holder>
     ensures found { IfSome result (λ holder. word.now ≡ holder_word holder) }
     ensures valid { IfSome result IsHolder }

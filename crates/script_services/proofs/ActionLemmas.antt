@@ -1,4 +1,4 @@
--- RS's actions, and what they ask of a store.
+-- RS's actions, and their commands to a store.
 use Rattle.std.proofs.Common.{◌≡◌, ℕ, zero, suc, Bool, true, false, List, [], ◌∷◌, ◌++◌, Option, Some, None, Result, Ok, Err, refl, sym, ap, subst, ◌∙◌, append_assoc, append-nil}
 use Rattle.std.specs.List.{AllByRecursion, slice_get}
 use Rattle.ds_names.specs.Endpoint.{EndpointRecord, endpoint_of}
@@ -41,7 +41,7 @@ in_place_at [] i x h e = absurd (let q : None ≡ Some x = e in cc)
 in_place_at (y ∷ acts) zero x h e = let same : y ≡ x = cc in subst IsActionInPlace same h.0
 in_place_at (y ∷ acts) (suc i) x h e = in_place_at acts i x h.1 e
 
--- ---- what they ask gives no items
+-- ---- their commands return no items
 
 asking_gives : (caller : EndpointRecord) (key : Key) (version : Version) (body : Body) → gives_items (asking_for caller key version body) ≡ false
 asking_gives caller key version (Put value) = refl
@@ -61,7 +61,7 @@ action_gives (actions.Ping e) = tt
 pub command_gives : (action : Action) (command : Command) → command_of action ≡ Some command → gives_items command ≡ false
 command_gives action command same = subst gives_none same (action_gives action)
 
--- ---- one action after the other
+-- ---- actions in sequence
 
 pub actions_more : (side : Side) (acts : List Action) (x : Action) (old mid new : WorldRecord) (out first : List ℕ) (asks one : List (Event × Outcome))
     → AnswersActions side acts old out asks mid → AsksIfAny side (command_of x) mid first one new
@@ -90,6 +90,6 @@ actions_more side (y ∷ acts) x old mid new out first asks one (m, f, r, o, k, 
       ap (λ (l : List (Event × Outcome)). l ++ one) events ∙ append_assoc o k one,
     )
 
--- where an action asks nothing, nothing is asked
+-- an action without a command sends none
 pub asks_none : (side : Side) (command : Option Command) (world : WorldRecord) → command ≡ None → AsksIfAny side command world [] [] world
 asks_none side command world none = subst (λ (o : Option Command). AsksIfAny side o world [] [] world) (sym none) (refl, refl, refl)

@@ -1,4 +1,4 @@
--- What RS's actions ask of a store, as events of a world.
+-- The commands of RS's actions, as events of a world.
 use Rattle.std.proofs.Common.{◌≡◌, List, [], ◌∷◌, ◌++◌, Option, Some, None, Result, Ok, Err, ℕ, refl, sym, ap, subst, ◌∙◌, inl, inr, append-nil, append_assoc, Contains}
 use Rattle.std.proofs.lemmas.List.Elements.{Contains-append_cases}
 use Rattle.ds_entry.proofs.Members.{Contains-nil, Contains-single}
@@ -19,8 +19,8 @@ use Rattle.rs_core.specs.declared.fault.RsFault.{RsFault}
 use Rattle.rs_to_store.specs.Asked.{command_of}
 use Rattle.script_services.specs.Services.{AsksIfAny, AnswersActions, TellsActions}
 
--- Behind whatever happened since some world, in a world that the old value stands for, these events happen, and lead to one that the
--- new value stands for.
+-- whatever happened since some world, these events lead from a world that the old value stands for to one that the new
+-- value stands for
 abbrev pub EventsGoOn : List (Event × Outcome) → WorldRecord → WorldRecord → Type 0
 EventsGoOn events old new =
     (start w : World) (before : List (Event × Outcome)) → HappenAll start before w → WorldStands old w → (after : World) × HappenAll start (before ++ events) after × WorldStands new after
@@ -62,7 +62,7 @@ pub told_go_on : (side : Side) (answer : Result (List Action) RsFault) (old new 
 told_go_on side (Ok acts) old new out asks h = actions_go_on side acts old new h.0 asks h.1
 told_go_on side (Err fault) old new out asks h = none_go_on old new asks h.1 h.2
 
--- ---- what they name is in its ranges
+-- ---- their parts are in their ranges
 
 abbrev AreProperAsks : List (Event × Outcome) → Type 0
 AreProperAsks events = (e : Event × Outcome) → Contains events e → IsProperEvent e.0

@@ -1,4 +1,4 @@
--- Calls of driver tables, as the code makes them, and as steps of a run.
+-- Calls on driver tables, as the code makes them, and as steps of a run.
 use Rattle.std.proofs.Common.{◌≡◌, ◌≢◌, ℕ, Bool, true, false, cond, List, [], ◌∷◌, Option, Some, None, Result, Ok, Err, OnOk, OnErr, refl, sym, ap, subst, ◌∙◌}
 use Rattle.ds_names.specs.Endpoint.{EndpointRecord}
 use Rattle.driver_tables.specs.declared.fault.TableFault.{TableFault}
@@ -37,7 +37,7 @@ one_answer out (Err NoDevice) h = ap one_move h
 one_answer out (Err NotPending) h = ap one_move h
 one_answer out (Err OldEndpoint) h = ap one_move h
 
--- an answer that is the table's, which never wants memory
+-- the table's own answer, which is never NoRoom
 same_answer : {A : Type 0} (out answer : Result A TableFault) → answer ≡ out → out ≢ Err NoRoom → IsAnswer out answer
 same_answer out (Err NoRoom) e never = absurd (never (sym e))
 same_answer out (Ok a) e never = e

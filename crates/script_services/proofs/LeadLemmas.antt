@@ -1,4 +1,4 @@
--- From the tables that values stand for to what lines do to them.
+-- From the tables that values stand for to the effects of lines on them.
 use Rattle.std.proofs.Common.{◌≡◌, ℕ, List, [], ◌∷◌, ◌++◌, Option, Some, None, Result, Ok, Err, refl, sym, ap, subst, ◌∙◌, append-nil}
 use Rattle.ds_entry.specs.declared.item.Item.{Item}
 use Rattle.rs_core.specs.State.{RsRecord}
@@ -16,7 +16,7 @@ use Rattle.script_services.specs.Kept.{FollowedNext, BothFollowed, FollowedAndTa
 
 -- ---- calls
 
--- the code's table of the file server, or of the network server, is another one
+-- the code's table of one of the servers is replaced
 module _ (services : Option RsRecord) (file net new : TableRecord) (call : Call) (text : Result (List Move) TableFault → List ℕ) (answer : Result (List Move) TableFault) where
   pub file_called : ((t : DriverTable) → TableStands file t → (u : DriverTable) × TableStep t call answer u × TableStands new u)
       → ServersLead (λ s t. AnswersCall File call text s (text answer) t) (servers_of services file net) (servers_of services new net)
@@ -32,7 +32,7 @@ module _ (services : Option RsRecord) (file net new : TableRecord) (call : Call)
 
 -- ---- follows
 
--- the network server's table follows, unless that was ended
+-- the network server's table follows, unless something ended the first
 next_follows : (stop : Option TableFault) (held : List Item) (old new : TableRecord) (before after : List (List Move)) (fault : Option TableFault) → FollowedNext stop held old new before after fault → (t : DriverTable) → TableStands old t
     → (u : DriverTable) × (rounds : List (List Move)) × (after ≡ before ++ rounds) × FollowsNext stop held t rounds fault u × TableStands new u
 next_follows None held old new before after fault h t stands = h t stands
@@ -76,7 +76,7 @@ module _ (services : Option RsRecord) (file net new : TableRecord) (held : List 
         record { services = stands.services; file = stands.file; net = done.4 },
       )
 
--- a follow that was ended, so that the request isn't taken; and one that came to its end
+-- a follow that ended early, so that the request isn't taken; and a complete one
 pub ended_before : (held : List Item) (id unit : ℕ) (old new : TableRecord) (before after : List (List Move)) (fault : TableFault) → HasFollowed held old new before after (Some fault) → FollowedAndTaken held id unit old new before after (Err fault)
 ended_before held id unit old new before after fault followed t stands =
     let f = followed t stands in (f.0, f.1, f.2, record { mid = f.0; stop = Some fault; follows = f.3; takes = (refl, refl) }, f.4)

@@ -8,7 +8,7 @@ use Rattle.service_answers.specs.Moves.{move_line}
 use Rattle.script_services.specs.Tables.{all_in, move_lines}
 use Rattle.rs_to_store.proofs.ListLemmas.{next_taken}
 
--- ---- one more behind them
+-- ---- one more move
 
 pub lines_more : (moves : List Move) (x : Move) → move_lines (moves ++ x ∷ []) ≡ move_lines moves ++ move_line x
 lines_more moves x = flat_map-append move_line moves (x ∷ []) ∙ ap (λ (l : List ℕ). move_lines moves ++ l) (append-nil (move_line x))
@@ -18,7 +18,7 @@ lines_next moves i x start now new at before one =
     one ∙ ap (λ (l : List ℕ). l ++ move_line x) before ∙ append_assoc start (move_lines (take i moves)) (move_line x)
     ∙ ap (λ (l : List ℕ). start ++ l) (sym (lines_more (take i moves) x)) ∙ ap (λ (l : List Move). start ++ move_lines l) (next_taken moves i x at)
 
--- a round more behind rounds
+-- one more round
 pub all_more : (rounds : List (List Move)) (i : ℕ) (round : List Move) → slice_get rounds i ≡ Some round → all_in (take (i + 1) rounds) ≡ all_in (take i rounds) ++ round
 all_more rounds i round at =
     ap all_in (sym (next_taken rounds i round at)) ∙ flat_map-append (λ (l : List Move). l) (take i rounds) (round ∷ []) ∙ ap (λ (l : List Move). all_in (take i rounds) ++ l) (append-nil round)
@@ -40,7 +40,7 @@ pub lines_as_many : (moves : List Move) → length moves ≤ length (move_lines 
 lines_as_many [] = omega arith
 lines_as_many (x ∷ moves) = let rest = lines_as_many moves in let one = line_has_byte x in let both = length-append (move_line x) (move_lines moves) in omega arith
 
--- so moves are no more than the bytes that were written
+-- so there are at most as many moves as written bytes
 pub moves_few : (moves : List Move) (start now : List ℕ) (count : ℕ) → count ≡ length moves → now ≡ start ++ move_lines moves → count ≤ length now
 moves_few moves start now count same lines =
     let few = lines_as_many moves in

@@ -1,4 +1,4 @@
--- What follows and requests come to by what the code keeps: said of each table that a value stands for.
+-- The effects of follows and requests on what the code keeps, for each table that a value stands for.
 use Rattle.std.specs.Prelude.{◌≡◌, ℕ, List, ◌++◌, Option, Some, None, Result}
 use Rattle.ds_entry.specs.declared.item.Item.{Item}
 use Rattle.driver_tables.specs.declared.fault.TableFault.{TableFault}
@@ -8,17 +8,17 @@ use Rattle.driver_tables.specs.Stands.{TableRecord, TableStands}
 use Rattle.rs_to_store.specs.Following.{HasFollowed}
 use Rattle.script_services.specs.Tables.{FollowsAndTakes}
 
--- unless something was ended before, a table followed a map, by the rounds that came behind those before
+-- Unless something ended earlier, a table followed a map, and its rounds were appended.
 abbrev pub FollowedNext : Option TableFault → List Item → (old new : TableRecord) → (before after : List (List Move)) → Option TableFault → Type 0
 FollowedNext None held old new before after fault = HasFollowed held old new before after fault
 FollowedNext (Some stop) held old new before after fault = (after ≡ before) × (fault ≡ Some stop) × (new ≡ old)
 
--- the file server's table followed first, and then, unless that was ended, the network server's
+-- The file server's table followed first, and then, unless something ended that, the network server's.
 abbrev pub BothFollowed : List Item → (file_old file_new net_old net_new : TableRecord) → (before after : List (List Move)) → Option TableFault → Type 0
 BothFollowed held file_old file_new net_old net_new before after fault =
     (mid : List (List Move)) × (stop : Option TableFault) × HasFollowed held file_old file_new before mid stop × FollowedNext stop held net_old net_new mid after fault
 
--- a table followed, and then took a request
+-- A table followed, and then took a request.
 abbrev pub FollowedAndTaken : List Item → ℕ → ℕ → (old new : TableRecord) → (before after : List (List Move)) → Result (List Move) TableFault → Type 0
 FollowedAndTaken held id unit old new before after own =
     (t : DriverTable) → TableStands old t →

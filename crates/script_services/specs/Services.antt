@@ -1,4 +1,4 @@
--- What the lines of RS are answered: its settings, and what it is told.
+-- The answers to lines for RS: its settings, and its events.
 use Rattle.std.specs.Prelude.{◌≡◌, ℕ, true, List, [], ◌∷◌, ◌++◌, length, replicate, Option, Some, None, Result, Ok, Err}
 use Rattle.rs_settings.specs.Settings.{SettingsRecord, settings_of}
 use Rattle.rs_settings.specs.declared.fault.SettingsFault.{SettingsFault}
@@ -33,12 +33,12 @@ use Rattle.script_services.specs.Servers.{Servers, ServersRecord, with_rs}
 
 -- ---- settings
 
--- RS of settings that were just accepted: every service is down, and the first start has generation 1
+-- RS with settings that were just accepted: every service is down, and the first start has generation 1.
 abbrev pub begun_with : SettingsRecord → RsRecord
 begun_with settings = rs_of settings (replicate (length settings.services) Down) 0 1 (new_slots 16)
 
--- The settings that a text stands for are accepted, or their fault is told; behind accepted ones no text is looked at. This is
--- what there is of RS then, and the answer.
+-- RS after a settings text, and the answer: the text's settings are accepted, or its fault is reported; once settings
+-- are accepted, later texts are ignored.
 abbrev pub settings_outcome : Option RsRecord → Result SettingsRecord SettingsFault → Option RsRecord × List ℕ
 settings_outcome (Some rs) read = (Some rs, exists_line)
 settings_outcome None (Ok settings) = (Some (begun_with settings), settings_line (length settings.services) settings.slots)
@@ -49,9 +49,9 @@ AnswersSettings text s out t =
     let done = settings_outcome s.services (settings_of text) in
     (t ≡ with_rs s done.0) × (out ≡ done.1)
 
--- ---- what RS is told
+-- ---- events
 
--- before settings are accepted no service is known, and no tick is remembered, whatever is named
+-- The answer before settings are accepted: no service is known, and no tick is remembered.
 abbrev pub without_settings : services.Event → Result (List Action) RsFault
 without_settings (Up label) = Err UnknownLabel
 without_settings (Stop label) = Err UnknownLabel
@@ -61,21 +61,21 @@ without_settings (Death endpoint cause) = Err OldEndpoint
 without_settings (Beat endpoint) = Err OldEndpoint
 without_settings Tick = Ok []
 
--- What RS answers: the actions of its step, or the first cause that stands against the event. Want of memory comes last, and only
--- for an event that has actions; what is refused changes nothing.
+-- RS's answer: the actions of its step, or the first cause against the event. NoRoom comes last, and only for an event
+-- that has actions; a refused event changes nothing.
 abbrev pub RsAnswers : RsRecord → services.Event → ℕ → Result (List Action) RsFault → RsRecord → Type 0
 RsAnswers rs event tick (Ok actions) after = RsStep rs event tick actions after
 RsAnswers rs event tick (Err NoRoom) after = (refusal rs event tick ≡ None) × (asks has_actions (asked rs event tick) ≡ true) × (after ≡ rs)
 RsAnswers rs event tick (Err fault) after = (refusal rs event tick ≡ Some fault) × (after ≡ rs)
 
--- the same, where RS may not be there yet
+-- As `RsAnswers`, whether or not RS has begun.
 abbrev pub ServicesAnswer : Option RsRecord → services.Event → ℕ → Result (List Action) RsFault → Option RsRecord → Type 0
 ServicesAnswer None event tick answer after = (answer ≡ without_settings event) × (after ≡ None)
 ServicesAnswer (Some rs) event tick answer after = (new : RsRecord) × RsAnswers rs event tick answer new × (after ≡ Some new)
 
--- ---- what its actions ask
+-- ---- the commands of its actions
 
--- the store of a side is asked, and its reply told: an event of the world
+-- The store of a side gets a command, and its reply is written: an event of the world.
 pub record AsksStore (side : Side) (command : Command) (old : WorldRecord) (out : List ℕ) (events : List (Event × Outcome)) (new : WorldRecord) : Type 0 where
   pub reply : Reply
   pub leads : EventLeads (Ask side command) (Replied reply) old new
@@ -83,12 +83,12 @@ pub record AsksStore (side : Side) (command : Command) (old : WorldRecord) (out 
   pub lines : out ≡ reply_lines AsMerge reply larger
   pub event : events ≡ (Ask side command, Replied reply) ∷ []
 
--- it is asked what an action asks of a store, if the action asks anything
+-- As `AsksStore`, if there is a command.
 abbrev pub AsksIfAny : Side → Option Command → WorldRecord → List ℕ → List (Event × Outcome) → WorldRecord → Type 0
 AsksIfAny side None old out events new = (out ≡ []) × (events ≡ []) × (new ≡ old)
 AsksIfAny side (Some command) old out events new = AsksStore side command old out events new
 
--- each action has its line, and behind it stands what the store replies
+-- Each action has its line, followed by the store's reply.
 abbrev pub AnswersActions : Side → List Action → WorldRecord → List ℕ → List (Event × Outcome) → WorldRecord → Type 0
 AnswersActions side [] old out events new = (out ≡ []) × (events ≡ []) × (new ≡ old)
 AnswersActions side (action ∷ actions) old out events new =
@@ -96,13 +96,13 @@ AnswersActions side (action ∷ actions) old out events new =
     × AsksIfAny side (command_of action) old first one mid × AnswersActions side actions mid rest more new
     × (out ≡ action_line action ++ (first ++ rest)) × (events ≡ one ++ more)
 
--- then how many actions there were, the store's answers not counted; or why RS does nothing
+-- These lines and then the number of actions, without the store's answers; or RS's refusal.
 abbrev pub TellsActions : Side → Result (List Action) RsFault → WorldRecord → List ℕ → List (Event × Outcome) → WorldRecord → Type 0
 TellsActions side (Ok actions) old out events new =
     (lines : List ℕ) × AnswersActions side actions old lines events new × (out ≡ lines ++ action_count_line (length actions))
 TellsActions side (Err fault) old out events new = (out ≡ rs_fault_line fault) × (events ≡ []) × (new ≡ old)
 
--- RS is told an event at a tick, and what it does is given to the store of the side. The tables stay as they were.
+-- RS gets an event at a tick, and its label changes and sweeps go to the store of the side; the tables are unchanged.
 pub record AnswersService (event : services.Event) (tick : ℕ) (side : Side) (old : ServersRecord) (from : WorldRecord) (out : List ℕ) (new : ServersRecord) (to : WorldRecord) : Type 0 where
   pub answer : Result (List Action) RsFault
   pub events : List (Event × Outcome)

@@ -1,4 +1,4 @@
--- What the lines of driver tables are answered.
+-- The answers to lines for driver tables.
 use Rattle.std.specs.Prelude.{◌≡◌, ℕ, List, [], ◌∷◌, ◌++◌, length, Option, Some, None, Result, Ok, Err, codes}
 use Rattle.std.specs.List.{flat_map}
 use Rattle.std.specs.Option.{option_map, option_to_list}
@@ -25,22 +25,22 @@ use Rattle.script_services.specs.Servers.{Servers, server_table, with_table}
 
 -- ---- assign
 
--- the server whose table a device is of
+-- The server that has the device.
 abbrev pub server_of : Device → Server
 server_of (devices.File major class) = File
 server_of (devices.Net port) = Net
 
--- a device is assigned to the driver with a label
+-- The call that assigns a device to the driver with a label.
 abbrev pub assign_call : Device → List ℕ → Call
 assign_call (devices.File major class) label = calls.Assign major (file_driver class label)
 assign_call (devices.Net port) label = calls.Assign port (net_driver label)
 
--- it was, or why not
+-- The answer to it.
 abbrev pub assign_text : Result (List Move) TableFault → List ℕ
 assign_text (Ok moves) = assigned_line
 assign_text (Err fault) = table_fault_line fault
 
--- a call of a server's table, and what is told of its answer
+-- A call on a server's table, and the text of its answer.
 pub record AnswersCall (server : Server) (call : Call) (text : Result (List Move) TableFault → List ℕ) (s : Servers) (out : List ℕ) (t : Servers) : Type 0 where
   pub answer : Result (List Move) TableFault
   pub table : DriverTable
@@ -53,11 +53,11 @@ AnswersAssign device label s out t = AnswersCall (server_of device) (assign_call
 
 -- ---- reply
 
--- a line for each move
+-- A line for each move.
 abbrev pub move_lines : List Move → List ℕ
 move_lines moves = flat_map move_line moves
 
--- the move, or why there is none
+-- The move, or the refusal.
 abbrev pub answer_text : Result (List Move) TableFault → List ℕ
 answer_text (Ok moves) = move_lines moves
 answer_text (Err fault) = table_fault_line fault
@@ -65,33 +65,33 @@ answer_text (Err fault) = table_fault_line fault
 abbrev pub AnswersReply : Server → EndpointRecord → ℕ → Servers → List ℕ → Servers → Type 0
 AnswersReply server endpoint id s out t = AnswersCall server (calls.Reply endpoint id) answer_text s out t
 
--- the answer of a call that has a single move, or none of its own
+-- The answer of a call as a list of moves: its single move, or none of its own.
 abbrev pub own_moves : Result (Option Move) TableFault → Result (List Move) TableFault
 own_moves (Ok own) = Ok (option_to_list own)
 own_moves (Err fault) = Err fault
 
 -- ---- follow, and submit
 
--- the moves of rounds, one after the other
+-- The moves of rounds, in order.
 abbrev pub all_in : List (List Move) → List Move
 all_in rounds = flat_map (λ (moves : List Move). moves) rounds
 
--- the moves and how many they are; where something is refused behind moves, these stand, and the refusal in the place of their number
+-- The moves and their number; a refusal after some moves takes the place of their number.
 abbrev pub moves_text : List Move → Result (List Move) TableFault → List ℕ
 moves_text moves (Ok own) = move_lines (moves ++ own) ++ move_count_line (length (moves ++ own))
 moves_text moves (Err fault) = move_lines moves ++ table_fault_line fault
 
--- nothing more comes behind the moves, or what ended them
+-- The end of a follow's answer: no further move, or what ended it.
 abbrev pub ended_by : Option TableFault → Result (List Move) TableFault
 ended_by None = Ok []
 ended_by (Some fault) = Err fault
 
--- a table follows a map that holds these items, unless something was ended before
+-- Unless something ended earlier, a table follows a map that holds these items.
 abbrev pub FollowsNext : Option TableFault → List Item → DriverTable → List (List Move) → Option TableFault → DriverTable → Type 0
 FollowsNext None held t rounds fault u = Follows held (labels_of t) t rounds fault u
 FollowsNext (Some stop) held t rounds fault u = (rounds ≡ []) × (fault ≡ Some stop) × (u ≡ t)
 
--- the file server's table follows first, and then, unless that was ended, the network server's
+-- The file server's table follows first, and then, unless something ended that, the network server's.
 pub record BothFollow (held : List Item) (s : Servers) (rounds : List (List Move)) (fault : Option TableFault) (t : Servers) : Type 0 where
   pub first : List (List Move)
   pub next : List (List Move)
@@ -101,11 +101,11 @@ pub record BothFollow (held : List Item) (s : Servers) (rounds : List (List Move
   pub services : t.services ≡ s.services
   pub all : rounds ≡ first ++ next
 
--- what the map of a number holds, if there is one
+-- The items that the map of a number holds, if it exists.
 abbrev pub map_items : Option SubMapRecord → Option (List Item)
 map_items map = option_map (λ (m : SubMapRecord). held_items m.held) map
 
--- the answer where no map has the number
+-- The answer for a map that doesn't exist.
 abbrev pub nomap_line : List ℕ
 nomap_line = refusal_line (codes "nomap")
 
@@ -114,19 +114,20 @@ AnswersFollow None s out t = (t ≡ s) × (out ≡ nomap_line)
 AnswersFollow (Some held) s out t =
     (rounds : List (List Move)) × (fault : Option TableFault) × BothFollow held s rounds fault t × (out ≡ moves_text (all_in rounds) (ended_by fault))
 
--- a table takes a call, unless something was ended before
+-- Unless something ended earlier, a table takes a call.
 abbrev pub CallsNext : Option TableFault → Call → DriverTable → Result (List Move) TableFault → DriverTable → Type 0
 CallsNext None call t answer u = TableStep t call answer u
 CallsNext (Some stop) call t answer u = (answer ≡ Err stop) × (u ≡ t)
 
--- a table follows the map, and then takes a request
+-- A table follows the map, and then takes a request.
 pub record FollowsAndTakes (held : List Item) (id unit : ℕ) (t : DriverTable) (rounds : List (List Move)) (own : Result (List Move) TableFault) (u : DriverTable) : Type 0 where
   pub mid : DriverTable
   pub stop : Option TableFault
   pub follows : Follows held (labels_of t) t rounds stop mid
   pub takes : CallsNext stop (calls.Submit id unit) mid own u
 
--- no map comes before all; else the moves of the follow stand before the request's own, or before why it is refused
+-- Without a map nothing happens; else the moves of the follow come before the request's own move, or before its
+-- refusal.
 abbrev pub AnswersSubmit : Server → ℕ → ℕ → Option (List Item) → Servers → List ℕ → Servers → Type 0
 AnswersSubmit server id unit None s out t = (t ≡ s) × (out ≡ nomap_line)
 AnswersSubmit server id unit (Some held) s out t =

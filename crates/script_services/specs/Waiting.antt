@@ -1,4 +1,4 @@
--- What is put behind the answers that wait.
+-- What a line appends to the answers in the buffer.
 use Rattle.std.specs.Prelude.{◌≡◌, ℕ, ◌⊎◌, List, ◌++◌, length, Option, Result}
 use Rattle.rs_core.specs.declared.action.Action.{Action}
 use Rattle.rs_core.specs.declared.event.Event as services
@@ -13,30 +13,30 @@ use Rattle.script_services.specs.Servers.{Servers, ServersRecord, ServersLead}
 pub use Rattle.service_answers.specs.Appending.{AppendsSome}
 use Rattle.script_services.specs.Services.{AsksIfAny, TellsActions, AnswersService}
 
--- the answer of what so leads from servers to servers is
+-- It appends the answer `out`, where R leads with that answer from servers to servers.
 abbrev pub AppendsLed : (Servers → List ℕ → Servers → Type 0) → (before after : List ℕ) → (old new : ServersRecord) → Type 0
 AppendsLed R before after old new = (out : List ℕ) × (after ≡ before ++ out) × ServersLead (λ s t. R s out t) old new
 
--- for want of memory a line is refused, and nothing changes
+-- Memory ran out: the line is refused, and nothing changes.
 abbrev pub AreServersRefused : ServersRecord → List ℕ → ServersRecord → Type 0
 AreServersRefused old out new = (new ≡ old) × (out ≡ refused_noroom)
 
--- that answer is, or that there is no memory for it
+-- It appends that answer, or the refusal for memory.
 abbrev pub AppendsLedOrRefuses : (Servers → List ℕ → Servers → Type 0) → (before after : List ℕ) → (old new : ServersRecord) → Type 0
 AppendsLedOrRefuses R before after old new =
     (out : List ℕ) × (after ≡ before ++ out) × (ServersLead (λ s t. R s out t) old new ⊎ AreServersRefused old out new)
 
--- what RS answers an event is
+-- It appends RS's answer to an event.
 abbrev pub AppendsService : services.Event → ℕ → Side → (before after : List ℕ) → (old : ServersRecord) → (from : WorldRecord) → (new : ServersRecord) → (to : WorldRecord) → Type 0
 AppendsService event tick side before after old from new to =
     (out : List ℕ) × (after ≡ before ++ out) × AnswersService event tick side old from out new to
 
--- what is told of RS's actions is, or why it does nothing
+-- It appends the answers to RS's actions, or RS's refusal.
 abbrev pub AppendsTold : Side → Result (List Action) RsFault → (before after : List ℕ) → (old new : WorldRecord) → Type 0
 AppendsTold side answer before after old new =
     (out : List ℕ) × (events : List (Event × Outcome)) × (after ≡ before ++ out) × TellsActions side answer old out events new
 
--- what a store replies is, if it is asked
+-- It appends the store's reply, if there is a command.
 abbrev pub AppendsAsked : Side → Option Command → (before after : List ℕ) → (old new : WorldRecord) → Type 0
 AppendsAsked side command before after old new =
     (out : List ℕ) × (events : List (Event × Outcome)) × (after ≡ before ++ out) × AsksIfAny side command old out events new

@@ -1,4 +1,4 @@
-//! What RS is told, and what becomes of its actions.
+//! RS's events, and what follows from its actions.
 
 ghost use Rattle.std.specs.Prelude.{◌≡◌, Ok, IfOk, OnOk, OnErr};
 ghost use Rattle.std.specs.List.{AllByRecursion};
@@ -18,12 +18,12 @@ use service_answers::{append_action, append_action_count, append_rs_fault};
 use std::alloc::Global;
 use store_answers::{Wording, append_reply};
 
-/// Tells RS an event at a tick, and gives what it does to the store of a side: its label changes and its sweeps, from its own
-/// endpoint. Each action's line is put behind the answers that wait, below it what the store replies, and then how many actions
-/// there were; or why RS does nothing, and then nothing changes.
+/// Passes an event to RS at a tick, and sends RS's label changes and sweeps, with RS as their caller, to the store of a
+/// side. Appends each action's line, followed by the store's reply, and then the number of actions; or RS's refusal, in
+/// which case nothing changes.
 ///
-/// Before settings are accepted no service is known, and none is remembered. `Err` says that there was no room for the answer, and
-/// none of it stands then, whatever RS and the store did.
+/// Before settings are accepted no service is known, and no tick is remembered. `Err` means that memory ran out for the
+/// answer: none of it was appended, whatever RS and the store did.
 pub fn answer_event(
     alloc: Global,
     servers: &mut Servers,
@@ -51,7 +51,7 @@ pub fn answer_event(
     }
 }
 
-// Tells RS an event, if it is there.
+// Passes an event to RS, if it has begun.
 fn tell(
     alloc: Global,
     services: &mut Option<Rs>,
@@ -68,7 +68,7 @@ fn tell(
     }
 }
 
-// What is answered before there are settings.
+// Returns the answer before settings are accepted.
 fn without_settings(alloc: Global, event: &Event) -> Result<Actions, RsFault>
     ensures { result ≡ answer_without event.now }
 {
@@ -81,7 +81,7 @@ fn without_settings(alloc: Global, event: &Event) -> Result<Actions, RsFault>
     }
 }
 
-// Gives the actions to the store of the side, one after the other. Some of their answers may stand where there is no room for all.
+// Sends the actions to the store of the side, in order. If memory runs out, some of their answers may remain.
 fn pass_on(
     world: &mut World,
     side: Side,
@@ -102,7 +102,7 @@ fn pass_on(
     append_action_count(output, actions.len())
 }
 
-// Asks the store what an action asks of one, if it asks anything, and appends the reply's lines.
+// Sends the command of an action to the store, if it has one, and appends the reply's lines.
 fn ask(world: &mut World, side: Side, action: &Action, output: &mut Vec<u8>) -> Result<(), NoRoom>
     requires { IsActionInPlace action.now }
     ensures asked { OnOk result (AppendsAsked side (command_for action.now) output.old.items output.new.items world.old world.new) }

@@ -12,7 +12,7 @@ use script_commands::{Device, Server};
 use service_answers::{append_assigned, append_move, append_table_fault};
 
 impl Servers {
-    /// Assigns a device to the driver with a label, and puts `assigned` behind the answers that wait, or why it isn't.
+    /// Assigns a device to the driver with a label, and appends `assigned`, or the refusal.
     pub fn assign(
         &mut self,
         device: Device,
@@ -30,8 +30,7 @@ impl Servers {
         }
     }
 
-    /// Gives a server's table a driver's reply to a request, and puts the move that it makes behind the answers that wait, or why it
-    /// makes none.
+    /// Passes a driver's reply to a server's table, and appends the move that follows, or the refusal.
     pub fn reply(
         &mut self,
         server: Server,
@@ -49,7 +48,7 @@ impl Servers {
     }
 }
 
-// Appends that a device was assigned, or why it wasn't.
+// Appends the answer to an assignment.
 fn append_assignment(assigned: Result<(), TableFault>, output: &mut Vec<u8>) -> Result<(), NoRoom>
     ensures written { OnOk result (output.new.items ≡ output.old.items ++ assign_text (no_moves assigned)) }
     ensures unchanged { OnErr result (output.new.items ≡ output.old.items) }
@@ -60,7 +59,7 @@ fn append_assignment(assigned: Result<(), TableFault>, output: &mut Vec<u8>) -> 
     }
 }
 
-// Appends the move that a reply makes, or why it makes none.
+// Appends the move of a reply, or the refusal.
 fn append_answer(replied: Result<Move, TableFault>, output: &mut Vec<u8>) -> Result<(), NoRoom>
     ensures written { OnOk result (output.new.items ≡ output.old.items ++ answer_text (one_move replied)) }
     ensures unchanged { OnErr result (output.new.items ≡ output.old.items) }

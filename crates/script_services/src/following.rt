@@ -19,8 +19,8 @@ use script_commands::Server;
 use std::alloc::Global;
 
 impl Servers {
-    /// Has both tables follow a map, the file server's first and then, unless there was no memory for it, the network server's, and
-    /// puts their moves and how many they are behind the answers that wait.
+    /// Follows a map with both tables: the file server's first and then, unless memory ran out for that, the network
+    /// server's. Appends their moves and the number of moves.
     pub fn follow(
         &mut self,
         alloc: Global,
@@ -39,8 +39,8 @@ impl Servers {
         append_moves(output, &rounds, &ended_by(ended))
     }
 
-    /// Has a server's table follow a map, and then take a request to a unit by an id, and puts all moves and how many they are behind
-    /// the answers that wait; where the request is refused, or there was no memory, the moves that were made and then why.
+    /// Follows a map with a server's table, which then takes a request to a unit by an id. Appends all moves and their
+    /// number; if the request is refused, or memory runs out, the moves that were made and then the cause.
     pub fn submit(
         &mut self,
         alloc: Global,
@@ -71,7 +71,7 @@ impl Servers {
     }
 }
 
-// The answer where no map has the number.
+// Appends the answer for a map that doesn't exist.
 fn append_nomap(output: &mut Vec<u8>) -> Result<(), NoRoom>
     ensures written { OnOk result (output.new.items ≡ output.old.items ++ nomap_line) }
     ensures unchanged { OnErr result (output.new.items ≡ output.old.items) }
@@ -79,7 +79,8 @@ fn append_nomap(output: &mut Vec<u8>) -> Result<(), NoRoom>
     append_all(output, &[b"refused nomap\n"])
 }
 
-// The file server's table follows first, and then, unless that was ended, the network server's. What ended it, if anything did.
+// Follows a map with the file server's table and then, unless something ended that, with the network server's. Returns
+// what ended it, if anything did.
 fn both_follow(
     file: &mut FileTable,
     net: &mut NetTable,
@@ -94,7 +95,7 @@ fn both_follow(
     }
 }
 
-// Nothing more comes behind the moves, or what ended them.
+// Returns the end of a follow's answer: no further move, or what ended it.
 fn ended_by(ended: Option<TableFault>) -> Result<Option<Move>, TableFault>
     ensures { own_moves result ≡ ended_by ended }
 {
@@ -104,7 +105,7 @@ fn ended_by(ended: Option<TableFault>) -> Result<Option<Move>, TableFault>
     }
 }
 
-// The move of a request, or why it is refused.
+// Returns the move of a request, or its refusal.
 fn own_move(submitted: Result<Move, TableFault>) -> Result<Option<Move>, TableFault>
     ensures { own_moves result ≡ one_move submitted }
 {
@@ -114,7 +115,7 @@ fn own_move(submitted: Result<Move, TableFault>) -> Result<Option<Move>, TableFa
     }
 }
 
-// A table follows, and then takes a request.
+// Follows a map with a table, which then takes a request.
 fn submits<T: Drivers>(
     table: &mut T,
     map: &SubMap,

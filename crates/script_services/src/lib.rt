@@ -1,8 +1,8 @@
-//! What the lines of services and of driver tables are answered.
+//! The answers to a script's lines for RS and driver tables.
 //!
-//! A script begins RS with settings, tells it what happens to services, and hands what it does to the store that is asked; it
-//! assigns devices to drivers, has the tables of a file server and of a network server follow a map, and gives them requests and
-//! replies. The lines and their answers are of this project.
+//! A script begins RS with settings, passes it events, and sends its changes to the chosen store. It assigns devices to
+//! drivers, has the tables of a file server and a network server follow a map, and gives them requests and replies. The
+//! lines and their answers are of this project.
 #![tactic(auto)]
 
 mod acting;

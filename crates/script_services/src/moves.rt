@@ -1,4 +1,4 @@
-//! Moves, and how many they are.
+//! Moves, and their number.
 
 ghost use Rattle.std.specs.Prelude.{◌≡◌, ◌≤◌, ◌++◌, length, vec_len, IfOk, OnOk, OnErr};
 ghost use Rattle.script_services.specs.Tables.{all_in, move_lines, moves_text, own_moves};
@@ -8,8 +8,8 @@ use driver_tables::{Move, Moves, TableFault};
 use ds_names::NoRoom;
 use service_answers::{append_move, append_move_count, append_table_fault};
 
-/// Appends the moves of rounds, the own one behind them, and how many they all are; or in the place of these what is refused. Where
-/// there is no room for all of it, nothing is.
+/// Appends the moves of rounds, the request's own move, and the number of all; or, in place of the last two, the
+/// refusal. If memory runs out, appends nothing.
 pub(crate) fn append_moves(
     output: &mut Vec<u8>,
     rounds: &Vec<Moves>,
@@ -28,7 +28,7 @@ pub(crate) fn append_moves(
     }
 }
 
-// The same, but some of it may stand where there is no room for all.
+// Like `append_moves`, but if memory runs out, some lines may remain.
 fn append_lines(
     output: &mut Vec<u8>,
     rounds: &Vec<Moves>,
@@ -48,7 +48,7 @@ fn append_lines(
     }
 }
 
-// The lines of the rounds' moves, and how many they are.
+// Appends the lines of the rounds' moves, and returns their number.
 fn append_rounds(output: &mut Vec<u8>, rounds: &Vec<Moves>) -> Result<usize, NoRoom>
     ensures written { OnOk result (output.new.items ≡ output.old.items ++ move_lines (all_in rounds.now.items)) }
     ensures count { IfOk result (λ count. count ≡ length (all_in rounds.now.items)) }
@@ -62,7 +62,7 @@ fn append_rounds(output: &mut Vec<u8>, rounds: &Vec<Moves>) -> Result<usize, NoR
     Ok(count)
 }
 
-// The lines of a round's moves, and how many they are.
+// Appends the lines of a round's moves, and returns their number.
 fn append_round(output: &mut Vec<u8>, round: &Moves) -> Result<usize, NoRoom>
     ensures written { OnOk result (output.new.items ≡ output.old.items ++ move_lines round.now) }
     ensures count { IfOk result (λ count. count ≡ length round.now) }

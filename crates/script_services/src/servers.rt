@@ -8,7 +8,7 @@ use rs_core::Rs;
 use std::alloc::Global;
 use std::marker::Model;
 
-/// RS, once settings were accepted, and the driver tables of a file server and of a network server.
+/// RS, once settings are accepted, and the driver tables of a file server and a network server.
 #[derive(Drop)]
 pub struct Servers {
     pub(crate) services: Option<Rs>,
@@ -34,7 +34,7 @@ impl Model for Servers {
 }
 
 impl Servers {
-    /// No settings were accepted, and no unit is assigned. It takes no memory.
+    /// Returns RS without settings, and tables without units. It takes no memory.
     pub fn new(alloc: Global) -> Servers
         ensures { ServersStand result no_servers }
     {

@@ -16,11 +16,11 @@ use store_answers::append_noroom;
 const FIRST: u32 = 1;
 
 impl Servers {
-    /// Reads a settings text, and begins RS with it, whose services are all down then: how many services and slots there are is put
-    /// behind the answers that wait, or why the text is refused. Behind accepted settings no text is looked at.
+    /// Reads a settings text, and begins RS with it; all of its services are down. Appends the numbers of services and
+    /// slots, or the text's refusal. Once settings are accepted, later texts are refused unread.
     ///
-    /// A text for which there is no memory is refused by name, and changes nothing. `Err` says that there was no room for the answer
-    /// itself, and none of it stands then.
+    /// A text that can't be allocated is answered `refused noroom`, and changes nothing. `Err` means that memory ran
+    /// out for the answer itself, and none of it was appended.
     pub fn accept(&mut self, alloc: Global, text: &[u8], output: &mut Vec<u8>) -> Result<(), NoRoom>
         ensures answered { OnOk result (AppendsLedOrRefuses (AnswersSettings text.now)
             output.old.items output.new.items self.old self.new) }

@@ -1,4 +1,4 @@
--- Lines that are appended one after another.
+-- Lines appended in sequence.
 use Rattle.std.proofs.Common.{◌≡◌, ℕ, List, ◌++◌, Result, Ok, Err, OnErr, ap, append_assoc, ◌∙◌}
 use Rattle.service_answers.specs.Appending.{AppendsSome}
 
@@ -7,7 +7,7 @@ pub lines_after : (start out line first now mid new : List ℕ) → now ≡ star
 lines_after start out line first now mid new one two three =
     three ∙ ap (λ (l : List ℕ). l ++ first) (two ∙ ap (λ (l : List ℕ). l ++ line) one) ∙ append_assoc (start ++ out) line first ∙ append_assoc start out (line ++ first)
 
--- what was appended to the old bytes is still there where no more was
+-- bytes that were appended stay if nothing was removed
 pub some_after : {X E : Type 0} (result : Result X E) (old part now new : List ℕ) → now ≡ old ++ part → OnErr result (new ≡ now) → OnErr result (AppendsSome old new)
 some_after (Ok x) old part now new after same = tt
 some_after (Err e) old part now new after same = (part, same ∙ after)

@@ -1,4 +1,4 @@
--- The lines that tell what RS does.
+-- The lines of RS's actions.
 use Rattle.std.specs.Prelude.{ℕ, List, [], ◌∷◌, codes}
 use Rattle.std.specs.Fmt.{decimal}
 use Rattle.ds_names.specs.Endpoint.{endpoint_text}
@@ -12,16 +12,16 @@ use Rattle.rs_core.specs.declared.fault.RsFault.{RsFault}
 use Rattle.rs_core.specs.declared.fault.RsFault.TheVariants as faults
 use Rattle.service_answers.specs.Refusal.{refusal_line}
 
--- `offer`, and the line of the change
+-- `offer`, and the line of the change.
 abbrev pub offer_line : ChangeRecord → List ℕ
 offer_line change = texts (part Word (codes "offer") ∷ space ∷ change_parts change)
 
--- `sweep`, the owner, and the generation
+-- `sweep`, the owner, and the generation.
 abbrev pub sweep_line : Floor → List ℕ
 sweep_line floor =
     texts (part Word (codes "sweep") ∷ space ∷ part Name floor.owner ∷ space ∷ part Number (decimal floor.generation) ∷ newline ∷ [])
 
--- the line of an action
+-- The line of an action.
 abbrev pub action_line : Action → List ℕ
 action_line (Kill endpoint) = texts (part Word (codes "kill") ∷ space ∷ part Endpoint (endpoint_text endpoint) ∷ newline ∷ [])
 action_line (Start label endpoint) =
@@ -30,11 +30,11 @@ action_line (Ping endpoint) = texts (part Word (codes "ping") ∷ space ∷ part
 action_line (Offer change) = offer_line change
 action_line (Sweep floor) = sweep_line floor
 
--- `actions`, and how many they are
+-- `actions`, and their number.
 abbrev pub action_count_line : ℕ → List ℕ
 action_count_line count = texts (part Word (codes "actions") ∷ space ∷ part Number (decimal count) ∷ newline ∷ [])
 
--- the word of why RS refuses an event: its name in lower case
+-- The word of RS's refusal of an event: its name in lower case.
 abbrev pub rs_fault_word : RsFault → List ℕ
 rs_fault_word faults.TickBack = codes "tickback"
 rs_fault_word faults.Worn = codes "worn"
@@ -47,6 +47,6 @@ rs_fault_word faults.GenerationsSpent = codes "generationsspent"
 rs_fault_word faults.NoSlot = codes "noslot"
 rs_fault_word faults.NoRoom = codes "noroom"
 
--- why RS refuses an event
+-- RS's refusal of an event.
 abbrev pub rs_fault_line : RsFault → List ℕ
 rs_fault_line fault = refusal_line (rs_fault_word fault)

@@ -1,4 +1,4 @@
--- The lines that tell what the servers of driver tables do.
+-- The lines of driver tables' moves.
 use Rattle.std.specs.Prelude.{ℕ, List, [], ◌∷◌, codes}
 use Rattle.std.specs.Fmt.{decimal}
 use Rattle.driver_tables.specs.declared.fault.TableFault.{TableFault}
@@ -12,16 +12,16 @@ use Rattle.ds_line.specs.Part.{part, texts, Word, Number, Endpoint}
 use Rattle.ds_line.specs.Spelling.{space, newline}
 use Rattle.service_answers.specs.Refusal.{refusal_line}
 
--- the answer to `assign`
+-- The answer to `assign`.
 abbrev pub assigned_line : List ℕ
 assigned_line = texts (part Word (codes "assigned") ∷ newline ∷ [])
 
--- how a request ended
+-- The word of a request's ending.
 abbrev pub ending_word : Ending → List ℕ
 ending_word Done = codes "done"
 ending_word Fault = codes "fault"
 
--- the line of a move
+-- The line of a move.
 abbrev pub move_line : Move → List ℕ
 move_line (Start unit endpoint) =
     texts (part Word (codes "start") ∷ space ∷ part Number (decimal unit) ∷ space ∷ part Endpoint (endpoint_text endpoint)
@@ -34,11 +34,11 @@ move_line (Answer id ending) =
     ∷ newline ∷ [])
 move_line (Held id) = texts (part Word (codes "held") ∷ space ∷ part Number (decimal id) ∷ newline ∷ [])
 
--- `moves`, and how many they are
+-- `moves`, and their number.
 abbrev pub move_count_line : ℕ → List ℕ
 move_count_line count = texts (part Word (codes "moves") ∷ space ∷ part Number (decimal count) ∷ newline ∷ [])
 
--- the word of why a driver table refuses: its name in lower case
+-- The word of a driver table's refusal: its name in lower case.
 abbrev pub table_fault_word : TableFault → List ℕ
 table_fault_word faults.Assigned = codes "assigned"
 table_fault_word faults.TwoIds = codes "twoids"
@@ -47,6 +47,6 @@ table_fault_word faults.NotPending = codes "notpending"
 table_fault_word faults.OldEndpoint = codes "oldendpoint"
 table_fault_word faults.NoRoom = codes "noroom"
 
--- why a driver table refuses
+-- A driver table's refusal.
 abbrev pub table_fault_line : TableFault → List ℕ
 table_fault_line fault = refusal_line (table_fault_word fault)

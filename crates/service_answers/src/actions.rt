@@ -1,4 +1,4 @@
-//! Telling what RS does.
+//! The lines of RS's actions.
 
 ghost use Rattle.std.specs.Prelude.{◌≡◌, ◌++◌, OnOk, OnErr};
 ghost use Rattle.service_answers.specs.Actions.{action_line, action_count_line, offer_line, rs_fault_line, rs_fault_word, sweep_line};
@@ -10,8 +10,8 @@ use ds_names::NoRoom;
 use itoa::Buffer;
 use rs_core::{Action, RsFault};
 
-/// Appends the line of one thing that RS does: `kill ENDPOINT`, `start LABEL ENDPOINT`, `ping ENDPOINT`, `offer CHANGE` or `sweep
-/// OWNER GENERATION`. Where there is no room for all of it, the buffer is as it was.
+/// Appends the line of an action of RS: `kill ENDPOINT`, `start LABEL ENDPOINT`, `ping ENDPOINT`, `offer CHANGE` or
+/// `sweep OWNER GENERATION`. If memory runs out, the buffer is unchanged.
 pub fn append_action(buffer: &mut Vec<u8>, action: &Action) -> Result<(), NoRoom>
     ensures written { OnOk result (buffer.new.items ≡ buffer.old.items ++ action_line action.now) }
     ensures unchanged { OnErr result (buffer.new.items ≡ buffer.old.items) }
@@ -27,7 +27,7 @@ pub fn append_action(buffer: &mut Vec<u8>, action: &Action) -> Result<(), NoRoom
     }
 }
 
-/// Appends how many actions an event gave, or nothing.
+/// Appends the number of an event's actions. If memory runs out, the buffer is unchanged.
 pub fn append_action_count(buffer: &mut Vec<u8>, count: usize) -> Result<(), NoRoom>
     ensures written { OnOk result (buffer.new.items ≡ buffer.old.items ++ action_count_line count) }
     ensures unchanged { OnErr result (buffer.new.items ≡ buffer.old.items) }
@@ -35,7 +35,7 @@ pub fn append_action_count(buffer: &mut Vec<u8>, count: usize) -> Result<(), NoR
     append_numbers(buffer, &[(b"actions ", count as u64)])
 }
 
-/// Appends why RS refuses an event, or nothing.
+/// Appends RS's refusal of an event. If memory runs out, the buffer is unchanged.
 pub fn append_rs_fault(buffer: &mut Vec<u8>, fault: RsFault) -> Result<(), NoRoom>
     ensures written { OnOk result (buffer.new.items ≡ buffer.old.items ++ rs_fault_line fault) }
     ensures unchanged { OnErr result (buffer.new.items ≡ buffer.old.items) }
@@ -43,7 +43,7 @@ pub fn append_rs_fault(buffer: &mut Vec<u8>, fault: RsFault) -> Result<(), NoRoo
     append_all(buffer, &[b"refused ", word_of_fault(fault), b"\n"])
 }
 
-// Appends the line of what is given to the data store, or nothing.
+// Appends the line of a change for the data store.
 fn append_offer(buffer: &mut Vec<u8>, change: &Change) -> Result<(), NoRoom>
     ensures written { OnOk result (buffer.new.items ≡ buffer.old.items ++ offer_line change.now) }
     ensures unchanged { OnErr result (buffer.new.items ≡ buffer.old.items) }
@@ -57,7 +57,7 @@ fn append_offer(buffer: &mut Vec<u8>, change: &Change) -> Result<(), NoRoom>
     written
 }
 
-// Appends the line of a floor that the data store is to raise, or nothing.
+// Appends the line of a floor for the data store to raise.
 fn append_sweep(buffer: &mut Vec<u8>, floor: &Floor) -> Result<(), NoRoom>
     ensures written { OnOk result (buffer.new.items ≡ buffer.old.items ++ sweep_line floor.now) }
     ensures unchanged { OnErr result (buffer.new.items ≡ buffer.old.items) }
@@ -68,7 +68,6 @@ fn append_sweep(buffer: &mut Vec<u8>, floor: &Floor) -> Result<(), NoRoom>
     append_all(buffer, &[b"sweep ", owner, b" ", generation, b"\n"])
 }
 
-// The word of why RS refuses an event.
 fn word_of_fault(fault: RsFault) -> &'static [u8]
     ensures { result.now ≡ rs_fault_word fault }
 {

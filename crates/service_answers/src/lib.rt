@@ -1,7 +1,7 @@
-//! The lines that answer what scripts ask of services and of driver tables.
+//! The lines that answer a script's commands to RS and to driver tables.
 //!
-//! What RS does is told action by action, and what the server of a driver table does move by move; behind them stands how many
-//! they are, or why nothing was done. The lines are of this project.
+//! Each action of RS, and each move of a driver table's server, is one line. After them comes their number, or why
+//! nothing was done. The lines are of this project.
 #![tactic(auto)]
 
 mod actions;

@@ -1,4 +1,4 @@
-//! Telling what the servers of driver tables do.
+//! The lines of driver tables' moves.
 
 ghost use Rattle.std.specs.Prelude.{◌≡◌, ◌++◌, OnOk, OnErr};
 ghost use Rattle.service_answers.specs.Moves.{assigned_line, ending_word, move_line, move_count_line, table_fault_line, table_fault_word};
@@ -9,7 +9,7 @@ use ds_line::{append_all, append_numbers};
 use ds_names::NoRoom;
 use itoa::Buffer;
 
-/// Appends the answer to `assign`, or nothing.
+/// Appends the answer to `assign`. If memory runs out, the buffer is unchanged.
 pub fn append_assigned(buffer: &mut Vec<u8>) -> Result<(), NoRoom>
     ensures written { OnOk result (buffer.new.items ≡ buffer.old.items ++ assigned_line) }
     ensures unchanged { OnErr result (buffer.new.items ≡ buffer.old.items) }
@@ -17,8 +17,8 @@ pub fn append_assigned(buffer: &mut Vec<u8>) -> Result<(), NoRoom>
     append_all(buffer, &[b"assigned\n"])
 }
 
-/// Appends the line of one thing that a server does: `start UNIT ENDPOINT`, `send ID ENDPOINT`, `answer ID done`, `answer ID
-/// fault` or `held ID`. Where there is no room for all of it, the buffer is as it was.
+/// Appends the line of a server's move: `start UNIT ENDPOINT`, `send ID ENDPOINT`, `answer ID done`, `answer ID fault`
+/// or `held ID`. If memory runs out, the buffer is unchanged.
 pub fn append_move(buffer: &mut Vec<u8>, step: Move) -> Result<(), NoRoom>
     ensures written { OnOk result (buffer.new.items ≡ buffer.old.items ++ move_line step) }
     ensures unchanged { OnErr result (buffer.new.items ≡ buffer.old.items) }
@@ -44,7 +44,7 @@ pub fn append_move(buffer: &mut Vec<u8>, step: Move) -> Result<(), NoRoom>
     }
 }
 
-/// Appends how many moves a line gave, or nothing.
+/// Appends the number of a line's moves. If memory runs out, the buffer is unchanged.
 pub fn append_move_count(buffer: &mut Vec<u8>, count: usize) -> Result<(), NoRoom>
     ensures written { OnOk result (buffer.new.items ≡ buffer.old.items ++ move_count_line count) }
     ensures unchanged { OnErr result (buffer.new.items ≡ buffer.old.items) }
@@ -52,7 +52,7 @@ pub fn append_move_count(buffer: &mut Vec<u8>, count: usize) -> Result<(), NoRoo
     append_numbers(buffer, &[(b"moves ", count as u64)])
 }
 
-/// Appends why a driver table refuses, or nothing.
+/// Appends a driver table's refusal. If memory runs out, the buffer is unchanged.
 pub fn append_table_fault(buffer: &mut Vec<u8>, fault: TableFault) -> Result<(), NoRoom>
     ensures written { OnOk result (buffer.new.items ≡ buffer.old.items ++ table_fault_line fault) }
     ensures unchanged { OnErr result (buffer.new.items ≡ buffer.old.items) }
@@ -60,7 +60,6 @@ pub fn append_table_fault(buffer: &mut Vec<u8>, fault: TableFault) -> Result<(),
     append_all(buffer, &[b"refused ", word_of_fault(fault), b"\n"])
 }
 
-// How a request ended.
 fn word_of_ending(ending: Ending) -> &'static [u8]
     ensures { result.now ≡ ending_word ending }
 {
@@ -70,7 +69,6 @@ fn word_of_ending(ending: Ending) -> &'static [u8]
     }
 }
 
-// The word of why a driver table refuses.
 fn word_of_fault(fault: TableFault) -> &'static [u8]
     ensures { result.now ≡ table_fault_word fault }
 {

@@ -1,4 +1,4 @@
-//! Lines that end with a process.
+//! Lines that end with an endpoint.
 
 ghost use Rattle.std.specs.Prelude.{◌≡◌, ◌++◌, OnOk, OnErr};
 ghost use Rattle.std.specs.List.{flat_map};
@@ -7,7 +7,7 @@ ghost use Rattle.service_answers.specs.Process.{process_end};
 use ds_line::{append_all, append_numbers};
 use ds_names::{Endpoint, NoRoom};
 
-/// Appends some texts, the endpoint of a process and a newline, or nothing.
+/// Appends some texts, a process's endpoint and a newline.
 pub(crate) fn append_process(
     buffer: &mut Vec<u8>,
     before: &[&[u8]],
@@ -25,7 +25,7 @@ pub(crate) fn append_process(
     written
 }
 
-// Appends an endpoint and a newline, or nothing.
+// Appends an endpoint and a newline.
 fn append_endpoint(buffer: &mut Vec<u8>, endpoint: Endpoint) -> Result<(), NoRoom>
     ensures written { OnOk result (buffer.new.items ≡ buffer.old.items ++ process_end endpoint) }
     ensures unchanged { OnErr result (buffer.new.items ≡ buffer.old.items) }

@@ -1,4 +1,4 @@
-//! Telling what came of settings.
+//! The lines of settings.
 
 ghost use Rattle.std.specs.Prelude.{◌≡◌, ◌++◌, OnOk, OnErr};
 ghost use Rattle.service_answers.specs.SettingsLines.{exists_line, settings_line, settings_fault_line, settings_cause_word};
@@ -7,7 +7,7 @@ use ds_line::{append_all, append_numbers};
 use ds_names::NoRoom;
 use rs_settings::SettingsCause;
 
-/// Appends how many services and slots the settings have that were taken, or nothing.
+/// Appends the numbers of services and slots of accepted settings. If memory runs out, the buffer is unchanged.
 pub fn append_settings(buffer: &mut Vec<u8>, services: usize, slots: u32) -> Result<(), NoRoom>
     ensures written { OnOk result (buffer.new.items ≡ buffer.old.items ++ settings_line services slots) }
     ensures unchanged { OnErr result (buffer.new.items ≡ buffer.old.items) }
@@ -18,7 +18,7 @@ pub fn append_settings(buffer: &mut Vec<u8>, services: usize, slots: u32) -> Res
     )
 }
 
-/// Appends why a settings text is refused, or nothing.
+/// Appends the refusal of a settings text. If memory runs out, the buffer is unchanged.
 pub fn append_settings_fault(buffer: &mut Vec<u8>, cause: SettingsCause) -> Result<(), NoRoom>
     ensures written { OnOk result (buffer.new.items ≡ buffer.old.items ++ settings_fault_line cause) }
     ensures unchanged { OnErr result (buffer.new.items ≡ buffer.old.items) }
@@ -26,7 +26,7 @@ pub fn append_settings_fault(buffer: &mut Vec<u8>, cause: SettingsCause) -> Resu
     append_all(buffer, &[b"refused ", word_of_cause(cause), b"\n"])
 }
 
-/// Appends the refusal of settings behind others that were taken, or nothing.
+/// Appends the refusal of settings after accepted ones. If memory runs out, the buffer is unchanged.
 pub fn append_exists(buffer: &mut Vec<u8>) -> Result<(), NoRoom>
     ensures written { OnOk result (buffer.new.items ≡ buffer.old.items ++ exists_line) }
     ensures unchanged { OnErr result (buffer.new.items ≡ buffer.old.items) }
@@ -34,7 +34,6 @@ pub fn append_exists(buffer: &mut Vec<u8>) -> Result<(), NoRoom>
     append_all(buffer, &[b"refused exists\n"])
 }
 
-// The word of why a settings text is refused.
 fn word_of_cause(cause: SettingsCause) -> &'static [u8]
     ensures { result.now ≡ settings_cause_word cause }
 {

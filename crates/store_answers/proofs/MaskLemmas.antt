@@ -11,7 +11,7 @@ use Rattle.store_answers.proofs.ResultLemmas.{on_ok}
 abbrev AreLowest : ℕ → LimitsRecord → Type 0
 AreLowest mask l = drop (16 - l.subs / 8) (to_be_bytes w128 mask) ≡ bytes_high_first (l.subs / 8) mask
 
--- the last bytes of a mask are those that the limits have
+-- the last bytes of a mask are those of the limits
 lowest_bytes : (l : LimitsRecord) (mask : ℕ) → IsLimits l → AreLowest mask l
 lowest_bytes l mask is =
     elim is [
@@ -19,7 +19,7 @@ lowest_bytes l mask is =
       | inr large ↦ subst (AreLowest mask) (sym large) refl
     ]
 
--- a mask of some has a line
+-- a mask that isn't 0 has a line
 some_owed : (l : LimitsRecord) (mask : ℕ) → 0 < mask → owed_line l mask ≡ with_newline (codes "owed " ++ mask_hex l mask)
 some_owed l mask some = ap (λ (b : Bool). if b then [] else with_newline (codes "owed " ++ mask_hex l mask)) (ne_eqb mask 0 (λ same. omega (arith, same, some)))
 

@@ -1,4 +1,4 @@
--- What holds of a call that went well, or that failed.
+-- Facts of a call that succeeded or failed.
 use Rattle.std.proofs.Common.{◌≡◌, Bool, true, false, not, sym, ap, ◌∙◌, Option, Some, None, Result, Ok, Err, OnOk, OnErr, refl}
 use Rattle.std.specs.Option.{is_some}
 use Rattle.std.specs.Result.{is_err}

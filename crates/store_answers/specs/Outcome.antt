@@ -1,4 +1,4 @@
--- The lines that answer what came of an event, and what a script is set to.
+-- The lines of an event's outcome, and of a script's settings.
 use Rattle.std.specs.Prelude.{ℕ, List, [], ◌++◌, codes}
 use Rattle.std.specs.Fmt.{decimal}
 use Rattle.ds_held.specs.Limits.{LimitsRecord}
@@ -13,7 +13,7 @@ use Rattle.store_answers.specs.Reply.{reply_lines, merged, stopped, owed_line}
 use Rattle.store_answers.specs.declared.wording.Wording.{Wording}
 use Rattle.store_answers.specs.declared.wording.Wording.TheVariants.{AsMerge}
 
--- the word of why an event is refused: its name in lower case
+-- The word of an event's refusal: its name in lower case.
 abbrev pub event_fault_word : EventFault → List ℕ
 event_fault_word faults.MessagesFull = codes "messagesfull"
 event_fault_word faults.MapsFull = codes "mapsfull"
@@ -25,8 +25,7 @@ event_fault_word faults.TooMany = codes "toomany"
 event_fault_word faults.OldIncarnation = codes "oldincarnation"
 event_fault_word faults.NoRoom = codes "noroom"
 
--- The lines of what came of an event. Those of a reply are the reply's; a message has none beside those of the reply that it
--- keeps.
+-- The lines of an event's outcome; a message has none, beside those of the reply that it keeps.
 abbrev pub outcome_lines : Wording → Outcome → LimitsRecord → List ℕ
 outcome_lines wording (Replied reply) limits = reply_lines wording reply limits
 outcome_lines wording (Made message) limits = []
@@ -37,15 +36,15 @@ outcome_lines wording Cleared limits = with_newline (codes "cleared")
 outcome_lines wording Restarted limits = with_newline (codes "restarted")
 outcome_lines wording (Refused fault) limits = with_newline (codes "refused " ++ event_fault_word fault)
 
--- the answer to `ring`
+-- The answer to `ring`.
 abbrev pub ring_line : ℕ → List ℕ
 ring_line ring = with_newline (codes "ring " ++ decimal ring)
 
--- `a` or `b`
+-- `a` or `b`.
 abbrev pub side_word : Side → List ℕ
 side_word A = codes "a"
 side_word B = codes "b"
 
--- the answer to `side`
+-- The answer to `side`.
 abbrev pub side_line : Side → List ℕ
 side_line side = with_newline (codes "side " ++ side_word side)

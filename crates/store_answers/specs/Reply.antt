@@ -1,4 +1,4 @@
--- The lines that answer a command, by the reply that a store gives to it.
+-- The lines of a store's reply.
 use Rattle.std.specs.Prelude.{ℕ, ◌/◌, ◌==◌, if◌then◌else◌, Bool, true, false, List, [], ◌∷◌, ◌++◌, length, codes}
 use Rattle.std.specs.List.{flat_map}
 use Rattle.std.specs.Fmt.{decimal}
@@ -22,7 +22,7 @@ use Rattle.store_answers.specs.declared.wording.Wording.{Wording}
 use Rattle.store_answers.specs.declared.wording.Wording.TheVariants.{AsOffer, AsMerge}
 use Rattle.line_io.specs.Lines.{with_newline}
 
--- the word of a refusal: its name in lower case
+-- The word of a refusal: its name in lower case.
 abbrev pub refusal_word : Refusal → List ℕ
 refusal_word refusals.BadSub = codes "badsub"
 refusal_word refusals.TooMany = codes "toomany"
@@ -47,59 +47,59 @@ refusal_word refusals.NoRoom = codes "noroom"
 refusal_word refusals.BadRing = codes "badring"
 refusal_word refusals.BadFirst = codes "badfirst"
 
--- a space and `EPOCH.SEQ`
+-- A space and `EPOCH.SEQ`.
 abbrev pub clashing : Version → List ℕ
 clashing version = 32 ∷ (decimal version.epoch ++ 46 ∷ decimal version.seq)
 
--- behind its word a clash has the version of both changes
+-- What follows the word: a clash has the version of both changes.
 abbrev pub refusal_rest : Refusal → List ℕ
 refusal_rest (refusals.Clash version) = clashing version
 refusal_rest _ = []
 
--- the word, and what is behind it
+-- The word, and what follows it.
 abbrev pub refusal_words : Refusal → List ℕ
 refusal_words refusal = refusal_word refusal ++ refusal_rest refusal
 
--- `refused`, and the words
+-- `refused`, and the words.
 abbrev pub refused : Refusal → List ℕ
 refused refusal = codes "refused " ++ refusal_words refusal
 
--- what became of a Merge, by how many items are done, took effect and were stale
+-- The outcome of a Merge, by the numbers of items done, taken and stale.
 abbrev pub merged : Wording → ℕ → ℕ → ℕ → List ℕ
 merged AsOffer done taken stale = if taken == 0 then (if stale == 0 then codes "known" else codes "stale") else codes "taken"
 merged AsMerge done taken stale = codes "merged " ++ (decimal done ++ 32 ∷ (decimal taken ++ 32 ∷ decimal stale))
 
--- why a Merge stopped behind so many items
+-- The stop of a Merge after `done` items.
 abbrev pub stopped : Wording → ℕ → Refusal → List ℕ
 stopped AsOffer done fault = refused fault
 stopped AsMerge done fault = codes "stopped " ++ (decimal done ++ 32 ∷ refusal_words fault)
 
--- how many items were shown, and the stamps before and after
+-- The count of items shown, and the stamps before and after.
 abbrev pub checked_text : ℕ → ℕ → ℕ → List ℕ
 checked_text count before after = codes "checked " ++ (decimal count ++ 32 ∷ (decimal before ++ 32 ∷ decimal after))
 
--- the incarnation and the position of a cursor
+-- The incarnation and the position of a cursor.
 abbrev pub cursor_text : Cursor → List ℕ
 cursor_text cursor = decimal cursor.incarnation ++ 32 ∷ decimal cursor.position
 
--- how many items are given, and the cursor behind what was looked at
+-- The count of items, and the cursor after what was looked at.
 abbrev pub since_text : Since → List ℕ
 since_text since = codes "since " ++ (decimal (length since.items) ++ 32 ∷ cursor_text since.cursor)
 
--- how many items are held, and the cursor from which the journal goes on
+-- The count of items, and the cursor from which the journal continues.
 abbrev pub snapped : Snapshot → List ℕ
 snapped snapshot = codes "snapshot " ++ (decimal (length snapshot.items) ++ 32 ∷ cursor_text snapshot.cursor)
 
--- whether it is the last page
+-- The word for whether a page is the last one.
 abbrev pub page_mark : Bool → List ℕ
 page_mark true = codes " last "
 page_mark false = codes " more "
 
--- how many items are on the page, whether it is the last one, and the cursor at its time
+-- The count of items, whether the page is the last one, and its cursor.
 abbrev pub page_text : Page → List ℕ
 page_text page = codes "page " ++ (decimal (length page.items) ++ (page_mark page.last ++ cursor_text page.cursor))
 
--- what the reply says
+-- The words of a reply.
 abbrev pub reply_words : Wording → Reply → List ℕ
 reply_words wording (Changed owed) = codes "taken"
 reply_words wording Known = codes "known"
@@ -115,18 +115,19 @@ reply_words wording (Merged done taken stale owed) = merged wording done taken s
 reply_words wording (MergeStopped done fault owed) = stopped wording done fault
 reply_words wording (Refused fault) = refused fault
 
--- the bytes of a mask, one for eight subscriptions, the greatest first, in lower-case hex
+-- The bytes of a mask, one for eight subscriptions, the greatest first, in lower-case hex.
 abbrev pub mask_hex : LimitsRecord → ℕ → List ℕ
 mask_hex limits mask = encode_lower (bytes_high_first (limits.subs / 8) mask)
 
--- a line for what is owed, unless nothing is
+-- The line of what is owed; none if nothing is.
 abbrev pub owed_line : LimitsRecord → ℕ → List ℕ
 owed_line limits mask = if mask == 0 then [] else with_newline (codes "owed " ++ mask_hex limits mask)
 
--- the lines of the reply: those of the items that it gives, its words, and what is owed
+-- The lines of a reply: those of its items, its words, and what is owed.
 abbrev pub reply_lines : Wording → Reply → LimitsRecord → List ℕ
-reply_lines wording reply limits = flat_map item_spelling (shown_by reply) ++ (with_newline (reply_words wording reply) ++ owed_line limits (owed_by reply))
+reply_lines wording reply limits =
+    flat_map item_spelling (shown_by reply) ++ (with_newline (reply_words wording reply) ++ owed_line limits (owed_by reply))
 
--- the answer for want of memory
+-- The answer if memory runs out.
 abbrev pub refused_noroom : List ℕ
 refused_noroom = with_newline (codes "refused noroom")

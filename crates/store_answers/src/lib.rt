@@ -1,6 +1,6 @@
-//! The lines that answer what scripts ask of stores: replies, and what came of the events of a world.
+//! The lines that answer a script's commands to stores: replies, and the outcomes of a world's events.
 //!
-//! A reply is told by one line, behind those of the items that it gives, and what is owed by a line of its own. The lines are of
+//! A reply is one line, after those of the items that it returns; what is owed has a line of its own. The lines are of
 //! this project.
 #![tactic(auto)]
 

@@ -1,4 +1,4 @@
-//! Printing what a message is.
+//! The lines of a message's reply.
 
 ghost use Rattle.std.specs.Prelude.{◌≡◌, ◌++◌, OnOk, OnErr};
 ghost use Rattle.store_answers.specs.Reply.{reply_lines};
@@ -10,8 +10,8 @@ use ds_message::Message;
 use ds_names::NoRoom;
 use std::alloc::Global;
 
-/// Appends the lines of the reply that a message is. Where there is no room for all of them, or its items are packed and there is none
-/// for them, the buffer is as it was.
+/// Appends the lines of the reply that a message keeps. If memory runs out, for the lines or for unpacking its items,
+/// the buffer is unchanged.
 pub fn append_message(
     alloc: Global,
     buffer: &mut Vec<u8>,

@@ -1,4 +1,4 @@
-//! Printing what came of an event, and what a script is set to.
+//! The lines of an event's outcome, and of a script's settings.
 
 ghost use Rattle.std.specs.Prelude.{◌≡◌, ◌++◌, OnOk, OnErr};
 ghost use Rattle.store_answers.specs.Outcome.{event_fault_word, outcome_lines, ring_line, side_line};
@@ -12,12 +12,12 @@ use ds_machine::Reply;
 use ds_names::NoRoom;
 use ds_replica::{EventFault, Outcome, Side};
 
-/// Appends the lines of what came of an event in a world whose stores have these limits. Where there is no room for all of
-/// them, the buffer is as it was.
+/// Appends the lines of an event's outcome, in a world whose stores have these limits. If memory runs out, the buffer
+/// is unchanged.
 ///
-/// A reply is told as `append_reply` tells it. A message has no line here: what the store gave is the reply that the message
-/// keeps, and `append_reply` tells that. A delivery is told by its counts, or why it stopped behind how many items, and
-/// then what it owes.
+/// A reply is written as by `append_reply`. A message has no line here: `append_message` writes the reply that it
+/// keeps. A delivery is written by its counts, or by the count of items before it stopped and the cause; then comes
+/// what it owes.
 pub fn append_outcome(
     buffer: &mut Vec<u8>,
     wording: Wording,
@@ -54,7 +54,6 @@ pub fn append_outcome(
     }
 }
 
-// The word of why an event is refused.
 fn word_of_fault(fault: EventFault) -> &'static [u8]
     ensures { result.now ≡ event_fault_word fault }
 {
@@ -71,7 +70,7 @@ fn word_of_fault(fault: EventFault) -> &'static [u8]
     }
 }
 
-/// Appends the answer to `ring`, or nothing.
+/// Appends the answer to `ring`. If memory runs out, the buffer is unchanged.
 pub fn append_ring(buffer: &mut Vec<u8>, ring: u32) -> Result<(), NoRoom>
     ensures written { OnOk result (buffer.new.items ≡ buffer.old.items ++ ring_line ring) }
     ensures unchanged { OnErr result (buffer.new.items ≡ buffer.old.items) }
@@ -79,7 +78,7 @@ pub fn append_ring(buffer: &mut Vec<u8>, ring: u32) -> Result<(), NoRoom>
     append_numbers(buffer, &[(b"ring ", ring as u64)])
 }
 
-/// Appends the answer to `side`, or nothing.
+/// Appends the answer to `side`. If memory runs out, the buffer is unchanged.
 pub fn append_side(buffer: &mut Vec<u8>, side: Side) -> Result<(), NoRoom>
     ensures written { OnOk result (buffer.new.items ≡ buffer.old.items ++ side_line side) }
     ensures unchanged { OnErr result (buffer.new.items ≡ buffer.old.items) }
@@ -87,7 +86,6 @@ pub fn append_side(buffer: &mut Vec<u8>, side: Side) -> Result<(), NoRoom>
     append_all(buffer, &[b"side ", word_of_side(side), b"\n"])
 }
 
-// The word of a side.
 fn word_of_side(side: Side) -> &'static [u8]
     ensures { result.now ≡ side_word side }
 {

@@ -1,4 +1,4 @@
-//! Printing what a store replies.
+//! The lines of a store's reply.
 
 ghost use Rattle.std.specs.Prelude.{◌≡◌, ◌≤◌, ◌++◌, drop, codes, IfOk, OnOk, OnErr};
 ghost use Rattle.std.specs.List.{flat_map};
@@ -18,13 +18,12 @@ use ds_names::{NoRoom, Version};
 use itoa::Buffer;
 use std::alloc::Global;
 
-/// Writes the lines that answer a command so worded to which a store of these limits gave the reply.
+/// Returns the lines of a reply from a store of these limits, with this wording of a Merge.
 ///
-/// A change that took effect is `taken`. An offer, which is a Merge of one item, is told by what became of that item, and
-/// a Merge of any other command by how many items are done, took effect and were stale. Before the words of a check, of
-/// what the journal has since a cursor, of a snapshot and of a page stand the items that they give, each on its line.
-/// Where notices are owed, a last line gives the mask of their subscriptions, a byte for eight of the limits, the greatest
-/// byte first. The lines are of this project.
+/// A change that took effect is `taken`. An offer, which is a Merge of one item, is answered by the outcome of that
+/// item; any other Merge by the numbers of items done, taken and stale. The items of a check, of the journal, of a
+/// snapshot and of a page come first, each on its line. If notices are owed, the last line is the mask of their
+/// subscriptions: a byte for eight of the limits, the greatest byte first. The lines are of this project.
 pub fn write_reply(
     alloc: Global,
     wording: Wording,
@@ -38,7 +37,7 @@ pub fn write_reply(
     Ok(text)
 }
 
-/// Appends the lines of a reply. Where there is no room for all of them, the buffer is as it was.
+/// Appends the lines of a reply. If memory runs out, the buffer is unchanged.
 pub fn append_reply(
     buffer: &mut Vec<u8>,
     wording: Wording,
@@ -57,7 +56,8 @@ pub fn append_reply(
     written
 }
 
-/// Appends the lines of the reply to an offer, as `append_reply` does. Where nobody is owed a notice, as most often, they are one text.
+/// Like `append_reply`, for an offer. If nobody is owed a notice, which is the usual case, the answer is one constant
+/// text.
 #[inline(always)]
 pub fn append_offered(buffer: &mut Vec<u8>, reply: &Reply, limits: Limits) -> Result<(), NoRoom>
     ensures written { OnOk result (buffer.new.items ≡ buffer.old.items ++ reply_lines AsOffer reply.now limits) }
@@ -74,7 +74,7 @@ pub fn append_offered(buffer: &mut Vec<u8>, reply: &Reply, limits: Limits) -> Re
     }
 }
 
-/// Appends the refusal of a line for want of memory, or nothing.
+/// Appends the refusal of a line for which memory ran out. If it runs out here too, the buffer is unchanged.
 pub fn append_noroom(buffer: &mut Vec<u8>) -> Result<(), NoRoom>
     ensures written { OnOk result (buffer.new.items ≡ buffer.old.items ++ refused_noroom) }
     ensures unchanged { OnErr result (buffer.new.items ≡ buffer.old.items) }
@@ -82,7 +82,7 @@ pub fn append_noroom(buffer: &mut Vec<u8>) -> Result<(), NoRoom>
     append(buffer, b"refused noroom\n")
 }
 
-// Appends the lines of a reply but for what is owed, or nothing.
+// Appends the lines of a reply, except what is owed.
 fn append_words(buffer: &mut Vec<u8>, wording: Wording, reply: &Reply) -> Result<(), NoRoom>
     ensures written { OnOk result (buffer.new.items
         ≡ buffer.old.items ++ (flat_map item_spelling (shown_by reply.now) ++ with_newline (reply_words wording reply.now))) }
@@ -120,7 +120,7 @@ fn append_words(buffer: &mut Vec<u8>, wording: Wording, reply: &Reply) -> Result
     }
 }
 
-// The line that tells what became of an offer, by how many items of its Merge took effect and how many were stale.
+// Returns the line of an offer's outcome, by the numbers of taken and stale items of its Merge.
 fn offered(taken: usize, stale: usize) -> &'static [u8]
     ensures { result.now ≡ with_newline (merged AsOffer 1 taken stale) }
 {
@@ -133,7 +133,7 @@ fn offered(taken: usize, stale: usize) -> &'static [u8]
     }
 }
 
-// Appends the line that counts the items of a Merge, or nothing.
+// Appends the line that counts the items of a Merge.
 fn append_merged(
     buffer: &mut Vec<u8>,
     done: usize,
@@ -153,7 +153,7 @@ fn append_merged(
     )
 }
 
-// Appends the line of a Merge that stopped behind so many items, or nothing.
+// Appends the line of a Merge that stopped after `done` items.
 fn append_stopped(buffer: &mut Vec<u8>, done: usize, fault: Refusal) -> Result<(), NoRoom>
     ensures written { OnOk result (buffer.new.items ≡ buffer.old.items ++ with_newline (stopped AsMerge done fault)) }
     ensures unchanged { OnErr result (buffer.new.items ≡ buffer.old.items) }
@@ -163,7 +163,7 @@ fn append_stopped(buffer: &mut Vec<u8>, done: usize, fault: Refusal) -> Result<(
     append_refusal(buffer, &[b"stopped ", done, b" "], fault)
 }
 
-// Appends the line of a refusal, or nothing.
+// Appends the line of a refusal.
 fn append_refused(buffer: &mut Vec<u8>, refusal: Refusal) -> Result<(), NoRoom>
     ensures written { OnOk result (buffer.new.items ≡ buffer.old.items ++ with_newline (refused refusal)) }
     ensures unchanged { OnErr result (buffer.new.items ≡ buffer.old.items) }
@@ -171,7 +171,7 @@ fn append_refused(buffer: &mut Vec<u8>, refusal: Refusal) -> Result<(), NoRoom>
     append_refusal(buffer, &[b"refused "], refusal)
 }
 
-// Appends some texts and the words of a refusal as one line, or nothing.
+// Appends some texts and the words of a refusal as one line.
 fn append_refusal(buffer: &mut Vec<u8>, before: &[&[u8]], refusal: Refusal) -> Result<(), NoRoom>
     ensures written { OnOk result (buffer.new.items
         ≡ buffer.old.items ++ (flat_map (λ text. text.now) before.now ++ with_newline (refusal_words refusal))) }
@@ -186,7 +186,7 @@ fn append_refusal(buffer: &mut Vec<u8>, before: &[&[u8]], refusal: Refusal) -> R
     written
 }
 
-// Appends the words of a refusal and a newline, or nothing.
+// Appends the words of a refusal and a newline.
 fn append_refusal_words(buffer: &mut Vec<u8>, refusal: Refusal) -> Result<(), NoRoom>
     ensures written { OnOk result (buffer.new.items ≡ buffer.old.items ++ with_newline (refusal_words refusal)) }
     ensures unchanged { OnErr result (buffer.new.items ≡ buffer.old.items) }
@@ -197,7 +197,7 @@ fn append_refusal_words(buffer: &mut Vec<u8>, refusal: Refusal) -> Result<(), No
     }
 }
 
-// Appends the words of a clash at a version and a newline, or nothing.
+// Appends the words of a clash at a version and a newline.
 fn append_clash(buffer: &mut Vec<u8>, version: Version) -> Result<(), NoRoom>
     ensures written { OnOk result (buffer.new.items ≡ buffer.old.items ++ with_newline (refusal_words (Refusal.Clash version))) }
     ensures unchanged { OnErr result (buffer.new.items ≡ buffer.old.items) }
@@ -206,7 +206,6 @@ fn append_clash(buffer: &mut Vec<u8>, version: Version) -> Result<(), NoRoom>
     append_numbers(buffer, &[(b"clash ", epoch), (b".", version.seq as u64)])
 }
 
-// The word of a refusal.
 fn refusal_word(refusal: Refusal) -> &'static [u8]
     ensures { result.now ≡ refusal_word refusal }
 {
@@ -236,7 +235,7 @@ fn refusal_word(refusal: Refusal) -> &'static [u8]
     }
 }
 
-// Appends the line of what is owed, where something is, or nothing.
+// Appends the line of what is owed, if anything is.
 fn append_owed(buffer: &mut Vec<u8>, mask: u128, limits: Limits) -> Result<(), NoRoom>
     ensures written { OnOk result (buffer.new.items ≡ buffer.old.items ++ owed_line limits mask) }
     ensures unchanged { OnErr result (buffer.new.items ≡ buffer.old.items) }
@@ -244,12 +243,12 @@ fn append_owed(buffer: &mut Vec<u8>, mask: u128, limits: Limits) -> Result<(), N
     if mask == 0 {
         return Ok(());
     }
-    // A byte has the bits of eight subscriptions, and the last bytes those of the first ones.
+    // A byte has the bits of eight subscriptions; the last bytes have those of the first subscriptions.
     let count = limits.subs() as usize / 8;
     append_mask(buffer, &mask.to_be_bytes(), 16 - count)
 }
 
-// Appends the line of a mask, without its first bytes, or nothing.
+// Appends the line of a mask, from its byte `first` on.
 fn append_mask(buffer: &mut Vec<u8>, bytes: &[u8; 16], first: usize) -> Result<(), NoRoom>
     requires { first ≤ 16 }
     ensures written { OnOk result (buffer.new.items

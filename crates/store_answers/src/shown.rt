@@ -1,4 +1,4 @@
-//! The answers that give items.
+//! Replies that return items.
 
 ghost use Rattle.std.specs.Prelude.{◌≡◌, ◌++◌, ◌∷◌, [], OnOk, OnErr, length};
 ghost use Rattle.std.specs.List.{flat_map};
@@ -12,8 +12,7 @@ use ds_feed::{Page, Since, Snapshot};
 use ds_line::{append_item, append_numbers};
 use ds_names::NoRoom;
 
-/// Appends the lines of the items that a check shows, and the line that counts them and gives the stamps before and
-/// after, or nothing.
+/// Appends the lines of a check: its items, then their count and the stamps before and after.
 pub(crate) fn append_checked(
     buffer: &mut Vec<u8>,
     items: &Items,
@@ -32,8 +31,7 @@ pub(crate) fn append_checked(
     )
 }
 
-/// Appends the lines of the items that took effect from a cursor on, and the line that counts them and gives the cursor
-/// behind them, or nothing.
+/// Appends the lines of a `since`: its items, then their count and the cursor after them.
 pub(crate) fn append_journaled(buffer: &mut Vec<u8>, since: &Since) -> Result<(), NoRoom>
     ensures written { OnOk result (buffer.new.items
         ≡ buffer.old.items ++ (flat_map item_spelling since.now.items ++ with_newline (since_text since.now))) }
@@ -50,8 +48,7 @@ pub(crate) fn append_journaled(buffer: &mut Vec<u8>, since: &Since) -> Result<()
     )
 }
 
-/// Appends the lines of the items that are held, and the line that counts them and gives the cursor at that time, or
-/// nothing.
+/// Appends the lines of a snapshot: its items, then their count and its cursor.
 pub(crate) fn append_snapped(buffer: &mut Vec<u8>, snapshot: &Snapshot) -> Result<(), NoRoom>
     ensures written { OnOk result (buffer.new.items
         ≡ buffer.old.items ++ (flat_map item_spelling snapshot.now.items ++ with_newline (snapped snapshot.now))) }
@@ -68,8 +65,7 @@ pub(crate) fn append_snapped(buffer: &mut Vec<u8>, snapshot: &Snapshot) -> Resul
     )
 }
 
-/// Appends the lines of the items on a page, and the line that counts them and gives whether it is the last one and the
-/// cursor at its time, or nothing.
+/// Appends the lines of a page: its items, then their count, whether it is the last page, and its cursor.
 pub(crate) fn append_paged(buffer: &mut Vec<u8>, page: &Page) -> Result<(), NoRoom>
     ensures written { OnOk result (buffer.new.items
         ≡ buffer.old.items ++ (flat_map item_spelling page.now.items ++ with_newline (page_text page.now))) }
@@ -86,14 +82,14 @@ pub(crate) fn append_paged(buffer: &mut Vec<u8>, page: &Page) -> Result<(), NoRo
     )
 }
 
-// Whether a page is the last one, between two spaces.
+// Returns the word for whether a page is the last one, between two spaces.
 fn page_mark(last: bool) -> &'static [u8]
     ensures { result.now ≡ page_mark last }
 {
     if last { b" last " } else { b" more " }
 }
 
-// Appends the line of each item, and a line of numbers, or nothing.
+// Appends the line of each item, and a line of numbers.
 fn append_listed(
     buffer: &mut Vec<u8>,
     items: &Items,
@@ -112,7 +108,7 @@ fn append_listed(
     written
 }
 
-// Appends the line of each item, or nothing.
+// Appends the line of each item.
 fn append_items(buffer: &mut Vec<u8>, items: &Items) -> Result<(), NoRoom>
     ensures written { OnOk result (buffer.new.items ≡ buffer.old.items ++ flat_map item_spelling items.now) }
     ensures unchanged { OnErr result (buffer.new.items ≡ buffer.old.items) }

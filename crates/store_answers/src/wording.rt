@@ -1,6 +1,6 @@
-//! How the reply to a Merge is worded.
+//! The wording of the reply to a Merge.
 
-/// How the reply to a Merge is worded: an offer's by what became of its one item, any other's by its counts.
+/// The wording of the reply to a Merge: an offer's by the outcome of its one item, any other's by its counts.
 #[derive(Clone, Copy, Debug, PartialEq, Eq)]
 pub enum Wording {
     /// `taken`, `stale` or `known`, or `refused WORD`.

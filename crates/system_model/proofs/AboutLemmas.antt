@@ -1,4 +1,4 @@
--- What a label's new state brings: moves about that label, to its own endpoint.
+-- The effect of a label's new state: moves about that label, to its own endpoint.
 use Rattle.std.proofs.Common.{◌≡◌, ℕ, Bool, true, false, cond, List, [], ◌∷◌, Option, Some, None, Result, Ok, refl, ap, sym, ◌∙◌, subst, inl, inr, ◌⊎◌}
 use Rattle.std.specs.List.{find, filter_map, cons_option}
 use Rattle.std.specs.Option.{option_map, option_map_or, option_and_then}
@@ -31,7 +31,7 @@ use Rattle.system_model.specs.Sending.{goal_of, label_of_unit, label_of_request,
 use Rattle.system_model.proofs.CutLemmas.{moves_of_rounds, round_at, table_past}
 use Rattle.system_model.proofs.NewsLemmas.{same_some, moves_for, table_with, Notes, skips_or_notes}
 
--- what filter_map gives it gives of an element
+-- each value in a filter_map is that of an element
 pub In-from_filter_map : {X Y : Type 0} (f : X → Option Y) (xs : List X) (y : Y) → In y (filter_map f xs) → (x : X) × In x xs × (f x ≡ Some y)
 In-from_filter_map f [] y h = absurd h
 In-from_filter_map {X} {Y} f (x ∷ xs) y h = by (f x) refl h (In-from_filter_map f xs y)
@@ -41,7 +41,7 @@ In-from_filter_map {X} {Y} f (x ∷ xs) y h = by (f x) refl h (In-from_filter_ma
     by (Some z) q (inl e) rest = (x, inl refl, q ∙ ap Some (sym e))
     by (Some z) q (inr k) rest = let r = rest k in (r.0, inr r.1, r.2)
 
--- ---- which label a move is about
+-- ---- the label that a move is about
 
 -- a Start of the state is of a unit with the label
 started_under : (l : List ℕ) (state : Option EndpointRecord) (u : ℕ × Driver) (m : Move) → start l state u ≡ Some m → (e : EndpointRecord) × (m ≡ Start u.0 e) × (u.1.label ≡ l)
@@ -54,7 +54,7 @@ started_under l state u m h = by (is_same_name l u.1.label) refl u.1.class state
     by true n Network None k = no_some m k
     by true n Network (Some x) k = (x, sym (same_some (Start u.0 x) m k), sym (same_name l u.1.label n))
 
--- what becomes of a request is about the label of its unit
+-- the move of a request is about the label of its unit
 abbrev IsOfRequest : ℕ → Move → Type 0
 IsOfRequest id m = ((e : EndpointRecord) × (m ≡ Send id e)) ⊎ ((ending : Ending) × (m ≡ Answer id ending))
 
@@ -103,7 +103,7 @@ all_about t l state m r h = elim (In-append (filter_map (start l state) t.units)
 
 -- ---- the living driver that a Send or a Start goes to
 
--- the move is about a label, which has this endpoint now, and had no greater generation
+-- the move is about a label that has this endpoint now, and had no greater generation
 pub record IsOwn (u : DriverTable) (m : Move) (e : EndpointRecord) : Type 0 where
   pub label : List ℕ
   pub about : label_of u m ≡ Some label
@@ -134,9 +134,9 @@ own_goes u (Send id x) e h g = living_own u h.0.unit x e (Send id x) h.2 g (ap (
 own_goes u (Answer id ending) e h g = no_some e g
 own_goes u (Held id) e h g = no_some e g
 
--- ---- a move that what the map has of a label brought
+-- ---- a move that the map's change of a label brought
 
--- what the map has wasn't passed over, and the move is one of its state
+-- the map's change wasn't passed over, and the move is one of its state
 pub record IsBrought (held : List Item) (x : DriverTable) (l : List ℕ) (m : Move) : Type 0 where
   pub noted : Notes held x l
   pub moved : In m (moves_for noted.now x l (endpoint_in noted.change.body))
@@ -145,7 +145,7 @@ pub brought_so : (held : List Item) (x : DriverTable) (l : List ℕ) (m : Move) 
 brought_so held x l m i = elim (skips_or_notes held x l) [ inl s ↦ absurd (subst (In m) s.none i) | inr n ↦ record { noted = n; moved = subst (In m) n.moves i } ]
 
 module _ (held : List Item) (x : DriverTable) (l : List ℕ) (m : Move) (b : IsBrought held x l m) where
-  -- the call that told the state
+  -- the call with the state
   pub brought_step : TableStep x (Changed l (endpoint_in b.noted.change.body)) (Ok (moves_for b.noted.now x l (endpoint_in b.noted.change.body))) (table_past held x l)
   brought_step = record {
     answer_is = sym (ap (λ (p : Result (List Move) TableFault × DriverTable). p.0) b.noted.answer);
@@ -153,7 +153,7 @@ module _ (held : List Item) (x : DriverTable) (l : List ℕ) (m : Move) (b : IsB
     unchanged = tt;
   }
 
-  -- it is about the label
+  -- the move is about the label
   pub brought_about : IsTableReached x → label_of x m ≡ Some l
   brought_about r = by b.noted.now b.moved
     where
@@ -161,14 +161,14 @@ module _ (held : List Item) (x : DriverTable) (l : List ℕ) (m : Move) (b : IsB
       by true i = absurd i
       by false i = all_about x l (endpoint_in b.noted.change.body) m r i
 
-  -- which has the state now
+  -- the label has the state now
   now_noted : endpoint_now (table_past held x l).states l ≡ endpoint_in b.noted.change.body
   now_noted =
       ap (λ (z : DriverTable). endpoint_now z.states l) b.noted.past
       ∙ (now_after x.states (record { label = l; endpoint = endpoint_in b.noted.change.body }) l
       ∙ ap (λ (t : Bool). cond t (endpoint_in b.noted.change.body) (endpoint_now x.states l)) (name_itself l))
 
-  -- and if it goes to an endpoint, that is the map's own, of the label's newest generation
+  -- if the move goes to an endpoint, that is the map's own, of the label's newest generation
   pub record IsGoal (e : EndpointRecord) : Type 0 where
     pub own : endpoint_in b.noted.change.body ≡ Some e
     pub greatest : newest (table_past held x l).states l ≡ Some e.generation

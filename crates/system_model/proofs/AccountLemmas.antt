@@ -1,4 +1,4 @@
--- How an account goes on: what events of the world bring in, of which all was made.
+-- How an account grows: what events of the world bring in was all made.
 use Rattle.std.proofs.Common.{◌≡◌, false, List, [], ◌∷◌, ◌++◌, Option, Some, None, refl, sym, subst, inl, inr, ◌⊎◌, Contains}
 use Rattle.std.proofs.lemmas.List.Elements.{Contains-append_left, Contains-append_cases}
 use Rattle.ds_entry.specs.Change.{ChangeRecord}
@@ -31,7 +31,7 @@ use Rattle.system_model.proofs.Kept.{AreAllMade}
 use Rattle.system_model.proofs.BringLemmas.{BringsMade, known_within}
 
 -- ---- what one event brings in
--- an Ask what its store learns, and no other event anything
+-- an Ask brings in what its store learns, other events nothing
 abbrev IsLearnt : Account → Event → Outcome → Item → Type 0
 IsLearnt account (Ask side command) (Replied reply) i = Contains (learnt_by (store_of account side).state command reply) i
 IsLearnt account (Ask side command) (Made k) i = Contains (learnt_by (store_of account side).state command (outcome (store_of account side).state command).0) i
@@ -45,7 +45,7 @@ left_by_delivery : (account : Account) (holder : Holder) (items : List Sent) →
 left_by_delivery account (Store side) items = left_by_store account side _
 left_by_delivery account (Map j) items = refl
 
--- nothing is brought in but that
+-- nothing else is brought in
 abbrev Brings : Account → Event → Outcome → Type 0
 Brings account event out = (i : Item) → Contains (extended account event out).brought i → Contains account.brought i ⊎ IsLearnt account event out i
 
@@ -67,7 +67,7 @@ event_brings account (RestartStore side incarnation) Restarted i h = as_before a
 event_brings account (RestartStore side incarnation) _ i h = inl h
 
 -- ---- events that bring in only what was made
--- an Ask that was replied to is a step of the account's store
+-- an Ask with its reply is a step of the account's store
 asked_step : (account : Account) (w new : World) (side : Side) (command : Command) (reply : Reply) → Fits account w → Happens w (Ask side command) (Replied reply) new → (t : State) × Step (store_of account side).state command reply t
 asked_step account w new side command reply f h = by (items_given asks.reply) asks.outcome_is
   where
@@ -91,7 +91,6 @@ ask_made made account w new side command reply f all brings h c k = elim (event_
   | inr l ↦ (let s = asked_step account w new side command reply f h in brings s.0 reply s.1 c l)
 ]
 
--- a command that brings in nothing
 nothing_learnt : (s : State) (command : Command) (reply : Reply) (i : Item) → is_bringing command ≡ false → Contains (learnt_by s command reply) i → ⊥
 nothing_learnt s (Publish caller key version value overwrite) reply i e h = cc
 nothing_learnt s (Delete caller key version) reply i e h = cc
@@ -107,7 +106,7 @@ allowed_made made account event out e all c k = elim (event_brings account event
     none (Ask side command) (Made j) e l = nothing_learnt (store_of account side).state command (outcome (store_of account side).state command).0 (Changed c) e l
     none event out e l = l
 
--- commands that were asked one after the other
+-- commands in sequence
 pub asks_made : (made : List ChangeRecord) (side : Side) (commands : List Command) (replies : List Reply) (account : Account) (w new : World) → Fits account w → AreAllMade made account
     → ((command : Command) → In command commands → (s : State) → BringsMade made s command) → HappenAll w (asks_replied side commands replies) new → AreAllMade made (extended_all account (asks_replied side commands replies))
 asks_made made side [] replies account w new f all brings h = all
@@ -122,7 +121,7 @@ pub extended_twice : (account : Account) (xs ys : WorldEvents) → extended_all 
 extended_twice account [] ys = refl
 extended_twice account (x ∷ xs) ys = extended_twice (extended account x.0 x.1) xs ys
 
--- what was brought in stays so
+-- what was brought in stays brought in
 still_brought : (account : Account) (event : Event) (out : Outcome) (i : Item) → Contains account.brought i → Contains (extended account event out).brought i
 still_brought account (Ask side command) (Replied reply) i h = Contains-append_left account.brought (learnt_by (store_of account side).state command reply) i h
 still_brought account (Ask side command) (Made k) i h = Contains-append_left account.brought (learnt_by (store_of account side).state command (outcome (store_of account side).state command).0) i h

@@ -1,4 +1,4 @@
--- A step of RS keeps what every system keeps.
+-- A step of RS keeps the invariant of systems.
 use Rattle.std.proofs.Common.{◌≡◌, ℕ, ◌+◌, ◌<◌, ◌≤◌, true, false, List, ◌++◌, length, Option, Some, None, refl, ap, sym, ◌∙◌, subst, inl, inr, ◌⊎◌, arith, Contains}
 use Rattle.std.proofs.lemmas.List.Elements.{Contains-append_left, Contains-append_right, Contains-append_cases}
 use Rattle.ds_names.specs.Endpoint.{EndpointRecord}
@@ -62,7 +62,7 @@ module _ (rs after : RsRecord) (numberers : List NumbererRecord) (made : List Ch
     | inr i ↦ offered_made c i
   ]
 
-  -- what is offered is a label of RS's
+  -- every offered change is a label of RS's
   pub offered_label : (c : ChangeRecord) → Contains (offers acts) c → (is_label c.key.kind ≡ true) × (c.owner ≡ rs_name)
   offered_label c h = elim (says.offered c h) [ inl p ↦ put says.begun p | inr g ↦ labelled (label_gone (label_at rs g.0) g.1.endpoint.generation) g.3 refl refl ]
     where
@@ -74,7 +74,7 @@ module _ (rs after : RsRecord) (numberers : List NumbererRecord) (made : List Ch
       put (Some b) p = labelled (label_put (label_at rs b.place) b.endpoint) p refl refl
 
   -- ---- labels that were put
-  -- one that is put now is that of what began, and has a generation that no earlier one has
+  -- a label that is put now is that of the instance that began, of a generation that no earlier one has
   abbrev IsBegun : List ℕ → EndpointRecord → Type 0
   IsBegun l e = (b : Begun) × (says.begun ≡ Some b) × (label_put l e ≡ label_put (label_of_service rs.settings b.place) b.endpoint) × (e.generation ≡ rs.next)
 

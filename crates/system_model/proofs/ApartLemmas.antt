@@ -62,8 +62,8 @@ assigned_labels (u ∷ units) t label h = by (assigned_labels units (assigning t
     by (inl i) = one (is_some (driver_of t.units u.0)) i
     by (inr v) = inr (v.0, inr v.1, v.2)
 
--- ---- the service that a unit is of
--- a service of the label, in a network's class or not
+-- ---- the service of a unit
+-- a service of the label, of the network class or not
 record IsServiceOf (services : List Service) (label : List ℕ) (network : Bool) : Type 0 where
   service : Service
   there : Contains services service
@@ -107,7 +107,6 @@ from_services unit_of network tells services label h = by (assigned_labels (filt
         let t = tells s.0 u.0 s.2 in
         record { service = s.0; there = Contains-from_In s.0 services s.1; label_is = t.1 ∙ u.2; class = t.0 }
 
--- two services of one label are one
 two_services : (settings : SettingsRecord) → IsSettings settings → (label : List ℕ) → IsServiceOf settings.services label false → IsServiceOf settings.services label true → ⊥
 two_services settings checked label f n = opposed (is_network n.service.class) n.class (ap (λ (z : Service). is_network z.class) (sym same) ∙ f.class)
   where

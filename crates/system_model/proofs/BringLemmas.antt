@@ -48,7 +48,7 @@ refused_learns : {A : Type 0} (reply : Reply) (refusal : Refusal) (items : List 
 refused_learns reply refusal items i e h = absurd (Contains-nil i (subst (λ (x : Reply). Contains (known_after x items) i) e h))
 
 -- ---- a caller that the store doesn't know is refused
--- something in the front of a list passes, and so is found there
+-- an element in the front of a list passes, and so is found there
 abbrev IsFoundIn : {X : Type 0} → (X → Bool) → List X → List X → Type 0
 IsFoundIn {X} p front all = (y : X) × (find p all ≡ Some y) × Contains front y
 
@@ -69,8 +69,8 @@ unknown_refused s a body e =
     let r = Contains-from_map causes.Refused by_command f.0 f.2 in
     (r.0, f.1 ∙ ap Some (sym r.2))
 
--- ---- a change that a caller asks for, in the name that a store may know it by
--- the reply, by the cause that stands against it
+-- ---- a caller's change, in the name that a store may know the caller by
+-- the reply, by the first cause against the change
 abbrev reply_by : State → AskedChange → Body → Option Cause → Reply
 reply_by s a body cause = (option_map_or {U = Reply × State} (λ (cause : Cause). (answer_for cause, s)) cause (Accepted (owed s (Changed (asked_in s a body) ∷ [])), takes_effect s (Changed (asked_in s a body) ∷ []))).0
 
@@ -100,7 +100,6 @@ asking_learns s t caller key number Gone owner reply named (inr w) c h = absurd 
 abbrev pub BringsMade : List ChangeRecord → State → Command → Type 0
 BringsMade made s command = (t : State) (reply : Reply) → Step s command reply t → (c : ChangeRecord) → Contains (learnt_by s command reply) (Changed c) → Contains made c
 
--- RS has one name
 rs_named : (s : State) (n : List ℕ) → name_of (held s) (endpoint_of 0 2) ≡ Some n → n ≡ rs_name
 rs_named s n e = some n e
   where
@@ -126,7 +125,7 @@ reading_brings made (Sweep caller owner generation) e s t reply step c h = cc
 reading_brings made (Merge items) e s t reply step c h = cc
 reading_brings made command e s t reply step c h = absurd (Contains-nil (Changed c) (known_within reply [] (Changed c) h))
 
--- what RS's actions ask brings in only what they offer
+-- the commands of RS's actions bring in only what the actions offer
 pub actions_bring : (made : List ChangeRecord) (acts : List Action) → ((c : ChangeRecord) → In c (offers acts) → (c.owner ≡ rs_name) × Contains made c)
     → (command : Command) → In command (commands acts) → (s : State) → BringsMade made s command
 actions_bring made [] all command i s = absurd i

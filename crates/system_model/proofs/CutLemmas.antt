@@ -1,4 +1,4 @@
--- A follow that is cut at one of its labels.
+-- A follow, cut at one of its labels.
 use Rattle.std.proofs.Common.{ℕ, List, [], ◌∷◌, ◌++◌, Option, None, refl, sym, ap, ◌∙◌, subst, inl, inr}
 use Rattle.std.specs.List.{flat_map}
 use Rattle.std.proofs.lemmas.Grind.{flat_map-append}
@@ -15,14 +15,14 @@ abbrev pub moves_of_rounds : List (List Move) → List Move
 moves_of_rounds rounds = flat_map (λ (moves : List Move). moves) rounds
 
 module _ (held : List Item) where
-  -- what a table makes of a label, and the table after it
+  -- the round of a label, and the table after it
   abbrev pub round_at : DriverTable → List ℕ → List (List Move)
   round_at x l = (taking x l (news_of held x l)).0
 
   abbrev pub table_past : DriverTable → List ℕ → DriverTable
   table_past x l = (taking x l (news_of held x l)).1
 
-  -- labels in front of this one were followed to the end, and led to a table; then this one was, and those behind it
+  -- the labels before this one were followed to the end, and led to a table; then this one was, and those after it
   pub record CutAt (t : DriverTable) (fault : Option TableFault) (u : DriverTable) (l : List ℕ) : Type 0 where
     pub front : List (List ℕ)
     pub back : List (List ℕ)
@@ -32,7 +32,6 @@ module _ (held : List Item) where
     pub before : Follows held front t first None x
     pub behind : Follows held back (table_past x l) later fault u
 
-  -- one more label stands in front
   one_more : (t : DriverTable) (fault : Option TableFault) (u : DriverTable) (k l : List ℕ) → CutAt (table_past t k) fault u l → CutAt t fault u l
   one_more t fault u k l c = record {
     front = k ∷ c.front;
@@ -44,7 +43,7 @@ module _ (held : List Item) where
     behind = c.behind;
   }
 
-  -- at a label that was followed to the end
+  -- the cut at a label that was followed to the end
   pub at_label : (labels : List (List ℕ)) (t : DriverTable) (rounds : List (List Move)) (u : DriverTable) (l : List ℕ) → In l labels → Follows held labels t rounds None u → CutAt t None u l
   at_label [] t rounds u l i f = absurd i
   at_label (k ∷ labels) t rounds u l (inl e) (inl (later, is, rest)) =
@@ -52,7 +51,7 @@ module _ (held : List Item) where
   at_label (k ∷ labels) t rounds u l (inr i) (inl (later, is, rest)) = one_more t None u k l (at_label labels (table_past t k) later u l i rest)
   at_label (k ∷ labels) t rounds u l i (inr stop) = let e = stop.fault_is in cc
 
-  -- at the label that brought a move
+  -- the cut at the label that brought a move
   pub record CutBy (t : DriverTable) (fault : Option TableFault) (u : DriverTable) (m : Move) : Type 0 where
     pub label : List ℕ
     pub cut : CutAt t fault u label

@@ -1,4 +1,4 @@
--- What one event leaves, and what events leave.
+-- What one event leaves, and what runs of events leave.
 use Rattle.std.proofs.Common.{◌≡◌, ℕ, List, [], ◌∷◌, ◌++◌, Option, Some, None, Ok, refl, ap, sym, ◌∙◌, subst, Contains}
 use Rattle.std.specs.List.{slice_get}
 use Rattle.std.proofs.lemmas.List.Elements.{Contains-append_left, Contains-append_right, Contains-get_or}
@@ -55,7 +55,7 @@ use Rattle.system_model.proofs.WriteLemmas.{IsAllowed, judged_allowed, write_kee
 use Rattle.system_model.proofs.TableRunLemmas.{LeadsOn, no_calls, calls_twice, one_call, follow_calls, submit_step, reply_step}
 
 -- ---- the world's part
--- events of the world that are proper, and led from a system's world to another's
+-- proper events of the world, which led from a system's world to another's
 pub record WorldLeads (s : System) (events : WorldEvents) (t : System) : Type 0 where
   pub proper : AreProper events
   pub happen : HappenAll s.world events t.world
@@ -107,7 +107,7 @@ one_leads s t File u e lead Net = no_calls s.net t.net (ap (λ (z : System). z.n
 one_leads s t Net u e lead Net = subst (LeadsOn s.net) (sym (ap (λ (z : System). z.net) e)) lead
 one_leads s t Net u e lead File = no_calls s.file t.file (ap (λ (z : System). z.file) e)
 
--- a table that looks at its map is led so far
+-- a table that follows its map is led so far by calls
 pub looks_lead : (s : System) (table : Table) (turn : TableTurn) → LooksAtMap s table turn → LeadsOn (table_at s table) turn.followed
 looks_lead s table turn h = subst (λ (z : DriverTable). LeadsOn z turn.followed) h.before (follow_calls (followed_items s table) (labels_of turn.before) turn.before turn.rounds turn.stop turn.followed h.follows)
 
@@ -157,14 +157,14 @@ event_tables s event (Moved a b c) steps t h = takes_tables s event (Moved a b c
 event_tables s event (Happened a) steps t h = takes_tables s event (Happened a) steps t h
 
 -- ---- what was made, and what was brought in
--- the account fits, all that was brought in was made, and of what was made and of numbers is kept what every system keeps
+-- the account fits, all that was brought in was made, and RS, the numbers and what was made keep the invariant
 pub record IsSound (account : Account) (s : System) : Type 0 where
   pub fits : Fits account s.world
   pub kept : IsKept s.rs s.numberers s.made
   pub made : AreAllMade s.made account
 
 module _ (account : Account) (s t : System) (k : IsSound account s) where
-  -- where nothing was made, and RS and the numbers stayed
+  -- nothing was made, and RS and the numbers are unchanged
   stays_kept : (x : System) → t ≡ x → x.rs ≡ s.rs → x.numberers ≡ s.numberers → x.made ≡ s.made → IsKept t.rs t.numberers t.made
   stays_kept x e rs numberers made =
       subst (λ (z : RsRecord). IsKept z t.numberers t.made) (sym (ap (λ (y : System). y.rs) e ∙ rs))
@@ -173,7 +173,7 @@ module _ (account : Account) (s t : System) (k : IsSound account s) where
   abbrev MadeBy : Steps → Type 0
   MadeBy steps = AreAllMade t.made (extended_all account steps.events)
 
-  -- where nothing was brought in either
+  -- nothing was brought in either
   stays_made : (steps : Steps) (x : System) → steps.events ≡ [] → t ≡ x → x.made ≡ s.made → MadeBy steps
   stays_made steps x none e made = subst (λ (z : WorldEvents). AreAllMade t.made (extended_all account z)) (sym none) (subst (λ (z : List ChangeRecord). AreAllMade z account) (sym (ap (λ (y : System). y.made) e ∙ made)) k.made)
 
@@ -206,7 +206,7 @@ module _ (account : Account) (s t : System) (k : IsSound account s) where
     abbrev change : ChangeRecord
     change = change_of key label h.number content
 
-    -- what is asked brings in the change alone, in the service's name
+    -- the command brings in the change only, in the service's name
     write_brings : BringsMade (s.made ++ change ∷ []) (store_of account side).state (asking_for h.instance.running.endpoint key h.number content)
     write_brings u answer step c i =
         subst (Contains (s.made ++ change ∷ []))

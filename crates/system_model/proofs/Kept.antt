@@ -1,4 +1,4 @@
--- What every system keeps of RS, of numbers and of what was made, whatever happens in it.
+-- The invariant of RS, the numbers and what was made, in every system.
 use Rattle.std.proofs.Common.{◌≡◌, ℕ, ◌<◌, ◌≤◌, true, List, length, get_or, ◌⊎◌, Contains}
 use Rattle.ds_names.specs.Endpoint.{EndpointRecord}
 use Rattle.ds_names.specs.declared.version.Version.{Version}
@@ -15,14 +15,14 @@ use Rattle.ds_replica.specs.Known.{Account}
 use Rattle.system_model.specs.Drawing.{numberer_at, is_declared}
 use Rattle.system_model.specs.Numbers.{IsBefore, NumbersAreDrawnOnce}
 
--- the service with this index, and its label
+-- the service at an index, and its label
 abbrev pub service_in : SettingsRecord → ℕ → Service
 service_in settings i = get_or settings.services i no_service
 
 abbrev pub label_of_service : SettingsRecord → ℕ → List ℕ
 label_of_service settings i = (service_in settings i).label
 
--- the version that the numbers give next
+-- the next version of the numbers
 abbrev pub next_version : NumbererRecord → Version
 next_version n = version n.generation n.next
 
@@ -35,13 +35,13 @@ pub record IsLabelPut (settings : SettingsRecord) (next : ℕ) (c : ChangeRecord
   pub some : 0 < endpoint.generation
   pub below : endpoint.generation < next
 
--- it takes one back
+-- it deletes a label
 pub record IsLabelGone (settings : SettingsRecord) (c : ChangeRecord) : Type 0 where
   pub place : ℕ
   pub generation : ℕ
   pub is : c ≡ label_gone (label_of_service settings place) generation
 
--- it is an entry of a service, which declares the name, and drew its version
+-- it is an entry of a service that declares the name, and drew its version
 pub record IsEntry (settings : SettingsRecord) (numberers : List NumbererRecord) (c : ChangeRecord) : Type 0 where
   pub place : ℕ
   pub there : place < length settings.services
@@ -62,9 +62,9 @@ pub record IsKept (rs : RsRecord) (numberers : List NumbererRecord) (made : List
   -- no two labels were put in one generation
   pub puts : (l m : List ℕ) (e f : EndpointRecord) → Contains made (label_put l e) → Contains made (label_put m f) → e.generation ≡ f.generation → label_put l e ≡ label_put m f
   pub drawn : NumbersAreDrawnOnce made
-  -- the label of what runs was put
+  -- the label of every running instance was put
   pub runs : (i : ℕ) (r : Running) → state_at rs i ≡ Up r → Contains made (label_put (label_of_service rs.settings i) r.endpoint)
-  -- numbers are of no later generation than what runs, and of none that is still to come
+  -- numbers are of no later generation than their running instance, and of no generation still to come
   pub ahead : (i : ℕ) (r : Running) → state_at rs i ≡ Up r → (numberer_at numberers i).generation ≤ r.endpoint.generation
   pub low : (i : ℕ) → (numberer_at numberers i).generation < rs.next
 

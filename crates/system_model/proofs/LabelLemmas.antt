@@ -1,4 +1,4 @@
--- What becomes of a label while a table follows its map.
+-- A label's state while a table follows its map.
 use Rattle.std.proofs.Common.{◌≡◌, ◌==◌, ◌||◌, ℕ, Bool, true, false, cond, List, [], ◌∷◌, map, Option, Some, None, refl, ap, sym, ◌∙◌, subst, inl, inr, ◌⊎◌}
 use Rattle.std.proofs.lemmas.Bool.{or_left, or_right}
 use Rattle.ds_names.specs.Endpoint.{EndpointRecord}
@@ -25,13 +25,13 @@ use Rattle.system_model.specs.Sending.{is_late, is_passed, IsAsBefore}
 use Rattle.system_model.proofs.CutLemmas.{table_past, CutAt, at_label}
 use Rattle.system_model.proofs.NewsLemmas.{same_some, Skips, Notes, skips_or_notes}
 
--- the state that a table notes of a label
+-- the state that a table records for a label
 abbrev noted : List ℕ → Option EndpointRecord → LabelState
 noted l state = record { label = l; endpoint = state }
 
--- ---- a label of which the map has something
+-- ---- a label of which the map has a change
 module _ (held : List Item) (label : List ℕ) (c : ChangeRecord) (there : held_at held (label_key label) ≡ Some c) where
-  -- it is as it was; or what the map has wasn't passed over, and is the label's state now
+  -- its state is unchanged; or the map's change wasn't passed over, and is the label's state now
   abbrev Went : DriverTable → DriverTable → Type 0
   Went t u = IsAsBefore t u label ⊎ ((is_passed t label c ≡ false) × (endpoint_now u.states label ≡ endpoint_in c.body))
 
@@ -92,7 +92,7 @@ module _ (held : List Item) (label : List ℕ) (c : ChangeRecord) (there : held_
     | inr q ↦ opposed (is_passed t label c) (or_left (is_late t label c) (is_old_for t.states label (endpoint_in c.body)) late) q.0
   ]
 
-  -- and where all labels were followed, the label is as the map has it, or that was passed over
+  -- if all labels were followed, the label is as the map has it, or that was passed over
   abbrev pub Settled : DriverTable → DriverTable → Type 0
   Settled t u = (endpoint_now u.states label ≡ endpoint_in c.body) ⊎ ((is_passed t label c ≡ true) × IsAsBefore t u label)
 
@@ -127,11 +127,10 @@ module _ (held : List Item) (label : List ℕ) (c : ChangeRecord) (there : held_
       by (inr p) (inl s) = from_now t cut.x u p.1 (subst (λ (z : DriverTable). Went z u) s.past behind)
       by w (inr n) = from_now t (table_past held cut.x label) u (now_then n) behind
 
--- the labels of units
 abbrev labels_in : List (ℕ × Driver) → List (List ℕ)
 labels_in units = map (λ (u : ℕ × Driver). u.1.label) units
 
--- a label that a unit has is one of the table's labels
+-- the label of a unit is one of the table's labels
 pub label_listed : (units : List (ℕ × Driver)) (label : List ℕ) → has_label units label ≡ true → In label (labels_in units)
 label_listed [] label h = opposed false h refl
 label_listed (u ∷ units) label h = by (is_same_name label u.1.label) refl h (label_listed units label)
@@ -140,7 +139,7 @@ label_listed (u ∷ units) label h = by (is_same_name label u.1.label) refl h (l
     by true q k rest = inl (same_name label u.1.label q)
     by false q k rest = inr (rest k)
 
--- and a driver's label is one that a unit has
+-- the label of a driver is the label of a unit
 pub driver_listed : (units : List (ℕ × Driver)) (unit : ℕ) (d : Driver) → driver_of units unit ≡ Some d → has_label units d.label ≡ true
 driver_listed [] unit d h = no_some d h
 driver_listed (u ∷ units) unit d h = by (unit == u.0) h (driver_listed units unit d)

@@ -1,4 +1,4 @@
--- What holds over every list of events of a new system.
+-- The laws over every list of events of a new system.
 use Rattle.std.proofs.Common.{◌≡◌, ℕ, zero, suc, ◌≤◌, List, [], ◌∷◌, ◌++◌, length, get_or, replicate, refl, ap, sym, subst, inl, inr, arith, Contains}
 use Rattle.std.specs.List.{filter_map}
 use Rattle.std.proofs.lemmas.List.{length-replicate}
@@ -101,7 +101,7 @@ pub new_called : (settings : SettingsRecord) (a b : Seed) (next : ℕ) (s : Syst
 new_called settings a b next s new File = subst IsCalled (sym new.file) (assigned_called (filter_map file_unit settings.services))
 new_called settings a b next s new Net = subst IsCalled (sym new.net) (assigned_called (filter_map net_unit settings.services))
 
--- ---- what follows of the account
+-- ---- what follows from the account
 brought_single : (account : Account) (s : System) → IsSound account s → AreSingleNumbered account.brought
 brought_single account s k =
     let single = made_single s.rs s.numberers s.made k.kept in

@@ -1,4 +1,4 @@
--- What a table makes of what its map tells of one label.
+-- What a table does with the news of one label.
 use Rattle.std.proofs.Common.{◌≡◌, ◌||◌, ℕ, Bool, true, false, cond, List, [], Option, Some, None, Result, Ok, refl, ap, sym, ◌∙◌, subst, inl, inr, ◌⊎◌, append-nil}
 use Rattle.std.proofs.lemmas.Bool.{or_left, or_right}
 use Rattle.ds_names.specs.Endpoint.{EndpointRecord}
@@ -33,14 +33,14 @@ neither true b p q = opposed true refl p
 abbrev is_now_at : DriverTable → List ℕ → Option EndpointRecord → Bool
 is_now_at x l state = is_same_state (endpoint_now x.states l) state
 
--- the moves of a state, none where it is the one now, and the table behind them
+-- the moves of a state, none if the label has it already, and the table after them
 abbrev pub moves_for : Bool → DriverTable → List ℕ → Option EndpointRecord → List Move
 moves_for now x l state = cond now [] (all_moves x l state)
 
 abbrev pub table_with : Bool → DriverTable → List ℕ → Option EndpointRecord → DriverTable
 table_with now x l state = does (notes x l state) (moves_for now x l state)
 
--- what the map has of the label was passed over, if it has something and some unit has the label
+-- the map's change of the label was passed over, if there is one and some unit has the label
 pub record Skips (held : List Item) (x : DriverTable) (l : List ℕ) : Type 0 where
   pub past : table_past held x l ≡ x
   pub none : moves_of_rounds (round_at held x l) ≡ []
@@ -56,7 +56,7 @@ pub record Notes (held : List Item) (x : DriverTable) (l : List ℕ) : Type 0 wh
   pub past : table_past held x l ≡ table_with now x l (endpoint_in change.body)
   pub moves : moves_of_rounds (round_at held x l) ≡ moves_for now x l (endpoint_in change.body)
 
--- what the map has of the label was told
+-- the news of the label
 record IsTold (held : List Item) (x : DriverTable) (l : List ℕ) : Type 0 where
   change : ChangeRecord
   there : held_at held (label_key l) ≡ Some change
@@ -82,12 +82,12 @@ module _ (held : List Item) (x : DriverTable) (l : List ℕ) where
       by true f k = f
       by false f k = no_some (endpoint_in c.body) (sym k)
 
-  -- what becomes of what was told
+  -- the effect of the news
   module _ (t : IsTold held x l) where
     abbrev state : Option EndpointRecord
     state = endpoint_in t.change.body
 
-    -- the answer to it, by what is judged of the state
+    -- the answer to it, by the judgement of the state
     answer_is : (has old now : Bool) → has_label x.units l ≡ has → is_old_for x.states l state ≡ old → is_now_at x l state ≡ now → changing x l state ≡ changed_so x l state has old now
     answer_is has old now a b c =
         ap (λ (z : Bool). changed_so x l state z (is_old_for x.states l state) (is_now_at x l state)) a

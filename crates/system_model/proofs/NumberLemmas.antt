@@ -1,4 +1,4 @@
--- Numbers, and changes of which each was drawn once.
+-- Numbers, and changes that each drew their own.
 use Rattle.std.proofs.Common.{◌≡◌, ◌==◌, ℕ, ◌+◌, ◌<◌, ◌≤◌, Bool, true, false, cond, List, [], ◌∷◌, ◌++◌, get_or, refl, ap, sym, ◌∙◌, subst, inl, inr, ◌⊎◌, arith, zero, suc, Contains}
 use Rattle.std.proofs.Math.ListN.{set}
 use Rattle.std.proofs.lemmas.Bool.Decides.{eqb_tells}
@@ -22,7 +22,7 @@ by_order zero (suc j) = inl (omega arith)
 by_order (suc i) zero = inr (inr (omega arith))
 by_order (suc i) (suc j) = elim (by_order i j) [ inl l ↦ inl (omega arith) | inr h ↦ inr (elim h [ inl e ↦ inl (ap suc e) | inr l ↦ inr (omega arith) ]) ]
 
--- the element behind the write of one
+-- an element after a write
 pub after_write : {X : Type 0} (xs : List X) (p i : ℕ) (x d : X) → (get_or (set xs p x) i d ≡ get_or xs i d) ⊎ ((i ≡ p) × (get_or (set xs p x) i d ≡ x))
 after_write [] p i x d = inl refl
 after_write (y ∷ ys) zero zero x d = inr (refl, refl)
@@ -43,7 +43,7 @@ numbers_of_generation n g = by (n.generation == g) refl
     by true e = equal_number n.generation g e
     by false e = refl
 
--- what was drawn before comes before what is left of a generation that isn't earlier
+-- a number drawn earlier comes before those left of the same or a later generation
 pub before_left : (n : NumbererRecord) (g : ℕ) (v : Version) → n.generation ≤ g → IsBefore v (next_version n) → IsBefore v (next_version (numbers_of n g))
 before_left n g v le h = by (n.generation == g) refl h
   where
@@ -55,7 +55,7 @@ before_left n g v le h = by (n.generation == g) refl h
     by false e (inl l) = inl (omega arith)
     by false e (inr (same, l)) = inl (less n.generation le (unequal_numbers n.generation g e) (omega arith))
 
--- a number that is given is next no more, and what came before it still does
+-- a drawn number is no longer next, and what came before it still does
 pub given_before : (old new : NumbererRecord) (v w : Version) → Gives old new w → IsBefore v (next_version old) → IsBefore v (next_version new)
 given_before old new v w g h = subst (λ (z : NumbererRecord). IsBefore v (next_version z)) (sym g.after) (by h)
   where
@@ -69,7 +69,7 @@ given_itself old new w g =
     let seq : w.seq ≡ old.next = ap (λ (z : Version). z.seq) g.value in
     subst (λ (z : NumbererRecord). IsBefore w (next_version z)) (sym g.after) (inr (epoch, omega arith))
 
--- ---- changes of which each was drawn once
+-- ---- changes that each drew their own number
 pub drawn_more : (made : List ChangeRecord) (d : ChangeRecord) → NumbersAreDrawnOnce made → ((c : ChangeRecord) → Contains made c → IsDrawnBefore c d) → NumbersAreDrawnOnce (made ++ d ∷ [])
 drawn_more [] d once all = (λ x h. absurd (Contains-nil x h), tt)
 drawn_more (c ∷ made) d once all = (
@@ -92,7 +92,7 @@ drawn_labels (c ∷ made) labels once all = (
   drawn_labels made labels once.1 all,
 )
 
--- so two entries of one owner with one version are one
+-- so two entries of one owner with one version are the same
 pub one_number : (made : List ChangeRecord) (c d : ChangeRecord) → NumbersAreDrawnOnce made → Contains made c → Contains made d → is_label c.key.kind ≡ false → is_label d.key.kind ≡ false → c.owner ≡ d.owner → c.version ≡ d.version → c ≡ d
 one_number [] c d once i j n m o v = absurd (Contains-nil c i)
 one_number (x ∷ made) c d once i j n m o v = by (Contains-cons x made c i) (Contains-cons x made d j) (λ k l. one_number made c d once.1 k l n m o v)

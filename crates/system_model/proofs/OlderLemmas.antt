@@ -74,7 +74,7 @@ submits_own followed id unit None None None after h = absurd h
 submits_own followed id unit None None (Some stops.NoRoom) after h = h.1
 submits_own followed id unit None None (Some _) after h = h.1
 
--- nothing ended a request's event, and so nothing its following
+-- a request's event that nothing ended has a follow that nothing ended
 submits_whole : (followed : DriverTable) (id unit : ℕ) (stop : Option TableFault) (own : Option Move) (fault : Option TableFault) (after : DriverTable) → Submits followed id unit stop own fault after → fault ≡ None → stop ≡ None
 submits_whole followed id unit None own fault after h e = refl
 submits_whole followed id unit (Some stop) own fault after h e = no_some stop (sym e ∙ h.1)
@@ -148,7 +148,7 @@ event_turns s event (Replied a) steps t h = takes_turns s event (Replied a) step
 event_turns s event (Moved a b c) steps t h = takes_turns s event (Moved a b c) steps t h
 event_turns s event (Happened a) steps t h = takes_turns s event (Happened a) steps t h
 
--- ---- what an outcome tells of them
+-- ---- what an outcome reports of them
 plain_moves : (turn : TableTurn) → IsPlain turn → turn_moves turn ≡ moves_of_rounds turn.rounds
 plain_moves turn p = ap (λ (z : Option Move). moves_of_rounds turn.rounds ++ request_moves z) p.none ∙ append-nil (moves_of_rounds turn.rounds)
 
@@ -238,7 +238,7 @@ event_looked s event (Replied a) steps t h = takes_looked s event (Replied a) st
 event_looked s event (Moved a b c) steps t h = takes_looked s event (Moved a b c) steps t h
 event_looked s event (Happened a) steps t h = takes_looked s event (Happened a) steps t h
 
--- ---- what a system's maps tell
+-- ---- what a system's maps hold
 tells : (account : Account) (s : System) → IsSound account s → (table : Table) → TellsGenerations (followed_items s table)
 tells account s k table label c e q is =
     let f = key_found (followed_items s table) (label_key label) c q in
@@ -272,7 +272,7 @@ seen_later t u sent led seen x h = let one = seen x h in let two = calls_rise t 
     less : {a b c : ℕ} → a ≤ b → b ≤ c → a ≤ c
     less l m = omega arith
 
--- a table has seen the generations of all that it sent
+-- a table knows the generations of all that it sent
 sent_seen : (table : Table) (account : Account) (s : System) (entries : List SystemEntry) (t : System) → IsSound account s → IsCalled (table_at s table) → SystemRun s entries t → HasSeen (table_at t table) (sent_over entries table)
 sent_seen table account s [] t k came run x h = absurd (Contains-nil x h)
 sent_seen table account s (e ∷ es) t k came run x h = elim (Contains-append_cases (sent_by_turn (turn_in e.steps table)) (sent_over es table) x h) [

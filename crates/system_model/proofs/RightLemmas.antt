@@ -50,8 +50,8 @@ some_number m n e = cc
 less_at_most : (a b : ℕ) → nat_lt a b ≡ true → a ≤ b
 less_at_most a b l = grind (arith, nat_tests)
 
--- ---- what is late, or old, by the newest generation
--- a tombstone that is late is so when the newest generation has risen
+-- ---- what is late or old, by the newest generation
+-- a late tombstone is still late when the newest generation has risen
 late_later : (t x : DriverTable) (label : List ℕ) (c : ChangeRecord) → Rises t x label → is_late t label c ≡ true → is_late x label c ≡ true
 late_later t x label c rises late = by_body c.body late
   where
@@ -66,7 +66,7 @@ late_later t x label c rises late = by_body c.body late
     by_body (Put value) k = k
     by_body Gone k = by_newest (newest t.states label) refl k
 
--- an endpoint that is old is of no greater generation than the newest; and that there is none is never old
+-- an old endpoint's generation isn't above the newest; a state without a driver is never old
 old_at_most : (g : Option ℕ) (now state : Option EndpointRecord) → is_old g now state ≡ true → (h : ℕ) × (e : EndpointRecord) × (g ≡ Some h) × (state ≡ Some e) × (e.generation ≤ h)
 old_at_most None now state k = opposed false k refl
 old_at_most (Some g) now None k = opposed false k refl
@@ -84,8 +84,8 @@ old_at_most (Some g) now (Some e) k = (g, e, refl, refl, by (nat_lt e.generation
         same false q j = opposed false j refl
 
 -- ---- a move of the rounds
--- it was brought by what the map has of its label, which wasn't late; its goal is the map's endpoint, of a generation between the newest of
--- the label before and after
+-- the map's change of its label brought it, and wasn't late; its goal is the map's endpoint, of a generation between
+-- the label's newest before and after
 pub record IsOfMap (held : List Item) (t u : DriverTable) (m : Move) : Type 0 where
   pub label : List ℕ
   pub about : label_of t m ≡ Some label
@@ -181,7 +181,7 @@ no_more : {X A : Type 0} (m : X) (front back : List X) → [] ≡ front ++ m ∷
 no_more m [] back e = cc
 no_more m (b ∷ front) back e = cc
 
--- what stands before a move of a turn is of its rounds
+-- a move before a move of a turn is of its rounds
 early : (rounds : List Move) (own : Option Move) (front back : List Move) (m w : Move) → rounds ++ request_moves own ≡ front ++ m ∷ back → In w front → In w rounds
 early [] None front back m w e i = no_more m front back e
 early [] (Some o) [] back m w e i = absurd i
@@ -196,7 +196,7 @@ own_there m (Some o) (inl e) = ap Some (sym e)
 own_there m (Some o) (inr i) = absurd i
 
 -- ---- the move of a request
--- it comes only where nothing ended the following, and is that of a submit
+-- it exists only if nothing ended the follow, and is that of a submit
 abbrev pub TakesOwn : DriverTable → Option TableFault → Option Move → DriverTable → Type 0
 TakesOwn followed stop None after = after ≡ followed
 TakesOwn followed None (Some own) after = (id : ℕ) × (unit : ℕ) × (submitting followed id unit ≡ (Ok own, after))
@@ -217,7 +217,7 @@ own_living followed None own after came h = (refl, (none_to_older came.0 followe
 own_living followed (Some stop) own after came h = absurd h
 
 -- ---- a turn
--- what a map has of a label that lives is of the endpoint's generation
+-- a map's change of a living label is of the endpoint's generation
 abbrev pub TellsGenerations : List Item → Type 0
 TellsGenerations held = (label : List ℕ) (c : ChangeRecord) (e : EndpointRecord) → held_at held (label_key label) ≡ Some c → endpoint_in c.body ≡ Some e → c.version.epoch ≡ e.generation
 
@@ -241,7 +241,7 @@ module _ (held : List Item) (tells : TellsGenerations held) (turn : TableTurn) (
   still : (turn.followed.units ≡ turn.before.units) × (turn.followed.requests ≡ turn.before.requests)
   still = follows_keep_units held (labels_of turn.before) turn.before turn.followed turn.rounds turn.stop follows
 
-  -- two changes that a map has of one label are one
+  -- two changes that a map has of one label are the same
   one_change : (k l : List ℕ) (c d : ChangeRecord) → k ≡ l → held_at held (label_key k) ≡ Some c → held_at held (label_key l) ≡ Some d → c ≡ d
   one_change k l c d same p q = same_some c d (sym p ∙ (ap (λ (z : List ℕ). held_at held (label_key z)) same ∙ q))
 
@@ -389,7 +389,7 @@ module _ (held : List Item) (tells : TellsGenerations held) (turn : TableTurn) (
   pub turn_right : (earlier : List Sending) → HasSeen turn.before earlier → FollowsRightly held turn earlier
   turn_right earlier seen = record { sends = sends_right earlier seen; tombstones = tombstones_right; knows = knows_right }
 
-  -- and the table knows the generations of all that it sent
+  -- the table knows the generations of all that it sent
   pub turn_seen : HasSeen turn.after (sendings turn.after (turn_moves turn))
   turn_seen x h = by (sent_is turn.after (turn_moves turn) x h)
     where

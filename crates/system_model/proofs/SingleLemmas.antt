@@ -1,4 +1,4 @@
--- What was made is single-numbered, and a store knows an instance by no name but its service's.
+-- What was made is single-numbered, and a store knows an instance by its service's name only.
 use Rattle.std.proofs.Common.{◌≡◌, ◌==◌, ℕ, ◌<◌, Bool, true, false, not, cond, List, length, Option, Some, None, refl, ap, sym, ◌∙◌, subst, inl, inr, arith, Contains}
 use Rattle.std.specs.List.{find}
 use Rattle.std.specs.Option.{option_map}
@@ -46,7 +46,7 @@ use Rattle.system_model.proofs.Kept.{service_in, label_of_service, IsLabelPut, I
 use Rattle.system_model.proofs.NumberLemmas.{by_order, one_number}
 
 -- ---- services share nothing
--- two of one label are one
+-- two services of one label are the same
 pub one_service : (settings : SettingsRecord) → IsSettings settings → (i j : ℕ) → i < length settings.services → j < length settings.services → label_of_service settings i ≡ label_of_service settings j → i ≡ j
 one_service settings checked i j l m same = elim (by_order i j) [
   | inl k ↦ absurd (apart i j k m same)
@@ -58,7 +58,7 @@ one_service settings checked i j l m same = elim (by_order i j) [
         opposed (is_same (label_of_service settings j) (label_of_service settings i)) (subst (λ (x : List ℕ). is_same (label_of_service settings j) x ≡ true) (sym same) (name_itself (label_of_service settings j)))
         ((services_apart settings checked).labels i j no_service k m)
 
--- two that publish one name are one
+-- two services that publish one name are the same
 one_publisher : (settings : SettingsRecord) → IsSettings settings → (i j : ℕ) (name : List ℕ) → i < length settings.services → j < length settings.services
     → has_name (service_in settings i).publishes name ≡ true → has_name (service_in settings j).publishes name ≡ true → i ≡ j
 one_publisher settings checked i j name l m here there = elim (by_order i j) [
@@ -82,7 +82,7 @@ entry_no_label settings numberers c h = declared_no_label (service_in settings h
 pub not_both_numbers : (n : ℕ) → n ≡ 0 → n ≡ 1 → ⊥
 not_both_numbers n e f = omega arith
 
--- an entry, of those that were made
+-- an entry, among the changes that were made
 pub entry_made : (settings : SettingsRecord) (next : ℕ) (numberers : List NumbererRecord) (c : ChangeRecord) → is_label c.key.kind ≡ false → IsMade settings next numberers c → IsEntry settings numberers c
 entry_made settings next numberers c k (inl p) = opposed (is_label c.key.kind) (put_is_label settings next c p) k
 entry_made settings next numberers c k (inr (inl p)) = opposed (is_label c.key.kind) (gone_is_label settings c p) k
@@ -175,7 +175,7 @@ module _ (rs : RsRecord) (numberers : List NumbererRecord) (made : List ChangeRe
       by Gone q p t = let n : false ≡ true = sym (ap (λ (b : Body). is_label_of e (value_in b)) q) ∙ t in cc
 
   module _ (i : ℕ) (r : Running) (up : state_at rs i ≡ Up r) where
-    -- its generation was given
+    -- its generation was handed out
     pub given : (0 < r.endpoint.generation) × (r.endpoint.generation < rs.next)
     given = by (k.each (label_put (label_of_service rs.settings i) r.endpoint) (k.runs i r up))
       where
@@ -197,7 +197,7 @@ module _ (rs : RsRecord) (numberers : List NumbererRecord) (made : List ChangeRe
         by (inr (inl p)) = let n : false ≡ true = sym (ap (names_endpoint r.endpoint) p.is) ∙ t in cc
         by (inr (inr en)) = absurd (names_none r.endpoint c en t)
 
-    -- so a store of which all was made knows it by that label, if it knows it
+    -- so a store that knows only what was made knows the instance by that label, if at all
     pub instance_named : (account : Account) (w : World) → Fits account w → AreAllMade made account → (side : Side) (n : List ℕ) → name_of (held (store_of account side).state) r.endpoint ≡ Some n → n ≡ label_of_service rs.settings i
     instance_named account w f all side n e = by_rs (is_rs r.endpoint) refl e
       where

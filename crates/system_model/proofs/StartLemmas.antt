@@ -1,4 +1,4 @@
--- A new system is there.
+-- A new system exists.
 use Rattle.std.proofs.Common.{◌≡◌, ◌∙◌, nat_le, Bool, false, not, cond, List, [], ◌∷◌, length, replicate, Some, None, refl, ap}
 use Rattle.std.specs.List.{filter_map}
 use Rattle.ds_held.specs.Limits.{larger}
@@ -13,7 +13,7 @@ use Rattle.ds_replica.specs.Happens.{most_maps, pattern_fault, event_fault, new_
 use Rattle.ds_replica.specs.World.{MapState, World, new_world}
 use Rattle.system_model.specs.Start.{labels_query, file_unit, net_unit, assigned_all, NewSystemsExist}
 
--- nothing stands against a map of labels where there are few
+-- nothing is against a map of labels while maps are few
 no_fault : (w : World) (maps : List MapState) → nat_le most_maps (length maps) ≡ false → event_fault (record w { maps = maps }) (NewMap labels_query) ≡ None
 no_fault w maps few = ap (λ (b : Bool). cond b (Some MapsFull) (pattern_fault labels_query)) few ∙ ap (λ (b : Bool). cond (not b) (Some BadPattern) None) dot_star_accepted
 

@@ -1,4 +1,4 @@
--- Runs of a driver table's calls, from one table to another.
+-- Runs of calls on a driver table, from one table to another.
 use Rattle.std.proofs.Common.{◌≡◌, ℕ, ◌≤◌, Bool, true, false, List, [], ◌∷◌, ◌++◌, Option, Some, None, is_some, Result, Ok, refl, ap, sym, ◌∙◌, subst}
 use Rattle.std.specs.List.{fold, find}
 use Rattle.std.specs.Option.{option_or, option_and_then}
@@ -64,7 +64,7 @@ reply_step t u endpoint id own e = record {
   unchanged = tt;
 }
 
--- it changes no label's state, and what moves were about
+-- it changes no label's state, nor what moves are about
 pub record LeavesLabels (t u : DriverTable) : Type 0 where
   pub units : u.units ≡ t.units
   pub states : u.states ≡ t.states
@@ -109,7 +109,7 @@ assign_leads t unit driver = by (is_some (driver_of t.units unit)) refl
       unchanged = tt;
     })
 
--- a table to which more units are assigned
+-- the table after more units are assigned
 abbrev pub assigned_to : DriverTable → List (ℕ × Driver) → DriverTable
 assigned_to t units = fold (λ (t : DriverTable) (u : ℕ × Driver). (assigning t u.0 u.1).1) t units
 

@@ -1,4 +1,4 @@
--- A service's change keeps what every system keeps.
+-- A service's change keeps the invariant of systems.
 use Rattle.std.proofs.Common.{◌≡◌, ℕ, ◌<◌, ◌≤◌, Bool, true, false, not, cond, List, [], ◌∷◌, ◌++◌, length, Option, Some, None, Ok, Err, refl, ap, sym, ◌∙◌, subst, inl, inr, ◌⊎◌, arith, Contains}
 use Rattle.std.proofs.Math.ListN.{set, length-set}
 use Rattle.std.proofs.lemmas.List.{get_or-set_same}
@@ -26,7 +26,7 @@ use Rattle.system_model.proofs.Kept.{service_in, label_of_service, next_version,
 use Rattle.system_model.proofs.NumberLemmas.{after_write, numbers_of_generation, before_left, given_before, given_itself, drawn_more}
 use Rattle.system_model.proofs.SingleLemmas.{one_service, declared_no_label, entry_made, given}
 
--- ---- nothing stood against it
+-- ---- the change is allowed
 pub record IsAllowed (rs : RsRecord) (label : List ℕ) (key : Key) (content : Body) (it : Instance) : Type 0 where
   pub there : it.place < length rs.settings.services
   pub label_is : label ≡ label_of_service rs.settings it.place
@@ -88,7 +88,7 @@ module _ (rs : RsRecord) (numberers : List NumbererRecord) (made : List ChangeRe
   own_ahead : (numberer_at numberers it.place).generation ≤ it.running.endpoint.generation
   own_ahead = k.ahead it.place it.running h.up
 
-  -- the numbers are of the instance's generation
+  -- the numbers left are of the instance's generation
   left_generation : left.generation ≡ it.running.endpoint.generation
   left_generation = ap (λ (z : NumbererRecord). z.generation) drawn.after ∙ numbers_of_generation (numberer_at numberers it.place) it.running.endpoint.generation
 
@@ -98,7 +98,7 @@ module _ (rs : RsRecord) (numberers : List NumbererRecord) (made : List ChangeRe
   own_written : numberer_at numberers_after it.place ≡ left
   own_written = get_or-set_same numberers it.place left (numberer 0 0) (subst (λ (n : ℕ). it.place < n) (sym k.count) h.there)
 
-  -- what was drawn stays so
+  -- what was drawn stays drawn
   still_drawn : (i : ℕ) (v : Version) → IsBefore v (next_version (numberer_at numberers i)) → IsBefore v (next_version (numberer_at numberers_after i))
   still_drawn i v b = elim (written i) [
     | inl e ↦ subst (λ (z : NumbererRecord). IsBefore v (next_version z)) (sym e) b

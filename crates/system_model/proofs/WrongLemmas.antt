@@ -15,7 +15,7 @@ use Rattle.system_model.proofs.NewsLemmas.{same_some}
 differ : old ≡ young → ⊥
 differ e = let k : old.generation ≡ young.generation = ap (λ (z : EndpointRecord). z.generation) e in omega (arith, k)
 
--- a move that is about the disk goes to no older generation than its map has
+-- a move about the disk goes to no older generation than its map has
 not_to_old : (turn : TableTurn) (earlier : List Sending) (m : Move) (g : GoesToNoOlder (lives_at young) turn earlier m old) → disk ≡ g.label → ⊥
 not_to_old turn earlier m g same =
     let l : 2 ≤ 1 = g.of_map (label_put disk young) (subst (λ (z : List ℕ). held_at (lives_at young) (label_key z) ≡ Some (label_put disk young)) same refl) in

@@ -1,4 +1,4 @@
--- What happens in a system: one event, and events one after the other.
+-- The steps of a system: one event, and runs of events.
 use Rattle.std.specs.Prelude.{◌≡◌, List}
 use Rattle.std.specs.List.{flat_map}
 use Rattle.ds_entry.specs.declared.body.Body.TheVariants as bodies
@@ -13,7 +13,7 @@ use Rattle.system_model.specs.Steps.{Steps, WorldEvents, no_steps}
 use Rattle.system_model.specs.Effects.{Acts, WritesEntry, Repeats, Passes, FollowsBoth, FollowsAndSubmits, TakesReply}
 use Rattle.system_model.specs.Refusals.{IsSystemRefused}
 
--- what an event does that isn't refused
+-- The effect of an accepted event.
 abbrev pub SystemTakes : System → SystemEvent → SystemOutcome → Steps → System → Type 0
 SystemTakes s (Service event tick side) (Acted actions replies) steps t = Acts s event tick side actions replies steps t
 SystemTakes s (Put label key value side) (Replied reply) steps t = WritesEntry s label key (bodies.Put value) side reply steps t
@@ -25,27 +25,27 @@ SystemTakes s (Submit table id unit) (Moved rounds own fault) steps t = FollowsA
 SystemTakes s (Answered table endpoint id) (Moved rounds own fault) steps t = TakesReply s table endpoint id rounds own fault steps t
 SystemTakes s event outcome steps t = ⊥
 
--- the event was refused, and nothing changed
+-- The event was refused, and nothing changed.
 pub record IsRefusedSo (s : System) (event : SystemEvent) (fault : SystemFault) (steps : Steps) (t : System) : Type 0 where
   pub refused : IsSystemRefused s event fault
   pub steps_are : steps ≡ no_steps
   pub system_is : t ≡ s
 
--- the event has this outcome, by these steps
+-- The event has this outcome, by these steps.
 abbrev pub SystemDoes : System → SystemEvent → SystemOutcome → Steps → System → Type 0
 SystemDoes s event (Refused fault) steps t = IsRefusedSo s event fault steps t
 SystemDoes s event outcome steps t = SystemTakes s event outcome steps t
 
--- an event with its outcome, and the steps of which it was made
+-- An event with its outcome, and the steps that it consists of.
 pub record SystemEntry : Type 0 where
   pub event : SystemEvent
   pub outcome : SystemOutcome
   pub steps : Steps
 
--- these events happened so, one after the other
+-- A path of such events, one for each entry.
 abbrev pub SystemRun : System → List SystemEntry → System → Type 0
 SystemRun = Path (λ s entry t. SystemDoes s entry.event entry.outcome entry.steps t)
 
--- all events of the world that happened then, in their order
+-- All events of the world in these entries, in order.
 abbrev pub all_events : List SystemEntry → WorldEvents
 all_events entries = flat_map (λ (entry : SystemEntry). entry.steps.events) entries

@@ -1,4 +1,4 @@
--- What holds of a system over every list of events, with no premise but that its settings were checked.
+-- The laws of a system over every list of events, with no premise but that its settings were checked.
 use Rattle.std.specs.Prelude.{◌≡◌, ℕ, Bool, List, ◌∷◌, ◌++◌, Option, Contains}
 use Rattle.ds_names.specs.declared.key.Key.{Key}
 use Rattle.ds_entry.specs.Change.{ChangeRecord}
@@ -31,21 +31,21 @@ use Rattle.system_model.specs.Happening.{SystemEntry, SystemRun, all_events}
 use Rattle.system_model.specs.Start.{IsNew, account_since}
 use Rattle.system_model.specs.Numbers.{NumbersAreDrawnOnce}
 
--- no delivery among these events is stopped since an item contradicts what is held
+-- No delivery among these events is stopped because an item contradicts what is held.
 abbrev pub NoneIsContradicted : WorldEvents → Type 0
 NoneIsContradicted events =
     (front back : WorldEvents) (k : ℕ) (holder : Holder) (count : Option ℕ) (done : ℕ) (fault : Refusal) (owed : ℕ) →
     front ++ (Deliver k holder count, Stopped done fault owed) ∷ back ≡ events → ¬ IsContradiction fault
 
--- calls led to the table from an empty one, so that all laws of driver tables over runs of calls hold of it
+-- A run of calls led to the table from an empty one, so all laws of driver tables over runs apply to it.
 abbrev pub IsCalled : DriverTable → Type 0
 IsCalled t = (calls : List Call) × TableRun empty_table calls t
 
 pub record SystemLaws (account : Account) (entries : List SystemEntry) (t : System) : Type 0 where
   -- the account fits the world
   pub fits : Fits account t.world
-  -- what RS and the services made is single-numbered, and so is all that Asks ever brought in, which was made; and each number of a
-  -- service was drawn once
+  -- what RS and the services made is single-numbered; so is all that Asks ever brought in, all of which was made; and
+  -- each number of a service was drawn once
   pub made : IsSingleNumbered t.made
   pub brought : AreSingleNumbered account.brought
   pub own : (c : ChangeRecord) → Contains account.brought (Changed c) → Contains t.made c
@@ -58,15 +58,15 @@ pub record SystemLaws (account : Account) (entries : List SystemEntry) (t : Syst
   -- *no stop by clash or owner*
   pub clashes : (c d : ChangeRecord) → IsAbout t.world (Changed c) → IsAbout t.world (Changed d) → c.key ≡ d.key → (c.owner ≡ d.owner) × (c.version ≡ d.version → c ≡ d)
   pub stops : NoneIsContradicted (all_events entries)
-  -- *catch-up*: a map that has all of a store, and nothing else, holds just what the store holds under its query
+  -- *catch-up*: a map that has all of a store, and nothing else, holds exactly what the store holds under its query
   pub catch_up : (j : ℕ) (m : MapAccount) (side : Side) → HasAll account j m side → HasNothingElse account m side →
       (held_by t.world (Map j) ≡ under (is_under m.query) (held_by t.world (Store side))) × (entries_of (held_by t.world (Map j)) ≡ entries_of (under (is_under m.query) (held_by t.world (Store side))))
   -- *no older generation*: the labels of such a map name no older generation
   pub newest : MapsNameNewest account t.world
-  -- calls led to both tables
+  -- both tables were reached by calls
   pub tables : (table : Table) → IsCalled (table_at t table)
 
--- so it is over every list of events of a new system
+-- These laws hold over every list of events of a new system.
 abbrev pub SystemsKeepLaws : Type 0
 SystemsKeepLaws =
     (settings : SettingsRecord) (a b : Seed) (next : ℕ) (s t : System) (entries : List SystemEntry) → IsNew settings a b next s → SystemRun s entries t → SystemLaws (account_since a b entries) entries t

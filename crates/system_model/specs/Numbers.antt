@@ -1,18 +1,18 @@
--- That no number is drawn twice.
+-- No number is drawn twice.
 use Rattle.std.specs.Prelude.{◌≡◌, ◌⊎◌, ◌<◌, false, List, [], ◌∷◌, Contains}
 use Rattle.ds_names.specs.declared.version.Version.{Version}
 use Rattle.ds_names.specs.Kind.{is_label}
 use Rattle.ds_entry.specs.Change.{ChangeRecord}
 
--- the version comes before the other: by its epoch, or in one epoch by its number
+-- Whether a version comes before another: by epoch, then by number.
 abbrev pub IsBefore : Version → Version → Type 0
 IsBefore v w = (v.epoch < w.epoch) ⊎ ((v.epoch ≡ w.epoch) × (v.seq < w.seq))
 
--- where both are entries of one owner, the version of the first comes before that of the second
+-- Of two entries of one owner, the version of the first comes before that of the second.
 abbrev pub IsDrawnBefore : ChangeRecord → ChangeRecord → Type 0
 IsDrawnBefore c d = is_label c.key.kind ≡ false → is_label d.key.kind ≡ false → c.owner ≡ d.owner → IsBefore c.version d.version
 
--- of two entries of one owner, the later has the later version: so no number is drawn for two of them
+-- Of two entries of one owner the later one has the later version, so no number is drawn for both.
 abbrev pub NumbersAreDrawnOnce : List ChangeRecord → Type 0
 NumbersAreDrawnOnce [] = Unit {0}
 NumbersAreDrawnOnce (c ∷ made) = ((d : ChangeRecord) → Contains made d → IsDrawnBefore c d) × NumbersAreDrawnOnce made

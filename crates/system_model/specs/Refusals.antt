@@ -1,4 +1,4 @@
--- Which events a system refuses, and why, each by the first cause that stands against it.
+-- Which events a system refuses, and why, each by the first cause against it.
 use Rattle.std.specs.Prelude.{◌≡◌, ◌≤◌, ◌<◌, true, length, Option, Some, None, Result, Err, IsOk}
 use Rattle.ds_entry.specs.declared.body.Body.TheVariants as bodies
 use Rattle.rs_core.specs.declared.fault.RsFault.{RsFault}
@@ -12,17 +12,18 @@ use Rattle.system_model.specs.System.{System}
 use Rattle.system_model.specs.Drawing.{Instance, judged}
 use Rattle.system_model.specs.Steps.{is_barred}
 
--- what RS refuses it by, or want of memory where nothing stands
+-- RS's own refusal; or out of memory, if RS has none.
 abbrev pub IsServiceFault : Option RsFault → RsFault → Type 0
 IsServiceFault stands faults.NoRoom = stands ≡ None
 IsServiceFault stands fault = stands ≡ Some fault
 
--- what stands against a service's change, or want of memory where nothing does
+-- The first cause against a service's change; or out of memory, if there is none.
 abbrev pub IsWriteFault : Result Instance SystemFault → SystemFault → Type 0
 IsWriteFault judgement refusals.NoRoom = IsOk judgement
 IsWriteFault judgement fault = judgement ≡ Err fault
 
--- the event is refused by this fault: others none refuses, and nothing refuses a Follow, a Submit or an Answered as a whole
+-- The event is refused by this fault; no other fault refuses an event, and nothing refuses a Follow, a Submit or an
+-- Answered as a whole.
 abbrev pub IsSystemRefused : System → SystemEvent → SystemFault → Type 0
 IsSystemRefused s (Service event tick side) (refusals.Service fault) = IsServiceFault (refusal s.rs event tick) fault
 IsSystemRefused s (Put label key value side) fault = IsWriteFault (judged s.rs s.numberers label key (bodies.Put value)) fault

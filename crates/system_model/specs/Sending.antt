@@ -1,4 +1,4 @@
--- Where the Sends and Starts of a driver table's turn go: that none goes to an older generation.
+-- Where the Sends and Starts of a turn go: none goes to an older generation.
 use Rattle.std.specs.Prelude.{◌≡◌, ◌⊎◌, ℕ, ◌≤◌, Bool, true, false, ◌||◌, List, [], ◌∷◌, ◌++◌, Option, Some, None, is_some, Contains}
 use Rattle.std.specs.List.{find, filter_map, flat_map}
 use Rattle.std.specs.Option.{option_map, option_and_then}
@@ -30,28 +30,28 @@ use Rattle.system_model.specs.Start.{IsNew}
 
 -- ---- where moves go
 
--- the endpoint that a move goes to
+-- The endpoint that a move goes to.
 abbrev pub goal_of : Move → Option EndpointRecord
 goal_of (Start unit e) = Some e
 goal_of (Send id e) = Some e
 goal_of (Answer id ending) = None
 goal_of (Held id) = None
 
--- the label of a unit's driver, and of the driver that a request is for
+-- The label of a unit's driver, and of the driver that a request is for.
 abbrev pub label_of_unit : List (ℕ × Driver) → ℕ → Option (List ℕ)
 label_of_unit units unit = option_map (λ (d : Driver). d.label) (driver_of units unit)
 
 abbrev pub label_of_request : List (ℕ × Driver) → List Request → ℕ → Option (List ℕ)
 label_of_request units requests id = option_and_then (λ (r : Request). label_of_unit units r.unit) (find (is_for id) requests)
 
--- the label that a move is about: that of its unit, or of its request
+-- The label of a move: that of its unit, or of its request.
 abbrev pub label_of : DriverTable → Move → Option (List ℕ)
 label_of t (Start unit e) = label_of_unit t.units unit
 label_of t (Send id e) = label_of_request t.units t.requests id
 label_of t (Answer id ending) = label_of_request t.units t.requests id
 label_of t (Held id) = label_of_request t.units t.requests id
 
--- a Send or a Start: under which label, and to which endpoint
+-- A Send or a Start: its label and its endpoint.
 pub record Sending : Type 0 where
   pub label : List ℕ
   pub endpoint : EndpointRecord
@@ -60,11 +60,11 @@ abbrev pub sending_to : Option (List ℕ) → Option EndpointRecord → Option S
 sending_to (Some label) (Some e) = Some (record { label = label; endpoint = e })
 sending_to _ _ = None
 
--- the Sends and Starts among moves, in their order
+-- The Sends and Starts among moves, in order.
 abbrev pub sendings : DriverTable → List Move → List Sending
 sendings t moves = filter_map (λ (m : Move). sending_to (label_of t m) (goal_of m)) moves
 
--- those of a turn that a table may have had, and of all that a table had in these events
+-- The Sends and Starts of a table's turn, if it had one; and of all its turns in these entries.
 abbrev pub sent_by_turn : Option TableTurn → List Sending
 sent_by_turn None = []
 sent_by_turn (Some turn) = sendings turn.after (turn_moves turn)
@@ -74,31 +74,31 @@ sent_over entries table = flat_map (λ (entry : SystemEntry). sent_by_turn (turn
 
 -- ---- a turn that follows its map rightly
 
--- what the map holds of a label is a tombstone of a generation below the newest that the label had
+-- Whether the map's change of the label is a tombstone of a generation below the label's newest.
 abbrev pub is_late : DriverTable → List ℕ → ChangeRecord → Bool
 is_late t label c = is_old_tombstone (newest t.states label) c.version.epoch c.body
 
--- the table passes over what its map holds of a label: such a tombstone, or an endpoint that is older than one that the label had
+-- Whether the table passes over the map's change of a label: such a tombstone, or an old endpoint.
 abbrev pub is_passed : DriverTable → List ℕ → ChangeRecord → Bool
 is_passed t label c = is_late t label c || is_old_for t.states label (endpoint_in c.body)
 
--- the move is under a label, and goes to no older generation
+-- The move is under a label, and goes to no older generation.
 pub record GoesToNoOlder (held : List Item) (turn : TableTurn) (earlier : List Sending) (m : Move) (e : EndpointRecord) : Type 0 where
   pub label : List ℕ
   pub under : label_of turn.after m ≡ Some label
-  -- its endpoint is of no lower generation than what the map holds of the label
+  -- its endpoint's generation isn't below that of the map's change of the label
   pub of_map : (c : ChangeRecord) → held_at held (label_key label) ≡ Some c → c.version.epoch ≤ e.generation
-  -- nor than that of any earlier Send or Start under the label
+  -- nor below that of an earlier Send or Start under the label
   pub of_earlier : (x : Sending) → Contains earlier x → x.label ≡ label → x.endpoint.generation ≤ e.generation
-  -- and where the label lives in the map, and isn't passed over, it is the map's own
+  -- and if the label lives in the map, and isn't passed over, the endpoint is the map's
   pub own : (c : ChangeRecord) (f : EndpointRecord) → held_at held (label_key label) ≡ Some c → endpoint_in c.body ≡ Some f → is_passed turn.before label c ≡ false → e ≡ f
 
--- the label has the endpoint and the newest generation that it had
+-- The label's endpoint and newest generation are unchanged.
 pub record IsAsBefore (t u : DriverTable) (label : List ℕ) : Type 0 where
   pub now : endpoint_now u.states label ≡ endpoint_now t.states label
   pub newest : newest u.states label ≡ newest t.states label
 
--- the turn is right over a map that holds these items, after these Sends and Starts
+-- The turn is right over a map that holds these items, after these Sends and Starts.
 pub record FollowsRightly (held : List Item) (turn : TableTurn) (earlier : List Sending) : Type 0 where
   -- each Send and Start goes to no older generation
   pub sends : (front back : List Move) (m : Move) (e : EndpointRecord) → turn_moves turn ≡ front ++ m ∷ back → goal_of m ≡ Some e →
@@ -106,19 +106,21 @@ pub record FollowsRightly (held : List Item) (turn : TableTurn) (earlier : List 
   -- an old tombstone changes nothing, and brings no move
   pub tombstones : (label : List ℕ) (c : ChangeRecord) → held_at held (label_key label) ≡ Some c → is_late turn.before label c ≡ true →
       IsAsBefore turn.before turn.after label × ((m : Move) → Contains (round_moves turn) m → label_of turn.after m ≡ Some label → ⊥)
-  -- and where the map was followed to its end, each label with a unit is as the map has it, or was passed over and is as before
+  -- if the map was followed to its end, each label with a unit is as the map has it, or was passed over and is
+  -- unchanged
   pub knows : turn.stop ≡ None → (label : List ℕ) (c : ChangeRecord) → has_label turn.before.units label ≡ true → held_at held (label_key label) ≡ Some c →
       (endpoint_now turn.after.states label ≡ endpoint_in c.body) ⊎ ((is_passed turn.before label c ≡ true) × IsAsBefore turn.before turn.after label)
 
 -- ---- an event whose turns are right
 
--- servers look at their maps in the event
+-- Whether servers follow their maps in the event.
 abbrev pub is_look : SystemEvent → Bool
 is_look Follow = true
 is_look (Submit table id unit) = true
 is_look _ = false
 
--- the table surely has a turn: the one of a Submit, the file server's of a Follow, and the other one where nothing ended that
+-- Whether the table certainly has a turn: that of a Submit, the file server's of a Follow, and the network server's
+-- unless something ended that.
 abbrev pub must_look : SystemEvent → SystemOutcome → Table → Bool
 must_look (Submit File id unit) outcome File = true
 must_look (Submit Net id unit) outcome Net = true
@@ -126,12 +128,12 @@ must_look Follow outcome File = true
 must_look Follow (Moved rounds own None) Net = true
 must_look _ _ _ = false
 
--- nothing ended the event
+-- Whether nothing ended the event early.
 abbrev pub is_whole : SystemOutcome → Bool
 is_whole (Moved rounds own None) = true
 is_whole _ = false
 
--- the moves that the outcome tells of, and those of a turn that a table may have had
+-- The moves that an outcome reports, and those of a table's turn, if it had one.
 abbrev pub moves_told : SystemOutcome → List Move
 moves_told (Moved rounds own fault) = flat_map (λ (moves : List Move). moves) rounds ++ request_moves own
 moves_told _ = []
@@ -140,28 +142,29 @@ abbrev pub moves_had : Option TableTurn → List Move
 moves_had None = []
 moves_had (Some turn) = turn_moves turn
 
--- the turn is the table's between these systems, over its own map, and right; and where nothing ended the event, nothing ended it
+-- The turn is the table's between these systems, over its own map, and right; it has no early end if the event has
+-- none.
 pub record IsRightTurn (s : System) (outcome : SystemOutcome) (table : Table) (turn : TableTurn) (earlier : List Sending) (t : System) : Type 0 where
   pub before : turn.before ≡ table_at s table
   pub after : turn.after ≡ table_at t table
   pub right : FollowsRightly (followed_items s table) turn earlier
   pub whole : is_whole outcome ≡ true → turn.stop ≡ None
 
--- the turns of the event are right, after all that each table sent earlier
+-- The turns of the event are right, after all that each table sent earlier.
 pub record TurnsAreRight (s : System) (entry : SystemEntry) (earlier : Table → List Sending) (t : System) : Type 0 where
-  -- the moves that it tells of are theirs, the file server's first
+  -- the moves that the outcome reports are those of the turns, the file server's first
   pub told : is_look entry.event ≡ true → moves_told entry.outcome ≡ moves_had entry.steps.file ++ moves_had entry.steps.net
-  -- no table that has to look is left out
+  -- every table that has to follow its map has a turn
   pub had : (table : Table) → must_look entry.event entry.outcome table ≡ true → is_some (turn_in entry.steps table) ≡ true
   pub each : (table : Table) (turn : TableTurn) → turn_in entry.steps table ≡ Some turn → IsRightTurn s entry.outcome table turn (earlier table) t
 
--- whatever happened since a system was new: the turns of the next event are right
+-- A law: whatever happened since a system was new, the turns of the next event are right.
 abbrev pub NoSendToOlder : Type 0
 NoSendToOlder =
     (settings : SettingsRecord) (a b : Seed) (next : ℕ) (s t u : System) (entries : List SystemEntry) (entry : SystemEntry) → IsNew settings a b next s → SystemRun s entries t →
     SystemDoes t entry.event entry.outcome entry.steps u → TurnsAreRight t entry (sent_over entries) u
 
--- and no label has units at both servers, so neither sends anything under a label of the other
+-- A law: no label has units at both servers, so neither sends anything under a label of the other.
 abbrev pub LabelsAreApart : Type 0
 LabelsAreApart =
     (settings : SettingsRecord) (a b : Seed) (next : ℕ) (s t : System) (entries : List SystemEntry) → IsNew settings a b next s → SystemRun s entries t →

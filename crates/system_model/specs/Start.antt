@@ -1,4 +1,4 @@
--- A system that was just made.
+-- A new system.
 use Rattle.std.specs.Prelude.{◌≡◌, ℕ, ◌≤◌, List, [], ◌∷◌, length, replicate, codes, Option, Some, None}
 use Rattle.std.specs.List.{filter_map, fold}
 use Rattle.ds_held.specs.Limits.{larger}
@@ -27,15 +27,14 @@ use Rattle.system_model.specs.System.{System}
 use Rattle.system_model.specs.Steps.{WorldEvents}
 use Rattle.system_model.specs.Happening.{SystemEntry, all_events}
 
--- the query of all labels
 abbrev pub labels_query : Query
 labels_query = query_of (codes ".*") 1
 
--- the maps of both servers are made, the file server's first
+-- The maps of both servers are made, the file server's first.
 abbrev pub two_maps : WorldEvents
 two_maps = (NewMap labels_query, MapMade 0) ∷ (NewMap labels_query, MapMade 1) ∷ []
 
--- the driver of a file server, and of a network server, that a service of the class is
+-- The driver of a service of the class, at a file server and at a network server.
 abbrev pub file_driver_of : Class → List ℕ → Option Driver
 file_driver_of Block label = Some (file_driver files.Block label)
 file_driver_of Character label = Some (file_driver files.Character label)
@@ -48,24 +47,24 @@ net_driver_of Block label = None
 net_driver_of Character label = None
 net_driver_of Server label = None
 
--- a unit with its driver, where there are both
+-- A unit with its driver, if there are both.
 abbrev pub unit_with : Option ℕ → Option Driver → Option (ℕ × Driver)
 unit_with (Some unit) (Some driver) = Some (unit, driver)
 unit_with _ _ = None
 
--- the unit of a service at a file server, and at a network server
+-- The unit of a service at a file server, and at a network server.
 abbrev pub file_unit : Service → Option (ℕ × Driver)
 file_unit s = unit_with s.unit (file_driver_of s.class s.label)
 
 abbrev pub net_unit : Service → Option (ℕ × Driver)
 net_unit s = unit_with s.unit (net_driver_of s.class s.label)
 
--- the table of a server to which these units are assigned, one after the other
+-- The table of a server after these units were assigned, in order.
 abbrev pub assigned_all : List (ℕ × Driver) → DriverTable
 assigned_all units = fold (λ (t : DriverTable) (u : ℕ × Driver). (assigning t u.0 u.1).1) empty_table units
 
--- every service is down and drew no number; both stores are empty, and both maps are there; each server has the settings' units, in
--- their order; and no change was made
+-- Every service is down and drew no number; both stores are empty, and both maps exist; each server has the settings'
+-- units, in order; no change was made.
 pub record IsNew (settings : SettingsRecord) (a b : Seed) (next : ℕ) (s : System) : Type 0 where
   pub checked : IsSettings settings
   pub some : 1 ≤ next
@@ -76,10 +75,10 @@ pub record IsNew (settings : SettingsRecord) (a b : Seed) (next : ℕ) (s : Syst
   pub net : s.net ≡ assigned_all (filter_map net_unit settings.services)
   pub made : s.made ≡ []
 
--- there is such a system for all settings that were checked, whatever the seeds
+-- A law: there is such a system for all checked settings, whatever the seeds.
 abbrev pub NewSystemsExist : Type 0
 NewSystemsExist = (settings : SettingsRecord) (a b : Seed) (next : ℕ) → IsSettings settings → 1 ≤ next → (s : System) × IsNew settings a b next s
 
--- the account of a system that was made of these seeds and in which this happened
+-- The account of a system that began with these seeds, after these entries.
 abbrev pub account_since : Seed → Seed → List SystemEntry → Account
 account_since a b entries = extended_all (extended_all (new_account a b larger) two_maps) (all_events entries)

@@ -1,4 +1,4 @@
--- The steps of which a system's event is made: events of its world, and turns of its driver tables.
+-- The steps of a system's event: events of its world, and turns of its driver tables.
 use Rattle.std.specs.Prelude.{Bool, true, false, List, [], ◌∷◌, Option, Some, None, Contains}
 use Rattle.ds_machine.specs.declared.command.Command.{Command}
 use Rattle.ds_machine.specs.declared.command.Command.TheVariants.{Publish, Delete, Sweep, Merge}
@@ -13,45 +13,44 @@ use Rattle.system_model.specs.declared.event.Table.{Table}
 use Rattle.system_model.specs.declared.event.Table.TheVariants.{File, Net}
 use Rattle.system_model.specs.Turn.{TableTurn}
 
--- events of the world, each with its outcome
+-- Events of the world, each with its outcome.
 abbrev pub WorldEvents : Type 0
 WorldEvents = List (Event × Outcome)
 
 pub record Steps : Type 0 where
   pub events : WorldEvents
-  -- the turns of the file server's table and of the network server's, where they had one
+  -- the turns of the file server's and the network server's tables, if they had one
   pub file : Option TableTurn
   pub net : Option TableTurn
 
--- no steps
 abbrev pub no_steps : Steps
 no_steps = record { events = []; file = None; net = None }
 
--- events of the world, and no turn
+-- Events of the world, without a turn.
 abbrev pub events_alone : WorldEvents → Steps
 events_alone events = record no_steps { events = events }
 
--- a turn of one table, and nothing else
+-- A turn of one table, and nothing else.
 abbrev pub turn_alone : Table → TableTurn → Steps
 turn_alone File turn = record no_steps { file = Some turn }
 turn_alone Net turn = record no_steps { net = Some turn }
 
--- the turn of a server's table, if it had one
+-- The turn of a server's table, if it had one.
 abbrev pub turn_in : Steps → Table → Option TableTurn
 turn_in steps File = steps.file
 turn_in steps Net = steps.net
 
--- each of the commands was asked at the side, and replied to so
+-- Each of the commands was sent to the store of the side, and had this reply.
 abbrev pub asks_replied : Side → List Command → List Reply → WorldEvents
 asks_replied side [] replies = []
 asks_replied side (command ∷ commands) [] = []
 asks_replied side (command ∷ commands) (reply ∷ replies) = (Ask side command, Replied reply) ∷ asks_replied side commands replies
 
--- what they ask has its parts in their ranges, as the types of what is asked have it
+-- The parts of these commands are in the ranges of their types.
 abbrev pub AreProper : WorldEvents → Type 0
 AreProper events = (e : Event × Outcome) → Contains events e → IsProperEvent e.0
 
--- the command brings something in
+-- Whether the command brings something in.
 abbrev pub is_bringing : Command → Bool
 is_bringing (Publish caller key version value overwrite) = true
 is_bringing (Delete caller key version) = true
@@ -59,7 +58,7 @@ is_bringing (Sweep caller owner generation) = true
 is_bringing (Merge items) = true
 is_bringing _ = false
 
--- the event is an Ask of such a command, which only RS and the services may make
+-- Whether the event is an Ask of such a command, which only RS and the services may make.
 abbrev pub is_barred : Event → Bool
 is_barred (Ask side command) = is_bringing command
 is_barred _ = false

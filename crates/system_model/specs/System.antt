@@ -1,4 +1,4 @@
--- A system: RS, the numbers of its services, a world, two driver tables, and what RS and the services made.
+-- A system: RS, the numbers of its services, a world, two driver tables, and the changes that RS and the services made.
 use Rattle.std.specs.Prelude.{ℕ, List}
 use Rattle.ds_entry.specs.Change.{ChangeRecord}
 use Rattle.ds_entry.specs.declared.item.Item.{Item}
@@ -12,30 +12,29 @@ use Rattle.system_model.specs.declared.event.Table.TheVariants.{File, Net}
 
 pub record System : Type 0 where
   pub rs : RsRecord
-  -- for each service, in the order of the settings, the numbers of its instance that drew one last
+  -- for each service, in the order of the settings, the numbers of the instance that drew one last
   pub numberers : List NumbererRecord
   pub world : World
   -- the file server's table and the network server's
   pub file : DriverTable
   pub net : DriverTable
-  -- the changes that RS and the services made, in their order, those too that a store refused
+  -- the changes that RS and the services made, in order, also those that a store refused
   pub made : List ChangeRecord
 
--- a server's table
 abbrev pub table_at : System → Table → DriverTable
 table_at s File = s.file
 table_at s Net = s.net
 
--- the system with another table of a server
+-- The system with a server's table replaced.
 abbrev pub system_with_table : System → Table → DriverTable → System
 system_with_table s File t = record s { file = t }
 system_with_table s Net t = record s { net = t }
 
--- the number of the map that a server follows
+-- The number of the map that a server follows.
 abbrev pub map_number : Table → ℕ
 map_number File = 0
 map_number Net = 1
 
--- what that map holds
+-- The items that this map holds.
 abbrev pub followed_items : System → Table → List Item
 followed_items s table = held_by s.world (Map (map_number table))

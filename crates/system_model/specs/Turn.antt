@@ -1,4 +1,4 @@
--- A driver table's turn: it follows its map, and then a request may come.
+-- A driver table's turn: it follows its map, and then may take a request.
 use Rattle.std.specs.Prelude.{List, [], ◌∷◌, ◌++◌, Option, Some, None}
 use Rattle.std.specs.List.{flat_map}
 use Rattle.ds_entry.specs.declared.item.Item.{Item}
@@ -8,32 +8,31 @@ use Rattle.driver_tables.specs.DriverTable.{DriverTable}
 use Rattle.rs_to_store.specs.Following.{labels_of, Follows}
 
 pub record TableTurn : Type 0 where
-  -- the table before it
+  -- the table before the turn
   pub before : DriverTable
   -- the moves of each label that was followed
   pub rounds : List (List Move)
-  -- what ended the following, if anything did
+  -- what ended the follow early, if anything did
   pub stop : Option TableFault
-  -- the table once the map was followed so far
+  -- the table after the follow
   pub followed : DriverTable
-  -- the move of a request that came then
+  -- the move of the request, if the turn has one
   pub own : Option Move
   -- the table after the turn
   pub after : DriverTable
 
--- in the turn the table follows a map that holds these items
+-- In the turn the table follows a map that holds these items.
 abbrev pub FollowsItems : List Item → TableTurn → Type 0
 FollowsItems held turn = Follows held (labels_of turn.before) turn.before turn.rounds turn.stop turn.followed
 
--- the moves of the following, in their order
+-- The moves of the follow, in order.
 abbrev pub round_moves : TableTurn → List Move
 round_moves turn = flat_map (λ (moves : List Move). moves) turn.rounds
 
--- the move of the request, if one came
 abbrev pub request_moves : Option Move → List Move
 request_moves None = []
 request_moves (Some m) = m ∷ []
 
--- all moves of a turn, in their order
+-- All moves of a turn, in order.
 abbrev pub turn_moves : TableTurn → List Move
 turn_moves turn = round_moves turn ++ request_moves turn.own

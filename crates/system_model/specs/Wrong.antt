@@ -1,4 +1,4 @@
--- Wrong ways of a driver table to follow its map, for the law to refuse.
+-- Wrong ways of a driver table to follow its map, which the law refuses.
 use Rattle.std.specs.Prelude.{ℕ, List, [], ◌∷◌, map, Option, Some, None}
 use Rattle.ds_names.specs.Endpoint.{EndpointRecord, endpoint_of}
 use Rattle.ds_entry.specs.declared.item.Item.{Item}
@@ -11,7 +11,7 @@ use Rattle.driver_tables.specs.DriverTable.{DriverTable, empty_table}
 use Rattle.system_model.specs.Turn.{TableTurn}
 use Rattle.system_model.specs.Sending.{FollowsRightly}
 
--- a label, and two endpoints that it had, one after the other
+-- A label, and two endpoints that it had, the older one first.
 abbrev pub disk : List ℕ
 disk = 100 ∷ []
 
@@ -21,14 +21,14 @@ old = endpoint_of 1 16
 abbrev pub young : EndpointRecord
 young = endpoint_of 2 16
 
--- what a map holds that has the label live, and gone
+-- A map that has the label live, and one that has its tombstone.
 abbrev pub lives_at : EndpointRecord → List Item
 lives_at e = Changed (label_put disk e) ∷ []
 
 abbrev pub gone_since : ℕ → List Item
 gone_since g = Changed (label_gone disk g) ∷ []
 
--- a table with a block unit of the label and a request to it, after these states of the label
+-- A table with a block unit of the label and a request to it, after these states of the label.
 abbrev pub disk_table : List (Option EndpointRecord) → DriverTable
 disk_table states = record empty_table {
   units = (3, record { class = Block; label = disk }) ∷ [];
@@ -36,38 +36,38 @@ disk_table states = record empty_table {
   requests = record { id = 7; unit = 3 } ∷ [];
 }
 
--- a turn of a table in which its map is followed so, to the end, and no request comes
+-- A turn that follows its map by these rounds, to the end, and takes no request.
 abbrev pub plain_turn : DriverTable → List (List Move) → DriverTable → TableTurn
 plain_turn before rounds after = record { before = before; rounds = rounds; stop = None; followed = after; own = None; after = after }
 
--- a turn of a table that doesn't follow its map, in which a request has this move
+-- A turn that doesn't follow its map, in which a request has this move.
 abbrev pub request_turn : DriverTable → Move → TableTurn
 request_turn t m = record (plain_turn t [] t) { own = Some m }
 
--- it does nothing, though its map has the label
+-- The table does nothing, though its map has the label.
 abbrev pub DoesNothing : Type 0
 DoesNothing = FollowsRightly (lives_at young) (plain_turn (disk_table []) [] (disk_table [])) []
 
--- it sends again to the endpoint that it had, where its map has a younger one
+-- The table sends again to the endpoint that it had, though its map has a newer one.
 abbrev pub SendsToOld : Type 0
 SendsToOld = FollowsRightly (lives_at young) (plain_turn (disk_table (Some old ∷ [])) ((Send 7 old ∷ []) ∷ []) (disk_table (Some old ∷ []))) []
 
--- it sends a request there, without a look at its map
+-- The table sends a request there, without following its map.
 abbrev pub SubmitsUnseen : Type 0
 SubmitsUnseen = FollowsRightly (lives_at young) (request_turn (disk_table (Some old ∷ [])) (Send 7 old)) []
 
--- it takes what another map has, which is older
+-- The table takes the state of another, older map.
 abbrev pub FollowsAnotherMap : Type 0
 FollowsAnotherMap = FollowsRightly (lives_at young) (plain_turn (disk_table []) ((Send 7 old ∷ []) ∷ []) (disk_table (Some old ∷ []))) []
 
--- it takes an old tombstone for the end of the endpoint
+-- The table takes an old tombstone for the end of its driver.
 abbrev pub EndsByOldTombstone : Type 0
 EndsByOldTombstone = FollowsRightly (gone_since 1) (plain_turn (disk_table (Some young ∷ [])) ([] ∷ []) (disk_table (Some young ∷ None ∷ []))) []
 
--- it sends to what its map has, as one that was cleared and filled anew has it, though it sent to a younger one before
+-- The table sends to the endpoint of its map, which was cleared and filled anew, though it sent to a newer one before.
 abbrev pub GoesBack : Type 0
 GoesBack = FollowsRightly (lives_at old) (plain_turn (disk_table (Some young ∷ [])) ((Send 7 old ∷ []) ∷ []) (disk_table (Some young ∷ Some old ∷ []))) (record { label = disk; endpoint = young } ∷ [])
 
--- none of them is right
+-- A law: none of them is right.
 abbrev pub WrongTurns : Type 0
 WrongTurns = (¬ DoesNothing) × (¬ SendsToOld) × (¬ SubmitsUnseen) × (¬ FollowsAnotherMap) × (¬ EndsByOldTombstone) × (¬ GoesBack)

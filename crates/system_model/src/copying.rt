@@ -1,4 +1,4 @@
-//! The same event again.
+//! Copies of events.
 
 ghost use Rattle.std.specs.Prelude.{◌≡◌, IfOk};
 

@@ -1,4 +1,4 @@
-//! What can happen in a system, one event at a time.
+//! The events of a system.
 
 use ds_entry::Value;
 use ds_names::{Endpoint, Key, Name};
@@ -13,39 +13,39 @@ pub enum Table {
     Net,
 }
 
-/// An event of a system. Changes, maps and messages have numbers, counted from 0 in the order in which they were made. Of this
+/// An event of a system. Changes, maps and messages have numbers, from 0 in the order in which they were made. Of this
 /// project.
 #[derive(Drop)]
 pub enum SystemEvent {
-    /// RS is told something. Its label changes and its sweeps go to the store of the side.
+    /// An event for RS. Its label changes and sweeps go to the store of the side.
     Service {
         event: rs_core::Event,
         tick: u64,
         side: Side,
     },
-    /// A service puts a value over what is there, numbered by its instance.
+    /// A service publishes a value, over what is there; its instance draws the version's number.
     Put {
         label: Name,
         key: Key,
         value: Value,
         side: Side,
     },
-    /// A service takes an entry of its own back, numbered by its instance.
+    /// A service deletes an entry of its own; its instance draws the version's number.
     Remove {
         label: Name,
         key: Key,
         side: Side,
     },
-    /// A change that RS or a service made comes once more, as a Merge.
+    /// A change that RS or a service made is repeated, as a Merge.
     Again {
         change: usize,
         side: Side,
     },
-    /// An event of the world, but for an Ask that brings something in.
+    /// An event of the world, except an Ask that brings something in.
     World(Event),
-    /// Both servers look at the labels in their maps, the file server first.
+    /// Both servers follow their maps, the file server first.
     Follow,
-    /// A server looks at the labels in its map, and takes a request.
+    /// A server follows its map, and then takes a request.
     Submit {
         table: Table,
         id: u64,

@@ -9,7 +9,7 @@ use ds_names::NoRoom;
 use std::alloc::{AllocFailed, Global};
 use std::marker::Model;
 
-/// Events of a system, in the order in which they are to happen.
+/// A system's events, in the order in which they happen.
 #[derive(Drop)]
 pub struct SystemEvents {
     events: Vec<SystemEvent>,
@@ -25,7 +25,7 @@ impl Model for SystemEvents {
 }
 
 impl SystemEvents {
-    /// A list of no events. It takes no memory.
+    /// Returns an empty list. It takes no memory.
     pub fn new(alloc: Global) -> SystemEvents
         ensures { result ≡ [] }
     {
@@ -34,14 +34,14 @@ impl SystemEvents {
         }
     }
 
-    /// Gives the `Vec` back. It takes no memory.
+    /// Returns the `Vec`. It takes no memory.
     pub fn into_list(self) -> Vec<SystemEvent>
         ensures { result.items ≡ self }
     {
         self.events
     }
 
-    /// Adds an event at the end. Where there is no room, the list is unchanged and the error gives the event back.
+    /// Appends an event. If memory runs out, the list is unchanged and the error hands the event back.
     pub fn push(&mut self, event: SystemEvent) -> Result<(), AllocFailed<SystemEvent>>
         ensures ok { OnOk result (self.new ≡ self.old ++ event ∷ []) }
         ensures err { OnErr result (self.new ≡ self.old) }
@@ -50,21 +50,21 @@ impl SystemEvents {
         self.events.push(event)
     }
 
-    /// How many events it has.
+    /// Returns the number of events.
     pub fn len(&self) -> usize
         ensures { result ≡ length self.now }
     {
         self.events.len()
     }
 
-    /// The event at an index from 0, `None` behind the last one.
+    /// Returns the event at an index from 0; `None` past the end.
     pub fn get(&self, index: usize) -> Option<&SystemEvent>
         ensures { option_copied result ≡ slice_get self.now index }
     {
         self.events.get(index)
     }
 
-    /// The same events again, in the same order. The copy of none takes no memory.
+    /// Returns a copy. A copy of no events takes no memory.
     pub fn copy(&self, alloc: Global) -> Result<SystemEvents, NoRoom>
         ensures same { IfOk result (λ copy. copy ≡ self.now) }
         ensures room { OnErr result (self.now ≢ []) }

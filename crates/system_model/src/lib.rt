@@ -1,8 +1,8 @@
-//! A system: RS beside a world of two stores, and the driver tables of a file and of a network server, by definitions alone: what
-//! can happen in it and what comes of that, and laws over every list of events.
+//! A system, by definitions only: RS beside a world of two stores, and the driver tables of a file server and a network
+//! server. The definitions say what can happen and what follows; laws hold over every list of events.
 //!
-//! RS, which publishes its services' labels, and the servers that send to their drivers are MINIX 3's (Herder and others, DSN 2007;
-//! Tanenbaum and Woodhull, third edition); versions, replicas and messages are of this project.
+//! RS, which publishes its services' labels, and the servers that send to their drivers are MINIX 3's (Herder and
+//! others, DSN 2007; Tanenbaum and Woodhull, third edition). Versions, replicas and messages are of this project.
 #![tactic(auto)]
 
 mod copying;

@@ -1,4 +1,4 @@
-//! What comes of an event of a system.
+//! The outcome of a system's event.
 
 ghost use Rattle.std.specs.Prelude.{◌≡◌, IfOk, OnErr};
 ghost use Rattle.system_model.specs.Copying.{CopyTakesRoom};
@@ -13,31 +13,31 @@ use rs_core::{Actions, RsFault};
 use std::alloc::Global;
 use thiserror::Error;
 
-/// What came of an event of a system. Of this project.
+/// The outcome of a system's event. Of this project.
 #[derive(Drop)]
 pub enum SystemOutcome {
-    /// RS did this, and the store replied so to each change that RS offered and to each sweep.
+    /// RS's actions, and the store's reply to each offered change and each sweep.
     Acted {
         actions: Actions,
         replies: Replies,
     },
-    /// The store replied.
+    /// The store's reply.
     Replied(Reply),
-    /// What the servers did: the moves of each label that was followed, the own move of the request or of the reply, and what
-    /// ended the event, if anything did.
+    /// What the servers did: the moves of each label that was followed, the move of the request or of the reply, and
+    /// what ended the event early, if anything did.
     Moved {
         rounds: Rounds,
         own: Option<Move>,
         fault: Option<TableFault>,
     },
-    /// What came of the world's event.
+    /// The outcome of the world's event.
     Happened(Outcome),
     /// The event was refused, and nothing changed.
     Refused(SystemFault),
 }
 
 impl SystemOutcome {
-    /// The same outcome again. The copy of a refusal, and of lists of nothing, takes no memory.
+    /// Returns a copy. A copy of a refusal, or of empty lists, takes no memory.
     pub fn copy(&self, alloc: Global) -> Result<SystemOutcome, NoRoom>
         ensures same { IfOk result (λ copy. copy ≡ self.now) }
         ensures room { OnErr result (CopyTakesRoom self.now) }
@@ -59,34 +59,34 @@ impl SystemOutcome {
     }
 }
 
-/// Why a system refuses an event, in the order in which the causes of one event are judged. Nothing changed.
+/// Why a system refuses an event, in the order in which the causes are judged. A refused event changes nothing.
 #[derive(Clone, Copy, Debug, PartialEq, Eq, Error)]
 pub enum SystemFault {
-    /// RS refuses it, for want of memory too.
+    /// RS refuses it, or memory ran out for it.
     #[error("{0}")]
     Service(RsFault),
     /// No service of the settings has the label.
     #[error("no service has the label")]
     UnknownLabel,
-    /// The service doesn't declare that it publishes the name, or the key is a label's.
+    /// The service doesn't declare the name, or the key is a label.
     #[error("the service doesn't publish this")]
     NotDeclared,
-    /// The service doesn't run.
+    /// The service isn't running.
     #[error("the service isn't up")]
     NotUp,
     /// The value isn't of the key's kind.
     #[error("the value isn't of this kind")]
     BadKind,
-    /// The instance has drawn all its numbers.
+    /// The instance has drawn every number.
     #[error("all sequence numbers are spent")]
     SeqSpent,
-    /// No such change was made.
+    /// No change of this number was made.
     #[error("there is no such change")]
     NoMessage,
     /// Only RS and the services bring something in.
     #[error("only RS and the services may bring something in")]
     NotAllowed,
-    /// Memory is wanting.
+    /// Out of memory.
     #[error("out of memory")]
     NoRoom,
 }

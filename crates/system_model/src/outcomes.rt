@@ -8,7 +8,7 @@ use ds_names::NoRoom;
 use std::alloc::{AllocFailed, Global};
 use std::marker::Model;
 
-/// What came of a system's events, in their order.
+/// The outcomes of a system's events, in order.
 #[derive(Drop)]
 pub struct SystemOutcomes {
     outcomes: Vec<SystemOutcome>,
@@ -24,14 +24,14 @@ impl Model for SystemOutcomes {
 }
 
 impl SystemOutcomes {
-    /// The outcomes of a `Vec`. It takes no memory.
+    /// Takes a `Vec` over. It takes no memory.
     pub fn of(outcomes: Vec<SystemOutcome>) -> SystemOutcomes
         ensures { result ≡ outcomes.items }
     {
         SystemOutcomes { outcomes }
     }
 
-    /// Adds an outcome at the end. Where there is no room, the list is unchanged and the error gives the outcome back.
+    /// Appends an outcome. If memory runs out, the list is unchanged and the error hands the outcome back.
     pub fn push(&mut self, outcome: SystemOutcome) -> Result<(), AllocFailed<SystemOutcome>>
         ensures ok { OnOk result (self.new ≡ self.old ++ outcome ∷ []) }
         ensures err { OnErr result (self.new ≡ self.old) }
@@ -40,21 +40,21 @@ impl SystemOutcomes {
         self.outcomes.push(outcome)
     }
 
-    /// How many outcomes it has.
+    /// Returns the number of outcomes.
     pub fn len(&self) -> usize
         ensures { result ≡ length self.now }
     {
         self.outcomes.len()
     }
 
-    /// The outcome at an index from 0, `None` behind the last one.
+    /// Returns the outcome at an index from 0; `None` past the end.
     pub fn get(&self, index: usize) -> Option<&SystemOutcome>
         ensures { option_copied result ≡ slice_get self.now index }
     {
         self.outcomes.get(index)
     }
 
-    /// The same outcomes again, in the same order. The copy of none takes no memory.
+    /// Returns a copy. A copy of no outcomes takes no memory.
     pub fn copy(&self, alloc: Global) -> Result<SystemOutcomes, NoRoom>
         ensures same { IfOk result (λ copy. copy ≡ self.now) }
         ensures room { OnErr result (self.now ≢ []) }

@@ -8,7 +8,7 @@ use ds_names::NoRoom;
 use std::alloc::{AllocFailed, Global};
 use std::marker::Model;
 
-/// Replies of a store, in their order.
+/// A store's replies, in order.
 #[derive(Drop)]
 pub struct Replies {
     replies: Vec<Reply>,
@@ -24,14 +24,14 @@ impl Model for Replies {
 }
 
 impl Replies {
-    /// The replies of a `Vec`. It takes no memory.
+    /// Takes a `Vec` over. It takes no memory.
     pub fn of(replies: Vec<Reply>) -> Replies
         ensures { result ≡ replies.items }
     {
         Replies { replies }
     }
 
-    /// Adds a reply at the end. Where there is no room, the list is unchanged and the error gives the reply back.
+    /// Appends a reply. If memory runs out, the list is unchanged and the error hands the reply back.
     pub fn push(&mut self, reply: Reply) -> Result<(), AllocFailed<Reply>>
         ensures ok { OnOk result (self.new ≡ self.old ++ reply ∷ []) }
         ensures err { OnErr result (self.new ≡ self.old) }
@@ -40,21 +40,21 @@ impl Replies {
         self.replies.push(reply)
     }
 
-    /// How many replies they are.
+    /// Returns the number of replies.
     pub fn len(&self) -> usize
         ensures { result ≡ length self.now }
     {
         self.replies.len()
     }
 
-    /// The reply at an index from 0, `None` behind the last one.
+    /// Returns the reply at an index from 0; `None` past the end.
     pub fn get(&self, index: usize) -> Option<&Reply>
         ensures { option_copied result ≡ slice_get self.now index }
     {
         self.replies.get(index)
     }
 
-    /// The same replies again, in the same order. The copy of none takes no memory.
+    /// Returns a copy. A copy of no replies takes no memory.
     pub fn copy(&self, alloc: Global) -> Result<Replies, NoRoom>
         ensures same { IfOk result (λ copy. copy ≡ self.now) }
         ensures room { OnErr result (self.now ≢ []) }

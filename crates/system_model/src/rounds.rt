@@ -8,7 +8,7 @@ use ds_names::NoRoom;
 use std::alloc::{AllocFailed, Global};
 use std::marker::Model;
 
-/// The moves of each label that was followed, in order: of a Follow the file server's rounds first.
+/// The moves of each label that was followed, in order. In a Follow the file server's rounds come first.
 #[derive(Drop)]
 pub struct Rounds {
     rounds: Vec<Moves>,
@@ -24,7 +24,7 @@ impl Model for Rounds {
 }
 
 impl Rounds {
-    /// No rounds. It takes no memory.
+    /// Returns an empty list. It takes no memory.
     pub fn new(alloc: Global) -> Rounds
         ensures { result ≡ [] }
     {
@@ -33,14 +33,14 @@ impl Rounds {
         }
     }
 
-    /// The rounds of a `Vec`. It takes no memory.
+    /// Takes a `Vec` over. It takes no memory.
     pub fn of(rounds: Vec<Moves>) -> Rounds
         ensures { result ≡ rounds.items }
     {
         Rounds { rounds }
     }
 
-    /// Adds a round at the end. Where there is no room, the list is unchanged and the error gives the round back.
+    /// Appends a round. If memory runs out, the list is unchanged and the error hands the round back.
     pub fn push(&mut self, round: Moves) -> Result<(), AllocFailed<Moves>>
         ensures ok { OnOk result (self.new ≡ self.old ++ round ∷ []) }
         ensures err { OnErr result (self.new ≡ self.old) }
@@ -49,21 +49,21 @@ impl Rounds {
         self.rounds.push(round)
     }
 
-    /// How many rounds they are.
+    /// Returns the number of rounds.
     pub fn len(&self) -> usize
         ensures { result ≡ length self.now }
     {
         self.rounds.len()
     }
 
-    /// The round at an index from 0, `None` behind the last one.
+    /// Returns the round at an index from 0; `None` past the end.
     pub fn get(&self, index: usize) -> Option<&Moves>
         ensures { option_copied result ≡ slice_get self.now index }
     {
         self.rounds.get(index)
     }
 
-    /// The same rounds again, in the same order. The copy of none takes no memory.
+    /// Returns a copy. A copy of no rounds takes no memory.
     pub fn copy(&self, alloc: Global) -> Result<Rounds, NoRoom>
         ensures same { IfOk result (λ copy. copy ≡ self.now) }
         ensures room { OnErr result (self.now ≢ []) }

@@ -15,25 +15,25 @@ use std::marker::Brand;
 use std::sync::{Mutex, Wait};
 use std::thread::{Threads, map_vec};
 
-/// What the threads were answered and counted, and what the desk left.
+/// The answers and counts of the threads, and what was left of the desk.
 #[derive(Drop)]
 pub struct Crew<M> {
-    /// Every call, by its place.
+    /// Every call, in the order of its place.
     pub said: Vec<Said>,
     /// How many bits the threads counted as raised.
     pub raises: u64,
     /// How many bits they counted as taken.
     pub takes: u64,
-    /// Whether any of them ever looked less far than one whose note it had learnt.
+    /// Whether a thread ever looked less far than the thread whose note it had learnt.
     pub behind: bool,
     /// The account of the desk.
     pub account: Account,
-    /// The machine that the desk left.
+    /// The machine that the desk returned.
     pub machine: M,
 }
 
-/// Opens a desk over the machine, has that many threads do the task, and closes it. `None` where memory is wanting, or where
-/// there are not 1 to 64 threads.
+/// Opens a desk over the machine, runs the task on `threads` threads, and closes the desk. `None`: out of memory, or
+/// not 1 to 64 threads.
 pub fn run_crew<M, T, R>(
     rt: &R,
     alloc: Global,
@@ -55,7 +55,7 @@ where
     close_crew(alloc, desk, workers)
 }
 
-// Has each pass do the task from a thread of its own, where one can be made. They have one board for their notes.
+// Runs the task with each pass, on a thread of its own where one can be made. They share one board for notes.
 fn run_threads<M, T, R, D>(
     rt: &R,
     alloc: Global,
@@ -91,7 +91,7 @@ where
     }
 }
 
-// Takes the passes back, adds up what the threads counted, and closes the desk.
+// Takes the passes back, adds up the threads' counts, and closes the desk.
 fn close_crew<M>(alloc: Global, desk: Desk<M>, mut workers: Vec<Worker<Pass<M>>>) -> Option<Crew<M>>
 where
     M: Machine + Drop,

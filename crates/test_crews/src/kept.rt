@@ -3,26 +3,26 @@
 /// What is kept of a reply, to compare it with another.
 #[derive(Clone, Copy, PartialEq, Eq)]
 pub enum Kept {
-    /// Refused for want of memory, so that nothing changed.
+    /// Refused for lack of memory: nothing changed.
     NoRoom,
-    /// Stopped for want of memory.
+    /// Stopped for lack of memory.
     Stopped {
         /// How many items were done before.
         items: usize,
-        /// Who is owed a notice of them.
+        /// The mask of subscriptions that are owed a notice of them.
         owed: u128,
     },
     /// Any other reply.
     Reply {
-        /// What tells it from others.
+        /// A mark that distinguishes it from others.
         mark: u64,
-        /// Who is owed a notice.
+        /// The mask of subscriptions that are owed a notice.
         owed: u128,
     },
 }
 
 impl Kept {
-    /// Whether memory was wanting.
+    /// Returns whether memory ran out.
     pub fn wants_room(self) -> bool {
         match self {
             Kept::NoRoom | Kept::Stopped { .. } => true,

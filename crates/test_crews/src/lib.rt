@@ -1,8 +1,8 @@
-//! Threads that call one desk, over any machine: for the programs that test desks.
+//! Threads that call one desk, over any machine, for programs that test desks.
 //!
-//! A crew is 1 to 64 threads, each with a pass of one desk, which do one task. They leave notes for one another on a board. When
-//! all are done the desk is closed, and what the threads were answered and counted stands beside what the desk left. All of it
-//! is of this project.
+//! A crew is 1 to 64 threads that do one task, each with a pass of one desk. They leave notes for each other on a
+//! board. When all are done, the desk is closed, and the threads' answers and counts can be compared with what it
+//! returns. This project's.
 #![tactic(auto)]
 
 mod board;

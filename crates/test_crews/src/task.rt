@@ -1,4 +1,4 @@
-//! What the threads of a crew do.
+//! The task of a crew.
 
 ghost use Rattle.std.specs.Prelude.{◌≡◌};
 ghost use Rattle.desk.specs.Desk.{identity};
@@ -13,7 +13,7 @@ use std::sync::Wait;
 
 /// What each thread does at the desk.
 pub trait Task<M: Machine> {
-    /// Does it from one thread. `None` where it ended early, since memory, a place or a note was wanting.
+    /// Runs the task on one thread. `None`: it ended early, since memory, places or notes ran out.
     fn work<R: Wait, D: DeskName>(
         &self,
         rt: &R,

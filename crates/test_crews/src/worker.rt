@@ -1,4 +1,4 @@
-//! What one thread does at the desk.
+//! One thread at the desk.
 
 ghost use Rattle.std.specs.Prelude.{◌≡◌};
 ghost use Rattle.desk.specs.Desk.{identity};
@@ -16,7 +16,7 @@ use std::sync::Wait;
 pub struct Said {
     /// How many calls the thread had seen before it.
     pub seen: u64,
-    /// Which of the thread's calls it is, from 0.
+    /// The number of the call among the thread's, from 0.
     pub turn: u32,
     /// Its place in the history.
     pub place: u64,
@@ -24,26 +24,26 @@ pub struct Said {
     pub kept: Kept,
 }
 
-/// A thread's pass, with what it was answered and what it counted. The pass is a plain parameter, so that a worker is found
-/// to cross threads.
+/// A thread's pass, with its answers and counts. The pass is a plain parameter, so the toolchain finds that a worker
+/// may cross threads.
 #[derive(Drop)]
 pub struct Worker<P> {
     /// Its pass.
     pub pass: P,
-    /// Its calls, in their order.
+    /// Its calls, in order.
     pub said: Vec<Said>,
     /// How many bits its calls raised.
     pub raises: u64,
-    /// How many bits its takes gave.
+    /// How many bits its takes returned.
     pub takes: u64,
-    /// Whether it did all of its task, and had room for it.
+    /// Whether it did the whole task, with memory for it.
     pub done: bool,
-    /// Whether it ever looked less far, behind a note that it had learnt, than the thread that made the note.
+    /// Whether, after learning a note, it ever looked less far than the thread that made the note.
     pub behind: bool,
 }
 
 impl<M: Machine> Worker<Pass<M>> {
-    /// A thread that has called nothing.
+    /// Returns a thread that has made no call.
     pub(crate) fn new(alloc: Global, pass: Pass<M>) -> Worker<Pass<M>>
         ensures { desk_of result.pass ≡ desk_of pass }
     {
@@ -57,7 +57,7 @@ impl<M: Machine> Worker<Pass<M>> {
         }
     }
 
-    /// Makes one call, and counts what it raised. `None` where no place is left.
+    /// Makes one call, and counts the bits that it raised. `None` if no place is left.
     pub fn call<R: Wait>(
         &mut self,
         rt: &R,
@@ -75,7 +75,7 @@ impl<M: Machine> Worker<Pass<M>> {
         Some(answer)
     }
 
-    /// Takes the notices of a server, and counts them. `None` where there is no such server.
+    /// Takes the notices of a server, and counts them. `None` if there is no such server.
     pub fn take(&mut self, desk: &Desk<M>, server: u32) -> Option<()>
         requires { desk_of self.old.pass ≡ identity desk.now }
         ensures { desk_of self.new.pass ≡ desk_of self.old.pass }
@@ -85,7 +85,7 @@ impl<M: Machine> Worker<Pass<M>> {
         Some(())
     }
 
-    /// Leaves a note on the board, and learns the one that was there. `None` where no more notes may be made or learnt.
+    /// Leaves a note on the board, and learns the one that was there. `None` if no more notes may be made or learnt.
     pub fn swap_notes<R: Wait, D: DeskName>(
         &mut self,
         rt: &R,
@@ -106,7 +106,7 @@ impl<M: Machine> Worker<Pass<M>> {
         self.learn(desk, there)
     }
 
-    /// Learns the note on the board, if there is one. `None` where no more notes may be learnt.
+    /// Learns the note on the board, if there is one. `None` if no more notes may be learnt.
     pub fn take_note<R: Wait, D: DeskName>(
         &mut self,
         rt: &R,
@@ -125,7 +125,7 @@ impl<M: Machine> Worker<Pass<M>> {
         self.learn(desk, there)
     }
 
-    // Learns what another thread left, if anything.
+    // Learns another thread's note, if there is one.
     fn learn<D: DeskName>(&mut self, desk: &Desk<M>, there: Option<Left<M, D>>) -> Option<()>
     where
         M: Drop,

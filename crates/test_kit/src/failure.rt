@@ -1,28 +1,28 @@
-//! What ends the program for tests before all is answered.
+//! Failures that end the program for tests.
 
 use ds_names::NoRoom;
 use std::alloc::{AllocError, AllocFailed};
 use std::io;
 
-/// What ends the program for tests before all is answered.
+/// Why the program for tests ended before everything was answered.
 #[derive(Clone, Copy, Debug, PartialEq, Eq)]
 pub enum Failure {
     /// A line that can't be read.
     BadLine,
-    /// A call didn't answer as it should.
+    /// A call's answer was wrong.
     NotAsWanted,
-    /// Memory is wanting.
+    /// Out of memory.
     NoRoom,
     /// Reading failed.
     ReadFault,
     /// Writing failed.
     WriteFault,
-    /// A pass can make or learn no more notes.
+    /// A pass can't make or learn more notes.
     Worn,
 }
 
 impl Failure {
-    /// Its word on standard error; none of what ends the program with status 1.
+    /// Returns the word for standard error; `None` if the program ends with status 1.
     pub fn word(self) -> Option<&'static str> {
         match self {
             Failure::BadLine | Failure::NotAsWanted => None,
@@ -53,7 +53,7 @@ impl<T: Drop> From<AllocFailed<T>> for Failure {
 }
 
 impl From<io::Error> for Failure {
-    // Of writing: only who reads the input reads.
+    // A write failed: only the program itself reads the input.
     fn from(_: io::Error) -> Failure {
         Failure::WriteFault
     }

@@ -1,6 +1,6 @@
-//! What the parts of the program for tests share: what ends it, and how words are read and answers told.
+//! What the parts of the program for tests share: its failures, and functions that parse words and append answers.
 //!
-//! All of it is of this project.
+//! This project's.
 #![tactic(auto)]
 
 mod failure;

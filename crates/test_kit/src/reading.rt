@@ -1,9 +1,9 @@
-//! Words of a line, read in turn.
+//! The words of a line, in order.
 
 use ds_names::Name;
 use std::str::{FromStr, Split};
 
-/// The number that the next word is.
+/// Parses the next word as a number.
 pub fn number_at<T: FromStr>(words: &mut Split<'_, char>) -> Option<T>
 where
     T::Err: Drop,
@@ -11,7 +11,7 @@ where
     words.next()?.parse().ok()
 }
 
-/// The name that the next word is.
+/// Parses the next word as a name.
 pub fn name_at(words: &mut Split<'_, char>) -> Option<Name> {
     Name::read(words.next()?.as_bytes()).ok()
 }

@@ -1,11 +1,11 @@
-//! Answers, told in a text.
+//! Appends answers to a text.
 
 use ds_entry::Items;
 use ds_line::{append_all, append_item};
 use ds_names::NoRoom;
 use itoa::Buffer;
 
-/// Puts a number behind a text, between words.
+/// Appends a number between two words.
 pub fn append_number(
     text: &mut Vec<u8>,
     before: &[u8],
@@ -16,7 +16,7 @@ pub fn append_number(
     append_all(text, &[before, digits.format(number).as_bytes(), after])
 }
 
-/// Puts the line of each item behind a text.
+/// Appends the line of each item.
 pub fn append_items(text: &mut Vec<u8>, items: &Items) -> Result<(), NoRoom> {
     for item in items.as_slice() {
         append_item(text, item)?;

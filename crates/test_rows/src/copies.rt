@@ -1,4 +1,4 @@
-//! What is read is copied, and written again.
+//! Copies of what was parsed, written again.
 
 use crate::lines::{CHANGES, FLOORS, read_items};
 use crate::telling::tell;
@@ -7,8 +7,8 @@ use ds_line::{read_change, read_item, write_change, write_item};
 use std::alloc::Global;
 use test_kit::append_items;
 
-/// Each change, made again of a copy of its value. `None` where a line isn't read whole, the two aren't equal, or memory is
-/// wanting.
+/// Writes each change, remade with a copy of its value. `None`: a line isn't parsed whole, the two differ, or out of
+/// memory.
 pub(crate) fn tell_changes(text: &mut Vec<u8>, alloc: Global) -> Option<()> {
     tell(text, &[b"changes, made again of copies of their parts\n"])?;
     for line in CHANGES {
@@ -29,7 +29,7 @@ fn tell_change(text: &mut Vec<u8>, alloc: Global, change: &Change) -> Option<()>
     tell(text, &[line.as_slice()])
 }
 
-// The change, made of a copy of its value.
+// Returns the change, remade with a copy of its value.
 fn made_again(alloc: Global, change: &Change) -> Option<Change> {
     let body = match change.body() {
         Body::Put(value) => Body::Put(value.copy(alloc).ok()?),
@@ -38,7 +38,7 @@ fn made_again(alloc: Global, change: &Change) -> Option<Change> {
     Change::make(*change.key(), *change.owner(), change.version(), body).ok()
 }
 
-/// Each item, copied. `None` where a line isn't read whole, the two aren't equal, or memory is wanting.
+/// Writes a copy of each item. `None`: a line isn't parsed whole, the two differ, or out of memory.
 pub(crate) fn tell_items_again(text: &mut Vec<u8>, alloc: Global) -> Option<()> {
     tell(text, &[b"items, copied one by one\n"])?;
     for line in FLOORS {
@@ -59,7 +59,7 @@ fn tell_item(text: &mut Vec<u8>, alloc: Global, item: &Item) -> Option<()> {
     tell(text, &[line.as_slice()])
 }
 
-/// Items, copied as a list. `None` where the two aren't equal, or memory is wanting.
+/// Writes a copy of a list of items. `None`: the two differ, or out of memory.
 pub(crate) fn tell_list(text: &mut Vec<u8>, alloc: Global) -> Option<()> {
     tell(text, &[b"items, copied as a list\n"])?;
     let mut items = Items::new(alloc);

@@ -7,16 +7,16 @@ use ds_names::{Endpoint, Generation, Key, Name, Version};
 use ds_reader::Others;
 use ds_store::Store;
 
-/// The driver, with the numbers that it still publishes, one whenever it is its turn.
+/// The driver, with the numbers that it has yet to publish, one each time it is its turn.
 #[derive(Drop)]
 pub(crate) struct Driver {
     endpoint: Endpoint,
     version: Version,
-    /// The keys of the next numbers, in their order.
+    /// The keys of the next numbers, in order.
     next: Option<Key>,
     second: Option<Key>,
     third: Option<Key>,
-    /// Whether a number of its was refused.
+    /// Whether one of its numbers was refused.
     pub is_refused: bool,
 }
 
@@ -39,17 +39,17 @@ impl Others for Driver {
     }
 }
 
-/// The version of what it publishes.
+/// Returns the version that it publishes with.
 pub(crate) fn first_version() -> Option<Version> {
     version(3, 0)
 }
 
-/// The endpoint of `eth0` in generation 3.
+/// Returns the endpoint of `eth0` in generation 3.
 pub(crate) fn endpoint() -> Option<Endpoint> {
     Endpoint::of(Generation::of(3)?, 17)
 }
 
-/// The driver of an endpoint and a version, which will publish `eth0.c`, `eth0.d` and `eth0.e`.
+/// Returns a driver that will publish `eth0.c`, `eth0.d` and `eth0.e`.
 pub(crate) fn eth0(endpoint: Endpoint, version: Version) -> Driver {
     Driver {
         endpoint,
@@ -61,7 +61,7 @@ pub(crate) fn eth0(endpoint: Endpoint, version: Version) -> Driver {
     }
 }
 
-// Gives the store a command. `None` where it is refused.
+// Applies a command. `None` if it is refused.
 fn change(store: &mut Store, command: Command) -> Option<()> {
     match store.apply(command) {
         Reply::Refused(_) => None,
@@ -88,7 +88,7 @@ fn publish(store: &mut Store, caller: Endpoint, text: &[u8], value: Value) -> Op
     )
 }
 
-/// In the store RS sweeps what generation 2 left and starts generation 3, which publishes `eth0.a` and `eth0.b`.
+/// Prepares the store: RS sweeps what generation 2 left and starts generation 3, which publishes `eth0.a` and `eth0.b`.
 pub(crate) fn begin(store: &mut Store) -> Option<()> {
     let owner = Name::read(b"eth0").ok()?;
     let generation = Generation::of(2)?;

@@ -1,4 +1,4 @@
-//! Endpoints that are printed.
+//! Endpoints, printed.
 
 use crate::telling::tell;
 use ds_names::{Endpoint, Generation};
@@ -7,7 +7,7 @@ use std::alloc::Global;
 // Generations and slots.
 const ENDPOINTS: [(u32, u16); 4] = [(0, 2), (3, 17), (2097151, 1023), (10, 0)];
 
-/// The text of each endpoint. `None` where there is no such endpoint, or memory is wanting.
+/// Writes the text of each endpoint. `None`: no such endpoint, or out of memory.
 pub(crate) fn tell_rows(text: &mut Vec<u8>, alloc: Global) -> Option<()> {
     tell(text, &[b"endpoints\n"])?;
     for (generation, slot) in ENDPOINTS {

@@ -1,4 +1,4 @@
-//! A journal of two. A store asks by `since_under`; who wants all keys asks by `since`.
+//! A journal of two, read with `since`. A store reads its own with `since_under`.
 
 use crate::telling::tell;
 use ds_feed::{Cursor, Journal, Since, SinceFault};
@@ -10,17 +10,17 @@ use test_kit::{append_items, append_number};
 // The incarnation of the journal.
 const INCARNATION: u64 = 1;
 
-// What it is given.
+// The lines of its items.
 const LINES: [&[u8]; 3] = [
     b"a u32 eth0 1.0 = 0\n",
     b"b u32 eth0 1.1 = 1\n",
     b"c u32 eth0 1.2 = 2\n",
 ];
 
-// Positions, and how many items are asked for at most.
+// Positions, and how many items are requested at most.
 const ASKED: [(u64, u32); 5] = [(0, 8), (4, 8), (1, 8), (1, 1), (3, 8)];
 
-/// What it tells from each position on. `None` where memory is wanting.
+/// Writes what follows each position. `None` if out of memory.
 pub(crate) fn tell_rows(text: &mut Vec<u8>, alloc: Global) -> Option<()> {
     tell(text, &[b"a journal of two, after a, b and c\n"])?;
     let mut journal = Journal::new(alloc, INCARNATION, 0, 2).ok()?;
@@ -52,7 +52,7 @@ fn push(alloc: Global, journal: &mut Journal, line: &[u8]) -> Option<()> {
     Some(())
 }
 
-// The line of each item, and how far they go.
+// Writes the line of each item, and the position after them.
 fn tell_since(text: &mut Vec<u8>, since: &Result<Since, SinceFault>) -> Option<()> {
     match since {
         Ok(since) => {

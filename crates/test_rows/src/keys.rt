@@ -1,10 +1,10 @@
-//! Keys, versions and queries of the readings.
+//! The keys, versions and queries of the readings.
 
 use ds_names::{Generation, Key, Kind, Kinds, Name, Version};
 use ds_pattern::{PatternText, Query};
 use std::alloc::Global;
 
-/// The key of a number.
+/// Returns the key of a number.
 pub(crate) fn number_key(text: &[u8]) -> Option<Key> {
     Some(Key {
         name: Name::read(text).ok()?,
@@ -12,7 +12,7 @@ pub(crate) fn number_key(text: &[u8]) -> Option<Key> {
     })
 }
 
-/// A version of a generation.
+/// Returns a version of a generation.
 pub(crate) fn version(generation: u32, seq: u32) -> Option<Version> {
     Some(Version {
         epoch: Generation::of(generation)?,
@@ -20,7 +20,7 @@ pub(crate) fn version(generation: u32, seq: u32) -> Option<Version> {
     })
 }
 
-/// The query of all kinds under a pattern. `None` where memory is wanting.
+/// Returns the query of all kinds under a pattern. `None` if out of memory.
 pub(crate) fn all_under(alloc: Global, pattern: &[u8]) -> Option<Query> {
     Some(Query {
         text: PatternText::of(alloc, pattern).ok()?,

@@ -1,12 +1,12 @@
-//! A section of the program for tests: calls that no other section makes, or not so, with ample memory.
+//! A section of the program for tests: calls that no other section makes, or not in this way, with enough memory.
 //!
-//! A contract can't say that memory is there, so a body that always gives up would be proved; here there is enough of it. Nothing
-//! is read. A line is printed where events of a world that happen at once had the outcomes that are wanted; for each
-//! reading of a store, whose driver goes on meanwhile, the names of the items that the reader gives, or why it gave up; what a
-//! journal of two gives from a cursor on; endpoints; lines that were read, copied and written again; which items cover which; what
-//! replies are told as; a line once a trace and a forged one are judged, and one once each read of a trace has failed; a line once each
-//! read of some scripts has failed, and one once each write has; and at last what comes of calls that take no memory. The rows of
-//! one kind are told in a text, and printed by one write.
+//! A contract can't say that memory is available, so a body that always gives up could be proved; here memory is
+//! available. The section has no input. It prints a line once a world's events, run at once, had the right outcomes;
+//! for each reading of a store whose driver keeps publishing, the names of the items that were read, or why the reader
+//! gave up; what a journal of two returns from a cursor; endpoints; lines that were parsed, copied and written again;
+//! which items cover which; the text of replies; a line once a trace and a forged one are judged, and one once each
+//! read of a trace has failed; a line once each read of some scripts has failed, and one once each write has; and, at
+//! the end, the results of calls that allocate nothing. The rows of one kind are printed by one write.
 #![tactic(auto)]
 
 mod copies;
@@ -30,7 +30,7 @@ use std::rt::Runtime;
 use telling::tell;
 use test_kit::Failure;
 
-// What rows are of.
+// The kinds of rows.
 #[derive(Clone, Copy)]
 enum Rows {
     World,
@@ -46,7 +46,7 @@ enum Rows {
     ReadsOfTraces,
     Reads,
     Writes,
-    // From here on no memory is taken.
+    // From here on nothing is allocated.
     Title,
     Unaided,
 }
@@ -69,7 +69,7 @@ const ALL: [Rows; 15] = [
     Rows::Unaided,
 ];
 
-/// Prints all rows. It ends early where a call didn't answer as it should, or memory or writing failed.
+/// Prints all rows. Ends early if a call's answer is wrong, or if memory or writing fails.
 pub fn answer(rt: &(impl Runtime + AllocGlobal)) -> Result<(), Failure> {
     let mut text = Vec::new(rt.alloc());
     print_all(rt, rt.alloc(), &mut text).ok_or(Failure::NotAsWanted)

@@ -27,7 +27,7 @@ pub(crate) const FLOORS: [&[u8]; 5] = [
     b"motd str eth0 3.1 = \"!\"\n",
 ];
 
-// What a floor ends, and what it doesn't.
+// A floor and what it covers or doesn't.
 const PAIRS: [[&[u8]; 2]; 6] = [
     [b"! eth0 3\n", b"mtu u32 eth0 3.7 = 1500\n"],
     [b"! eth0 3\n", b"! eth0 2\n"],
@@ -37,7 +37,7 @@ const PAIRS: [[&[u8]; 2]; 6] = [
     [b"! eth0 3\n", b"irq u32 tty 3.0 = 4\n"],
 ];
 
-/// Whether the one covers the other. `None` where memory is wanting.
+/// Writes whether the first of each pair covers the second. `None` if out of memory.
 pub(crate) fn tell_rows(text: &mut Vec<u8>, alloc: Global) -> Option<()> {
     tell(text, &[b"whether the one covers the other\n"])?;
     for pair in &PAIRS {
@@ -49,13 +49,13 @@ pub(crate) fn tell_rows(text: &mut Vec<u8>, alloc: Global) -> Option<()> {
     Some(())
 }
 
-// Whether the first item covers the second.
+// Writes whether the first item covers the second.
 fn tell_covered(text: &mut Vec<u8>, items: &Items) -> Option<()> {
     let is_covered = items.get(0)?.covers(items.get(1)?);
     tell_whether(text, b"", is_covered)
 }
 
-/// Reads the items of these lines into a list. `None` where a line isn't an item's, or memory is wanting.
+/// Parses the items of these lines into a list. `None`: a line isn't an item's, or out of memory.
 pub(crate) fn read_items(alloc: Global, items: &mut Items, lines: &[&[u8]]) -> Option<()> {
     for line in lines {
         let (item, _) = read_item(alloc, line).ok()?;

@@ -1,4 +1,4 @@
-//! A service reads what is under `eth0` while its driver goes on.
+//! A service reads the keys under `eth0` while its driver publishes.
 
 use crate::driver::{begin, endpoint, eth0, first_version};
 use crate::keys::all_under;
@@ -13,16 +13,16 @@ use std::io::Write;
 /// How a store is read.
 #[derive(Clone, Copy)]
 struct Way {
-    /// The subscription that is checked, or none where pages are turned.
+    /// The subscription to check; `None` to read pages.
     sub: Option<u32>,
-    /// How many items each check or page gives at most.
+    /// How many items each check or page has at most.
     max: u32,
-    /// How many checks or pages there may be.
+    /// How many checks or pages are allowed.
     questions: u32,
 }
 
-// Readings while the driver goes on: what stands before that which each tells, how many items the store's journal keeps, and how it
-// is read.
+// Readings while the driver publishes: the row's title, how many items the store's journal keeps, and the way of
+// reading.
 const DRIVEN: [(&[u8], u32, Option<u32>, u32, u32); 9] = [
     (b"subscription 40, 4 checks of 2: ", RING, Some(40), 2, 4),
     (b"subscription 40, 3 checks of 2: ", RING, Some(40), 2, 3),
@@ -41,10 +41,10 @@ const DRIVEN: [(&[u8], u32, Option<u32>, u32, u32); 9] = [
     (b"ring 1, 3 pages of 2: ", 1, None, 2, 3),
 ];
 
-// How many items the journal of a store keeps, where nothing else is said.
+// How many items a store's journal keeps, unless a row says otherwise.
 const RING: u32 = 256;
 
-/// What each reading tells. `None` where memory is wanting.
+/// Writes the result of each reading. `None` if out of memory.
 pub(crate) fn tell_rows(text: &mut Vec<u8>, alloc: Global) -> Option<()> {
     for (title, ring, sub, max, questions) in DRIVEN {
         tell(text, &[title])?;
@@ -63,7 +63,7 @@ pub(crate) fn tell_rows(text: &mut Vec<u8>, alloc: Global) -> Option<()> {
     tell_alone(text, alloc, None)
 }
 
-// The driver asks too, and none of its numbers is refused.
+// The driver publishes meanwhile, and none of its numbers is refused.
 fn tell_driven(text: &mut Vec<u8>, alloc: Global, ring: u32, way: Way) -> Option<()> {
     let others = eth0(endpoint()?, first_version()?);
     let store = begun(alloc, ring)?;
@@ -72,7 +72,7 @@ fn tell_driven(text: &mut Vec<u8>, alloc: Global, ring: u32, way: Way) -> Option
     (!among.others.is_refused).then_some(())
 }
 
-// Another service checks the subscription too, and memory is wanting for none of its checks.
+// Another service checks the same subscription, and memory lasts for all of its checks.
 fn tell_overtaken(text: &mut Vec<u8>, alloc: Global, sub: u32) -> Option<()> {
     let others = Rival {
         sub,
@@ -89,7 +89,7 @@ fn tell_overtaken(text: &mut Vec<u8>, alloc: Global, sub: u32) -> Option<()> {
     (!among.others.is_wanting).then_some(())
 }
 
-// Nobody else asks, and one question is enough.
+// Nobody else calls the store, and one question is enough.
 fn tell_alone(text: &mut Vec<u8>, alloc: Global, sub: Option<u32>) -> Option<()> {
     let mut store = begun(alloc, RING)?;
     let way = Way {
@@ -100,7 +100,7 @@ fn tell_alone(text: &mut Vec<u8>, alloc: Global, sub: Option<u32>) -> Option<()>
     read(text, alloc, &mut store, way)
 }
 
-// A store whose journal keeps so many items, with what is under `eth0` at first.
+// Returns a store whose journal keeps `ring` items, prepared as `begin` does.
 fn begun(alloc: Global, ring: u32) -> Option<Store> {
     let mut store = Store::open(alloc, 1, 0, ring).ok()?;
     begin(&mut store)?;
@@ -120,7 +120,7 @@ fn read<A: Asks>(text: &mut Vec<u8>, alloc: Global, asked: &mut A, way: Way) -> 
     }
 }
 
-// The names of the items behind the word `items`, or why the reader gave up.
+// Writes `items` and their names, or why the reader gave up.
 fn tell_read(text: &mut Vec<u8>, read: &Result<Items, ReadFault>) -> Option<()> {
     match read {
         Ok(items) => tell_names(text, items),
@@ -129,7 +129,7 @@ fn tell_read(text: &mut Vec<u8>, read: &Result<Items, ReadFault>) -> Option<()> 
     }
 }
 
-// The name of each change's key, and the owner of each floor behind `!`, in their order.
+// Writes the name of each change's key, and `!` with the owner of each floor, in order.
 fn tell_names(text: &mut Vec<u8>, items: &Items) -> Option<()> {
     tell(text, &[b"items"])?;
     for item in items.as_slice() {

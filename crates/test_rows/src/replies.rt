@@ -1,4 +1,4 @@
-//! Replies, told each in a text of its own.
+//! Replies, each written as a text.
 
 use crate::telling::tell;
 use ds_entry::Value;
@@ -7,7 +7,7 @@ use ds_machine::{Refusal, Reply};
 use std::alloc::Global;
 use store_answers::{Wording, write_reply};
 
-/// The text of each reply. One of the notices that the first owes is for subscription 40. `None` where memory is wanting.
+/// Writes the text of each reply. The first one owes a notice to subscription 40. `None` if out of memory.
 pub(crate) fn tell_rows(text: &mut Vec<u8>, alloc: Global) -> Option<()> {
     tell(text, &[b"replies\n"])?;
     tell_reply(text, alloc, Wording::AsOffer, &taken(1 << 40))?;
@@ -25,7 +25,7 @@ pub(crate) fn tell_rows(text: &mut Vec<u8>, alloc: Global) -> Option<()> {
     )
 }
 
-// One item that took effect.
+// Returns the reply for one item that took effect.
 fn taken(owed: u128) -> Reply {
     Reply::Merged {
         done: 1,

@@ -1,15 +1,15 @@
-//! Another service, which takes a reader's subscription for its own.
+//! Another service, which checks a reader's subscription as its own.
 
 use ds_machine::{Command, Refusal, Reply};
 use ds_reader::Others;
 use ds_store::Store;
 
-/// It checks the subscription for one item whenever it is its turn.
+/// Checks the subscription for one item each time it is its turn.
 #[derive(Drop)]
 pub(crate) struct Rival {
     /// The subscription's number.
     pub sub: u32,
-    /// Whether memory was wanting for a check of its.
+    /// Whether memory ran out for one of its checks.
     pub is_wanting: bool,
 }
 

@@ -1,4 +1,4 @@
-//! A script with its answers, and each read and each write of it failing in turn.
+//! Scripts with their answers, run with each read and each write failing once.
 
 use crate::telling::tell;
 use ds_line::Expected;
@@ -44,17 +44,18 @@ const ROWS: [Row; 4] = [
     },
 ];
 
-// More reads, and more writes, than any of these scripts and its answers take.
+// More than the reads or writes of any of these scripts.
 const MOST: u32 = 100;
 
-/// Has each read of each script fail in turn, of seven bytes each, up to a run in which none does, and says so. `None` where an
-/// answer isn't the front of what it should be, a failed read isn't told as one, or no run goes through.
+/// Runs each script with its first read failing, its second, and so on, until none fails, with reads of seven bytes;
+/// then writes a line. `None`: an answer isn't a front of the right one, a failed read isn't reported as one, or no run
+/// ends.
 pub(crate) fn tell_reads(text: &mut Vec<u8>, alloc: Global) -> Option<()> {
     go_through_all(alloc, Failing::Read)?;
     tell(text, &[b"each read failed in turn\n"])
 }
 
-/// The same of each write, of at most five bytes.
+/// Likewise for each write, of at most five bytes.
 pub(crate) fn tell_writes(text: &mut Vec<u8>, alloc: Global) -> Option<()> {
     go_through_all(alloc, Failing::Write)?;
     tell(text, &[b"each write failed in turn\n"])
@@ -67,14 +68,14 @@ fn go_through_all(alloc: Global, what: Failing) -> Option<()> {
     Some(())
 }
 
-// What fails.
+// The operation that fails.
 #[derive(Clone, Copy)]
 enum Failing {
     Read,
     Write,
 }
 
-// Which read and which write of a run fail, and with what fault that ends; 0 stands for none.
+// Returns which read and which write of a run fail (0 for none), and the fault that ends it.
 fn failure_of(what: Failing, at: u32) -> (u32, u32, ReplayFault) {
     match what {
         Failing::Read => (at, 0, ReplayFault::ReadFault),
@@ -82,7 +83,7 @@ fn failure_of(what: Failing, at: u32) -> (u32, u32, ReplayFault) {
     }
 }
 
-// Runs the script with its first read or write failing, its second, and so on, up to a run in which none does.
+// Runs the script with its first read or write failing, its second, and so on, until none fails.
 fn go_through(alloc: Global, row: &Row, what: Failing) -> Option<()> {
     for at in 1..MOST {
         let (read, write, fault) = failure_of(what, at);

@@ -1,13 +1,13 @@
-//! Rows, told in a text.
+//! Appends rows to a text.
 
 use ds_line::append_all;
 
-/// Puts words behind a text. `None` where memory is wanting.
+/// Appends words to a text. `None` if out of memory.
 pub(crate) fn tell(text: &mut Vec<u8>, words: &[&[u8]]) -> Option<()> {
     append_all(text, words).ok()
 }
 
-/// Puts whether something is so behind a text, on a line. `None` where memory is wanting.
+/// Appends `true` or `false` and a newline to a text. `None` if out of memory.
 pub(crate) fn tell_whether(text: &mut Vec<u8>, before: &[u8], is_so: bool) -> Option<()> {
     match is_so {
         true => tell(text, &[before, b"true\n"]),

@@ -1,4 +1,4 @@
-//! Calls that take no memory. They are told in a text that has room for them by now.
+//! Calls that allocate nothing. The text has capacity for their results already.
 
 use crate::telling::tell_whether;
 use ds_entry::{Body, Change, Value};
@@ -7,16 +7,16 @@ use ds_names::{Endpoint, Generation, Key, Kind, Name, Version};
 use std::alloc::Global;
 use test_kit::append_number;
 
-// Texts, two of which are no names.
+// Texts, two of which aren't names.
 const NAMES: [&[u8]; 3] = [b"eth0", b"", b"eth 0"];
 
-// Texts, two of which are no endpoints.
+// Texts, two of which aren't endpoints.
 const ENDPOINTS: [&[u8]; 3] = [b"3/17", b"03/17", b"3/1024"];
 
-// Sequence numbers, the last of which no number has.
+// Sequence numbers, the last of which no number may have.
 const NUMBERS: [u32; 2] = [0, 4294967295];
 
-/// What comes of them: names, endpoints and changes that are made or not, and how many changes a new holder has.
+/// Writes the results: which names, endpoints and changes are valid, and how many changes a new holder has.
 pub(crate) fn tell_rows(text: &mut Vec<u8>, alloc: Global) -> Option<()> {
     for name in NAMES {
         tell_whether(text, b"name ", Name::read(name).is_ok())?;
@@ -30,7 +30,7 @@ pub(crate) fn tell_rows(text: &mut Vec<u8>, alloc: Global) -> Option<()> {
     append_number(text, b"held ", Held::new(alloc).len() as u64, b"\n").ok()
 }
 
-// The slot of an endpoint's text, 0 where it is none.
+// Returns the slot of an endpoint's text, or 0 if it isn't one.
 fn slot_of(text: &[u8]) -> u16 {
     match Endpoint::read(text) {
         Ok(endpoint) => endpoint.slot(),
@@ -38,7 +38,7 @@ fn slot_of(text: &[u8]) -> u16 {
     }
 }
 
-// Whether there is a change of a number with this sequence number.
+// Whether a number may have a change with this sequence number.
 fn is_made(seq: u32) -> bool {
     match change_of(seq) {
         Some(change) => change.version().seq == seq,

@@ -1,4 +1,4 @@
-//! Events that happen in a world at once: those of a script happen one by one.
+//! Events that a world runs at once; a script runs them one by one.
 
 use crate::telling::tell;
 use ds_entry::Items;
@@ -8,11 +8,11 @@ use ds_replica::{Event, EventFault, Holder, Outcome, Seed, Side};
 use ds_world::{Events, Outcomes, World};
 use std::alloc::Global;
 
-// What another holder gives store A.
+// The item that another holder has for store A.
 const LINE: &[u8] = b"a u32 eth0 1.0 = 1\n";
 
-/// Lets four events happen at once, of which the third is refused, and says so: store A is given a change, and all that it then
-/// holds goes to store B. `None` where memory is wanting, or something else came of one.
+/// Runs four events at once, the third of which is refused: a change is merged into store A, and everything that A then
+/// holds into store B. Then writes a line. `None`: out of memory, or another outcome.
 pub(crate) fn tell_rows(text: &mut Vec<u8>, alloc: Global) -> Option<()> {
     let mut world = World::new(alloc, seed(1), seed(2)).ok()?;
     happen_in(alloc, &mut world)?;
@@ -46,7 +46,7 @@ fn add(events: &mut Events, event: Event) -> Option<()> {
     events.push(event).ok()
 }
 
-// Store A is asked.
+// Returns the event that sends a command to store A.
 fn ask(command: Command) -> Event {
     Event::Ask {
         side: Side::A,
@@ -54,7 +54,7 @@ fn ask(command: Command) -> Event {
     }
 }
 
-// Another holder gives one change.
+// Returns a Merge of one change from another holder.
 fn merge(alloc: Global) -> Option<Command> {
     let (item, _) = read_item(alloc, LINE).ok()?;
     let mut items = Items::new(alloc);
@@ -62,7 +62,7 @@ fn merge(alloc: Global) -> Option<Command> {
     Some(Command::Merge { items })
 }
 
-// A message goes to store B.
+// Returns the event that delivers a message to store B.
 fn deliver(message: usize) -> Event {
     Event::Deliver {
         message,

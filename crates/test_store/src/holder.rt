@@ -1,9 +1,9 @@
 //! A holder of changes and floors.
 //!
-//! `offer ITEM` merges a change or raises a floor, and `copy CHANGE` merges a change that stays with the program. `join`,
-//! offers and `end` join with another holder, which took these items. `all` asks for all that is held, and `clear` has
-//! nothing held. `get NAME KIND` asks for the change of a key, `live NAME KIND` whether it is a put, and `after NAME KIND`, or
-//! `after -`, for the first change behind a key, or of all.
+//! `offer ITEM` merges a change or raises a floor, and `copy CHANGE` merges a copy of a change. `join`, offers and
+//! `end` join with another holder that took these items. `all` prints everything held, and `clear` empties the holder.
+//! `get NAME KIND` prints the change of a key, `live NAME KIND` whether it is a put, and `after NAME KIND` (or
+//! `after -`) the first change after a key (or of all).
 
 use crate::lines::{key_of, limits_at, offered};
 use crate::subject::{Subject, add, ask_all, word_of};
@@ -16,28 +16,28 @@ use std::alloc::Global;
 use std::rt::Runtime;
 use test_kit::{Failure, append_items, append_number};
 
-/// What a holder is asked.
+/// A command to a holder.
 #[derive(Drop)]
 pub(crate) enum Asked {
-    /// To merge a change, or to raise a floor.
+    /// Merges a change, or raises a floor.
     Offer(Item),
-    /// To merge a change that stays where it is.
+    /// Merges a copy of a change.
     Copy(Change),
-    /// To join with another holder.
+    /// Joins with another holder.
     Join(Held),
-    /// All that is held.
+    /// Returns everything held.
     All,
-    /// For the change of a key.
+    /// Returns the change of a key.
     Get(Key),
-    /// Whether the change of a key is a put.
+    /// Returns whether the change of a key is a put.
     Live(Key),
-    /// For the first change behind a key, or of all.
+    /// Returns the first change after a key, or of all.
     After(Option<Key>),
-    /// To hold nothing again.
+    /// Empties the holder.
     Clear,
 }
 
-/// Asks a new holder the lines.
+/// Runs the lines on a new holder.
 pub(crate) fn answer_part(
     rt: &(impl Runtime + AllocGlobal),
     text: &mut Vec<u8>,
@@ -48,7 +48,7 @@ pub(crate) fn answer_part(
     ask_all(rt, &mut held, text, lines)
 }
 
-// The holder of `holder`, or of `holder SUBS KEYS`.
+// Returns the holder of `holder`, or of `holder SUBS KEYS`.
 fn new_holder(alloc: Global, first: &str) -> Option<Held> {
     if first == "holder" {
         return Some(Held::new(alloc));
@@ -95,7 +95,7 @@ impl Subject for Held {
     }
 }
 
-// What a line of some words asks.
+// Parses a line of several words.
 fn asked_by(alloc: Global, line: &str) -> Result<Asked, Failure> {
     if line.starts_with("offer ") {
         return offered(alloc, line).map(Asked::Offer);
@@ -106,7 +106,7 @@ fn asked_by(alloc: Global, line: &str) -> Result<Asked, Failure> {
     }
 }
 
-// What is asked of a key by `get NAME KIND`, `live` or `after`.
+// Parses a line about a key: `get NAME KIND`, `live` or `after`.
 fn asked_of_key(line: &str) -> Option<Asked> {
     let (word, key) = line.split_once(' ')?;
     let key = key_of(key)?;
@@ -118,7 +118,7 @@ fn asked_of_key(line: &str) -> Option<Asked> {
     }
 }
 
-// The change of a `copy`, which is spelled as in an `offer`.
+// Parses the change of a `copy`, which is spelled as in an `offer`.
 fn change_of(alloc: Global, change: &str) -> Result<Change, Failure> {
     let line = format!(in alloc; "offer {change}")?;
     match offered(alloc, line.as_str())? {
@@ -127,7 +127,7 @@ fn change_of(alloc: Global, change: &str) -> Result<Change, Failure> {
     }
 }
 
-// Another holder takes an item.
+// Merges an item into the other holder.
 fn give(other: &mut Held, item: Item) -> Result<(), Failure> {
     match take(other, item) {
         Ok(_) => Ok(()),
@@ -143,7 +143,7 @@ fn take(held: &mut Held, item: Item) -> Result<Merge, JoinFault> {
     }
 }
 
-// A change, or a dash where there is none.
+// Appends a change, or a dash if there is none.
 fn add_change(text: &mut Vec<u8>, change: Option<&Change>) -> Result<(), NoRoom> {
     match change {
         Some(change) => append_change(text, change),

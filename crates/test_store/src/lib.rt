@@ -1,12 +1,13 @@
-//! A section of the program for tests: a store, a subscriber's map and a holder, asked by lines, for tests of what no script reaches,
-//! and for tests that refuse them memory.
+//! A section of the program for tests: a store, a subscriber's map and a holder, driven by lines, for tests of calls
+//! that no script makes, and for tests in which memory runs out.
 //!
-//! The section has parts, with an empty line between two of them. The first line of a part says what its other lines ask:
-//! `store INCARNATION FIRST RING SUBS KEYS`, a store that is opened so; `map PATTERN KINDS`, a map of the query; or `holder`, or
-//! `holder SUBS KEYS`, one with these limits. store.rt, map.rt and holder.rt tell these lines. All lines of a part are read
-//! first, and what they ask is made; then `ready` is printed, and only then it is asked, and each answer printed by one write.
-//! So a growth of memory behind `ready` is one of a call's that is tested. Where the first line is refused, that is printed, and
-//! nothing is asked. An item that the other holder of a `join` doesn't take is a line that can't be read.
+//! The section has parts, separated by empty lines. The first line of a part says what its other lines are for:
+//! `store INCARNATION FIRST RING SUBS KEYS`, a store opened with these; `map PATTERN KINDS`, a map of the query;
+//! `holder`, or `holder SUBS KEYS` with these limits. store.rt, map.rt and holder.rt describe the lines. All lines of a
+//! part are parsed first and their commands are made; then `ready` is printed; then each command runs, and its answer
+//! is printed by one write. So any allocation after `ready` is made by a call under test. If the first line is refused,
+//! the refusal is printed, and no command runs. An item that the other holder of a `join` refuses makes its line a bad
+//! line.
 #![tactic(auto)]
 
 mod holder;
@@ -18,10 +19,10 @@ mod subject;
 use std::rt::Runtime;
 use test_kit::Failure;
 
-// Bytes of one answer for which there is room before the first is asked for.
+// The bytes that are reserved for one answer before the first command runs.
 const ANSWER: usize = 1 << 20;
 
-/// Answers the parts in turn.
+/// Answers the parts in order.
 pub fn answer(rt: &(impl Runtime + AllocGlobal), parts: &str) -> Result<(), Failure> {
     let mut text = Vec::with_capacity(rt.alloc(), ANSWER)?;
     answer_parts(rt, &mut text, parts)
@@ -38,7 +39,7 @@ fn answer_parts(
     Ok(())
 }
 
-// Makes what the first line says, and asks it the others.
+// Opens what the first line describes, and runs the other lines on it.
 fn answer_part(
     rt: &(impl Runtime + AllocGlobal),
     text: &mut Vec<u8>,

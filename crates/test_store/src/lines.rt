@@ -1,4 +1,4 @@
-//! What lines say.
+//! Parses lines.
 
 use ds_entry::{Item, Items};
 use ds_held::Limits;
@@ -10,7 +10,7 @@ use std::alloc::Global;
 use std::str::Split;
 use test_kit::{Failure, number_at};
 
-/// The command of a line of a script.
+/// Parses a script's line.
 pub(crate) fn read_line(alloc: Global, line: &str) -> Result<ScriptCommand, Failure> {
     let bytes = line.as_bytes();
     if split_line(bytes).is_some() {
@@ -23,7 +23,7 @@ pub(crate) fn read_line(alloc: Global, line: &str) -> Result<ScriptCommand, Fail
     }
 }
 
-/// The item of an `offer`.
+/// Parses the item of an `offer`.
 pub(crate) fn offered(alloc: Global, line: &str) -> Result<Item, Failure> {
     match read_line(alloc, line)? {
         ScriptCommand::Offer(item) => Ok(item),
@@ -31,13 +31,13 @@ pub(crate) fn offered(alloc: Global, line: &str) -> Result<Item, Failure> {
     }
 }
 
-/// Puts the item of an `offer` behind others.
+/// Appends the item of an `offer` to others.
 pub(crate) fn add_offer(alloc: Global, items: &mut Items, line: &str) -> Result<(), Failure> {
     let item = offered(alloc, line)?;
     items.push(item).ok().ok_or(Failure::NoRoom)
 }
 
-/// The key of `NAME KIND`.
+/// Parses the key of `NAME KIND`.
 pub(crate) fn key_of(words: &str) -> Option<Key> {
     let (name, kind) = words.split_once(' ')?;
     Some(Key {
@@ -53,7 +53,7 @@ fn kind_of(word: &str) -> Option<Kind> {
     }
 }
 
-/// The limits that the next words are, `SUBS KEYS`.
+/// Parses the limits in the next words, `SUBS KEYS`.
 pub(crate) fn limits_at(words: &mut Split<'_, char>) -> Option<Limits> {
     let subs = number_at(words)?;
     let keys = number_at(words)?;

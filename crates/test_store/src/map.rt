@@ -1,8 +1,8 @@
 //! A subscriber's map.
 //!
-//! `take`, offers and `end` are items that it takes. `entries` asks for its puts and how many changes it holds, `floor-of
-//! OWNER` for the generation of a floor, and `label NAME` for the endpoint of a label and the change that is held for it.
-//! `clear` empties it.
+//! `take`, offers and `end` are items to take. `entries` prints the puts and how many changes the map holds,
+//! `floor-of OWNER` the generation of a floor, and `label NAME` the endpoint of a label and the change that is held for
+//! it. `clear` empties the map.
 
 use crate::lines::{add_offer, read_line};
 use crate::subject::{Subject, add, ask_all, print, word_of};
@@ -17,22 +17,22 @@ use std::alloc::Global;
 use std::rt::Runtime;
 use test_kit::{Failure, append_items, append_number};
 
-/// What a map is asked.
+/// A command to a map.
 #[derive(Drop)]
 pub(crate) enum Asked {
-    /// To take items.
+    /// Takes items.
     Take(Items),
-    /// Its puts, and how many changes it holds.
+    /// Returns the puts, and how many changes the map holds.
     Entries,
-    /// The generation of an owner's floor.
+    /// Returns the generation of an owner's floor.
     Floor(Name),
-    /// The endpoint of a label, and the change that is held for it.
+    /// Returns the endpoint of a label, and the change that is held for it.
     Label(Name),
-    /// To forget all but its query.
+    /// Forgets everything but the query.
     Clear,
 }
 
-/// Makes the map of a script's line, and asks it the lines.
+/// Makes the map of a script's line, and runs the lines on it.
 pub(crate) fn answer_part(
     rt: &(impl Runtime + AllocGlobal),
     text: &mut Vec<u8>,
@@ -93,7 +93,7 @@ impl Subject for SubMap {
     }
 }
 
-// What is asked of a name by `floor-of OWNER` or `label NAME`.
+// Parses a line about a name: `floor-of OWNER` or `label NAME`.
 fn asked_of_name(line: &str) -> Option<Asked> {
     let (word, name) = line.split_once(' ')?;
     let name = Name::read(name.as_bytes()).ok()?;

@@ -1,9 +1,9 @@
-//! A store that begins anywhere.
+//! A store that is opened with any incarnation, first position, ring and limits.
 //!
-//! Its lines are a script's that ask a store, and are answered as there; a `restart` is of this store, whatever side it
-//! names. `merge`, offers and `end` are one Merge. `run`, lines and `end` are a list of commands that is run, each of whose
-//! replies is told as a Merge's. `mismatch` is a Publish of a number under a key of another kind. `held` asks how much the
-//! store holds, where it stands, and which one it is.
+//! Its lines are a script's commands to a store, and have the same answers; `restart` restarts this store, whichever
+//! side it names. `merge`, offers and `end` are one Merge. `run`, lines and `end` are a list of commands to run, with
+//! the reply of each worded as a Merge's. `mismatch` publishes a number under a key of another kind. `held` prints how
+//! much the store holds, its position and its incarnation.
 
 use crate::lines::{add_offer, limits_at, read_line};
 use crate::subject::{Subject, add, ask_all, print};
@@ -18,22 +18,22 @@ use std::rt::Runtime;
 use store_answers::{Wording, append_reply};
 use test_kit::{Failure, append_number, number_at};
 
-/// What a store is asked.
+/// A command to a store.
 #[derive(Drop)]
 pub(crate) enum Asked {
-    /// A command, and how its reply is worded.
+    /// A command, and the wording of its reply.
     Command { command: Command, wording: Wording },
     /// A Merge.
     Merge(Items),
-    /// A list of commands, which is run.
+    /// A list of commands to run.
     Run(Vec<Command>),
-    /// To begin again as this incarnation.
+    /// Restarts the store as this incarnation.
     Restart { incarnation: u64 },
-    /// How much it holds, where it stands, and which one it is.
+    /// Returns how much it holds, its position and its incarnation.
     Held,
 }
 
-/// Opens a store, and asks it the lines.
+/// Opens a store, and runs the lines on it.
 pub(crate) fn answer_part(
     rt: &(impl Runtime + AllocGlobal),
     text: &mut Vec<u8>,
@@ -69,7 +69,7 @@ struct Seed {
 }
 
 impl Seed {
-    // `INCARNATION FIRST RING SUBS KEYS`
+    // Parses `INCARNATION FIRST RING SUBS KEYS`.
     fn read(words: &str) -> Option<Seed> {
         let mut words = words.split(' ');
         Some(Seed {
@@ -122,7 +122,7 @@ impl Subject for Store {
     }
 }
 
-// What a script's line asks of the store.
+// Parses a script's line as a command to the store.
 fn asked_by(alloc: Global, line: &str) -> Result<Asked, Failure> {
     let line = read_line(alloc, line)?;
     if let ScriptCommand::Restart { incarnation, .. } = line {
@@ -143,7 +143,8 @@ fn add_command(alloc: Global, commands: &mut Vec<Command>, line: &str) -> Result
     Ok(commands.push(command)?)
 }
 
-// RS publishes a number under a key of another kind, which no line of a script can ask, and with the last sequence number.
+// Returns a Publish of a number under a key of another kind, with the last sequence number: no script's line can be
+// that.
 fn mismatch() -> Option<Asked> {
     let command = Command::Publish {
         caller: Endpoint::rs(),
@@ -162,7 +163,7 @@ fn mismatch() -> Option<Asked> {
     Some(Asked::Command { command, wording })
 }
 
-// Asks the store a command, and tells the reply.
+// Applies a command to the store, and appends the reply.
 fn add_reply(
     text: &mut Vec<u8>,
     store: &mut Store,
@@ -173,7 +174,7 @@ fn add_reply(
     append_reply(text, wording, &reply, store.limits())
 }
 
-// Runs the commands, and tells each reply.
+// Runs the commands, and appends each reply.
 fn add_run(
     alloc: Global,
     text: &mut Vec<u8>,

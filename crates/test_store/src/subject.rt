@@ -1,4 +1,4 @@
-//! What is asked by the lines of a part.
+//! The subject of a part's lines.
 
 use ds_join::JoinFault;
 use ds_line::append_all;
@@ -8,18 +8,18 @@ use std::io::{self, Write};
 use std::rt::Runtime;
 use test_kit::Failure;
 
-/// What is asked by the lines of a part.
+/// The subject of a part's lines.
 pub(crate) trait Subject {
-    /// What a line asks, with the lines of its block where it begins one.
+    /// The command of a line, with the lines of its block if it begins one.
     type Asked: Drop;
 
-    /// Makes what a line asks.
+    /// Makes the command of a line.
     fn make(alloc: Global, line: &str) -> Result<Self::Asked, Failure>;
 
-    /// Puts a line of a block behind what its first line asks.
+    /// Adds a line of a block to the command of its first line.
     fn add(alloc: Global, asked: &mut Self::Asked, line: &str) -> Result<(), Failure>;
 
-    /// Asks it, and puts the answer into the text, which has room for it.
+    /// Runs a command, and appends the answer to the text, which has capacity for it.
     fn answer(
         &mut self,
         alloc: Global,
@@ -28,7 +28,7 @@ pub(crate) trait Subject {
     ) -> Result<(), NoRoom>;
 }
 
-/// Makes all that the lines ask, says that it is ready, and has it answered in turn.
+/// Makes the commands of all lines, prints `ready`, and runs them in order.
 pub(crate) fn ask_all<S: Subject>(
     rt: &(impl Runtime + AllocGlobal),
     subject: &mut S,
@@ -59,7 +59,7 @@ fn make_all<S: Subject>(
     }
 }
 
-// Makes what a line asks, or puts it into the block that is open. Whether one is open behind it.
+// Makes the command of a line, or adds the line to the open block. Returns whether a block is open after it.
 fn make_next<S: Subject>(
     alloc: Global,
     script: &mut Vec<S::Asked>,
@@ -108,12 +108,12 @@ pub(crate) fn print(rt: &impl Runtime, text: &[u8]) -> Result<(), Failure> {
     Ok(io::writer(rt).write_all(text)?)
 }
 
-/// Puts words behind a text.
+/// Appends words to a text.
 pub(crate) fn add(text: &mut Vec<u8>, words: &[u8]) -> Result<(), NoRoom> {
     append_all(text, &[words])
 }
 
-/// The word for why a change or a floor isn't taken.
+/// Returns the word for why a change or a floor isn't taken.
 pub(crate) fn word_of(fault: JoinFault) -> &'static [u8] {
     match fault {
         JoinFault::NotOwner => b"notowner",

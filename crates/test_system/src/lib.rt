@@ -1,12 +1,14 @@
-//! Three sections of the program for tests: systems, RS alone, and RS with its store as one machine, asked by lines, for tests of what no
-//! script reaches: that a system or RS begins with settings, or why not, and what comes of each event.
+//! Three sections of the program for tests, driven by lines: systems, RS alone, and RS with its store as one machine.
+//! They test what no script reaches: that a system or RS begins with settings, or why not, and the outcome of each
+//! event.
 //!
-//! A section of systems has parts, with an empty line between two of them. The first line of a part is `system NEXT INCARNATION FIRST
-//! RING INCARNATION FIRST RING`, the generation of the first start and the seeds of both stores; the next ones, up to `end`, are a
-//! settings text. Each other line is an event, which lines.rt tells. All events of a part are given to the system at once, and what
-//! came of each is told, as telling.rt says; then what both servers' maps hold. Where no system begins, or the events are too many,
-//! that is told. The lines of a section of RS are given to RS, as rs_session.rt says, and each is answered before the next one; likewise
-//! those of a section of RS and its store, as pair_session.rt says.
+//! A section of systems has parts, separated by empty lines. The first line of a part is
+//! `system NEXT INCARNATION FIRST RING INCARNATION FIRST RING`: the generation of the first start, and the seeds of
+//! both stores. The next lines, up to `end`, are a settings text. Each other line is an event, as lines.rt describes.
+//! All events of a part are passed to the system at once; the output is the outcome of each, as telling.rt writes it,
+//! and then what both servers' maps hold. If no system begins, or there are too many events, the output says so. The
+//! lines of a section of RS are sent to RS one by one, as rs_session.rt describes; those of a section of RS and its
+//! store likewise, as pair_session.rt describes.
 #![tactic(auto)]
 
 mod lines;
@@ -27,7 +29,7 @@ use std::io::{self, Write};
 use std::rt::Runtime;
 use test_kit::Failure;
 
-/// Answers the parts of systems in turn, and writes what is told of all.
+/// Answers the parts of systems in order, and writes all answers at the end.
 pub fn answer_systems(rt: &(impl Runtime + AllocGlobal), parts: &str) -> Result<(), Failure> {
     answer_parts(rt, rt.alloc(), &mut Vec::new(rt.alloc()), parts)
 }
@@ -44,7 +46,7 @@ fn answer_parts(
     Ok(io::writer(rt).write_all(text.as_slice())?)
 }
 
-/// Gives the lines to RS in turn, up to the first that can't be read, and writes each answer.
+/// Sends the lines to RS in order, up to the first that can't be read, and writes each answer.
 pub fn answer_rs(rt: &(impl Runtime + AllocGlobal), lines: &str) -> Result<(), Failure> {
     let mut text = Vec::new(rt.alloc());
     let mut session = Session::new(rt.alloc());
@@ -65,7 +67,7 @@ fn answer_lines(
     Ok(())
 }
 
-/// Sends the lines to RS and its store in their order, up to the first that can't be read, and writes each answer.
+/// Sends the lines to RS and its store in order, up to the first that can't be read, and writes each answer.
 pub fn answer_pair(rt: &(impl Runtime + AllocGlobal), lines: &str) -> Result<(), Failure> {
     let mut text = Vec::new(rt.alloc());
     let mut session = PairSession::new(rt.alloc())?;

@@ -1,8 +1,9 @@
 //! The events of a system, line by line.
 //!
-//! `put LABEL NAME KIND VALUE` is a Put, its value a number, or else a text; `remove LABEL NAME KIND` a Remove; `again N` an Again.
-//! Other lines are those of scripts: to RS, to the driver tables, whose maps are their own, whatever number the line has; and all
-//! that a world can be asked. `side a` and `side b` say at which store what follows is asked. `N times LINE` is so many such events.
+//! `put LABEL NAME KIND VALUE` is a Put whose value is a number, or else a text; `remove LABEL NAME KIND` is a Remove;
+//! `again N` an Again. Other lines are a script's: to RS, to the driver tables (whose maps are their own, whatever
+//! number the line has), and all commands to a world. `side a` and `side b` choose the store for the lines after them.
+//! `N times LINE` is N such events.
 
 use ds_entry::{Text, TextFault, Value};
 use ds_names::{Key, Kind, Name};
@@ -15,7 +16,7 @@ use std::str::Split;
 use system_model::{SystemEvent, Table};
 use test_kit::{Failure, name_at, number_at};
 
-/// The events of the lines.
+/// Parses the lines as events.
 pub(crate) fn read_events(alloc: Global, lines: &str) -> Result<SystemEvents, Failure> {
     let mut events = SystemEvents::new(alloc);
     let mut side = Side::A;
@@ -29,7 +30,7 @@ pub(crate) fn read_events(alloc: Global, lines: &str) -> Result<SystemEvents, Fa
     Ok(events)
 }
 
-// The event of a line, as many times as it says.
+// Adds the event of a line, as many times as it says.
 fn add_events(
     events: &mut SystemEvents,
     alloc: Global,
@@ -67,7 +68,7 @@ fn read_event(alloc: Global, side: Side, line: &str) -> Result<SystemEvent, Fail
     }
 }
 
-// The event of a line that scripts have.
+// Parses a script's line as an event.
 fn read_scripts(alloc: Global, side: Side, line: &str) -> Result<SystemEvent, Failure> {
     if split_line(line.as_bytes()).is_some() {
         return Err(Failure::BadLine);
@@ -96,7 +97,7 @@ fn read_put(
     })
 }
 
-// Who writes, where, and the word behind it.
+// Parses the writer and the key, and returns them with the next word.
 fn read_write<'a>(words: &mut Split<'a, char>) -> Option<(Name, Key, &'a str)> {
     Some((name_at(words)?, read_key(words)?, words.next()?))
 }
@@ -112,7 +113,7 @@ fn read_remove(side: Side, words: &mut Split<'_, char>) -> Option<SystemEvent> {
     Some(SystemEvent::Remove { label, key, side })
 }
 
-// The event of a script's line.
+// Returns the event of a script's command.
 fn event_of(alloc: Global, side: Side, command: ScriptCommand) -> Result<SystemEvent, Failure> {
     match event_of_services(side, &command) {
         Some(event) => Ok(event),
@@ -120,7 +121,7 @@ fn event_of(alloc: Global, side: Side, command: ScriptCommand) -> Result<SystemE
     }
 }
 
-// The event of a line to RS or to a driver table.
+// Returns the event of a command to RS or to a driver table.
 fn event_of_services(side: Side, command: &ScriptCommand) -> Option<SystemEvent> {
     if let Some((event, tick)) = command.service_event() {
         return Some(SystemEvent::Service { event, tick, side });

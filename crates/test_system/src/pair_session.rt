@@ -1,8 +1,8 @@
-//! Lines, sent to RS and its store as one machine.
+//! Lines to RS and its store as one machine.
 //!
-//! They are the lines of scripts that a store or RS answers, and are answered as a script answers them. Five lines are this section's
-//! own: `from GENERATION SLOT`, with which RS begins at a later `settings`; `due`, `next` and `state LABEL`, as in a section of RS; and
-//! `gave up`, the index of the service that the last event made RS give up.
+//! They are a script's lines that a store or RS answers, and have the same answers. Five lines are this section's own:
+//! `from GENERATION SLOT`, with which RS begins at a later `settings`; `due`, `next` and `state LABEL`, as in a section
+//! of RS; and `gave up`, the index of the service that the last event made RS give up.
 
 use crate::rs_telling::tell_state;
 use crate::words::{tell_index, tell_number};
@@ -31,7 +31,7 @@ pub(crate) struct PairSession {
 }
 
 impl PairSession {
-    /// An empty store as the first incarnation, beside which RS hasn't begun.
+    /// Returns an empty store of incarnation 1, with RS that hasn't begun.
     pub(crate) fn new(alloc: Global) -> Result<PairSession, Failure> {
         let Ok(pair) = RsStore::open(alloc, 1, 0, 256) else {
             return Err(Failure::NoRoom);
@@ -80,7 +80,7 @@ impl PairSession {
         self.pair.services()?.state(label)
     }
 
-    // Answers a line that scripts have.
+    // Answers a script's line.
     fn answer(&mut self, text: &mut Vec<u8>, line: &str) -> Result<(), Failure> {
         if split_line(line.as_bytes()).is_some() {
             return Err(Failure::BadLine);
@@ -107,7 +107,7 @@ impl PairSession {
         }
     }
 
-    // Begins RS with the settings of a text, or tells what is wrong with them.
+    // Begins RS with the settings of a text, or appends their fault.
     fn begin(&mut self, text: &mut Vec<u8>, settings: SettingsText) -> Result<(), Failure> {
         match read(self.alloc, settings.bytes()) {
             Ok(settings) => {
@@ -126,7 +126,7 @@ impl PairSession {
         }
     }
 
-    // One turn, and the lines of its reply.
+    // Takes one turn, and appends the lines of its reply.
     fn send(
         &mut self,
         text: &mut Vec<u8>,
@@ -141,7 +141,7 @@ impl PairSession {
     }
 }
 
-// What a line asks: it tells RS of an event, or asks the store.
+// Returns the command of a line: an event for RS, or a store's command.
 fn asked_of(alloc: Global, command: ScriptCommand) -> Result<RsCommand, Failure> {
     match told_by(&command) {
         Some(told) => Ok(told),
@@ -152,7 +152,7 @@ fn asked_of(alloc: Global, command: ScriptCommand) -> Result<RsCommand, Failure>
     }
 }
 
-// The event that a line tells RS of.
+// Returns the event for RS that a line has.
 fn told_by(command: &ScriptCommand) -> Option<RsCommand> {
     let (event, tick) = command.service_event()?;
     Some(RsCommand::Tell { event, tick })

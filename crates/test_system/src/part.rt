@@ -1,4 +1,4 @@
-//! A system that begins, and its events.
+//! A system, and its events.
 
 use crate::lines::read_events;
 use crate::telling::{tell_entries, tell_outcome};
@@ -12,7 +12,8 @@ use std::alloc::Global;
 use std::str::Split;
 use test_kit::{Failure, number_at};
 
-/// Begins a system as the lines of a part up to `end` say, and tells what came of the events on the others; or why none begins.
+/// Begins a system from the lines of a part up to `end`, and appends the outcomes of the events on the others; or why
+/// no system begins.
 pub(crate) fn answer_part(text: &mut Vec<u8>, alloc: Global, part: &str) -> Result<(), Failure> {
     let Some((beginning, settings, lines)) = read_part(part) else {
         return Err(Failure::BadLine);
@@ -26,7 +27,7 @@ pub(crate) fn answer_part(text: &mut Vec<u8>, alloc: Global, part: &str) -> Resu
     }
 }
 
-// How a part's system begins, its settings, and the lines of events.
+// Splits a part into how its system begins, its settings, and the lines of events.
 fn read_part(part: &str) -> Option<(Beginning, &str, &str)> {
     let (first, rest) = part.split_once('\n')?;
     let (settings, lines) = rest.split_once("\nend")?;
@@ -47,7 +48,7 @@ fn answer_lines(
     }
 }
 
-// Says why no system begins, unless memory is wanting.
+// Appends why no system begins, unless memory ran out.
 fn tell_no_system(text: &mut Vec<u8>, fault: BeginFault) -> Result<(), Failure> {
     let line: &[u8] = match fault {
         BeginFault::OutOfRange => b"refused outofrange",
@@ -59,7 +60,7 @@ fn tell_no_system(text: &mut Vec<u8>, fault: BeginFault) -> Result<(), Failure> 
     Ok(tell(text, line)?)
 }
 
-/// How a system begins, but for its settings.
+/// How a system begins, apart from its settings.
 #[derive(Clone, Copy)]
 struct Beginning {
     next: u32,
@@ -84,7 +85,7 @@ fn read_seed(words: &mut Split<'_, char>) -> Option<Seed> {
     })
 }
 
-// Lets the events of the lines happen: a copy of the list, for that a copy has all.
+// Runs a copy of the events, as a test that a copy has all of them.
 fn answer_events(
     text: &mut Vec<u8>,
     alloc: Global,
@@ -111,7 +112,7 @@ fn answer_copy(
     }
 }
 
-// Tells a copy of what came of the events, for the same.
+// Appends a copy of the outcomes, likewise.
 fn tell_copy(
     text: &mut Vec<u8>,
     alloc: Global,
@@ -122,7 +123,7 @@ fn tell_copy(
     tell_all(text, alloc, world, &copy)
 }
 
-// Tells what came of each event, and then what the servers' maps hold.
+// Appends the outcome of each event, and then what the servers' maps hold.
 fn tell_all(
     text: &mut Vec<u8>,
     alloc: Global,

@@ -1,40 +1,42 @@
-//! What RS is asked.
+//! The commands of a section of RS.
 
 use ds_names::{Endpoint, Generation, Key, Kind, Name};
 use rs_core::Event;
 use std::str::Split;
 use test_kit::{name_at, number_at};
 
-/// What a line asks for.
+/// The command of a line.
 #[derive(Clone, Copy)]
 pub(crate) enum Command {
-    /// `settings NEXT`: RS begins with the settings that the lines up to `end` are, and with this generation next.
+    /// `settings NEXT`: RS begins with the settings text in the lines up to `end`, and with this generation next.
     Settings(u32),
-    /// `up LABEL TICK`, also `stop`, `refresh` and `restart`; `death ENDPOINT CAUSE TICK`; `beat ENDPOINT TICK`; `tick TICK`
+    /// `up LABEL TICK`, also `stop`, `refresh` and `restart`; `death ENDPOINT CAUSE TICK`; `beat ENDPOINT TICK`;
+    /// `tick TICK`.
     Event { event: Event, tick: u64 },
-    /// `state LABEL`: what RS knows of the service.
+    /// `state LABEL`: the state of the service.
     State(Name),
-    /// `key`: the key of the slot that is free next.
+    /// `key`: the key of the next free slot.
     Key,
     /// `next`: the generation of the next start.
     Next,
     /// `due`: the first tick at which a tick has actions.
     Due,
-    /// `service INDEX`: what RS knows of the service with this index.
+    /// `service INDEX`: the state of the service with this index.
     Service(usize),
     /// `instance ENDPOINT`: the index of the service that runs under the endpoint.
     Instance(Endpoint),
-    /// `publishes ENDPOINT NAME`: whether this instance may publish a number under this name, and `labels` whether a label.
+    /// `publishes ENDPOINT NAME`: whether this instance may publish a number under this name; `labels`: whether a
+    /// label.
     Publishes(Endpoint, Key),
     /// `numbers GENERATION SEQ`: a numberer begins.
     Numbers { generation: Generation, seq: u32 },
     /// `number`: the numberer's next number.
     Number,
-    /// `rows`: what is made once.
+    /// `rows`: the rows that are printed once.
     Rows,
 }
 
-/// The command of a line, if it is one. What stands behind it isn't looked at.
+/// Parses the command of a line, if it is one. Words after it are ignored.
 pub(crate) fn read_command(line: &str) -> Option<Command> {
     let mut words = line.split(' ');
     match words.next()? {
@@ -70,7 +72,7 @@ fn read_numbers(words: &mut Split<'_, char>) -> Option<Command> {
     })
 }
 
-// The event of a line, but for its tick.
+// Parses the event of a line, without its tick.
 fn read_event(verb: &str, words: &mut Split<'_, char>) -> Option<Event> {
     match verb {
         "death" => Some(Event::Death(read_endpoint(words)?, number_at(words)?)),
@@ -80,7 +82,7 @@ fn read_event(verb: &str, words: &mut Split<'_, char>) -> Option<Event> {
     }
 }
 
-// The event of a service.
+// Returns the event about a service.
 fn event_of(verb: &str, label: Name) -> Option<Event> {
     match verb {
         "up" => Some(Event::Up(label)),

@@ -1,7 +1,7 @@
-//! A copy of settings, and what a table knows of a label, with ample memory.
+//! A copy of settings, and the newest generation that a table knows of a label, with enough memory.
 //!
-//! A contract can't say that memory is there, so a copy that is always refused would be proved; here the one that no other line
-//! makes is made.
+//! A contract can't say that memory is available, so a copy that is always refused could be proved. This copy is made
+//! by no other line.
 
 use crate::words::tell_numbers;
 use driver_tables::{FileClass, FileTable};
@@ -12,7 +12,7 @@ use std::alloc::Global;
 const ETH0: &[u8] =
     b"slots = 32\nservice = [{label = \"eth0\", class = \"network\", unit = 7, limit = 3, publishes = [\"mtu\", \"mac\"]}]";
 
-/// Tells what is in the copy, and the generation of a label; where memory is wanting for a row, none is told.
+/// Appends what is in the copy, and the generation of a label. NoRoom: out of memory for a row.
 pub(crate) fn tell_rows(text: &mut Vec<u8>, alloc: Global) -> Result<(), NoRoom> {
     let rows = [
         ("settings: slots ", settings_row(alloc)),
@@ -35,7 +35,7 @@ fn settings_row(alloc: Global) -> Option<u64> {
     }
 }
 
-// How many slots there are, where the first service publishes two names.
+// Returns how many slots there are, if the first service publishes two names.
 fn slots_of(settings: &Settings) -> Option<u64> {
     let service = settings.services().get(0)?;
     (service.publishes.len() == 2).then_some(u64::from(settings.slots()))
@@ -46,7 +46,7 @@ fn newest_row(alloc: Global) -> Option<u64> {
     newest_in(&mut table)
 }
 
-// The greatest generation that a table knows of a label whose driver ended, where it refuses an older one.
+// Returns the greatest generation that a table knows of a label whose driver ended, if it refuses an older one.
 fn newest_in(table: &mut FileTable) -> Option<u64> {
     let disk = Name::read(b"disk").ok()?;
     table.assign(3, FileClass::Block, &disk).ok()?;

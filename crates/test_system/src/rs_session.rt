@@ -1,4 +1,4 @@
-//! Lines, given to RS.
+//! Lines to RS.
 
 use crate::rs_command::{Command, read_command};
 use crate::rs_rows::tell_rows;
@@ -19,14 +19,14 @@ pub(crate) struct Session {
     alloc: Global,
     // The lines of settings.
     settings: String,
-    // While they are read, the generation that is RS's next one then.
+    // While settings are read: the generation that is RS's next one then.
     next: Option<u32>,
     rs: Option<Rs>,
     numbers: Option<Numberer>,
 }
 
 impl Session {
-    /// Neither of them yet.
+    /// Returns a session without either.
     pub(crate) fn new(alloc: Global) -> Session {
         Session {
             alloc,
@@ -37,7 +37,7 @@ impl Session {
         }
     }
 
-    /// Takes a line of settings, or answers a command.
+    /// Adds a line of settings, or answers a command.
     pub(crate) fn take(&mut self, text: &mut Vec<u8>, line: &str) -> Result<(), Failure> {
         if let Some(next) = self.next {
             return Ok(self.read_on(text, next, line)?);
@@ -48,7 +48,7 @@ impl Session {
         }
     }
 
-    // A line of settings, or their end, at which RS begins.
+    // Adds a line of settings, or begins RS at their end.
     fn read_on(&mut self, text: &mut Vec<u8>, next: u32, line: &str) -> Result<(), NoRoom> {
         if line == "end" {
             self.next = None;
@@ -58,7 +58,7 @@ impl Session {
         Ok(self.settings.push('\n')?)
     }
 
-    // Answers a command; settings are answered behind their last line.
+    // Answers a command. Settings are answered after their last line.
     fn answer(&mut self, text: &mut Vec<u8>, command: Command) -> Result<(), NoRoom> {
         match command {
             Command::Settings(next) => {
@@ -78,7 +78,7 @@ impl Session {
         }
     }
 
-    // Answers what is read of RS between two events.
+    // Answers a query of RS between two events.
     fn answer_reading(&self, text: &mut Vec<u8>, command: Command) -> Result<(), NoRoom> {
         let Some(rs) = &self.rs else {
             return tell(text, NO_SETTINGS);
@@ -100,7 +100,7 @@ impl Session {
         }
     }
 
-    // RS begins anew; where that is refused, the one that there was goes on.
+    // Begins RS anew. If that is refused, the RS from before continues.
     fn begin(&mut self, text: &mut Vec<u8>, next: u32) -> Result<(), NoRoom> {
         let settings = match read(self.alloc, self.settings.as_bytes()) {
             Ok(settings) => settings,
@@ -161,7 +161,7 @@ fn tell_event(
     }
 }
 
-// The actions of an event, and the service that RS gave up by it.
+// Appends the actions of an event, and the service that RS gave up by it.
 fn tell_step(text: &mut Vec<u8>, actions: &Actions, given_up: Option<usize>) -> Result<(), NoRoom> {
     tell_actions(text, actions)?;
     if given_up.is_none() {
@@ -170,7 +170,7 @@ fn tell_step(text: &mut Vec<u8>, actions: &Actions, given_up: Option<usize>) -> 
     tell_index(text, "gave up ", given_up)
 }
 
-// A line for each action of an event, and one for all.
+// Appends a line for each action of an event, and one for their count.
 fn tell_actions(text: &mut Vec<u8>, actions: &Actions) -> Result<(), NoRoom> {
     for i in 0..actions.len() {
         if let Some(action) = actions.get(i) {

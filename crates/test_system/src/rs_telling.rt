@@ -1,4 +1,4 @@
-//! What scripts have no words for, told.
+//! Text for what scripts have no words for.
 
 use crate::words::{tell, tell_numbers};
 use ds_names::{NoRoom, Version};
@@ -6,7 +6,7 @@ use rs_core::{NewFault, Running, SeqSpent, State};
 use rs_settings::SettingsFault;
 use service_answers::append_settings_fault;
 
-/// What RS knows of a service.
+/// Appends the state of a service.
 pub(crate) fn tell_state(text: &mut Vec<u8>, state: Option<State>) -> Result<(), NoRoom> {
     match state {
         Some(State::Down) => tell(text, b"down"),
@@ -37,7 +37,7 @@ fn tell_running(text: &mut Vec<u8>, running: &Running) -> Result<(), NoRoom> {
     )
 }
 
-/// A number with its generation.
+/// Appends a number with its generation.
 pub(crate) fn tell_version(
     text: &mut Vec<u8>,
     given: Result<Version, SeqSpent>,
@@ -54,7 +54,7 @@ pub(crate) fn tell_version(
     }
 }
 
-/// Why RS can't begin.
+/// Appends why RS can't begin.
 pub(crate) fn tell_new_fault(text: &mut Vec<u8>, fault: NewFault) -> Result<(), NoRoom> {
     match fault {
         NewFault::OutOfRange => tell(text, b"refused outofrange"),
@@ -62,7 +62,7 @@ pub(crate) fn tell_new_fault(text: &mut Vec<u8>, fault: NewFault) -> Result<(), 
     }
 }
 
-/// What is wrong with settings, and in a line of its own with which service.
+/// Appends what is wrong with settings, and the index of the service in a line of its own.
 pub(crate) fn tell_settings_fault(text: &mut Vec<u8>, fault: &SettingsFault) -> Result<(), NoRoom> {
     append_settings_fault(text, fault.cause)?;
     match fault.index {

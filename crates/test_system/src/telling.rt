@@ -1,4 +1,4 @@
-//! What comes of events, by the words of scripts, and what scripts have no words for.
+//! The outcomes of events, in the words of scripts where these exist.
 
 use crate::words::{tell, tell_numbers};
 use driver_tables::{Move, Moves, TableFault};
@@ -17,7 +17,7 @@ use std::alloc::Global;
 use store_answers::{Wording, append_message, append_outcome, append_reply};
 use system_model::{Replies, Rounds, SystemFault, SystemOutcome};
 
-/// What came of an event. A message is told by what the store gave.
+/// Appends the outcome of an event. A message is written as the store's reply.
 pub(crate) fn tell_outcome(
     text: &mut Vec<u8>,
     alloc: Global,
@@ -35,7 +35,7 @@ pub(crate) fn tell_outcome(
     }
 }
 
-// Each of RS's actions, and below an offer and a sweep what the store replied; then how many actions they are.
+// Appends each of RS's actions, the store's reply after each offer and sweep, and how many actions there are.
 fn tell_acted(text: &mut Vec<u8>, actions: &Actions, replies: &Replies) -> Result<(), NoRoom> {
     let mut told = 0usize;
     for index in 0..actions.len() {
@@ -53,7 +53,7 @@ fn tell_acted(text: &mut Vec<u8>, actions: &Actions, replies: &Replies) -> Resul
     append_action_count(text, actions.len())
 }
 
-// Each round, the own move behind them, what ended the event, and how many rounds there are.
+// Appends each round, the event's own move after them, the fault that ended it, and how many rounds there are.
 fn tell_moved(
     text: &mut Vec<u8>,
     rounds: &Rounds,
@@ -74,7 +74,7 @@ fn tell_moved(
     tell_numbers(text, &[("rounds ", rounds.len() as u64)])
 }
 
-// The moves of a round, and how many they are.
+// Appends the moves of a round, and how many there are.
 fn tell_round(text: &mut Vec<u8>, round: &Moves) -> Result<(), NoRoom> {
     for index in 0..round.len() {
         if let Some(step) = round.get(index) {
@@ -98,7 +98,7 @@ fn tell_happened(
     append_outcome(text, Wording::AsMerge, outcome, Limits::larger())
 }
 
-/// The puts that a map holds, and how many they are.
+/// Appends the puts that a map holds, and how many there are.
 pub(crate) fn tell_entries(
     text: &mut Vec<u8>,
     alloc: Global,
@@ -119,7 +119,7 @@ fn tell_items(text: &mut Vec<u8>, items: &Items) -> Result<(), NoRoom> {
     tell_numbers(text, &[("shown ", items.len() as u64)])
 }
 
-// Why an event is refused.
+// Appends why an event is refused.
 fn tell_fault(text: &mut Vec<u8>, fault: SystemFault) -> Result<(), NoRoom> {
     let line: &[u8] = match fault {
         SystemFault::Service(fault) => return append_rs_fault(text, fault),

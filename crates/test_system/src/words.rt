@@ -1,15 +1,15 @@
-//! Lines put behind a text.
+//! Appends lines to a text.
 
 use ds_line::append_all;
 use ds_names::NoRoom;
 use itoa::Buffer;
 
-/// Puts a line behind a text.
+/// Appends a line.
 pub(crate) fn tell(text: &mut Vec<u8>, line: &[u8]) -> Result<(), NoRoom> {
     append_all(text, &[line, b"\n"])
 }
 
-/// Puts a line behind a text: each of these words, and the number that it is about.
+/// Appends a line: each word, followed by its number.
 pub(crate) fn tell_numbers(text: &mut Vec<u8>, numbers: &[(&str, u64)]) -> Result<(), NoRoom> {
     for (word, number) in numbers {
         let mut digits = Buffer::new();
@@ -18,7 +18,7 @@ pub(crate) fn tell_numbers(text: &mut Vec<u8>, numbers: &[(&str, u64)]) -> Resul
     tell(text, b"")
 }
 
-/// Puts a line behind a text: the word, and the number, or `none`.
+/// Appends a line: the word, and the number or `none`.
 pub(crate) fn tell_number(
     text: &mut Vec<u8>,
     word: &str,
@@ -30,7 +30,7 @@ pub(crate) fn tell_number(
     }
 }
 
-/// Puts a line behind a text: the word, and the index, or `none`.
+/// Appends a line: the word, and the index or `none`.
 pub(crate) fn tell_index(
     text: &mut Vec<u8>,
     word: &str,

@@ -1,4 +1,4 @@
--- Behind what was gone through before a wrong line no more of the first lines are a legal trace.
+-- No front of the lines beyond what was passed before a wrong line is a legal trace.
 use Rattle.std.proofs.Common.{◌≡◌, ℕ, suc, ◌⊎◌, List, [], ◌∷◌, ◌++◌, get_or, drop, inl, inr, refl, sym, ap, subst, ◌∙◌, arith, append_assoc, append-nil}
 use Rattle.std.specs.List.{All}
 use Rattle.std.proofs.lemmas.Grind.{flat_map-append}
@@ -8,7 +8,7 @@ use Rattle.trace_model.specs.Walk.{NoneEnds}
 use Rattle.trace_walk.proofs.BeginLemmas.{joined_none}
 use Rattle.trace_walk.proofs.WalkingLemmas.{first_line, only_line}
 
--- ---- an input has its lines in one way
+-- ---- an input has one list of lines
 
 one_by : (bytes last : List ℕ) (front lines others : List (List ℕ)) → All IsUnbroken front → IsUnbroken last → bytes ≡ joined front ++ last → lines ≡ front ++ unended last → HasLines bytes others → lines ≡ others
 one_by bytes last [] lines others all whole text is h = is ∙ sym (only_line last others whole (subst (λ (t : List ℕ). HasLines t others) text h))
@@ -36,7 +36,7 @@ compared [] b c d e = inl (c, refl)
 compared (x ∷ a) b [] d e = inr (x, a, refl, sym e)
 compared (x ∷ a) b (y ∷ c) d e = compared_on x y a b c d (ap (λ (l : List (List ℕ)). get_or l 0 []) e) (compared a b c d (ap (drop 1) e))
 
--- ---- behind the start
+-- ---- after the start
 
 longer_by : (start front : List ℕ) (before more left first rest : List (List ℕ)) (n : ℕ) → start ≡ joined before → front ≡ joined first → NoneEnds start front → Fails front rest → IsLegal (joined (before ++ more)) n →
     Compared (before ++ more) left first rest → more ≡ []
@@ -52,7 +52,7 @@ longer_by start front before more left first rest n is behind none fails legal (
     ∙ sym (append_assoc front (with_newline k.0) (joined k.1)) ∙ ap (λ (l : List ℕ). (front ++ l) ++ joined k.1) (sym (append-nil (with_newline k.0))) in
     absurd (stops (joined k.1, n, subst (λ (l : List ℕ). IsLegal l n) text legal))
 
--- no more of the first lines are a legal trace
+-- no front of the lines beyond it is a legal trace
 pub none_longer : (bytes start front : List ℕ) (number : ℕ) (before after : List (List ℕ)) → HasLines bytes (before ++ after) → start ≡ joined before → IsWrongAt bytes number front → NoneEnds start front →
     (more left : List (List ℕ)) (n : ℕ) → after ≡ more ++ left → IsLegal (joined (before ++ more)) n → more ≡ []
 none_longer bytes start front number before after lines is wrong none more left n split legal =

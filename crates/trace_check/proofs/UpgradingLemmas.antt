@@ -1,4 +1,4 @@
--- What is written of a trace of format 1 in format 2, entry by entry.
+-- A trace of format 1 in format 2, entry by entry.
 use Rattle.std.proofs.Common.{◌≡◌, ℕ, ◌+◌, List, [], ◌∷◌, ◌++◌, length, Option, Result, inl, inr, refl, sym, ap, subst, ◌∙◌, arith, append_assoc, append-nil, length-append}
 use Rattle.std.specs.List.{flat_map}
 use Rattle.std.specs.Io.KnownBytes.{Appends}
@@ -35,7 +35,7 @@ use Rattle.trace_check.proofs.LastLemmas.{none_longer}
 pub handed_on : {T : Type 0} (r : Result T UpgradeFault) (e : UpgradeFault) (P : UpgradeFault → Type 0) → IsErrAnd r (λ f. f ≡ e) → P e → IfErr r P
 handed_on r e P is p = let exit = err_from_is_err_and r is in rw (exit.1, exit.2) p
 
--- a fault of a walk is why the input isn't written whole, of which some first lines were gone through and written
+-- a fault of a walk explains why the input isn't written whole, if the first lines were passed and written
 module _ (bytes start output : List ℕ) (before after : List (List ℕ)) (lines : HasLines bytes (before ++ after)) (is : start ≡ joined before) (written : IsUpgradeOf before output) where
   before_wrong : (number : ℕ) (front : List ℕ) → IsWrongAt bytes number front → NoneEnds start front → IsUpgradedBefore bytes output
   before_wrong number front wrong none = record { front = before; rest = after; lines = lines; written = written; last = none_longer bytes start front number before after lines is wrong none }
@@ -46,7 +46,7 @@ module _ (bytes start output : List ℕ) (before after : List (List ℕ)) (lines
   refused_for walks.ReadFault f = (before, after, lines, written)
   refused_for walks.NoRoom f = (before, after, lines, written)
 
--- where nothing was gone through, nothing was written
+-- if nothing was passed, nothing was written
 pub refused_first : (bytes : List ℕ) (fault : WalkFault) → IsFault [] bytes fault → Refuses (upgrade_fault fault) bytes []
 refused_first bytes fault f = let h = has_lines bytes in refused_for bytes [] [] [] h.0 h.1 refl (inl (refl, refl)) fault f
 
@@ -65,7 +65,7 @@ not_written e = absurd (cc)
 
 -- ---- entries
 
--- what is appended for an entry is what it is in format 2
+-- what is appended for an entry is that entry in format 2
 pub written_as : (b : Spot) (h : Header) (w : Walk) (to : Option (List ℕ)) (passed : Passed) (p : HasPassed b h w to passed) → h.format ≡ One → (text : List ℕ) (k : ℕ) → IsWrittenAs w passed [] text k →
     (entries : List TraceEntry) × BecomesAs b.state p.entry p.entry.asked entries × (text ≡ flat_map (entry_text h.limits) entries) × (k ≡ length entries)
 written_as b h w to AsItStands p one text k is = (
@@ -108,7 +108,7 @@ module _ (b : Spot) (h : Header) (output : List ℕ) (count : ℕ) (x : Upgrades
 
 -- ---- on the way
 
--- From the spot on, this was appended to a writer, and with what was written before it is what was gone through in format 2.
+-- From the spot on, this was appended to a writer. With what was written before, it is the passed front in format 2.
 pub record IsUnderWay (b : Spot) (before : List ℕ) (h : Header) (w : Walk) (from had has : Option (List ℕ)) (count : ℕ) : Type 0 where
   pub now : Spot
   pub same : now.bytes ≡ b.bytes
@@ -122,7 +122,7 @@ pub sets_out : (b : Spot) (before : List ℕ) (w : Walk) (from had : Option (Lis
 sets_out b before w from had walks x =
     record { now = b; same = refl; header = refl; walks = walks; more = []; appends = Appends-nil had; upgrades = subst (λ (l : List ℕ). Upgrades b w.header l 0) (sym (append-nil before)) x }
 
--- the first lines of the input were written, and something may be missing at the end
+-- the first lines of the input were written, perhaps without the end
 part_of : (bytes : List ℕ) (now : Spot) (l : LinesContent) (from : Option (List ℕ)) → now.bytes ≡ bytes → IsAt now.bytes now.front l from → (output left : List ℕ) (count : ℕ) → IsUpgraded now.front (output ++ left) count → IsUpgradedInPart bytes output
 part_of bytes now l from same at output left count is =
     inr (at.before, at.after, left, count, subst (λ (t : List ℕ). HasLines t (at.before ++ at.after)) same at.lines, subst (λ (t : List ℕ). IsUpgraded t (output ++ left) count) at.front_is is)
@@ -134,11 +134,11 @@ module _ (b : Spot) (before : List ℕ) (h : Header) (w : Walk) (from had has : 
       let e = ends u.now u.walks in
       (e.0, u.more, subst (λ (t : List ℕ). HasLines t e.0) u.same e.1, u.appends, subst (λ (t : List ℕ). IsUpgraded t (before ++ u.more) count) e.2 (is_upgraded u.now h (before ++ u.more) count u.upgrades))
 
-  -- what was gone through was written
+  -- what was passed was written
   so_far : IsUpgradeOf u.walks.at.before (before ++ u.more)
   so_far = inr (count, subst (λ (t : List ℕ). IsUpgraded t (before ++ u.more) count) u.walks.at.front_is (is_upgraded u.now h (before ++ u.more) count u.upgrades))
 
-  -- a fault came between two entries, for which nothing is wrong with the input
+  -- a fault came between two entries, and nothing is wrong with the input
   pub stops_between : (more : List ℕ) × Appends had has more × IsUpgradedSoFar b.bytes (before ++ more)
   stops_between =
       let at = u.walks.at in
@@ -153,7 +153,7 @@ module _ (b : Spot) (before : List ℕ) (h : Header) (w : Walk) (from had has : 
         subst (λ (t : List ℕ). Refuses (upgrade_fault fault) t (before ++ u.more)) u.same (refused_for u.now.bytes u.now.front (before ++ u.more) at.before at.after at.lines at.front_is so_far fault f),
       )
 
-  -- one more entry was gone through
+  -- one more entry was passed
   module _ (new : Walk) (to : Option (List ℕ)) (passed : Passed) (goes : (s : Spot) → WalksAt s w from → HasPassed s w.header new to passed) (text : List ℕ) (k : ℕ) (is : IsWrittenAs new passed [] text k) where
     abbrev p : HasPassed u.now h new to passed
     p = subst (λ (g : Header). HasPassed u.now g new to passed) u.header (goes u.now u.walks)

@@ -1,4 +1,4 @@
--- What comes of writing a trace of format 1 in format 2.
+-- The upgrade of a trace from format 1 to format 2.
 use Rattle.std.specs.Prelude.{◌≡◌, ℕ, List, [], ◌++◌, length, Option}
 use Rattle.std.specs.Io.KnownBytes.{Appends}
 use Rattle.line_io.specs.Lines.{HasLines, joined}
@@ -17,18 +17,18 @@ use Rattle.trace_walk.specs.declared.walk.Walk.{Walk}
 use Rattle.trace_walk.specs.Steps.{WalksAt, first_spot}
 use Rattle.trace_walk.specs.Walking.{Spot}
 
--- the fault of a walk
+-- The fault of a walk, as one of an upgrade.
 abbrev pub upgrade_fault : WalkFault → UpgradeFault
 upgrade_fault (walks.IllegalAt number) = IllegalAt number
 upgrade_fault (walks.BadLineAt number) = BadLineAt number
 upgrade_fault walks.ReadFault = ReadFault
 upgrade_fault walks.NoRoom = NoRoom
 
--- All of the input was written in format 2, with so many entries.
+-- Whether all of the input was written in format 2, with `count` entries.
 abbrev pub UpgradesAll : List ℕ → (had has : Option (List ℕ)) → ℕ → Type 0
 UpgradesAll bytes had has count = (lines : List (List ℕ)) × (output : List ℕ) × HasLines bytes lines × Appends had has output × IsUpgraded (joined lines) output count
 
--- the first lines are a header of format 2
+-- Whether the first lines are a header of format 2.
 pub record BeginsWithTwo (bytes : List ℕ) : Type 0 where
   pub h : Header
   pub two : h.format ≡ Two
@@ -38,9 +38,9 @@ pub record BeginsWithTwo (bytes : List ℕ) : Type 0 where
   pub lines : HasLines bytes (front ++ rest)
   pub text : joined front ≡ header_text h
 
--- Why the input wasn't written whole, and what was written of it. What isn't legal is told as the verdict on it, and all entries before
--- the one that the wrong line is in were written. Of a trace of format 2 none was; for another fault those of some first lines were,
--- and where the writer failed a front of these.
+-- Why the input wasn't written whole, and what was written. For a trace that isn't legal: its verdict, and all entries
+-- before the one with the wrong line. For format 2: nothing. For other faults: whole entries of some first lines, or,
+-- if the writer failed, a front of these.
 abbrev pub Refuses : UpgradeFault → List ℕ → List ℕ → Type 0
 Refuses (IllegalAt number) bytes output = IsVerdict bytes (verdicts.IllegalAt number) × IsUpgradedBefore bytes output
 Refuses (BadLineAt number) bytes output = IsVerdict bytes (verdicts.BadLineAt number) × IsUpgradedBefore bytes output
@@ -49,13 +49,13 @@ Refuses ReadFault bytes output = IsUpgradedSoFar bytes output
 Refuses WriteFault bytes output = IsUpgradedInPart bytes output
 Refuses NoRoom bytes output = IsUpgradedSoFar bytes output
 
--- Something was written in format 2, or nothing, and this is why.
+-- Whether this is the fault, and this is what was written in format 2.
 abbrev pub UpgradesInPart : List ℕ → (had has : Option (List ℕ)) → UpgradeFault → Type 0
 UpgradesInPart bytes had has fault = (output : List ℕ) × Appends had has output × Refuses fault bytes output
 
 -- ---- on the way
 
--- What was gone through, behind this header, is legal, and this output is what it is in format 2, with so many entries.
+-- Whether the passed front, after this header, is legal, and `output` is that front in format 2, with `count` entries.
 pub record Upgrades (b : Spot) (h : Header) (output : List ℕ) (count : ℕ) : Type 0 where
   pub old : List TraceEntry
   pub new : List TraceEntry
@@ -65,19 +65,19 @@ pub record Upgrades (b : Spot) (h : Header) (output : List ℕ) (count : ℕ) : 
   pub written : output ≡ trace_text (upgraded h) new
   pub counted : count ≡ length new
 
--- so it is where nothing is left
+-- The end of an upgrade: all of the input is written.
 abbrev pub EndsUpgraded : Walk → Option (List ℕ) → (had has : Option (List ℕ)) → ℕ → Type 0
 EndsUpgraded old from had has count =
     (b : Spot) (before : List ℕ) → WalksAt b old from → Upgrades b old.header before 0 →
     (lines : List (List ℕ)) × (more : List ℕ) × HasLines b.bytes lines × Appends had has more × IsUpgraded (joined lines) (before ++ more) count
 
--- and of what was gone through of the input where there is a fault
+-- A fault of an upgrade, and what was written of the input.
 abbrev pub StopsUpgrading : Walk → Option (List ℕ) → (had has : Option (List ℕ)) → UpgradeFault → Type 0
 StopsUpgrading old from had has fault =
     (b : Spot) (before : List ℕ) → WalksAt b old from → Upgrades b old.header before 0 →
     (more : List ℕ) × Appends had has more × Refuses fault b.bytes (before ++ more)
 
--- so it is of an input whose header was read, and nothing else
+-- Likewise when only the header was read.
 abbrev pub EndsBehindHeader : Walk → Option (List ℕ) → (had has : Option (List ℕ)) → ℕ → Type 0
 EndsBehindHeader old from had has count = (bytes : List ℕ) → WalksAt (first_spot bytes old.header) old from → UpgradesAll bytes had has count
 

@@ -1,4 +1,4 @@
-//! What is known of the line that a verdict tells.
+//! The line that a verdict names.
 
 ghost use Rattle.std.specs.Prelude.{◌≡◌, ◌≢◌, IfSome, IfNone};
 ghost use Rattle.trace_walk.specs.declared.wrong_line.Wanted.TheVariants as wanteds;
@@ -7,7 +7,7 @@ ghost use Rattle.trace_check.specs.Telling.{IsOfLine, TellsNoLine};
 use trace_model::Verdict;
 use trace_walk::{Stands, Walk, Wanted, WrongLine};
 
-/// The verdict on a trace, and the walk that came to it.
+/// A verdict on a trace, with the walk that reached it.
 #[derive(Drop)]
 pub struct Judged {
     /// The verdict.
@@ -16,7 +16,7 @@ pub struct Judged {
 }
 
 impl Judged {
-    /// The line that the verdict tells, if it tells one.
+    /// Returns the first wrong line, if there is one.
     pub fn wrong_line(&self) -> Option<WrongLine<'_>>
         ensures found { IfSome result (λ line. IsOfLine self.now.verdict line.number line.wanted) }
         ensures none { IfNone result (TellsNoLine self.now.verdict) }
@@ -28,7 +28,7 @@ impl Judged {
         }
     }
 
-    // What has to stand in the place of a bad line.
+    // Returns the sort of line that was expected instead of a bad one.
     fn wanted(&self) -> Wanted
         ensures { result ≢ wanteds.Reply }
     {
@@ -38,7 +38,7 @@ impl Judged {
         }
     }
 
-    // What is known of the line of a number.
+    // Returns the wrong line of this number.
     fn line_at(&self, number: u64, wanted: Wanted) -> WrongLine<'_>
         ensures number { result.number ≡ number }
         ensures wanted { result.wanted ≡ wanted }

@@ -1,7 +1,7 @@
 //! Recorded traces of one store, judged against the store's machine.
 //!
-//! What a trace is, and which verdict belongs to it, `trace_model` says, and `trace_walk` goes through one entry after the other. Here
-//! it goes through a whole trace, which is judged so. So a trace of format 1 is also written in format 2.
+//! `trace_model` defines traces and verdicts, and `trace_walk` passes one entry after another. This crate judges a
+//! whole trace, and writes one of format 1 in format 2.
 #![tactic(auto)]
 
 mod judged;

@@ -1,4 +1,4 @@
-//! Traces of format 1 in format 2.
+//! Traces of format 1, written in format 2.
 
 ghost use Rattle.std.specs.Prelude.{◌≡◌, IfOk, IfErr, IfSome};
 ghost use Rattle.line_io.specs.Streams.{HasFailedWrite};
@@ -12,19 +12,19 @@ use thiserror::Error;
 use trace_model::{Format, Header, append_header};
 use trace_walk::{Walk, WalkFault, append_passed};
 
-/// Why a trace isn't written in format 2, or not whole.
+/// Why a trace wasn't upgraded, or not whole.
 #[derive(Clone, Copy, Debug, PartialEq, Eq, Error)]
 pub enum UpgradeFault {
-    /// It isn't legal: at this line, from 1, a line of a reply has to stand, and none that a legal trace has there does.
+    /// Not legal: this line, from 1, must be a reply line, and isn't one that a legal trace has there.
     #[error("illegal {0}")]
     IllegalAt(u64),
-    /// It isn't legal: at this line a header, a `>` or a `+` line has to stand, and none does.
+    /// Not legal: this line must be a header, a `>` or a `+` line, and isn't one that a legal trace has there.
     #[error("badline {0}")]
     BadLineAt(u64),
-    /// It has format 2. Nothing was written.
+    /// The trace is of format 2. Nothing was written.
     #[error("already 2")]
     AlreadyTwo,
-    /// The reader failed, or gave more than can be counted.
+    /// The reader failed, or 2^32 reads were made, or 2^64 - 1 entries were counted.
     #[error("readfault")]
     ReadFault,
     /// The writer failed.
@@ -73,13 +73,13 @@ impl From<NoRoom> for UpgradeFault {
     }
 }
 
-/// Writes in format 2 the trace of format 1 that a reader gives, each entry once its reply was found legal. Gives how many entries
-/// were written. A sweep becomes Merges of the tombstones that it leaves, at most 256 each; where it leaves none, or is refused, it is
-/// left out. All other entries stay as they are.
+/// Writes a trace of format 1 in format 2, each entry once its reply is found legal, and returns how many entries were
+/// written. A sweep becomes Merges of the tombstones that it leaves, at most 256 each; one that leaves none, or is
+/// refused, is left out. All other entries are unchanged.
 ///
-/// At IllegalAt and BadLineAt what was written is all entries before the one that the wrong line is in, and at ReadFault and NoRoom
-/// those of some first lines, whole entries each time; at AlreadyTwo it is nothing, and at WriteFault a front of such a trace. A
-/// WriteFault comes only where a write failed, or took no bytes, or after 2^64 - 1 writes.
+/// After IllegalAt and BadLineAt, all entries before the wrong line's are written; after ReadFault and NoRoom, those of
+/// some first lines, in whole entries; after AlreadyTwo, nothing; after WriteFault, a front of such a trace. WriteFault
+/// comes only if a write failed or took no bytes, or after 2^64 - 1 writes.
 pub fn upgrade<R: Source, W: Sink>(
     alloc: Global,
     reader: &mut R,
@@ -95,7 +95,7 @@ pub fn upgrade<R: Source, W: Sink>(
     upgrade_behind_header(alloc, &mut walk, reader, writer)
 }
 
-// Writes in format 2 the trace whose header the walk read, that header first.
+// Writes the trace whose header the walk read, header first.
 fn upgrade_behind_header<R: Source, W: Sink>(
     alloc: Global,
     walk: &mut Walk,
@@ -117,7 +117,7 @@ fn upgrade_behind_header<R: Source, W: Sink>(
     upgrade_entries(alloc, walk, reader, writer)
 }
 
-// The header in format 2.
+// Returns the header in format 2.
 fn upgraded(header: Header) -> Header
     ensures { result ≡ upgraded header }
 {
@@ -130,7 +130,7 @@ fn upgraded(header: Header) -> Header
     }
 }
 
-// Goes through all entries, and writes each in format 2.
+// Passes all entries, and writes each in format 2.
 fn upgrade_entries<R: Source, W: Sink>(
     alloc: Global,
     walk: &mut Walk,

@@ -1,4 +1,4 @@
-//! Whether a trace is legal.
+//! The verdict on a trace.
 
 ghost use Rattle.std.specs.Prelude.{IfSome};
 ghost use Rattle.trace_model.specs.Verdict.{IsVerdict};
@@ -10,18 +10,18 @@ use std::alloc::Global;
 use trace_model::Verdict;
 use trace_walk::Walk;
 
-/// Judges the trace that a reader gives, of format 1 or 2. Where it isn't legal, the first line that no legal trace has in its place
-/// is told, from 1, also where that line is missing.
+/// Judges a trace of format 1 or 2. If it isn't legal, the verdict names the first line, from 1, that no legal trace
+/// has in its place, even if that line is missing.
 ///
-/// The verdict is on all that the reader would give, however little of it was read. What is kept is bounded by what the store holds
-/// and by the longest line, whatever the length of the trace.
+/// The verdict is on all that the reader has, however little of it was read. Memory is bounded by what the store holds
+/// and by the longest line, not by the length of the trace.
 pub fn verify<R: Source>(alloc: Global, reader: &mut R) -> Verdict
     ensures { IfSome (R.remaining reader.old) (λ bytes. IsVerdict bytes result) }
 {
     judge(alloc, reader).verdict
 }
 
-/// Judges as `verify` does, and tells what is known of the line that the verdict tells.
+/// Judges a trace as `verify` does, and keeps what is needed to explain its first wrong line.
 pub fn judge<R: Source>(alloc: Global, reader: &mut R) -> Judged
     ensures { IfSome (R.remaining reader.old) (λ bytes. IsVerdict bytes result.verdict) }
 {
@@ -40,7 +40,7 @@ pub fn judge<R: Source>(alloc: Global, reader: &mut R) -> Judged
     }
 }
 
-// Goes through all entries.
+// Passes all entries.
 fn walk_through<R: Source>(walk: &mut Walk, reader: &mut R) -> Verdict
     ensures { EndsWith walk.old (R.remaining reader.old) result }
 {

@@ -1,4 +1,4 @@
--- The first line of an entry, and the line of an item, are read in one way.
+-- The first line of an entry, and the line of an item, have one reading.
 use Rattle.std.proofs.Common.{◌≡◌, ◌≢◌, ℕ, ◌≤◌, List, [], ◌∷◌, ◌++◌, length, get_or, take, drop, None, refl, sym, ap, subst, ◌∙◌, arith, take-append-drop, append-nil, length-append}
 use Rattle.std.specs.Fmt.{decimal}
 use Rattle.ds_entry.specs.Item.{IsItem}
@@ -38,16 +38,16 @@ pub ends_rest : (front rest : List ℕ) → Unbroken front → EndsLine (front +
 ends_rest [] rest whole e = e
 ends_rest (b ∷ front) rest whole e = ends_rest front rest (unbroken_tail b front whole) (behind_other b (front ++ rest) (whole 0 0 (omega arith)) e)
 
--- what stands behind the pass ends the line
+-- what follows the pass ends the line
 pub pass_ends : (pass : ℕ) (rest : List ℕ) → pass ≤ 63 → EndsLine (pass_text pass rest) → EndsLine rest
 pass_ends pass rest le e =
     behind_other 32 rest (λ same. omega (arith, same))
     (ends_rest (decimal pass) (32 ∷ rest) (unbroken_decimal pass (omega (arith, le)))
     (behind_other 32 (decimal pass ++ 32 ∷ rest) (λ same. omega (arith, same)) (behind_other 62 (32 ∷ (decimal pass ++ 32 ∷ rest)) (λ same. omega (arith, same)) e)))
 
--- ---- what is asked
+-- ---- the command
 
--- what stands behind the pass
+-- what follows the pass
 abbrev pub behind_pass : Head → List ℕ
 behind_pass (Line c) = texts (command_parts c)
 behind_pass (Merge count) = merge_text count
@@ -62,7 +62,7 @@ same_command c d rest e short is_c is_d of_c of_d =
     let few : length e.front ≤ 4096 = omega (arith, short, ap length e.parts, length-append e.front (10 ∷ [])) in
     one_command c d e.front (record { written = is_c; text = sym e.parts ∙ of_c; short = few }) (record { written = is_d; text = sym e.parts ∙ of_d; short = few })
 
--- the command that stands there mustn't, and no Merge does
+-- the command there isn't allowed, and it isn't a Merge
 none_may : (format : Format) (c : ScriptCommand) (rest : List ℕ) (head : Head) → EndsLine rest → length rest ≤ 4097 → IsCommand c → rest ≡ texts (command_parts c) → ¬ ((store_command c ≢ None) × CarriesLine format c)
     → ((n : ℕ) → n ≤ 256 → rest ≢ merge_text n) → MayHead format head → rest ≢ behind_pass head
 none_may format c rest (Line d) e short is there refused none may of_d =
@@ -83,18 +83,18 @@ no_count text rest m lm some at n ln e = some (number_one m n 10 rest [] (omega 
 
 -- ---- items
 
--- the item that is read is the line's, and nothing stands behind it
+-- the item that is read is the line's, and nothing follows it
 pub plus_one : (text : List ℕ) (i j : Item) (used : ℕ) → IsItem i → IsItem j → take used text ≡ item_spelling i → used ≡ length (item_spelling i) → text ≡ item_spelling j → (i ≡ j) × (used ≡ length text)
 plus_one text i j used is_i is_j found len whole =
     let split : text ≡ item_spelling i ++ drop used text = sym (take-append-drop used text) ∙ ap (λ (l : List ℕ). l ++ drop used text) found in
     let one = items_apart i j (drop used text) [] is_i is_j (sym split ∙ whole ∙ sym (append-nil (item_spelling j))) in
     (one.0, len ∙ ap (λ (x : Item). length (item_spelling x)) one.0 ∙ ap length (sym whole))
 
--- what stands behind `+ `
+-- what follows `+ `
 pub behind_plus : (line first text : List ℕ) (i : Item) → line ≡ 43 ∷ first → first ≡ 32 ∷ text → line ≡ plus_text i → text ≡ item_spelling i
 behind_plus line first text i plus space at = behind_byte 32 text (item_spelling i) (sym space ∙ behind_byte 43 first (32 ∷ item_spelling i) (sym plus ∙ at))
 
--- ---- no command and no Merge stands behind the pass
+-- ---- neither a command nor a Merge follows the pass
 
 none_there : (format : Format) (rest : List ℕ) (head : Head) → ((c : ScriptCommand) → IsCommand c → rest ≢ texts (command_parts c)) → ((n : ℕ) → n ≤ 256 → rest ≢ merge_text n) → MayHead format head → rest ≢ behind_pass head
 none_there format rest (Line d) no_command none may of_d = no_command d may.0 of_d

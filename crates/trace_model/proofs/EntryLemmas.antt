@@ -1,4 +1,4 @@
--- An entry is read in one way, and where it leads is one.
+-- An entry has one reading, and leads to one state.
 use Rattle.std.proofs.Common.{◌≡◌, ◌≢◌, ℕ, suc, ◌<◌, ◌≤◌, List, [], ◌∷◌, ◌++◌, length, get_or, drop, None, refl, sym, ap, subst, ◌∙◌, arith, append_assoc, append-nil, length-append}
 use Rattle.std.specs.List.{All, flat_map}
 use Rattle.std.specs.Fmt.{decimal}
@@ -35,9 +35,9 @@ use Rattle.trace_model.proofs.SplitLemmas.{lines_one}
 use Rattle.trace_model.proofs.TracedLemmas.{traced_stays}
 use Rattle.trace_model.proofs.WalkLemmas.{head_is, merge_ends}
 
--- ---- what is asked is read in one way
+-- ---- a command has one reading
 
--- no command that asks a store begins with `m`
+-- no command of a store begins with `m`
 pub no_merge_line : (c : ScriptCommand) (n : ℕ) → store_command c ≢ None → texts (command_parts c) ≡ merge_text n → ⊥
 no_merge_line (lines.Offer i) n asks e = omega (arith, ap (λ (l : List ℕ). get_or l 0 0) e)
 no_merge_line (lines.Store (commands.Merge items)) n asks e = omega (arith, ap (λ (l : List ℕ). get_or l 0 0) e)
@@ -47,7 +47,7 @@ no_merge_line _ n asks e = asks refl
 line_short : (pass : ℕ) (c : ScriptCommand) → length (line_text pass c) ≤ 4097 → length (texts (command_parts c)) ≤ 4097
 line_short pass c short = omega (arith, short, length-append (decimal pass) (32 ∷ texts (command_parts c)))
 
--- a Merge's first line, and what stands behind it
+-- a Merge's first line, and what follows it
 pub merge_head : (format : Format) (p q n : ℕ) (js : List Item) (r s : List ℕ) → p ≤ 63 → q ≤ 63 → n ≤ 256 → MayAsk format q (Merge js) → pass_text p (merge_text n) ++ r ≡ asked_text q (Merge js) ++ s → (n ≡ length js) × (r ≡ flat_map plus_text js ++ s)
 merge_head format p q n js r s lp lq few may e =
     let one = lines_one (pass_text p (merge_text n)) (pass_text q (merge_text (length js))) r (flat_map plus_text js ++ s) (merge_ends p n lp few) (head_is format q (Merge js) lq may).1
@@ -55,13 +55,13 @@ merge_head format p q n js r s lp lq few may e =
     let behind = (pass_one p q (merge_text n) (merge_text (length js)) lp lq one.0).1 in
     ((number_one n (length js) 10 [] [] (omega (arith, few)) (omega (arith, may.0)) refl (ap (drop 6) behind)).0, one.1)
 
--- and no command's line is one
+-- no command's line is one
 pub merge_not_line : (format : Format) (p q n : ℕ) (c : ScriptCommand) (r s : List ℕ) → p ≤ 63 → q ≤ 63 → n ≤ 256 → MayAsk format q (Line c) → pass_text p (merge_text n) ++ r ≡ line_text q c ++ s → ⊥
 merge_not_line format p q n c r s lp lq few may e =
     let one = lines_one (pass_text p (merge_text n)) (line_text q c) r s (merge_ends p n lp few) (head_is format q (Line c) lq may).1 e in
     no_merge_line c n may.1 (sym (pass_one p q (merge_text n) (texts (command_parts c)) lp lq one.0).1)
 
--- the lines of items are read in one way
+-- the lines of items have one reading
 items_one : (format : Format) (items others : List Item) (r s : List ℕ) → length items ≡ length others → All (MayMerge format) items → All (MayMerge format) others → flat_map plus_text items ++ r ≡ flat_map plus_text others ++ s → (items ≡ others) × (r ≡ s)
 items_one format [] [] r s same a b e = (refl, e)
 items_one format [] (j ∷ others) r s same a b e = absurd (omega (arith, same))
@@ -73,7 +73,7 @@ items_one format (i ∷ items) (j ∷ others) r s same a b e =
     let rest = items_one format items others r s (omega (arith, same)) (λ k d lt. a (suc k) d (omega (arith, lt))) (λ k d lt. b (suc k) d (omega (arith, lt))) first.1 in
     (ap (λ (x : Item). x ∷ items) first.0 ∙ ap (λ (l : List Item). j ∷ l) rest.0, rest.1)
 
--- what is asked, and what stands behind it
+-- a command, and what follows it
 pub asked_one : (format : Format) (p q : ℕ) (a b : Asked) (r s : List ℕ) → p ≤ 63 → q ≤ 63 → MayAsk format p a → MayAsk format q b → asked_text p a ++ r ≡ asked_text q b ++ s → (a ≡ b) × (r ≡ s)
 asked_one format p q (Line c) (Line d) r s lp lq may_a may_b e =
     let ends = head_is format p (Line c) lp may_a in
@@ -96,7 +96,7 @@ asked_one format p q (Merge items) (Merge js) r s lp lq may_a may_b e =
 
 -- ---- where an entry leads
 
--- two entries from one state with one front lead to one state, and what stands behind them is one
+-- two entries from one state with one front lead to one state, and the same text follows them
 pub one_entry : (format : Format) (limits : LimitsRecord) (e f : TraceEntry) (s t u : State) (r q : List ℕ) → IsTraced format s → IsEntry format e → IsEntry format f → EntryLeads format s e t → EntryLeads format s f u → entry_text limits e ++ r ≡ entry_text limits f ++ q → (t ≡ u) × (r ≡ q)
 one_entry format limits e f s t u r q traced is_e is_f x y same =
     let asked = asked_one format e.pass f.pass e.asked f.asked (reply_text limits e ++ r) (reply_text limits f ++ q) is_e.pass is_f.pass is_e.asked is_f.asked
@@ -109,7 +109,7 @@ one_entry format limits e f s t u r q traced is_e is_f x y same =
     let one = reply_is_one format limits e.pass e.asked x.0 s t u e.reply f.reply traced is_e.asked x.1 x.2 step first in
     (one.1, append_cancel_left (reply_text limits e) r q (front ∙ ap (λ (l : List ℕ). marked l ++ q) (sym one.0)))
 
--- ---- behind an entry more
+-- ---- after one more entry
 
 leads_more : (format : Format) (s t u : State) (entries : List TraceEntry) (e : TraceEntry) → AllLead format s entries t → EntryLeads format t e u → AllLead format s (entries ++ e ∷ []) u
 leads_more format s t u [] e l x = (u, subst (λ (z : State). EntryLeads format z e u) l x, refl)
@@ -120,7 +120,7 @@ text_more h entries e =
     append_assoc (header_text h) (flat_map (entry_text h.limits) entries) (entry_text h.limits e)
     ∙ ap (λ (l : List ℕ). header_text h ++ l) (ap (λ (l : List ℕ). flat_map (entry_text h.limits) entries ++ l) (sym (append-nil (entry_text h.limits e))) ∙ sym (flat_map-append (entry_text h.limits) entries (e ∷ [])))
 
--- a trace with one more entry is one
+-- a trace with one more entry is a trace
 pub trace_more : (front : List ℕ) (h : Header) (entries : List TraceEntry) (e : TraceEntry) (s t : State) → IsTrace front h entries s → IsEntry h.format e → EntryLeads h.format s e t → IsTrace (front ++ entry_text h.limits e) h (entries ++ e ∷ []) t
 trace_more front h entries e s t trace is x =
     record {

@@ -1,4 +1,4 @@
--- The numbers of a header are read in one way.
+-- The numbers of a header have one reading.
 use Rattle.std.proofs.Common.{◌≡◌, ◌≢◌, ℕ, ◌<◌, ◌≤◌, ◌^◌, inl, inr, List, [], ◌∷◌, ◌++◌, None, Some, get_or, drop, refl, sym, ap, subst, ◌∙◌, arith}
 use Rattle.std.specs.Fmt.{decimal}
 use Rattle.ds_machine.proofs.OneStepLemmas.{none_some}
@@ -13,32 +13,32 @@ use Rattle.trace_model.proofs.NumberLemmas.{number_one}
 abbrev pub NoneOf : Format → List ℕ → Type 0
 NoneOf format bytes = (h : Header) → h.format ≡ format → IsHeader h → bytes ≢ numbers_text h
 
--- what stands behind the incarnation, and behind the first position, of a header
+-- what follows the incarnation, and the first position, of a header
 abbrev pub behind_first : Header → List ℕ
 behind_first h = decimal h.ring ++ limits_text h.format h.limits
 
 abbrev pub behind_incarnation : Header → List ℕ
 behind_incarnation h = decimal h.first ++ 32 ∷ behind_first h
 
--- no number stands where the incarnation has to
+-- no number is in the incarnation's place
 pub no_incarnation : (format : Format) (bytes : List ℕ) → ((n : ℕ) (rest : List ℕ) → n ≤ 18446744073709551615 → bytes ≢ decimal n ++ 32 ∷ rest) → NoneOf format bytes
 no_incarnation format bytes none h same is e = none h.incarnation (behind_incarnation h) (omega (arith, is.incarnation)) e
 
--- where the incarnation stands, what a header has behind it stands there
+-- after the incarnation, the rest of the header follows
 pub behind_it : (bytes rest : List ℕ) (n : ℕ) (h : Header) → n < 2 ^ 64 → IsHeader h → bytes ≡ decimal n ++ 32 ∷ rest → bytes ≡ numbers_text h → (n ≡ h.incarnation) × (rest ≡ behind_incarnation h)
 behind_it bytes rest n h few is there e = number_one n h.incarnation 32 rest (behind_incarnation h) few is.incarnation refl (sym there ∙ e)
 
 pub no_first : (format : Format) (bytes rest : List ℕ) (n : ℕ) → n < 2 ^ 64 → bytes ≡ decimal n ++ 32 ∷ rest → ((k : ℕ) (s : List ℕ) → k ≤ 4611686018427387904 → rest ≢ decimal k ++ 32 ∷ s) → NoneOf format bytes
 no_first format bytes rest n few there none h same is e = none h.first (behind_first h) (omega (arith, is.first)) (behind_it bytes rest n h few is there e).1
 
--- behind the first position
+-- after the first position
 pub behind_both : (bytes rest more : List ℕ) (n k : ℕ) (h : Header) → n < 2 ^ 64 → k < 2 ^ 64 → IsHeader h → bytes ≡ decimal n ++ 32 ∷ rest → rest ≡ decimal k ++ 32 ∷ more → bytes ≡ numbers_text h → more ≡ behind_first h
 behind_both bytes rest more n k h few less is there then e =
     (number_one k h.first 32 more (behind_first h) less (omega (arith, is.first)) refl (sym then ∙ (behind_it bytes rest n h few is there e).1)).1
 
 -- ---- format 1
 
--- behind the first position stand the ring and the newline
+-- after the first position, the ring and the newline follow
 one_ring : (h : Header) → h.format ≡ One → behind_first h ≡ decimal h.ring ++ 10 ∷ []
 one_ring h same = ap (λ (f : Format). decimal h.ring ++ limits_text f h.limits) same
 
@@ -46,7 +46,7 @@ pub no_ring : (bytes rest more : List ℕ) (n k : ℕ) → n < 2 ^ 64 → k < 2 
 no_ring bytes rest more n k few less there then none h same is e =
     none h.ring [] (omega (arith, is.ring.limit)) (behind_both bytes rest more n k h few less is there then e ∙ one_ring h same)
 
--- the ring is the header's, and nothing stands behind its newline
+-- the ring is the header's, and nothing follows its newline
 one_end : (bytes rest more last : List ℕ) (n k m : ℕ) (h : Header) → n < 2 ^ 64 → k < 2 ^ 64 → m < 2 ^ 64 → h.format ≡ One → IsHeader h → bytes ≡ decimal n ++ 32 ∷ rest → rest ≡ decimal k ++ 32 ∷ more → more ≡ decimal m ++ 10 ∷ last → bytes ≡ numbers_text h → (m ≡ h.ring) × (last ≡ [])
 one_end bytes rest more last n k m h few less lm same is there then ring e =
     number_one m h.ring 10 last [] lm (omega (arith, is.ring.limit)) refl (sym ring ∙ behind_both bytes rest more n k h few less is there then e ∙ one_ring h same)
@@ -86,7 +86,7 @@ limits_there l is =
       | inr e ↦ subst (λ (x : LimitsRecord). limits_for x.subs x.keys ≡ Some x) (sym e) refl
     ]
 
--- three numbers stand there, and what is behind them
+-- three numbers, and what follows them
 pub record Three (bytes : List ℕ) (n k m : ℕ) (last : List ℕ) : Type 0 where
   pub rest : List ℕ
   pub more : List ℕ
@@ -100,7 +100,7 @@ pub no_second_ring : (bytes rest more : List ℕ) (n k : ℕ) → n < 2 ^ 64 →
 no_second_ring bytes rest more n k few less there then none h same is e =
     none h.ring (limits_behind h) (omega (arith, is.ring.limit)) (behind_both bytes rest more n k h few less is there then e ∙ two_ring h same)
 
--- the ring is the header's, and its limits stand behind it
+-- the ring is the header's, and its limits follow it
 two_limits : (bytes last : List ℕ) (n k m : ℕ) (h : Header) → Three bytes n k m last → m < 2 ^ 64 → h.format ≡ Two → IsHeader h → bytes ≡ numbers_text h → (m ≡ h.ring) × (last ≡ limits_behind h)
 two_limits bytes last n k m h t lm same is e =
     number_one m h.ring 32 last (limits_behind h) lm (omega (arith, is.ring.limit)) refl (sym t.third ∙ behind_both bytes t.rest t.more n k h t.first_few t.second_few is t.first t.second e ∙ two_ring h same)

@@ -1,4 +1,4 @@
--- A trace of a run is legal, and what is legal is a history of the machine.
+-- A written run is a legal trace, and a legal trace is a history of the machine.
 use Rattle.std.proofs.Common.{List, [], ◌∷◌, refl, sym, subst}
 use Rattle.std.specs.List.{All}
 use Rattle.ds_machine.specs.Machine.{Run}

@@ -69,7 +69,7 @@ pub marked_none : marked [] ≡ []
 unfolding marked_from
 marked_none = refl
 
--- the same by a line with its newline
+-- likewise for a line with its newline
 pub marked_more : (line more : List ℕ) → EndsLine line → marked (line ++ more) ≡ 60 ∷ 32 ∷ (line ++ marked more)
 marked_more line more e =
     ap (λ (l : List ℕ). marked l) (ap (λ (l : List ℕ). l ++ more) e.parts ∙ append_assoc e.front (10 ∷ []) more)
@@ -98,7 +98,7 @@ open_more text after rest whole line e written is =
     written ∙ ap (λ (l : List ℕ). text ++ 60 ∷ 32 ∷ l) (append-nil rest)
     ∙ ap (λ (l : List ℕ). text ++ l) (sym (marked_open rest line (λ none. eqb-false (length rest) 0 e (ap (λ (l : List ℕ). length l) none)))) ∙ is
 
--- the marks of a text that ends with a newline, and of what stands behind it
+-- the marks of a text that ends with a newline, and of what follows it
 from_append : (first : Bool) (a b : List ℕ) → marked_from first (a ++ 10 ∷ b) ≡ marked_from first (a ++ 10 ∷ []) ++ marked b
 unfolding marked_from
 from_append true [] b = refl

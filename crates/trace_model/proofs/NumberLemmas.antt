@@ -1,4 +1,4 @@
--- Numbers in a line, and the bytes behind them.
+-- Numbers in a line, and the bytes after them.
 use Rattle.std.proofs.Common.{◌≡◌, ◌≢◌, ℕ, ◌-◌, ◌<◌, ◌≤◌, ◌^◌, ◌==◌, Bool, true, false, not, List, [], ◌∷◌, ◌++◌, length, take, drop, codes, refl, sym, ap, ◌∙◌, arith}
 use Rattle.std.specs.Char.{is_ascii_digit}
 use Rattle.std.proofs.lemmas.Bool.{false≢true}
@@ -18,13 +18,13 @@ behind_byte b r s e = ap (drop 1) e
 pub number_begins : (bytes : List ℕ) (n stop : ℕ) (rest : List ℕ) → is_ascii_digit stop ≡ false → bytes ≡ decimal n ++ stop ∷ rest → Begins is_ascii_digit bytes (decimal n) (stop ∷ rest)
 number_begins bytes n stop rest h e = record { parts = e; ends = h }
 
--- a number and the byte behind it are read in one way
+-- a number and the byte after it have one reading
 pub number_one : (m n stop : ℕ) (r s : List ℕ) → m < 2 ^ 64 → n < 2 ^ 64 → is_ascii_digit stop ≡ false → decimal m ++ stop ∷ r ≡ decimal n ++ stop ∷ s → (m ≡ n) × (r ≡ s)
 number_one m n stop r s lm ln h e =
     let one = decimal_one (decimal m ++ stop ∷ r) m n (stop ∷ r) (stop ∷ s) lm ln (number_begins (decimal m ++ stop ∷ r) m stop r h refl) (number_begins (decimal m ++ stop ∷ r) n stop s h e) in
     (one.0, behind_byte stop r s one.1)
 
--- where a number stands that another byte follows, no number and this byte stand there
+-- if another byte follows a number, no number is followed by this byte
 pub none_behind : (bytes rest : List ℕ) (m stop : ℕ) → m < 2 ^ 64 → is_ascii_digit stop ≡ false → Begins is_ascii_digit bytes (decimal m) rest → ((s : List ℕ) → rest ≢ stop ∷ s) → (n : ℕ) (s : List ℕ) → n < 2 ^ 64 → bytes ≢ decimal n ++ stop ∷ s
 none_behind bytes rest m stop lm h begins none n s ln e = none s (decimal_one bytes m n rest (stop ∷ s) lm ln begins (number_begins bytes n stop s h e)).1
 
@@ -39,7 +39,7 @@ some_left (x ∷ xs) e same = omega (arith, ap length same)
 
 -- ---- a literal at the front
 
--- the line is the literal, and what stands behind it
+-- the line is the literal, and what follows it
 pub front_is : (line literal : List ℕ) → true ≡ starts_with ◌==◌ line literal → line ≡ literal ++ drop (length literal) line
 front_is line literal e = (starts_is Decides-eqb line literal true e).0 refl
 
@@ -50,7 +50,7 @@ marked_is line said r e f =
       λ h. f ∙ same.1 (slice_end 2 line ∙ ap (drop 2) h),
     )
 
--- `stopped D noroom`, read behind its first word
+-- `stopped D noroom`, read after its first word
 pub stopped_is_there : (line rest : List ℕ) (done : ℕ) → true ≡ starts_with ◌==◌ line (codes "< stopped ") → take (length line - 10) (drop 10 line) ≡ decimal done ++ 32 ∷ rest → rest ≡ codes "noroom\n" → line ≡ stopped_line done
 stopped_is_there line rest done e f g =
     front_is line (codes "< stopped ") e ∙ ap (λ (l : List ℕ). codes "< stopped " ++ l) (sym (slice_end 10 line) ∙ f ∙ ap (λ (l : List ℕ). decimal done ++ 32 ∷ l) g)

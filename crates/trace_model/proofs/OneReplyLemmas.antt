@@ -1,4 +1,4 @@
--- A reply has one text: what leaves another state is told apart by its first line.
+-- A reply has one text: replies of steps to different states differ in their first line.
 use Rattle.std.proofs.Common.{◌≡◌, ℕ, ◌+◌, ◌≤◌, Bool, true, false, cond, nat_le, List, [], ◌∷◌, length, Option, None, Some, is_some, Contains, inl, inr, refl, sym, ap, subst, ◌∙◌, arith}
 use Rattle.std.proofs.lemmas.Bool.{false≢true}
 use Rattle.std.proofs.lemmas.Option.{same_Some}
@@ -38,7 +38,7 @@ use Rattle.trace_model.proofs.TellLemmas.{first_lines_tell, offer_lines_tell}
 
 -- ---- a sweep of format 1
 
--- it wants no memory, gives nothing, and isn't a merge that was stopped
+-- it isn't out of memory, shows nothing, and isn't a merge that was stopped
 abbrev pub IsPlain : Reply → Type 0
 IsPlain reply = (room_wanted reply ≡ None) × (shown_by reply ≡ []) × (done_by reply ≡ 0)
 
@@ -122,7 +122,7 @@ reply_spelt One s t (Snapshot scope) reply traced small x = step_spelt One s t (
 reply_spelt One s t (Page scope after max) reply traced small x = step_spelt One s t (Page scope after max) reply traced small x
 reply_spelt One s t (Merge items) reply traced small x = step_spelt One s t (Merge items) reply traced small x
 
--- ---- what is asked
+-- ---- commands
 
 line_small : (c : ScriptCommand) (command : Command) → IsCommand c → store_command c ≡ Some command → IsSmall command
 line_small (lines.Offer i) command is e = subst IsSmall (same_Some (commands.Merge (i ∷ [])) command e) (omega arith)
@@ -142,7 +142,7 @@ module _ (format : Format) (limits : LimitsRecord) (command : Command) (s t u : 
       let one = steps_told format s t u command reply other x y (first_lines_tell limits reply other (reply_spelt format s t command reply traced small x) (reply_spelt format s u command other traced small y) h) in
       (ap (λ (r : Reply). reply_lines AsMerge r limits) one.0, one.1)
 
--- where memory is wanted for an offer, whichever way, its text is one, and nothing changed
+-- if memory runs out for an offer, however its reply says so, its text is one, and nothing changed
 pub offer_wants : (limits : LimitsRecord) (s t : State) (i : Item) (reply : Reply) → Step s (Merge (i ∷ [])) reply t → is_some (room_wanted reply) ≡ true → (reply_lines AsOffer reply limits ≡ reply_lines AsOffer (Refused refusals.NoRoom) limits) × (t ≡ s)
 offer_wants limits s t i reply step e = let one = one_item s t i reply step e in (by_reply reply e one.1, one.0)
   where

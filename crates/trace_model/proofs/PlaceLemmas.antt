@@ -52,7 +52,7 @@ begins_by front more whole n legal e = (more, n, subst (λ (l : List ℕ). IsLeg
 abbrev Only : List ℕ → (List ℕ → Type 0) → Type 0
 Only front Next = (more : List ℕ) (n : ℕ) → IsLegal (front ++ more) n → Next more
 
--- a line that stands there begins what may come
+-- a line that is there begins what may come
 wrong_by : (front : List ℕ) (Next May : List ℕ → Type 0) → Only front Next → ((line more : List ℕ) → IsUnbroken line → Next (with_newline line ++ more) → May (with_newline line)) → (line : List ℕ) (rest : List (List ℕ)) → IsUnbroken line → ¬ May (with_newline line) → Fails front (line ∷ rest)
 wrong_by front Next May only first line rest whole none begins =
     let one : front ++ joined (line ∷ []) ≡ front ++ with_newline line = ap (λ (l : List ℕ). front ++ l) (append-nil (with_newline line)) in
@@ -95,7 +95,7 @@ first_entry format limits s text some (f ∷ entries) last each l e =
 first_goes : (format : Format) (limits : LimitsRecord) (s : State) (text : List ℕ) → 0 < length text → MayComeBehind format limits s text → FirstEntry format limits s text
 first_goes format limits s text some g = first_entry format limits s text some g.0 g.1 g.2 g.3 g.4
 
--- ---- an entry for which memory is wanted is always legal
+-- ---- an entry for which memory runs out is always legal
 
 pub wants_step : (format : Format) (s : State) (command : Command) → StepOf format s command (Refused refusals.NoRoom) s
 wants_step Two s command = inl (inr (record { reply_is = refl; state_is = refl }))
@@ -122,7 +122,7 @@ asks_some format pass (Merge items) may = (commands.Merge items, refl)
 abbrev pub wanting : ℕ → Asked → TraceEntry
 wanting pass asked = record { pass = pass; asked = asked; reply = Refused refusals.NoRoom }
 
--- so each thing that may be asked is asked in a legal trace
+-- so a legal trace may have every command there
 legal_wanting : (front : List ℕ) (h : Header) (s : State) (count pass : ℕ) (asked : Asked) → IsBehind front h s count → pass ≤ 63 → MayAsk h.format pass asked → IsLegal (front ++ entry_text h.limits (wanting pass asked)) (suc count)
 legal_wanting front h s count pass asked b le may =
     let c = asks_some h.format pass asked may in
@@ -155,7 +155,7 @@ none_within front h s t count e part more b is x whole some p left n same legal 
     let g = b.only p n legal in
     none_whole h.format h.limits s t e p (left ++ more) b.traced is x (whole ∙ ap (λ (l : List ℕ). l ++ more) split ∙ append_assoc p left more) (omega (arith, some, length-append left more)) g.0 g.1 g.2 g.3 g.4
 
--- for which memory may be wanted
+-- if memory may run out for it
 none_wanting : (front : List ℕ) (h : Header) (s : State) (count pass : ℕ) (asked : Asked) (part more : List ℕ) → IsBehind front h s count → pass ≤ 63 → MayAsk h.format pass asked → entry_text h.limits (wanting pass asked) ≡ part ++ more → 0 < length more → NoneEnds front (front ++ part)
 none_wanting front h s count pass asked part more b le may whole some =
     let c = asks_some h.format pass asked may in
@@ -219,7 +219,7 @@ module _ (front : List ℕ) (h : Header) (s : State) (count pass n : ℕ) (items
     All-append (MayMerge h.format) items (replicate (n - length items) example) all (All-replicate (MayMerge h.format) (n - length items) example (example_may h.format)),
   )
 
-  -- what stands behind in that entry
+  -- what follows in that entry
   abbrev further : List ℕ
   further = flat_map plus_text (replicate (n - length items) example) ++ reply_text h.limits (wanting pass (Merge filled))
 
@@ -259,7 +259,7 @@ module _ (front : List ℕ) (h : Header) (s : State) (count pass n : ℕ) (items
 pub plus_places : PlusPlaces
 plus_places front h s count pass n items b le few less all = plus_place front h s count pass n items b le few less all
 
--- ---- behind what is asked
+-- ---- after a command
 
 not_empty : (text rest : List ℕ) → BeginsLine text → [] ≡ marked text ++ rest → ⊥
 not_empty text rest b e = omega (arith, ap length (e ∙ marked_starts text rest b))
@@ -272,7 +272,7 @@ first_line text rest line more b whole e =
     (lines_one (with_newline line) (60 ∷ 32 ∷ (b.front ++ 10 ∷ [])) more (marked b.rest ++ rest) ends
     (ends_after (60 ∷ 32 ∷ []) (b.front ++ 10 ∷ []) (without 10 (λ (x : ℕ). nat_lt 10 x) refl (60 ∷ 32 ∷ []) refl) last) (e ∙ marked_starts text rest b)).0
 
--- a reply comes, and what a trace goes on with behind it
+-- a reply comes, and how a trace continues after it
 pub record ReplyComes (format : Format) (limits : LimitsRecord) (s : State) (asked : Asked) (more : List ℕ) : Type 0 where
   pub command : Command
   pub asks : command_asked asked ≡ Some command

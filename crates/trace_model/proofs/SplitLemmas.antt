@@ -1,4 +1,4 @@
--- Where a byte first stands in a text, and what is a line at its front.
+-- The first place of a byte in a text, and the line at its front.
 use Rattle.std.proofs.Common.{◌≡◌, ◌≢◌, ℕ, suc, Bool, true, false, List, [], ◌∷◌, ◌++◌, get_or, drop, refl, sym, ap, ◌∙◌, arith, append_assoc}
 use Rattle.std.specs.List.{All, list_all}
 use Rattle.std.proofs.lemmas.Bool.{false≢true}
@@ -6,7 +6,7 @@ use Rattle.std.proofs.lemmas.List.Sums.{AllPass-from_list_all}
 use Rattle.line_io.specs.Lines.{EndsLine}
 use Rattle.ds_line.proofs.NewlineLemmas.{Unbroken, unbroken_one}
 
--- two texts without a byte, and what stands behind it
+-- two texts without a byte, and what follows it
 pub split_same : (stop : ℕ) (a b r s : List ℕ) → All (λ (x : ℕ). x ≢ stop) a → All (λ (x : ℕ). x ≢ stop) b → a ++ stop ∷ r ≡ b ++ stop ∷ s → (a ≡ b) × (r ≡ s)
 split_same stop [] [] r s na nb e = (refl, ap (drop 1) e)
 split_same stop [] (y ∷ b) r s na nb e = absurd (nb 0 0 (omega arith) (sym (ap (λ (l : List ℕ). get_or l 0 0) e)))
@@ -16,7 +16,7 @@ split_same stop (x ∷ a) (y ∷ b) r s na nb e =
     let head : x ≡ y = ap (λ (l : List ℕ). get_or l 0 0) e in
     (ap (λ (z : ℕ). z ∷ a) head ∙ ap (λ (l : List ℕ). y ∷ l) one.0, one.1)
 
--- bytes of a sort that the byte isn't of are without it
+-- bytes of a sort that doesn't have the byte are without it
 pub without : (stop : ℕ) (run : ℕ → Bool) → run stop ≡ false → (bytes : List ℕ) → list_all run bytes ≡ true → All (λ (x : ℕ). x ≢ stop) bytes
 without stop run not_one bytes all k d lt = λ same. false≢true (sym not_one ∙ ap run (sym same) ∙ AllPass-from_list_all run bytes all k d lt)
 

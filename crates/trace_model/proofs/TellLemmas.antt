@@ -1,4 +1,4 @@
--- The first line of a reply tells where memory was wanted.
+-- The first line of a reply determines whether memory ran out.
 use Rattle.std.proofs.Common.{◌≡◌, ◌≢◌, ℕ, ◌<◌, ◌≤◌, ◌^◌, ◌==◌, if◌then◌else◌, Bool, true, false, cond, nat_lt, List, [], ◌∷◌, ◌++◌, length, get_or, drop, codes, Option, None, Some, is_some, refl, sym, ap, subst, ◌∙◌, arith, append_assoc}
 use Rattle.std.specs.List.{All, list_all, flat_map}
 use Rattle.std.specs.Char.{is_ascii_digit}
@@ -72,7 +72,7 @@ item_apart (Changed c) word more behind is none letter other e =
 
 -- ---- what begins a reply
 
--- the bytes of the two lines for want of memory, with what stands behind them
+-- the bytes of the two lines for out of memory, with what follows them
 abbrev refused_front : List ℕ → List ℕ
 refused_front rest = codes "refused noroom\n" ++ rest
 
@@ -90,13 +90,13 @@ digits_low (b ∷ ds) r some all = digit_low b (and_parts (is_ascii_digit b) (li
 number_low : (n : ℕ) (r : List ℕ) → n < 2 ^ 64 → get_or (decimal n ++ r) 0 0 < 97
 number_low n r few = digits_low (decimal n) r (decimal_nonempty n few) (digits_decimal own n few)
 
--- where they stand at the front of a reply, no item is in front of them
+-- if they are at the front of a reply, no item is before them
 behind_items : (items : List Item) (word more behind : List ℕ) → AreItems items → All (λ (x : ℕ). x ≢ 32) word → (97 ≤ get_or (word ++ 32 ∷ behind) 0 0) → (97 ≤ get_or behind 0 0 → get_or behind 0 0 ≡ 110) → flat_map item_spelling items ++ more ≡ word ++ 32 ∷ behind → more ≡ word ++ 32 ∷ behind
 behind_items [] word more behind are none letter other e = e
 behind_items (i ∷ items) word more behind are none letter other e =
     absurd (item_apart i word (flat_map item_spelling items ++ more) behind (are i (Contains-head i items)) none letter other (sym (append_assoc (item_spelling i) (flat_map item_spelling items) more) ∙ e))
 
--- the words of a refusal that are `noroom` are want of memory's
+-- a refusal whose words are `noroom` is out of memory's
 fault_told : (fault : Refusal) (z rest : List ℕ) → (refusal_words fault ++ 10 ∷ []) ++ z ≡ codes "noroom\n" ++ rest → is_noroom fault ≡ true
 fault_told refusals.NoRoom z rest e = refl
 fault_told refusals.NoCaller z rest e = absurd (omega (arith, ap (λ (l : List ℕ). get_or l 2 0) e))
@@ -125,7 +125,7 @@ fault_told refusals.BadFirst z rest e = absurd (omega (arith, ap (λ (l : List �
 refused_told : (fault : Refusal) (z rest : List ℕ) → with_newline (refused fault) ++ z ≡ refused_front rest → is_noroom fault ≡ true
 refused_told fault z rest e = fault_told fault z rest (ap (drop 8) e)
 
--- `stopped`, a number, some words, and what stands behind
+-- `stopped`, a number, some words, and what follows
 stopped_is : (done : ℕ) (words z : List ℕ) → with_newline (codes "stopped " ++ (decimal done ++ 32 ∷ words)) ++ z ≡ codes "stopped " ++ (decimal done ++ 32 ∷ ((words ++ 10 ∷ []) ++ z))
 stopped_is done words z =
     ap (λ (l : List ℕ). codes "stopped " ++ (l ++ z)) (append_assoc (decimal done) (32 ∷ words) (10 ∷ [])) ∙ ap (λ (l : List ℕ). codes "stopped " ++ l) (append_assoc (decimal done) (32 ∷ (words ++ 10 ∷ [])) z)
@@ -154,7 +154,7 @@ merged_other AsMerge done taken stale z rest e = omega (arith, ap (λ (l : List 
 
 -- ---- which replies begin so
 
--- whether memory was wanted, as the wording tells it
+-- whether memory ran out, as the wording shows it
 abbrev Told : Wording → Reply → Type 0
 Told AsOffer reply = is_some (room_wanted reply) ≡ true
 Told AsMerge reply = room_wanted reply ≡ Some None
@@ -210,7 +210,7 @@ stopped_by limits reply d rest is few e =
     let low : get_or behind 0 0 < 97 = number_low d (32 ∷ (codes "noroom\n" ++ rest)) few in
     words_stopped d reply last rest few is.few (behind_items (shown_by reply) (codes "stopped") (with_newline (reply_words AsMerge reply) ++ last) behind is.items (above_space (codes "stopped") refl) (omega arith) (λ l. absurd (omega (arith, l, low))) e)
 
--- ---- what is written where memory was wanted
+-- ---- what is written if memory ran out
 
 pub noroom_is : (fault : Refusal) → is_noroom fault ≡ true → fault ≡ refusals.NoRoom
 noroom_is refusals.NoRoom e = refl

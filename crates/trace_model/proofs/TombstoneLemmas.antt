@@ -87,7 +87,7 @@ tombstones_are : (owner : List ℕ) (generation : ℕ) (cs : List ChangeRecord) 
 tombstones_are owner generation [] = refl
 tombstones_are owner generation (c ∷ cs) = ap (λ (l : List Item). tombstone owner generation c ∷ l) (tombstones_are owner generation cs)
 
--- what the test says
+-- what the test means
 pub record IsSweptOf (owner : List ℕ) (generation : ℕ) (c : ChangeRecord) : Type 0 where
   pub kind : is_label c.key.kind ≡ false
   pub put : is_some (value_of c) ≡ true
@@ -135,7 +135,7 @@ older_version v w le lt = elim (split v.epoch w.epoch le) [
         by_test true e = inr (eqb-true m n e)
         by_test false e = let other : m ≢ n = eqb-false m n e in inl (omega (arith, l, other))
 
--- each tombstone takes the place of what it is over
+-- each tombstone replaces the entry that it ends
 takes : (s : State) (owner : List ℕ) (generation : ℕ) → IsReached s → AreItems s.feed.accepted → (c : ChangeRecord) → Contains (gone_in s owner generation) c → TakesHeld s c
 takes s owner generation r items c h =
     let from = Contains-from_map (gone_of owner generation) (swept_in s owner generation) c h in

@@ -55,7 +55,7 @@ pub asked_proper : (format : Format) (pass : ℕ) (asked : Asked) (command : Com
 asked_proper format pass (askeds.Line c) command may e = line_proper c command may.0 e
 asked_proper format pass (askeds.Merge items) command may e = subst IsProper (same_Some (Merge items) command e) (λ i h. (All-contains (MayMerge format) items i may.1 h).0)
 
--- an entry of format 1 brings no floor, but for a sweep, which is another thing there
+-- an entry of format 1 brings no floor, except a sweep, which differs there
 abbrev BringsNoFloor : Command → Type 0
 BringsNoFloor (Sweep caller owner generation) = Unit {0}
 BringsNoFloor (Merge items) = (f : Floor) → Contains items (Floored f) → ⊥
@@ -105,7 +105,7 @@ no_floor_here c f other h = other f (sym (Contains-single c (Floored f) h))
 run_stays : (s t : State) (command : Command) (reply : Reply) → IsReached s → s.feed.incarnation < 2 ^ 64 → Step s command reply t → t.feed.incarnation < 2 ^ 64
 run_stays s t command reply r few step = subst (λ (n : ℕ). n < 2 ^ 64) (sym (steps_go_on s t command reply r step).incarnation) few
 
--- items that are free one after the other leave a state within the limits, however many they are
+-- items that are free in order leave a state within the limits, however many they are
 free_within : (s : State) (items : List Item) → IsWithin s → AreFree s items → IsWithin (takes_effect s items)
 free_within s [] w free = subst IsWithin (ap (with_accepted s) (sym (append-nil s.feed.accepted))) w
 free_within s (i ∷ items) w free =

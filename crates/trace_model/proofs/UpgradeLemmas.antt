@@ -52,7 +52,7 @@ free_step s part few free =
 pub merge_leads : (s : State) (pass : ℕ) (part : List Item) → IsPart part → AreFree s part → EntryLeads Two s (merge_entry s pass part) (takes_effect s part)
 merge_leads s pass part is free = (commands.Merge part, refl, free_step s part is.few free)
 
--- one Merge behind the other they lead to where all items took effect
+-- Merges in order lead to where all items took effect
 pub merges_lead : (s : State) (pass : ℕ) (parts : List (List Item)) → All IsPart parts → AreFree s (flat_map (λ (part : List Item). part) parts) → AllLead Two s (map (merge_entry s pass) parts) (takes_effect s (flat_map (λ (part : List Item). part) parts))
 merges_lead s pass [] are free = ap (with_accepted s) (append-nil s.feed.accepted)
 merges_lead s pass (part ∷ parts) are free =
@@ -64,7 +64,7 @@ merges_lead s pass (part ∷ parts) are free =
       subst (λ (t : State). AllLead Two (takes_effect s part) (map (merge_entry s pass) parts) t) (ap (with_accepted s) (append_assoc s.feed.accepted part rest)) more,
     )
 
--- ---- all other entries stay as they are
+-- ---- all other entries are unchanged
 
 may_merge_two : (items : List Item) → All (MayMerge One) items → All (MayMerge Two) items
 may_merge_two items all k d lt = ((all k d lt).0, tt)
@@ -80,7 +80,7 @@ may_two pass (Merge items) may = (may.0, may_merge_two items may.1)
 pub entry_two : (e : TraceEntry) → IsEntry One e → IsEntry Two e
 entry_two e is = record { pass = is.pass; asked = may_two e.pass e.asked is.asked }
 
--- the command is no sweep
+-- the command isn't a sweep
 abbrev IsNoSweep : ScriptCommand → Type 0
 IsNoSweep (lines.Store (commands.Sweep caller owner generation)) = ⊥
 IsNoSweep c = Unit {0}
@@ -101,7 +101,7 @@ merge_two items e s t is x =
     let command : x.0 ≡ commands.Merge items = same_Some x.0 (commands.Merge items) (sym x.1 ∙ ap (λ (a : Asked). command_asked a) is) in
     (x.0, x.1, subst (λ (k : Command). Step s k e.reply t) (sym command) (is_merge One s t items e.reply (subst (λ (k : Command). StepOf One s k e.reply t) command x.2)))
 
--- what an entry becomes is entries of format 2 that lead to the same state
+-- the entries for an entry are entries of format 2 that lead to the same state
 pub record LeadsAlso (s t : State) (new : List TraceEntry) : Type 0 where
   pub each : All (IsEntry Two) new
   pub leads : AllLead Two s new t
@@ -199,7 +199,7 @@ upgraded_is_legal h old new last text one t b =
     let also = become_two (opened_by h) last old new traced each b in
     record { header = header_two h one t.header; each = also.each; history = also.leads; written = refl }
 
--- what is written of one entry more
+-- the text of one more entry
 pub upgraded_more : (h : Header) (new more : List TraceEntry) → trace_text (upgraded h) new ++ flat_map (entry_text h.limits) more ≡ trace_text (upgraded h) (new ++ more)
 upgraded_more h new more =
     append_assoc (header_text (upgraded h)) (flat_map (entry_text h.limits) new) (flat_map (entry_text h.limits) more)

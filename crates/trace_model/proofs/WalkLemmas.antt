@@ -1,4 +1,4 @@
--- Behind an entry: what may come there, and why a `>` line that is none of an entry's is the first wrong one.
+-- After an entry: what may follow, and why a `>` line that isn't an entry's is the first wrong one.
 use Rattle.std.proofs.Common.{◌≡◌, ◌≢◌, ℕ, ◌<◌, ◌≤◌, ◌^◌, List, [], ◌∷◌, ◌++◌, length, get_or, codes, nat_lt, inl, refl, sym, ap, subst, ◌∙◌, arith, append_assoc, append-nil, length-append}
 use Rattle.std.specs.List.{All, flat_map}
 use Rattle.std.specs.Fmt.{decimal}
@@ -62,12 +62,12 @@ merge_short : (pass count : ℕ) → pass ≤ 63 → count ≤ 256 → length (p
 merge_short pass count le few =
     omega (arith, le, few, length-decimal-le_succ pass (omega (arith, le)), length-decimal-le_succ count (omega (arith, few)), length-append (decimal pass) (32 ∷ merge_text count), length-append (decimal count) (10 ∷ []))
 
--- what the first line of an entry asks
+-- the first line of a command
 abbrev pub head_of : Asked → Head
 head_of (askeds.Line c) = Line c
 head_of (askeds.Merge items) = Merge (length items)
 
--- what stands behind that line
+-- what follows that line
 abbrev pub behind_head : LimitsRecord → TraceEntry → Asked → List ℕ
 behind_head limits e (askeds.Line c) = reply_text limits e
 behind_head limits e (askeds.Merge items) = flat_map plus_text items ++ reply_text limits e
@@ -80,7 +80,7 @@ pub head_is : (format : Format) (pass : ℕ) (asked : Asked) → pass ≤ 63 →
 head_is format pass (askeds.Line c) le may = ((le, (may.0, may.1, may.2), refl), pass_line pass (texts (command_parts c)) le (command_ends c may.0), may.3)
 head_is format pass (askeds.Merge items) le may = ((le, may.0, refl), pass_line pass (merge_text (length items)) le (merge_line (length items) may.0), merge_short pass (length items) le may.0)
 
--- ---- behind an entry
+-- ---- after an entry
 
 -- the front begins a legal trace: itself
 pub behind_begins : (front : List ℕ) (h : Header) (s : State) (count : ℕ) → IsBehind front h s count → MayBegin front
@@ -99,7 +99,7 @@ first_by limits (e ∷ entries) b more text =
 goes_first : (format : Format) (limits : LimitsRecord) (s : State) (b : ℕ) (more : List ℕ) → MayComeBehind format limits s (b ∷ more) → b ≡ 62
 goes_first format limits s b more g = first_by limits g.0 b more g.4
 
--- no reply line has to stand there
+-- no reply line may follow
 pub no_reply : NoReplyBehindEntries
 no_reply front h s count b w =
     let goes = b.only (60 ∷ w.0) w.1 (subst (λ (t : List ℕ). IsLegal t w.1) (append_assoc front (60 ∷ []) w.0) w.2) in
@@ -122,7 +122,7 @@ head_by format limits (e ∷ entries) line more each ends text =
 goes_head : (format : Format) (limits : LimitsRecord) (s : State) (line more : List ℕ) → EndsLine line → MayComeBehind format limits s (line ++ more) → HasHead format line
 goes_head format limits s line more ends g = head_by format limits g.0 line more g.2 ends g.4
 
--- a line that is too long, or no first line of an entry, is wrong there
+-- a line that is too long, or isn't the first line of an entry, is wrong there
 pub bad_head : BadHeadsAreWrong
 bad_head front line rest h s count b whole none begins =
     let e : EndsLine (with_newline line) = record { front = line; parts = refl; none = whole } in
@@ -177,7 +177,7 @@ opened_traced h is =
       incarnation = is.incarnation;
     }
 
--- a header alone is a legal trace, and what begins with it goes on as from the state that it opens
+-- a header alone is a legal trace, and what begins with it continues from the state that it opens
 pub header_behind : HeadersBegin
 header_behind h is =
     record {
@@ -192,7 +192,7 @@ header_behind h is =
           subst (λ (k : Header). MayComeBehind k.format k.limits (opened_by k) more) (sym same) (legal.1, legal.2, t.each, t.history, one.1);
     }
 
--- a line that is no header is wrong there
+-- a line that isn't a header is wrong there
 pub bad_header : BadHeadersAreWrong
 bad_header line rest whole none begins =
     let e : EndsLine (with_newline line) = record { front = line; parts = refl; none = whole } in

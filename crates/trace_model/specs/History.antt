@@ -1,4 +1,5 @@
--- What a legal trace is to the machine: a history of it. In format 1 the steps are the same but for sweeps, as `StepOf` says.
+-- A legal trace as a history of the machine. In format 1 the steps are the machine's except for sweeps, as `StepOf`
+-- says.
 use Rattle.std.specs.Prelude.{◌≡◌, ℕ, List, [], ◌∷◌, map, Some}
 use Rattle.std.specs.List.{All}
 use Rattle.ds_machine.specs.Machine.{Run}
@@ -10,24 +11,25 @@ use Rattle.trace_model.specs.declared.header.Header.{Header}
 use Rattle.trace_model.specs.Legal.{IsTrace, opened_by}
 use Rattle.trace_model.specs.Text.{TraceEntry, IsEntry, IsHeader, command_asked, trace_text}
 
--- the entries ask these commands, one each
+-- Whether the entries have these commands, one each.
 abbrev pub AskEach : List TraceEntry → List Command → Type 0
 AskEach [] [] = Unit {0}
 AskEach (e ∷ entries) (command ∷ commands) = (command_asked e.asked ≡ Some command) × AskEach entries commands
 AskEach [] (command ∷ commands) = ⊥
 AskEach (e ∷ entries) [] = ⊥
 
--- and have these replies
+-- The replies of the entries.
 abbrev pub replies_in : List TraceEntry → List Reply
 replies_in entries = map (λ (e : TraceEntry). e.reply) entries
 
--- A trace of a run is legal: whatever the machine does from the state that a header opens, written down, is a legal trace.
+-- A written run is a legal trace, if its machine begins in the state that the header opens.
 abbrev pub RunIsLegal : Type 0
 RunIsLegal =
     (h : Header) (entries : List TraceEntry) (commands : List Command) (last : State) → h.format ≡ Two → IsHeader h → All (IsEntry Two) entries →
     AskEach entries commands → Run (opened_by h) commands (replies_in entries) last → IsTrace (trace_text h entries) h entries last
 
--- What is legal is a history of the machine: the commands that it asks, with the replies that it has, are a run from that state.
+-- A legal trace is a history: its commands, with its replies, are a run of the machine from the state that its header
+-- opens.
 abbrev pub LegalIsHistory : Type 0
 LegalIsHistory =
     (text : List ℕ) (h : Header) (entries : List TraceEntry) (last : State) → h.format ≡ Two → IsTrace text h entries last →

@@ -1,4 +1,4 @@
--- A reply can be told by its first line, and so it has one text.
+-- The first line of a reply determines its text.
 use Rattle.std.specs.Prelude.{◌≡◌, ℕ, ◌<◌, ◌^◌, List, ◌++◌, Some, is_some}
 use Rattle.ds_held.specs.Limits.{LimitsRecord}
 use Rattle.line_io.specs.Lines.{EndsLine}
@@ -19,7 +19,7 @@ use Rattle.trace_model.specs.declared.header.Format.TheVariants.{One, Two}
 use Rattle.trace_model.specs.Legal.{StepOf}
 use Rattle.trace_model.specs.Text.{MayAsk, command_asked, worded_as}
 
--- the two texts begin with one line
+-- Whether two texts begin with the same line.
 pub record HaveOneFirst (a b : List ℕ) : Type 0 where
   pub line : List ℕ
   pub ends : EndsLine line
@@ -28,12 +28,13 @@ pub record HaveOneFirst (a b : List ℕ) : Type 0 where
   pub a_is : a ≡ line ++ left
   pub b_is : b ≡ line ++ right
 
--- what a reply of a store is: it gives items, and its counts are small
+-- Whether a reply's items are items and its count is below 2^64.
 pub record IsSpelt (reply : Reply) : Type 0 where
   pub items : AreItems (shown_by reply)
   pub few : done_by reply < 2 ^ 64
 
--- The first line of a reply tells where memory was wanted. An offer's tells only whether it was.
+-- The first line of a reply determines whether memory ran out, and after how many items; an offer's, only whether it
+-- did.
 abbrev pub FirstLinesTell : Type 0
 FirstLinesTell = (limits : LimitsRecord) (reply other : Reply) → IsSpelt reply → IsSpelt other → HaveOneFirst (reply_lines AsMerge reply limits) (reply_lines AsMerge other limits) → room_wanted reply ≡ room_wanted other
 
@@ -42,13 +43,13 @@ OfferLinesTell = (limits : LimitsRecord) (reply other : Reply) → IsSpelt reply
 
 -- ---- steps of a trace
 
--- in format 1 no floor is ever accepted
+-- Whether no floor was ever accepted, in format 1.
 abbrev pub KeepsFloors : Format → State → Type 0
 KeepsFloors One s = HasNoFloor s
 KeepsFloors Two s = Unit {0}
 
--- A state that a trace leads to: it is one that the machine comes to, within its limits, and all that was accepted are items of the
--- format.
+-- Whether a trace may lead to the state: the machine reaches it, within its limits, and everything accepted is an item
+-- of the format.
 pub record IsTraced (format : Format) (s : State) : Type 0 where
   pub reached : IsReached s
   pub items : AreItems s.feed.accepted
@@ -56,8 +57,8 @@ pub record IsTraced (format : Format) (s : State) : Type 0 where
   pub within : IsWithin s
   pub incarnation : s.feed.incarnation < 2 ^ 64
 
--- Two steps from one such state by what one entry asks: where the first lines of their replies are one, the replies have one text,
--- and one state is left.
+-- Two steps from one such state by one entry's command, with replies that begin with the same line, have replies of the
+-- same text and lead to the same state.
 abbrev pub ReplyIsOne : Type 0
 ReplyIsOne =
     (format : Format) (limits : LimitsRecord) (pass : ℕ) (asked : Asked) (command : Command) (s t u : State) (reply other : Reply) →
@@ -65,7 +66,7 @@ ReplyIsOne =
     HaveOneFirst (reply_lines (worded_as asked) reply limits) (reply_lines (worded_as asked) other limits) →
     (reply_lines (worded_as asked) reply limits ≡ reply_lines (worded_as asked) other limits) × (t ≡ u)
 
--- What an entry asks leads from such a state to such a state.
+-- A step from such a state, by an entry's command, leads to such a state.
 abbrev pub TracedStays : Type 0
 TracedStays =
     (format : Format) (pass : ℕ) (asked : Asked) (command : Command) (s t : State) (reply : Reply) →

@@ -1,4 +1,4 @@
--- A sweep of format 1: it leaves tombstones.
+-- A sweep of format 1, which leaves tombstones.
 use Rattle.std.specs.Prelude.{◌≡◌, ℕ, ◌+◌, ◌≤◌, Bool, not, ◌&&◌, nat_le, is_some, List, length, map, filter, cond}
 use Rattle.ds_names.specs.Endpoint.{EndpointRecord, is_rs}
 use Rattle.ds_entry.specs.Change.{ChangeRecord, change_of}
@@ -20,19 +20,20 @@ use Rattle.ds_replica.specs.CaughtUp.{AreItems}
 use Rattle.ds_machine.specs.Batches.{AreFree}
 use Rattle.ds_machine.specs.Taken.{HasNoFloor, all_taken}
 
--- a live entry of the owner, of at most this generation, that is no label
+-- Whether the change is a live entry of the owner, not a label, of at most this generation.
 abbrev pub is_swept : List ℕ → ℕ → ChangeRecord → Bool
 is_swept owner generation c = not (is_label c.key.kind) && is_some (value_of c) && is_same_name c.owner owner && nat_le c.version.epoch generation
 
--- the tombstone that is left for it: of the generation, under the last number, which no put has
+-- The tombstone that replaces it: of the swept generation, with the last number, which no put has.
 abbrev pub tombstone : List ℕ → ℕ → ChangeRecord → Item
 tombstone owner generation c = Changed (change_of c.key owner (record { epoch = generation; seq = last_seq }) Gone)
 
--- all tombstones that a sweep leaves, in key order
+-- All tombstones that a sweep leaves, in key order.
 abbrev pub tombstones : List Item → List ℕ → ℕ → List Item
 tombstones held owner generation = map (tombstone owner generation) (filter (is_swept owner generation) (changes_in held))
 
--- they take effect, if their positions are left; RS alone may sweep
+-- The reply and the state after a sweep: if the caller is RS and positions for them are left, all tombstones take
+-- effect.
 abbrev pub older_sweep : State → EndpointRecord → List ℕ → ℕ → Reply × State
 older_sweep s caller owner generation =
     let gone = tombstones (held s) owner generation in
@@ -40,13 +41,13 @@ older_sweep s caller owner generation =
     (cond (nat_le (next_position s + length gone) last_place) (Swept (length gone) (owed s gone), takes_effect s gone) (Refused Worn, s))
     (Refused NotAllowed, s)
 
--- Where no floor is held, nothing stands against the tombstones, one after the other, if their positions are left,
+-- If no floor is held and positions are left, nothing refuses any of the tombstones, in order.
 abbrev pub TombstonesAreFree : Type 0
 TombstonesAreFree =
     (s : State) (owner : List ℕ) (generation : ℕ) → IsReached s → AreItems s.feed.accepted → HasNoFloor s → next_position s + length (tombstones (held s) owner generation) ≤ last_place →
     AreFree s (tombstones (held s) owner generation)
 
--- and so a merge takes all of them.
+-- So a Merge takes all of them.
 abbrev pub TombstonesAreTaken : Type 0
 TombstonesAreTaken =
     (s : State) (owner : List ℕ) (generation : ℕ) → IsReached s → AreItems s.feed.accepted → HasNoFloor s → next_position s + length (tombstones (held s) owner generation) ≤ last_place →

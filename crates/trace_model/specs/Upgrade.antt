@@ -1,4 +1,4 @@
--- What a trace of format 1 is in format 2.
+-- A trace of format 1 written in format 2.
 use Rattle.std.specs.Prelude.{◌≡◌, ℕ, ◌<◌, ◌≤◌, ◌⊎◌, List, [], ◌∷◌, ◌++◌, length, map}
 use Rattle.std.specs.List.{All, flat_map}
 use Rattle.ds_entry.specs.declared.item.Item.{Item}
@@ -18,46 +18,46 @@ use Rattle.trace_model.specs.Sweep.{tombstones}
 use Rattle.trace_model.specs.Text.{TraceEntry, trace_text}
 use Rattle.trace_model.specs.Verdict.{IsLegal}
 
--- the header in format 2, which writes the limits of format 1: `64 1024`
+-- The header in format 2, with the limits of format 1: `64 1024`.
 abbrev pub upgraded : Header → Header
 upgraded h = record h { format = Two }
 
--- an entry that merges some tombstones, all of which take effect
+-- An entry that merges some tombstones, all of which take effect.
 abbrev pub merge_entry : State → ℕ → List Item → TraceEntry
 merge_entry s pass part = record { pass = pass; asked = Merge part; reply = Merged (length part) (length part) 0 (owed s part) }
 
--- a part of a list that is cut up into Merges
+-- Whether the list is one part of a longer one that is split into Merges.
 pub record IsPart (part : List Item) : Type 0 where
   pub some : 0 < length part
   pub few : length part ≤ most_items
 
--- The entries merge the tombstones, in their order. What one owes doesn't hang on those before it.
+-- Whether the entries merge the tombstones, in their order. The mask of each doesn't depend on the entries before it.
 abbrev pub MergeInParts : State → ℕ → List Item → List TraceEntry → Type 0
 MergeInParts s pass gone entries = (parts : List (List Item)) × All IsPart parts × (flat_map (λ (part : List Item). part) parts ≡ gone) × (entries ≡ map (merge_entry s pass) parts)
 
--- what a sweep becomes: Merges of its tombstones where it is answered with their count, and nothing where it is refused
+-- The entries for a sweep: Merges of its tombstones if it is answered with their count, none if it is refused.
 abbrev pub SweepBecomes : State → ℕ → List ℕ → ℕ → Reply → List TraceEntry → Type 0
 SweepBecomes s pass owner generation (Swept count owed) entries = MergeInParts s pass (tombstones (held s) owner generation) entries
 SweepBecomes s pass owner generation _ entries = entries ≡ []
 
--- what an entry becomes, by what it asks: but for sweeps, itself
+-- The entries for one entry, by its command: itself, unless it is a sweep.
 abbrev pub BecomesAs : State → TraceEntry → Asked → List TraceEntry → Type 0
 BecomesAs s e (Line (Store (Sweep caller owner generation))) entries = SweepBecomes s e.pass owner generation e.reply entries
 BecomesAs s e _ entries = entries ≡ e ∷ []
 
--- what entries become, one behind the other, that lead from the one state to the other
+-- The entries for a list of entries that lead from `old` to `last`.
 abbrev pub Become : State → List TraceEntry → State → List TraceEntry → Type 0
 Become old [] last new = (last ≡ old) × (new ≡ [])
 Become old (e ∷ entries) last new = (mid : State) × (first rest : List TraceEntry) × EntryLeads One old e mid × BecomesAs old e e.asked first × Become mid entries last rest × (new ≡ first ++ rest)
 
--- What a legal trace of format 1 becomes is a legal trace of format 2 that leads to the same state.
+-- The upgrade of a legal trace of format 1 is a legal trace of format 2 that leads to the same state.
 abbrev pub UpgradedIsLegal : Type 0
 UpgradedIsLegal =
     (h : Header) (old new : List TraceEntry) (last : State) (text : List ℕ) → h.format ≡ One → IsTrace text h old last → Become (opened_by h) old last new →
     IsTrace (trace_text (upgraded h) new) (upgraded h) new last
 
--- The output is what the text is in format 2, with so many entries: a legal trace that leads to the same state, and so to the same
--- accepted items, stamps and shown items.
+-- Whether the output is the text in format 2, with `count` entries: a legal trace that leads to the same state, so to
+-- the same accepted items, stamps and shown items.
 pub record IsUpgraded (text output : List ℕ) (count : ℕ) : Type 0 where
   pub h : Header
   pub old : List TraceEntry
@@ -69,19 +69,19 @@ pub record IsUpgraded (text output : List ℕ) (count : ℕ) : Type 0 where
   pub to : IsTrace output (upgraded h) new last
   pub counted : length new ≡ count
 
--- What was written where the writer failed: nothing, or what the first lines are in format 2, at whose end something may be missing.
+-- The output when the writer failed: nothing, or a front of what the first lines are in format 2.
 abbrev pub IsUpgradedInPart : List ℕ → List ℕ → Type 0
 IsUpgradedInPart bytes output = (output ≡ []) ⊎ ((front rest : List (List ℕ)) × (left : List ℕ) × (count : ℕ) × HasLines bytes (front ++ rest) × IsUpgraded (joined front) (output ++ left) count)
 
--- what the lines are in format 2: nothing, where there are none
+-- The lines in format 2; no lines are nothing.
 abbrev pub IsUpgradeOf : List (List ℕ) → List ℕ → Type 0
 IsUpgradeOf lines output = ((lines ≡ []) × (output ≡ [])) ⊎ ((count : ℕ) × IsUpgraded (joined lines) output count)
 
--- What was written where nothing more was read, or no memory was left: what some first lines are, whole entries all of them.
+-- The output when reading failed or memory ran out: some first lines in format 2, in whole entries.
 abbrev pub IsUpgradedSoFar : List ℕ → List ℕ → Type 0
 IsUpgradedSoFar bytes output = (front rest : List (List ℕ)) × HasLines bytes (front ++ rest) × IsUpgradeOf front output
 
--- What was written before a wrong line: all entries before the one that it is in, and nothing else. No more of the first lines are a
+-- The output before a wrong line: all entries before the one with that line. No front of the lines beyond these is a
 -- legal trace.
 pub record IsUpgradedBefore (bytes output : List ℕ) : Type 0 where
   pub front : List (List ℕ)

@@ -1,4 +1,4 @@
--- What a text is as a trace: legal, or wrong from a line on.
+-- The verdict on a text: a legal trace, or the first wrong line.
 use Rattle.std.specs.Prelude.{◌≡◌, ℕ, suc, List, [], ◌∷◌, ◌++◌, length}
 use Rattle.line_io.specs.Lines.{HasLines, joined}
 use Rattle.ds_machine.specs.State.{State}
@@ -8,24 +8,24 @@ use Rattle.trace_model.specs.declared.verdict.Verdict.TheVariants.{Legal, Illega
 use Rattle.trace_model.specs.Text.{TraceEntry}
 use Rattle.trace_model.specs.Legal.{IsTrace}
 
--- it is a legal trace of so many entries
+-- Whether the text is a legal trace of `count` entries.
 abbrev pub IsLegal : List ℕ → ℕ → Type 0
 IsLegal text count = (h : Header) × (entries : List TraceEntry) × (last : State) × IsTrace text h entries last × (length entries ≡ count)
 
--- some legal trace begins with it
+-- Whether some legal trace begins with the text.
 abbrev pub MayBegin : List ℕ → Type 0
 MayBegin front = (more : List ℕ) × (count : ℕ) × IsLegal (front ++ more) count
 
--- a reply line has to stand behind it: some legal trace goes on with `<` there
+-- Whether a reply line must follow: some legal trace continues with `<`.
 abbrev pub WantsReply : List ℕ → Type 0
 WantsReply front = MayBegin (front ++ 60 ∷ [])
 
--- no legal trace goes on with the first of these lines; or there is none, and no legal trace ends there
+-- Whether no legal trace continues with the first of these lines; if there is none, whether no legal trace ends here.
 abbrev pub Fails : List ℕ → List (List ℕ) → Type 0
 Fails front [] = (count : ℕ) → ¬ IsLegal front count
 Fails front (line ∷ lines) = ¬ MayBegin (front ++ joined (line ∷ []))
 
--- The line of this number is the first that no legal trace has in its place. It stands behind `front`.
+-- Whether this line is the first that no legal trace has in its place. `front` is the lines before it.
 pub record IsWrongAt (bytes : List ℕ) (number : ℕ) (front : List ℕ) : Type 0 where
   pub before : List (List ℕ)
   pub rest : List (List ℕ)
@@ -35,7 +35,7 @@ pub record IsWrongAt (bytes : List ℕ) (number : ℕ) (front : List ℕ) : Type
   pub begins : MayBegin front
   pub fails : Fails front rest
 
--- The verdict on the bytes. Where the newline of the last line is missing, it counts as there.
+-- The verdict on the bytes. A missing last newline is read as present.
 abbrev pub IsVerdict : List ℕ → Verdict → Type 0
 IsVerdict bytes (Legal count) = (lines : List (List ℕ)) × HasLines bytes lines × IsLegal (joined lines) count
 IsVerdict bytes (IllegalAt number) = (front : List ℕ) × IsWrongAt bytes number front × WantsReply front

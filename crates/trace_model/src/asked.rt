@@ -1,4 +1,4 @@
-//! What an entry of a trace asks.
+//! The command of an entry of a trace.
 
 ghost use Rattle.std.specs.Prelude.{◌≡◌, ◌≢◌, ◌≤◌, ◌↔◌, ℕ, List, None, IfOk, IfErr, IfSome, IfNone, IsTrue, length};
 ghost use Rattle.line_io.specs.Lines.{EndsLine};
@@ -15,28 +15,28 @@ use ds_names::{NoRoom, read_byte};
 use script_commands::{CommandFault, ScriptCommand, read_line};
 use std::alloc::Global;
 
-/// What an entry asks: the command of a line, or a Merge, whose items stand on lines of their own.
+/// The command of an entry: a line's, or a Merge, whose items have lines of their own.
 #[derive(Drop)]
 pub enum Asked {
     Line(ScriptCommand),
     Merge(Items),
 }
 
-/// What the first line of an entry says: the command, or how many items a Merge has.
+/// The first line of an entry: the command, or how many items a Merge has.
 #[derive(Drop)]
 pub enum Head {
     Line(ScriptCommand),
     Merge(u64),
 }
 
-/// Why a line isn't read.
+/// Why a line can't be read.
 #[derive(Clone, Copy, Debug, PartialEq, Eq)]
 pub enum AskedFault {
     BadLine,
     NoRoom,
 }
 
-/// Reads the first line of an entry, `> PASS COMMAND` or `> PASS merge N`, which comes with its newline.
+/// Reads the first line of an entry, `> PASS COMMAND` or `> PASS merge N`, given with its newline.
 pub fn read_head(alloc: Global, line: &[u8], format: Format) -> Result<(u64, Head), AskedFault>
     requires line { EndsLine line.now }
     requires short { length line.now ≤ 4097 }
@@ -61,7 +61,7 @@ pub fn read_head(alloc: Global, line: &[u8], format: Format) -> Result<(u64, Hea
     }
 }
 
-// Reads `> PASS ` and gives what comes behind it.
+// Reads `> PASS ` and returns the pass and the rest.
 fn read_pass(line: &[u8]) -> Option<(u64, &[u8])>
     ensures found { IfSome result (λ r. (r.0 ≤ 63) × (line.now ≡ pass_text r.0 r.1.now)) }
     ensures none { IfNone result ((pass : ℕ) (behind : List ℕ) → pass ≤ 63 → line.now ≢ pass_text pass behind) }
@@ -86,7 +86,7 @@ fn read_merge(text: &[u8]) -> Option<u64>
     Some(count)
 }
 
-// Whether the command asks a store, and, in format 1, brings no floor.
+// Whether the command is a store's, and the format has its items.
 fn may_stand(command: &ScriptCommand, format: Format) -> bool
     ensures { IsTrue result ↔ ((store_command command.now ≢ None) × CarriesLine format command.now) }
 {
@@ -97,7 +97,7 @@ fn may_stand(command: &ScriptCommand, format: Format) -> bool
     }
 }
 
-// Whether the format has such items: the first one has no floors.
+// Whether the format has such an item: format 1 has no floors.
 fn may_carry(item: &Item, format: Format) -> bool
     ensures { IsTrue result ↔ Carries format item.now }
 {
@@ -107,7 +107,7 @@ fn may_carry(item: &Item, format: Format) -> bool
     }
 }
 
-/// Reads `+ ITEM`, which comes with its newline.
+/// Reads `+ ITEM`, given with its newline.
 pub fn read_plus(alloc: Global, line: &[u8], format: Format) -> Result<Item, AskedFault>
     ensures found { IfOk result (λ item. MayMerge format item × (line.now ≡ plus_text item)) }
     ensures none { IfErr result (λ fault. fault ≡ AskedFault.BadLine → (item : AnItem) → MayMerge format item → line.now ≢ plus_text item) }

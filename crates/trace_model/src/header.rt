@@ -7,17 +7,17 @@ use crate::number::number_at;
 use ds_held::Limits;
 use ds_names::limits::{LARGEST_RING, LAST_PLACE};
 
-/// No limit is above it.
+/// No limit is above this.
 const MOST_LIMIT: u64 = 4096;
 
-/// How a trace is written, and what a sweep does in it: it leaves tombstones, or it raises a floor.
+/// The format of a trace. A sweep leaves tombstones in format 1, and raises a floor in format 2.
 #[derive(Clone, Copy, Debug, PartialEq, Eq)]
 pub enum Format {
     One,
     Two,
 }
 
-/// With what the store of a trace was opened.
+/// How the store of a trace was opened.
 #[derive(Clone, Copy, Debug, PartialEq, Eq)]
 pub struct Header {
     pub format: Format,
@@ -27,7 +27,7 @@ pub struct Header {
     pub limits: Limits,
 }
 
-/// Reads the header of a line, which comes with its newline. `None` where it is none.
+/// Reads a header, given with its newline. `None`: the line isn't one.
 pub fn read_header(line: &[u8]) -> Option<Header>
     ensures found { IfSome result (λ h. IsHeader h × (line.now ≡ header_text h)) }
     ensures none { IfNone result (HasNoHeader line.now) }
@@ -41,7 +41,7 @@ pub fn read_header(line: &[u8]) -> Option<Header>
     }
 }
 
-// Reads what stands behind `trace 1 `.
+// Reads what follows `trace 1 `.
 fn first_header(bytes: &[u8]) -> Option<Header>
     ensures found { IfSome result (λ h. (h.format ≡ Format.One) × IsHeader h × (bytes.now ≡ numbers_text h)) }
     ensures none { IfNone result ((h : Header) → h.format ≡ Format.One → IsHeader h → bytes.now ≢ numbers_text h) }
@@ -64,7 +64,7 @@ fn first_header(bytes: &[u8]) -> Option<Header>
     })
 }
 
-// Reads what stands behind `trace 2 `.
+// Reads what follows `trace 2 `.
 fn second_header(bytes: &[u8]) -> Option<Header>
     ensures found { IfSome result (λ h. (h.format ≡ Format.Two) × IsHeader h × (bytes.now ≡ numbers_text h)) }
     ensures none { IfNone result ((h : Header) → h.format ≡ Format.Two → IsHeader h → bytes.now ≢ numbers_text h) }

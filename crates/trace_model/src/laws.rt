@@ -1,4 +1,4 @@
-//! Laws of traces, over definitions alone.
+//! Laws of traces, stated over definitions alone.
 
 ghost use Rattle.trace_model.specs.History.{LegalIsHistory, RunIsLegal};
 ghost use Rattle.trace_model.specs.OneReply.{FirstLinesTell, OfferLinesTell, ReplyIsOne, TracedStays};
@@ -6,65 +6,69 @@ ghost use Rattle.trace_model.specs.Sweep.{TombstonesAreFree, TombstonesAreTaken}
 ghost use Rattle.trace_model.specs.Upgrade.{UpgradedIsLegal};
 ghost use Rattle.trace_model.specs.Walk.{HeadersBegin, BadHeadersAreWrong, BadHeadsAreWrong, EntriesLead, NoReplyBehindEntries, PlusPlaces, ReplyPlaces, WithinReplies};
 
-/// A header begins a legal trace, which goes on from the state that it opens, and a first line that is none is the first wrong one.
+/// A law: a header is a legal trace, which continues from the state that it opens, and a first line that isn't a header
+/// is the first wrong line.
 pub fn headers_are_judged()
     ensures begin { HeadersBegin }
     ensures wrong { BadHeadersAreWrong }
 {}
 
-/// Behind an entry no reply line has to stand, and a line that is no first line of an entry, or too long, is the first wrong one.
+/// A law: after an entry, no reply line may follow, and a line that isn't the first line of an entry, or is too long,
+/// is the first wrong line.
 pub fn heads_are_judged()
     ensures wrong { BadHeadsAreWrong }
     ensures place { NoReplyBehindEntries }
 {}
 
-/// The first line of a reply tells where memory was wanted: an offer's, whether it was.
+/// A law: the first line of a reply determines whether memory ran out and after how many items; an offer's, only
+/// whether it did.
 pub fn first_lines_tell()
     ensures merge { FirstLinesTell }
     ensures offer { OfferLinesTell }
 {}
 
-/// A reply has one text: two steps from one state by what one entry asks, whose replies begin with one line, are answered by one text,
-/// and leave one state.
+/// A law: a reply has one text. Two steps from one state by one entry's command, with replies that begin with the same
+/// line, have replies of the same text and lead to the same state.
 pub fn replies_are_one()
     ensures { ReplyIsOne }
 {}
 
-/// Behind one more entry that is a step of the store, the walk stands behind it: no other entry has its text and leads elsewhere.
+/// A law: a step of the store with one more entry leads the walk to the place after that entry. No other entry has its
+/// text and leads elsewhere.
 pub fn entries_lead_on()
     ensures { EntriesLead }
 {}
 
-/// Where no floor is held, nothing stands against the tombstones of a sweep of format 1, one after the other, if their positions are
-/// left: a Merge takes all of them.
+/// A law: if no floor is held and positions are left, nothing refuses the tombstones of a sweep of format 1, so a Merge
+/// takes all of them.
 pub fn tombstones_are_taken()
     ensures free { TombstonesAreFree }
     ensures taken { TombstonesAreTaken }
 {}
 
-/// Each entry leads from a state that a trace comes to, to one that it comes to.
+/// A law: an entry leads from a state that a trace may lead to, to such a state.
 pub fn traced_states_stay()
     ensures { TracedStays }
 {}
 
-/// Within an entry some legal trace goes on, none ends behind where it begins, and a line that may not stand there is the first wrong
-/// one: behind some items of a Merge another item's has to stand, behind what is asked the first line of a reply, and behind some lines
-/// of a reply its next.
+/// A law: within an entry, some legal trace continues, none ends after the entry's start, and a line that may not
+/// follow is the first wrong line. After some items of a Merge another item must follow, after a command the first line
+/// of a reply, and after some lines of a reply its next line.
 pub fn places_are_judged()
     ensures plus { PlusPlaces }
     ensures reply { ReplyPlaces }
     ensures within { WithinReplies }
 {}
 
-/// A trace of a run of the machine is legal, and what is legal is a history of the machine: the commands that it asks, with the
-/// replies that it has, are a run from the state that its header opens.
+/// A law: a written run of the machine is a legal trace, and a legal trace is a history of the machine: its commands,
+/// with its replies, are a run from the state that its header opens.
 pub fn traces_are_histories()
     ensures legal { RunIsLegal }
     ensures history { LegalIsHistory }
 {}
 
-/// What a legal trace of format 1 becomes is a legal trace of format 2 that leads to the same state: so the accepted items, the stamps
-/// and the shown items of both are the same.
+/// A law: the upgrade of a legal trace of format 1 is a legal trace of format 2 that leads to the same state, so to the
+/// same accepted items, stamps and shown items.
 pub fn upgraded_traces_are_legal()
     ensures { UpgradedIsLegal }
 {}

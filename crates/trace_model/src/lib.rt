@@ -1,8 +1,8 @@
-//! The text of a trace: what its lines say, which texts are legal traces, and what a text is that is none.
+//! The text of a trace: its lines, which texts are legal traces, and where a text that isn't goes wrong.
 //!
-//! A trace is a header, and then entries: what was asked, on lines that begin with `>` and `+`, and what was answered, on lines that
-//! begin with `<`. It is legal if its entries are a legal history: each reply is one that the machine gives, in the state that the
-//! entries before it left. The format is of this project.
+//! A trace is a header, and then entries: a command, on lines that begin with `>` and `+`, and its reply, on lines that
+//! begin with `<`. It is legal if its entries are a legal history: each reply is one that the machine gives in the
+//! state after the entries before it. The format is this project's; docs/reference/traces.md describes it.
 #![tactic(auto)]
 
 mod asked;

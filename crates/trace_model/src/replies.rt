@@ -1,18 +1,18 @@
-//! What a reply line says before the store is asked: want of memory, which a legal trace may have at any time.
+//! Reply lines that are read before the store is called: out of memory, which a legal trace may have at any time.
 
 ghost use Rattle.std.specs.Prelude.{◌≡◌, ◌≢◌, ◌≤◌, ◌↔◌, ◌∷◌, ℕ, IfSome, IfNone, IsTrue};
 ghost use Rattle.trace_model.specs.Noroom.{noroom_line, stopped_line};
 
 use crate::number::number_at;
 
-/// Whether the line refuses the command for want of memory.
+/// Returns whether the line refuses the command for lack of memory.
 pub fn is_noroom(line: &[u8]) -> bool
     ensures { IsTrue result ↔ (line.now ≡ noroom_line) }
 {
     line == b"< refused noroom\n".as_slice()
 }
 
-/// How many items are done where the line stops a Merge for want of memory.
+/// Returns how many items are done, if the line stops a Merge for lack of memory.
 pub fn stopped_at(line: &[u8]) -> Option<u64>
     ensures found { IfSome result (λ done. (done ≤ 255) × (line.now ≡ stopped_line done)) }
     ensures none { IfNone result ((done : ℕ) → done ≤ 255 → line.now ≢ stopped_line done) }
@@ -27,7 +27,7 @@ pub fn stopped_at(line: &[u8]) -> Option<u64>
     Some(done)
 }
 
-/// Whether the line is `< ` and then this one. Both come with their newlines.
+/// Returns whether the line is `< ` and then the other. Both have their newlines.
 pub fn is_marked(line: &[u8], said: &[u8]) -> bool
     ensures { IsTrue result ↔ (line.now ≡ 60 ∷ 32 ∷ said.now) }
 {

@@ -34,7 +34,7 @@ pub fn append_header(text: &mut Vec<u8>, header: &Header) -> Result<(), NoRoom>
     }
 }
 
-/// Appends the lines by which a pass asks for a Merge of the items. Where there is no room, some of them may stand there.
+/// Appends the lines of a pass's Merge of the items. If memory runs out, some of them may be appended.
 pub fn append_merge(text: &mut Vec<u8>, pass: u64, items: &[Item]) -> Result<(), NoRoom>
     ensures { OnOk result (text.new.items ≡ text.old.items ++ asked_text pass (askeds.Merge items.now)) }
 {
@@ -54,7 +54,7 @@ fn append_pluses(text: &mut Vec<u8>, items: &[Item]) -> Result<(), NoRoom>
     Ok(())
 }
 
-/// Appends the lines of a reply, each behind its mark. Where there is no room, some of them may stand there.
+/// Appends the lines of a reply, each after its mark. If memory runs out, some of them may be appended.
 pub fn append_marked(text: &mut Vec<u8>, lines: &[u8]) -> Result<(), NoRoom>
     ensures { OnOk result (text.new.items ≡ text.old.items ++ marked lines.now) }
 {

@@ -1,4 +1,4 @@
--- What lines ask.
+-- Lines of an input, and their commands.
 use Rattle.std.proofs.Common.{◌≡◌, ℕ, ◌<◌, ◌≤◌, Bool, true, false, List, [], ◌∷◌, ◌++◌, length, cond, nat_lt, refl, sym, ap, subst, ◌∙◌, arith, append_assoc, append-nil, length-append}
 use Rattle.std.specs.Char.{is_ascii_digit}
 use Rattle.std.specs.Fmt.{decimal}
@@ -16,7 +16,7 @@ ends_asked line e = by_test (has_pass line)
     by_test true = ends_after (62 ∷ 32 ∷ []) line (without 10 (λ (x : ℕ). nat_lt 10 x) refl (62 ∷ 32 ∷ []) refl) e
     by_test false = ends_after (62 ∷ 32 ∷ 48 ∷ 32 ∷ []) line (without 10 (λ (x : ℕ). nat_lt 10 x) refl (62 ∷ 32 ∷ 48 ∷ 32 ∷ []) refl) e
 
--- so is what stands behind a pass
+-- so is what follows a pass
 pub ends_behind_pass : (pass : ℕ) (line rest : List ℕ) → pass ≤ 63 → line ≡ decimal pass ++ 32 ∷ rest → EndsLine line → EndsLine rest
 ends_behind_pass pass line rest le is e =
     pass_ends pass rest le (subst (λ (l : List ℕ). EndsLine (62 ∷ 32 ∷ l)) is (ends_after (62 ∷ 32 ∷ []) line (without 10 (λ (x : ℕ). nat_lt 10 x) refl (62 ∷ 32 ∷ []) refl) e))
@@ -29,7 +29,7 @@ asked_longer line = by_test (has_pass line)
     by_test true = omega arith
     by_test false = omega arith
 
--- what stands behind a first line stands behind what it asks
+-- what follows a first line follows its line in the trace
 pub asked_behind : (line more : List ℕ) → 0 < length line → asked_by (line ++ more) ≡ asked_by line ++ more
 asked_behind [] more some = absurd (omega (arith, some))
 asked_behind (b ∷ line) more some = by_test (is_ascii_digit b)
@@ -41,7 +41,7 @@ asked_behind (b ∷ line) more some = by_test (is_ascii_digit b)
 pub some_line : (line : List ℕ) → 0 < length (with_newline line)
 some_line line = omega (arith, length-append line (10 ∷ []))
 
--- one more entry is asked
+-- one more entry
 pub ask_more : (text more : List ℕ) (entries : List TraceEntry) (e : TraceEntry) → AskAll text entries → asked_by more ≡ asked_text e.pass e.asked → AskAll (text ++ more) (entries ++ e ∷ [])
 ask_more text more [] e a is = (more, [], ap (λ (l : List ℕ). l ++ more) a ∙ sym (append-nil more), is, refl)
 ask_more text more (f ∷ entries) e a is = (a.0, a.1 ++ more, ap (λ (l : List ℕ). l ++ more) a.2 ∙ append_assoc a.0 a.1 more, a.3, ask_more a.1 more entries e a.4 is)

@@ -1,4 +1,4 @@
--- Which line is the first that asks nothing.
+-- Which line is the first bad one.
 use Rattle.std.proofs.Common.{◌≡◌, ℕ, suc, ◌<◌, List, [], ◌∷◌, ◌++◌, length, Option, inl, inr, refl, sym, ap, subst, ◌∙◌, arith, append_assoc, append-nil, length-append}
 use Rattle.std.specs.List.{flat_map}
 use Rattle.line_io.specs.Lines.{HasLines, joined, with_newline}
@@ -14,7 +14,7 @@ use Rattle.trace_record.specs.Steps.{LacksNext, LacksOne}
 use Rattle.trace_record.proofs.AskingLemmas.{asked_longer, asked_behind, some_line}
 use Rattle.trace_record.proofs.RingLemmas.{long_no_ring}
 
--- ---- a line that has to ask
+-- ---- a line that must be a command
 
 -- the lines before it
 pub front_there : (bytes front : List ℕ) (l : LinesContent) (to : Option (List ℕ)) → IsAtLine bytes front l to → IsFirstLines bytes front
@@ -52,7 +52,7 @@ long_asks_nothing format bytes front number l =
       no_ring = λ first. long_no_ring l.line l.long;
     }
 
--- ---- a line that has to be an item's
+-- ---- a line that must be an item's
 
 pub lacks_line : (format : Format) (bytes front line : List ℕ) (l : LinesContent) (to : Option (List ℕ)) (number : ℕ) → HasLine bytes front line l to → IsNoItem format (with_newline line) → number ≡ l.count → LacksNext format bytes front number
 lacks_line format bytes front line l to number h none e = record { before = h.before; rest = line ∷ h.more; lines = h.lines; behind = h.front_is; counted = e ∙ h.counted; lacks = none }
@@ -66,7 +66,7 @@ lacks_all format bytes front count number r e = record { before = r.0; rest = []
 some_behind : (front line items : List ℕ) → front ++ (with_newline line ++ items) ≡ [] → ⊥
 some_behind front line items none = omega (arith, ap length none, length-append front (with_newline line ++ items), length-append (with_newline line) items, some_line line)
 
--- behind a Merge's first line and some of its items
+-- after a Merge's first line and some of its items
 pub lacks_item : (format : Format) (bytes front line : List ℕ) (pass count number : ℕ) → IsFirstLines bytes front → IsHeadOf format pass (heads.Merge count) (asked_by (with_newline line)) → LacksOne format bytes (front ++ with_newline line) count number → AsksNothingAt format bytes front number
 lacks_item format bytes front line pass count number whole head x =
     let items : List ℕ = flat_map plus_text x.items in

@@ -17,7 +17,7 @@ unread_cause r w new NoRoom old made f = λ first led. tt
 unread_cause r w new ReadFault old made f = absurd f.0
 unread_cause r w new WriteFault old made f = absurd f.0
 
--- nor does want of memory
+-- nor does out of memory
 pub room_cause : {R : Type 0} (r : Reader R) (fault : RecordFault) (old new : R) (made : ℕ) → fault ≡ NoRoom → IsCausedOn r fault old new made
 room_cause r fault old new made e = subst (λ (f : RecordFault). IsCausedOn r f old new made) (sym e) (λ first led. tt)
 
@@ -28,7 +28,7 @@ input_cause r w ReadFault old new writer is c = c
 input_cause r w WriteFault old new writer is c = absurd is
 input_cause r w NoRoom old new writer is c = tt
 
--- either that is the fault behind the writing of what waited, or a write failed there
+-- after the waiting entries are written, it is still the fault, or a write failed there
 either : {R W : Type 0} (r : Reader R) (w : Writer W) (fault result : RecordFault) (old new : R) (last : W) → IsToBlame r w fault old new last → (result ≡ fault) ⊎ ((result ≡ WriteFault) × HasFailedWrite w.writes w.fails last) → IsToBlame r w result old new last
 either r w fault result old new last c (inl same) = subst (λ (f : RecordFault). IsToBlame r w f old new last) (sym same) c
 either r w fault result old new last c (inr failed) = subst (λ (f : RecordFault). IsToBlame r w f old new last) (sym failed.0) failed.1

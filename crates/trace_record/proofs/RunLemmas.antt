@@ -31,7 +31,7 @@ use Rattle.trace_record.proofs.EntryLemmas.{recorded_none}
 pub front_at : (bytes front : List ℕ) (l : LinesContent) (from : Option (List ℕ)) → IsAt bytes front l from → IsFirstLines bytes front
 front_at bytes front l from at = (at.before, at.after, at.lines, at.front_is)
 
--- whatever came of going to it
+-- whatever the result of reading it
 pub front_comes : (bytes front : List ℕ) (l : LinesContent) (to : Option (List ℕ)) (next : Result Bool RecordFault) → ComesToNext bytes front l to next → IsFirstLines bytes front
 front_comes bytes front l to (Ok true) c = front_there bytes front l to c
 front_comes bytes front l to (Ok false) c = (c.0, [], subst (HasLines bytes) (sym (append-nil c.0)) c.1, c.2)
@@ -40,7 +40,7 @@ front_comes bytes front l to (Err WriteFault) c = absurd c
 front_comes bytes front l to (Err ReadFault) c = c
 front_comes bytes front l to (Err NoRoom) c = c
 
--- why it wasn't gone to
+-- why it wasn't reached
 pub up_to : (format : Format) (bytes front : List ℕ) (l : LinesContent) (to : Option (List ℕ)) (fault : RecordFault) → ComesToNext bytes front l to (Err fault) → IsBeforeFault format fault bytes front
 up_to format bytes front l to (BadLine number place) c = long_asks_nothing format bytes front number c
 up_to format bytes front l to WriteFault c = absurd c
@@ -69,7 +69,7 @@ module _ (known : Option (List ℕ)) (first : List ℕ) (had : Option (List ℕ)
         input = λ bytes k. let c = subst (ComesToNext bytes (first ++ r.asking) w.lines from) e (r.comes bytes k) in (c.0, c.1, c.2);
       }
 
-  -- it can't be gone to
+  -- it can't be read
   pub run_stops : (next : Result Bool RecordFault) (fault : RecordFault) → Runs known first had h w from has next count → next ≡ Err fault → IsReady w.lines next → RunsTo known first had h w.output.items has (Err fault)
   run_stops next fault r e ready =
       runs_to_fault known first had h w.output.items has count fault (subst (IsReady w.lines) e ready)
@@ -105,7 +105,7 @@ some_more : (first asking more : List ℕ) → more ≢ [] → first ++ (asking 
 some_more first asking [] some none = some refl
 some_more first asking (b ∷ more) some none = omega (arith, ap length none, length-append first (asking ++ b ∷ more), length-append asking (b ∷ more))
 
--- it waits, and the input is behind the lines that ask it
+-- it waits, and the input is after its lines
 pub record IsBehind (known : Option (List ℕ)) (first : List ℕ) (had : Option (List ℕ)) (h : Header) (w : Recorder) (from has : Option (List ℕ)) (count : ℕ) : Type 0 where
   pub sent : List ℕ
   pub asking : List ℕ
@@ -164,7 +164,7 @@ module _ (known : Option (List ℕ)) (first : List ℕ) (had : Option (List ℕ)
         input = λ bytes k. front_at bytes (first ++ b.asking) w.lines from (b.at bytes k);
       }
 
-  -- it is written, or waits, and the next line is gone to
+  -- it is written, or waits, and the next line is read
   pub entry_written : (new : Recorder) (waits : List ℕ) (lines : LinesContent) (to : Option (List ℕ)) (next : Result Bool RecordFault) → new.header ≡ w.header → new.store ≡ w.store → new.output.items ≡ waits → new.lines ≡ lines →
       SendsFront has now w.output.items waits → Comes w.lines from lines to next → Runs known first had h new to now next count
   entry_written new waits lines to next header store output there s comes =
@@ -253,6 +253,6 @@ module _ (form : Form) (ring : ℕ) (known : Option (List ℕ)) (first : List �
   fault_settled ReadFault result r s = up_to_settled ReadFault result (λ text a. a) r s
   fault_settled NoRoom result r s = up_to_settled NoRoom result (λ text a. a) r s
 
--- there was no memory for the store
+-- out of memory for the store
 pub nothing_recorded : (form : Form) (known had : Option (List ℕ)) (fault : RecordFault) → fault ≡ NoRoom → StopsRecording form known had had fault
 nothing_recorded form known had fault e = inl (e, Appends-nil had)

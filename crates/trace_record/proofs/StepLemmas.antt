@@ -1,4 +1,4 @@
--- The parts of an entry, one after the other.
+-- The parts of an entry, in order.
 use Rattle.std.proofs.Common.{◌≡◌, ◌≢◌, ℕ, ◌+◌, ◌<◌, List, [], ◌∷◌, ◌++◌, length, Option, Result, Ok, Err, refl, sym, ap, subst, ◌∙◌, arith, append_assoc, append-nil, length-append}
 use Rattle.std.specs.List.{All, flat_map}
 use Rattle.std.specs.Result.{IfErr, IsErrAnd, OnErr}
@@ -49,7 +49,7 @@ pub both_of : {T E : Type 0} (r : Result T E) (P : E → Type 0) (Q : Type 0) (R
 both_of (Ok x) P Q R f p q = tt
 both_of (Err e) P Q R f p q = f e p q
 
--- ---- what stays
+-- ---- what is unchanged
 
 pub keeps_on : (a b c : Recorder) → KeepsRun a b → KeepsRun b c → KeepsRun a c
 keeps_on a b c x y = (y.0 ∙ x.0, y.1 ∙ x.1, y.2 ∙ x.2)
@@ -96,14 +96,14 @@ module _ (w mid new : Recorder) (from there to : Option (List ℕ)) (count : ℕ
     λ bytes front at. lacking_one w.header.format bytes front most fault x.may (omega (arith, x.counted, less)) (subst (λ (h : Header). IsLackingNext h.format bytes (front ++ flat_map plus_text items) fault) x.keeps.0 (f.2 bytes (front ++ flat_map plus_text items) (x.over bytes front at))),
   )
 
--- an item's line isn't gone to
+-- an item's line isn't reached
 pub lacks_comes : (format : Format) (bytes front : List ℕ) (l : LinesContent) (to : Option (List ℕ)) (fault : RecordFault) → ComesToNext bytes front l to (Err fault) → IsLackingNext format bytes front fault
 lacks_comes format bytes front l to (BadLine number place) c = lacks_long format bytes front number c
 lacks_comes format bytes front l to WriteFault c = absurd c
 lacks_comes format bytes front l to ReadFault c = tt
 lacks_comes format bytes front l to NoRoom c = tt
 
--- ---- all that is asked
+-- ---- the whole command
 
 pub lines_line : (w : Recorder) (from : Option (List ℕ)) (head : Head) (asked : Asked) (command : ScriptCommand) → head ≡ heads.Line command → asked ≡ askeds.Line command → AddsLines w from head w from asked
 lines_line w from head asked command e f pass is short =
@@ -133,7 +133,7 @@ lines_merge w new from to head asked count items e f x pass is short =
 
 -- ---- one more entry
 
--- all that is asked is read
+-- the whole command is read
 pub lines_of : (w read whole : Recorder) (from to : Option (List ℕ)) (head : Head) (asked : Asked) (hf : HeadsFrom w read head) → AddsLines read from head whole to asked → AddedLines read from hf.pass whole to asked
 lines_of w read whole from to head asked hf adds =
     adds hf.pass (subst (λ (h : Header). IsHeadOf h.format hf.pass head read.entry.items) (sym hf.keeps.0) (subst (IsHeadOf w.header.format hf.pass head) (sym hf.begun) hf.is)) (subst IsShort (sym hf.begun) hf.short)
@@ -204,7 +204,7 @@ entry_lacks w read new from head hf fault f =
           (subst (λ (h : Header). IsLackingOne h.format bytes (front ++ with_newline a.0) f.0 fault) hf.keeps.0 (f.2.2 bytes (front ++ with_newline a.0) at)),
     )
 
--- the first line asks nothing
+-- the first line isn't a command
 pub entry_unread : (w new : Recorder) (from : Option (List ℕ)) (fault : RecordFault) → FailsAtHead w new fault → FailsInEntry w from new fault
 entry_unread w new from (BadLine number place) f =
     (tt, (f.1.0, f.1.1), λ bytes front a no_ring. asks_nothing w.header.format bytes front a.0 w.lines from number a.2 (subst (AsksNothing w.header.format) a.1 f.0.1) (λ first is. no_ring first (subst IsRingLine (sym a.1) is)) f.0.0)
@@ -212,7 +212,7 @@ entry_unread w new from NoRoom f = (tt, (f.1.0, f.1.1), λ bytes front a no_ring
 entry_unread w new from ReadFault f = absurd f.0
 entry_unread w new from WriteFault f = absurd f.0
 
--- memory is wanting for the reply
+-- out of memory for the reply
 pub entry_unanswered : (w mid new : Recorder) (from : Option (List ℕ)) (fault : RecordFault) → fault ≡ NoRoom → KeepsRun w mid → KeepsOutput mid new → FailsInEntry w from new fault
 entry_unanswered w mid new from fault e keep kept =
     subst (FailsInEntry w from new) (sym e) (tt, (kept.0 ∙ keep.0, kept.1 ∙ keep.1), λ bytes front a no_ring. front_there bytes front w.lines from a)

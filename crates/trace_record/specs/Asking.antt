@@ -1,4 +1,4 @@
--- What lines of an input ask.
+-- The lines of an input, and the entries that they become.
 use Rattle.std.specs.Prelude.{◌≡◌, ℕ, suc, ◌<◌, ◌≤◌, ◌⊎◌, Bool, false, cond, List, [], ◌∷◌, ◌++◌, length}
 use Rattle.std.specs.Char.{is_ascii_digit}
 use Rattle.std.specs.List.{All, flat_map}
@@ -15,68 +15,68 @@ use Rattle.trace_model.specs.declared.header.Format.{Format}
 use Rattle.trace_model.specs.Head.{IsHeadOf}
 use Rattle.trace_model.specs.Text.{TraceEntry, MayMerge, asked_text, merge_text, pass_text, plus_text}
 
--- a pass stands in front: a digit
+-- Whether a line begins with a pass: a digit.
 abbrev pub has_pass : List ℕ → Bool
 has_pass [] = false
 has_pass (b ∷ bs) = is_ascii_digit b
 
--- The lines of a trace that ask what these lines ask: `> ` stands in front, and where no pass does, it is 0.
+-- The lines of the trace for these lines: `> ` is added, and the pass 0 if none is there.
 abbrev pub asked_by : List ℕ → List ℕ
 asked_by lines = 62 ∷ 32 ∷ cond (has_pass lines) lines (48 ∷ 32 ∷ lines)
 
--- The text is lines that ask what these entries ask, one after the other.
+-- Whether the text is the lines for these entries, in order.
 abbrev pub AskAll : List ℕ → List TraceEntry → Type 0
 AskAll text [] = text ≡ []
 AskAll text (e ∷ entries) = (lines rest : List ℕ) × (text ≡ lines ++ rest) × (asked_by lines ≡ asked_text e.pass e.asked) × AskAll rest entries
 
--- `ring N`, its newline included
+-- The line `ring N`, with its newline.
 abbrev pub ring_text : ℕ → List ℕ
 ring_text ring = texts (command_parts (Ring ring))
 
--- Such a first line says how many items the journal keeps; where none stands, that are 256.
+-- Whether a first line sets how many items the journal keeps; without one, 256.
 abbrev pub OpensWith : List ℕ → ℕ → Type 0
 OpensWith first ring = (first ≡ ring_text ring) ⊎ ((first ≡ []) × (ring ≡ 256))
 
--- a line that says so of a journal that can be
+-- Whether the line is `ring N` for a valid N.
 abbrev pub IsRingLine : List ℕ → Type 0
 IsRingLine line = (ring : ℕ) × IsRing ring × (line ≡ ring_text ring)
 
--- ---- the lines of the input, the last of which may have no newline
+-- ---- the lines of the input; the last newline may be missing
 
--- all of them
+-- All of them.
 abbrev pub IsAllLines : List ℕ → List ℕ → Type 0
 IsAllLines bytes input = (lines : List (List ℕ)) × HasLines bytes lines × (input ≡ joined lines)
 
--- the first ones
+-- The first ones.
 abbrev pub IsFirstLines : List ℕ → List ℕ → Type 0
 IsFirstLines bytes input = (before rest : List (List ℕ)) × HasLines bytes (before ++ rest) × (input ≡ joined before)
 
 -- ---- bad lines
 
--- a line that is none of an entry's first ones, or would be too long in the trace
+-- Whether the line isn't the first line of an entry, or would be too long in the trace.
 abbrev pub AsksNothing : Format → List ℕ → Type 0
 AsksNothing format line = (pass : ℕ) (head : Head) → IsShort (asked_by line) → ¬ IsHeadOf format pass head (asked_by line)
 
--- a line that is no item's, or too long
+-- Whether the line isn't an item's, or is too long.
 abbrev pub IsNoItem : Format → List ℕ → Type 0
 IsNoItem format line = (i : Item) → MayMerge format i → IsShort line → ¬ (line ≡ plus_text i)
 
--- the first of the lines asks nothing
+-- Whether the first of the lines isn't a command.
 abbrev pub BeginsNoEntry : Format → List (List ℕ) → Type 0
 BeginsNoEntry format [] = ⊥
 BeginsNoEntry format (line ∷ lines) = AsksNothing format (with_newline line)
 
--- the first of the lines isn't `ring N`
+-- Whether the first of the lines isn't `ring N`.
 abbrev pub BeginsNoRing : List (List ℕ) → Type 0
 BeginsNoRing [] = Unit {0}
 BeginsNoRing (line ∷ lines) = ¬ IsRingLine (with_newline line)
 
--- the first of the lines is no item's, or there is none
+-- Whether the first of the lines isn't an item's, or there is none.
 abbrev pub BeginsNoItem : Format → List (List ℕ) → Type 0
 BeginsNoItem format [] = Unit {0}
 BeginsNoItem format (line ∷ lines) = IsNoItem format (with_newline line)
 
--- The part is a Merge's first line and some of its items, of which another one has to stand behind, and doesn't.
+-- Whether the part is a Merge's first line and some of its items, and the next item is missing.
 pub record LacksItem (format : Format) (part : List ℕ) (rest : List (List ℕ)) : Type 0 where
   pub pass : ℕ
   pub count : ℕ
@@ -88,12 +88,12 @@ pub record LacksItem (format : Format) (part : List ℕ) (rest : List (List ℕ)
   pub less : length items < count
   pub lacks : BeginsNoItem format rest
 
--- behind whole entries the first of the lines asks nothing, or an item is missing behind a part of one
+-- Whether, after whole entries, the first of the lines isn't a command; or, within a Merge, an item is missing.
 abbrev pub GoesNotOn : Format → List ℕ → List (List ℕ) → Type 0
 GoesNotOn format part rest = ((part ≡ []) × BeginsNoEntry format rest) ⊎ LacksItem format part rest
 
--- The line of this number is the first that asks nothing: before it the lines of whole entries stand, the front, and perhaps a part
--- of one. The first line of all isn't bad where it is `ring N`.
+-- Whether this line is the first bad one. Before it come the lines of whole entries, `front`, and perhaps a part of
+-- one. The input's first line isn't bad if it is `ring N`.
 pub record AsksNothingAt (format : Format) (bytes front : List ℕ) (number : ℕ) : Type 0 where
   pub whole : IsFirstLines bytes front
   pub part : List ℕ

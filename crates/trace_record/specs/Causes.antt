@@ -1,4 +1,4 @@
--- Why a recording ends by its reader or its writer.
+-- Why a fault of a recording blames the reader or the writer.
 use Rattle.std.specs.Prelude.{◌≡◌, ℕ, ◌⊎◌, Result, Ok, Err}
 use Rattle.line_io.specs.Streams.{CallsLead, HasFailedRead, HasFailedWrite}
 use Rattle.line_io.specs.declared.streams.Source.{Ghosts as Reader}
@@ -6,39 +6,41 @@ use Rattle.line_io.specs.declared.streams.Sink.{Ghosts as Writer}
 use Rattle.trace_record.specs.declared.fault.RecordFault.{RecordFault}
 use Rattle.trace_record.specs.declared.fault.RecordFault.TheVariants.{ReadFault, WriteFault}
 
--- ReadFault comes only where a read of this call failed, or 2^32 of them were made, and WriteFault only where a write failed.
+-- The cause of a fault. ReadFault comes only if a read of this call failed or 2^32 reads were made; WriteFault only if
+-- a write failed.
 abbrev pub IsToBlame : {R W : Type 0} → Reader R → Writer W → RecordFault → (old new : R) → W → Type 0
 IsToBlame r w ReadFault old new writer = HasFailedRead r.reads r.fails old new
 IsToBlame r w WriteFault old new writer = HasFailedWrite w.writes w.fails writer
 IsToBlame r w _ old new writer = Unit {0}
 
--- where nothing is written, ReadFault blames the reader
+-- Likewise where nothing is written.
 abbrev pub IsReadCause : {R : Type 0} → Reader R → RecordFault → (old new : R) → Type 0
 IsReadCause r ReadFault old new = HasFailedRead r.reads r.fails old new
 IsReadCause r _ old new = Unit {0}
 
--- so it is, whoever began to read
+-- Likewise, whichever reader the reads began with.
 abbrev pub IsCausedOn : {R : Type 0} → Reader R → RecordFault → (old new : R) → ℕ → Type 0
 IsCausedOn {R} r fault old new made = (first : R) → CallsLead r.reads made first old → IsReadCause r fault first new
 
--- So many reads lead from the first reader to this one, and none failed; or that is why they end.
+-- Whether `reads` reads lead from the first reader to this one, and none failed; or the cause of the fault.
 abbrev pub ReadsLead : {R T : Type 0} → Reader R → Result T RecordFault → (first now : R) → ℕ → Type 0
 ReadsLead r (Ok x) first now reads = CallsLead r.reads reads first now
 ReadsLead r (Err fault) first now reads = IsReadCause r fault first now
 
--- so it is, whoever began to read
+-- Likewise, whichever reader the reads began with.
 abbrev pub ReadsOn : {R T : Type 0} → Reader R → Result T RecordFault → (old new : R) → (made reads : ℕ) → Type 0
 ReadsOn {R} r result old new made reads = (first : R) → CallsLead r.reads made first old → ReadsLead r result first new reads
 
--- from the one to the other, whoever began to read
+-- Likewise from one result to the next, whichever reader the reads began with.
 abbrev pub LeadsFrom : {R T : Type 0} → Reader R → (before : Result T RecordFault) (old : R) (made : ℕ) (after : Result T RecordFault) (new : R) (reads : ℕ) → Type 0
 LeadsFrom {R} r before old made after new reads = (first : R) → ReadsLead r before first old made → ReadsLead r after first new reads
 
--- whoever is to blame for a fault of a run, however many reads were made before
+-- The cause of a fault of a run, however many reads were made before.
 abbrev pub RunIsCaused : {R W T : Type 0} → Reader R → Writer W → Result T RecordFault → (old new : R) → ℕ → W → RecordFault → Type 0
 RunIsCaused {R} r w next old new made writer fault = (first : R) → ReadsLead r next first old made → IsToBlame r w fault first new writer
 
--- Behind the writing of what waits the fault is the one before, or says that a write failed. A writer that failed isn't asked again.
+-- The fault after the waiting entries are written: the one before, or a write that failed then. A writer that failed
+-- isn't called again.
 abbrev pub SettlesBy : {W : Type 0} → Writer W → RecordFault → (old new : W) → RecordFault → Type 0
 SettlesBy w WriteFault old new result = (result ≡ WriteFault) × (new ≡ old)
 SettlesBy w fault old new result = (result ≡ fault) ⊎ ((result ≡ WriteFault) × HasFailedWrite w.writes w.fails new)

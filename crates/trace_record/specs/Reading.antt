@@ -1,4 +1,4 @@
--- Going from line to line of an input, wherever in whatever input that is. `from` and `to` are what the reader has before and after.
+-- The lines of an input, for all inputs and places. `from` and `to` are what the reader has before and after each step.
 use Rattle.std.specs.Prelude.{◌≡◌, ℕ, true, false, Bool, List, [], Option, None, Some, Result, Ok, Err}
 use Rattle.line_io.specs.Lines.{EndsLine, with_newline}
 use Rattle.line_io.specs.Reading.{LinesContent}
@@ -11,16 +11,17 @@ use Rattle.trace_record.specs.declared.fault.RecordFault.{RecordFault}
 use Rattle.trace_record.specs.declared.fault.RecordFault.TheVariants.{BadLine, WriteFault, NoRoom}
 use Rattle.trace_record.specs.Asking.{OpensWith, IsFirstLines, IsRingLine, AsksNothing, ring_text}
 
--- a fault of the input, or want of memory
+-- Whether it is a fault of the input, or out of memory.
 abbrev pub IsOfInput : RecordFault → Type 0
 IsOfInput WriteFault = ⊥
 IsOfInput _ = Unit {0}
 
--- the line that it is at stands behind the front
+-- Whether the lines are at the line after the front.
 abbrev pub IsAtLine : (bytes front : List ℕ) → LinesContent → Option (List ℕ) → Type 0
 IsAtLine bytes front l remaining = (line : List ℕ) × (l.line ≡ with_newline line) × HasLine bytes front line l remaining
 
--- what came of going to the next line behind the front: it is at that line, there is none, that line is too long, or nothing is known
+-- The result of reading the next line after the front: it is reached, there is none, it is too long, or nothing is
+-- known.
 abbrev pub ComesToNext : (bytes front : List ℕ) → LinesContent → Option (List ℕ) → Result Bool RecordFault → Type 0
 ComesToNext bytes front new to (Ok true) = IsAtLine bytes front new to
 ComesToNext bytes front new to (Ok false) = IsRead bytes front new.count
@@ -31,31 +32,30 @@ ComesToNext bytes front new to (Err _) = IsFirstLines bytes front
 abbrev pub Comes : LinesContent → Option (List ℕ) → LinesContent → Option (List ℕ) → Result Bool RecordFault → Type 0
 Comes old from new to r = (bytes front : List ℕ) → IsAt bytes front old from → ComesToNext bytes front new to r
 
--- a line that is gone to ends and is short, and a fault is one of the input
+-- Whether a line that was reached ends and is short, and a fault is one of the input.
 abbrev pub IsReady : LinesContent → Result Bool RecordFault → Type 0
 IsReady new (Ok true) = EndsLine new.line × IsShort new.line
 IsReady new (Ok false) = Unit {0}
 IsReady new (Err fault) = IsOfInput fault
 
--- the line that is gone to, if one is, isn't `ring N`
+-- Whether the line that was reached, if any, isn't `ring N`.
 abbrev pub GoesToNoRing : LinesContent → Result Bool RecordFault → Type 0
 GoesToNoRing new next = next ≡ Ok true → ¬ IsRingLine new.line
 
--- how many items the journal keeps by the line that is gone to, if one is, and if it is `ring N`
+-- How many items the journal keeps by the line that was reached, if that is `ring N`.
 abbrev pub SaysRing : Result Bool RecordFault → List ℕ → Option ℕ → Type 0
 SaysRing next line (Some ring) = (next ≡ Ok true) × (line ≡ ring_text ring)
 SaysRing next line None = next ≡ Ok true → ¬ IsRingLine line
 
--- Behind a first line that says how many items the journal keeps, or behind nothing, it went to the next line. Behind nothing that
--- line doesn't say it.
+-- Whether the next line was read, after a first line `ring N`, or after nothing. After nothing, it isn't `ring N`.
 abbrev pub BeginsInput : LinesContent → Option (List ℕ) → LinesContent → Option (List ℕ) → Beginning → Type 0
 BeginsInput old from new to b = (first : List ℕ) × OpensWith first b.ring × (first ≡ [] → GoesToNoRing new b.next) × ((bytes : List ℕ) → IsAt bytes [] old from → ComesToNext bytes first new to b.next)
 
--- what a line asks, in some pass
+-- Whether the line, in some pass, has this command.
 abbrev pub IsHeadBehind : Format → List ℕ → Head → Type 0
 IsHeadBehind format text head = (pass : ℕ) × IsHeadOf format pass head text × IsShort text
 
--- why a line isn't read: it asks nothing and has this number, or memory was wanting
+-- Why a line isn't read: it isn't a command and has this number, or memory ran out.
 abbrev pub IsBadHead : Format → List ℕ → ℕ → RecordFault → Type 0
 IsBadHead format line number (BadLine told place) = (told ≡ number) × AsksNothing format line
 IsBadHead format line number NoRoom = Unit {0}

@@ -1,4 +1,4 @@
--- The trace that is recorded of a run of one store.
+-- The recorded trace of a run of one store.
 use Rattle.std.specs.Prelude.{◌≡◌, ℕ, ◌⊎◌, List, [], ◌++◌, length, Option, IfSome}
 use Rattle.std.specs.Io.KnownBytes.{Appends}
 use Rattle.ds_held.specs.Limits.{smaller}
@@ -15,7 +15,7 @@ use Rattle.trace_record.specs.declared.form.Form.{Form}
 use Rattle.trace_record.specs.declared.form.Form.TheVariants.{One, Two}
 use Rattle.trace_record.specs.Asking.{AskAll, OpensWith, AsksNothingAt, IsFirstLines, IsAllLines}
 
--- of a store of incarnation 1, whose first item has the position 0, and whose journal keeps so many items
+-- The header of a store of incarnation 1, whose positions begin at 0 and whose journal keeps `ring` items.
 abbrev pub header_of : Form → ℕ → Header
 header_of One ring = record { format = formats.One; incarnation = 1; first = 0; ring = ring; limits = smaller }
 header_of (Two limits) ring = record { format = formats.Two; incarnation = 1; first = 0; ring = ring; limits = limits }
@@ -24,7 +24,7 @@ abbrev pub format_of : Form → Format
 format_of One = formats.One
 format_of (Two limits) = formats.Two
 
--- The text is a legal trace of so many entries, which ask what the input's lines ask, one after the other.
+-- Whether the text is a legal trace of `count` entries, which are the input's lines, in order.
 pub record IsRecord (form : Form) (input text : List ℕ) (count : ℕ) : Type 0 where
   pub ring : ℕ
   pub first : List ℕ
@@ -37,26 +37,26 @@ pub record IsRecord (form : Form) (input text : List ℕ) (count : ℕ) : Type 0
   pub trace : IsTrace text (header_of form ring) entries last
   pub counted : length entries ≡ count
 
--- The trace of all that a reader has was written.
+-- Whether the trace of everything that the reader has was written.
 abbrev pub Records : Form → (known had has : Option (List ℕ)) → ℕ → Type 0
 Records form known had has count =
     (input text : List ℕ) × IsRecord form input text count × Appends had has text × IfSome known (λ bytes. IsAllLines bytes input)
 
--- what was recorded when a fault came: the lines before a bad one, or the first ones
+-- What was recorded before a fault: the lines before a bad one, or some first lines.
 abbrev pub IsBeforeFault : Format → RecordFault → List ℕ → List ℕ → Type 0
 IsBeforeFault format (BadLine number place) bytes input = AsksNothingAt format bytes input number
 IsBeforeFault format _ bytes input = IsFirstLines bytes input
 
--- the trace of these lines was written, or, where the writer failed, a front of it
+-- Whether the trace of these lines was written, or, if the writer failed, a front of it.
 abbrev pub WritesBy : RecordFault → (had has : Option (List ℕ)) → List ℕ → Type 0
 WritesBy WriteFault had has text = WritesPart had has text
 WritesBy _ had has text = Appends had has text
 
--- nothing was written, for there was no memory for the store
+-- Whether nothing was written because memory ran out for the store.
 abbrev pub WritesNothing : RecordFault → (had has : Option (List ℕ)) → Type 0
 WritesNothing fault had has = (fault ≡ NoRoom) × Appends had has []
 
--- Whatever ends a recording, what was written is the trace of whole entries, or a front of it where the writer failed.
+-- Whether, however the recording ends, the trace of whole entries was written, or, if the writer failed, a front of it.
 abbrev pub StopsRecording : Form → (known had has : Option (List ℕ)) → RecordFault → Type 0
 StopsRecording form known had has fault =
     WritesNothing fault had has

@@ -1,4 +1,5 @@
--- A recording from entry to entry, and its end. `known` is what the reader had at first, and `had` what the writer held.
+-- A recording from entry to entry, and its end. `known` is what the reader had at first, and `had` what the writer
+-- held.
 use Rattle.std.specs.Prelude.{◌≡◌, ℕ, ◌⊎◌, Bool, List, [], ◌++◌, Option, Some, Result, Ok, Err}
 use Rattle.std.specs.Io.KnownBytes.{Appends}
 use Rattle.ds_content.specs.Stands.{ContentStands}
@@ -14,8 +15,8 @@ use Rattle.trace_record.specs.Asking.{IsFirstLines, IsAllLines, OpensWith}
 use Rattle.trace_record.specs.Record.{IsBeforeFault, Records, StopsRecording, header_of}
 use Rattle.trace_record.specs.Steps.{Recorded}
 
--- Of the entries so far a front is written, and the rest waits; and this came of going to the next line. Where that is the first line
--- of all, it isn't `ring N`.
+-- Whether a front of the entries so far is written, the rest waits, and this is the result of reading the next line.
+-- The input's first line isn't `ring N` then.
 pub record Runs (known : Option (List ℕ)) (first : List ℕ) (had : Option (List ℕ)) (h : Header) (w : Recorder) (from has : Option (List ℕ)) (next : Result Bool RecordFault) (count : ℕ) : Type 0 where
   pub sent : List ℕ
   pub asking : List ℕ
@@ -27,7 +28,7 @@ pub record Runs (known : Option (List ℕ)) (first : List ℕ) (had : Option (Li
   pub comes : (bytes : List ℕ) → known ≡ Some bytes → ComesToNext bytes (first ++ asking) w.lines from next
   pub no_ring : first ++ asking ≡ [] → GoesToNoRing w.lines next
 
--- Of the entries of some lines a front is written, and the rest waits.
+-- Whether a front of the entries of some lines is written, and the rest waits.
 pub record HasRun (known : Option (List ℕ)) (first : List ℕ) (had : Option (List ℕ)) (h : Header) (waits : List ℕ) (has : Option (List ℕ)) (Holds : List ℕ → List ℕ → Type 0) (count : ℕ) : Type 0 where
   pub sent : List ℕ
   pub asking : List ℕ
@@ -36,7 +37,7 @@ pub record HasRun (known : Option (List ℕ)) (first : List ℕ) (had : Option (
   pub recorded : Recorded h (sent ++ waits) asking state count
   pub input : (bytes : List ℕ) → known ≡ Some bytes → Holds bytes (first ++ asking)
 
--- The writer has a front of the trace of some lines.
+-- Whether the writer has a front of the trace of some lines.
 pub record HasFailed (known : Option (List ℕ)) (first : List ℕ) (had : Option (List ℕ)) (h : Header) (has : Option (List ℕ)) : Type 0 where
   pub text : List ℕ
   pub asking : List ℕ
@@ -46,29 +47,29 @@ pub record HasFailed (known : Option (List ℕ)) (first : List ℕ) (had : Optio
   pub written : WritesPart had has text
   pub input : (bytes : List ℕ) → known ≡ Some bytes → IsFirstLines bytes (first ++ asking)
 
--- what ended it
+-- How a run ended.
 abbrev pub RunsTo : Option (List ℕ) → List ℕ → Option (List ℕ) → Header → List ℕ → Option (List ℕ) → Result ℕ RecordFault → Type 0
 RunsTo known first had h waits has (Ok count) = HasRun known first had h waits has IsAllLines count
 RunsTo known first had h waits has (Err WriteFault) = HasFailed known first had h has
 RunsTo known first had h waits has (Err fault) = (count : ℕ) × HasRun known first had h waits has (IsBeforeFault h.format fault) count
 
--- so it is, whatever was recorded before
+-- Likewise, whatever was recorded before.
 abbrev pub RunsOn : Recorder → Option (List ℕ) → Option (List ℕ) → Result Bool RecordFault → Recorder → Option (List ℕ) → Result ℕ RecordFault → Type 0
 RunsOn old from has next new now ran =
     (known : Option (List ℕ)) (first : List ℕ) (had : Option (List ℕ)) (h : Header) → Runs known first had h old from has next 0 → RunsTo known first had h new.output.items now ran
 
--- What waits is written where another fault than the writer's ended a recording; where it can't be, the writer has failed.
+-- Whether the waiting entries are written after a fault other than the writer's; if they can't be, the writer failed.
 abbrev pub WritesRest : RecordFault → (had has : Option (List ℕ)) → List ℕ → RecordFault → Type 0
 WritesRest WriteFault had has waits result = (result ≡ WriteFault) × Appends had has []
 WritesRest fault had has waits result = ((result ≡ fault) × Appends had has waits) ⊎ ((result ≡ WriteFault) × WritesPart had has waits)
 
--- Behind a beginning that leads here, all entries are recorded and written.
+-- Whether, after a beginning that leads here, all entries are recorded and written.
 abbrev pub RecordsAll : Recorder → (from had : Option (List ℕ)) → Result Bool RecordFault → Option (List ℕ) → ℕ → Type 0
 RecordsAll old from had next has count =
     (form : Form) (ring : ℕ) (known : Option (List ℕ)) (first : List ℕ) → OpensWith first ring → Runs known first had (header_of form ring) old from had next 0 →
     Records form known had has count
 
--- or this is why they aren't
+-- Why they aren't.
 abbrev pub StopsBefore : Recorder → (from had : Option (List ℕ)) → Result Bool RecordFault → Option (List ℕ) → RecordFault → Type 0
 StopsBefore old from had next has fault =
     (form : Form) (ring : ℕ) (known : Option (List ℕ)) (first : List ℕ) → OpensWith first ring → Runs known first had (header_of form ring) old from had next 0 →

@@ -1,4 +1,4 @@
--- What each part of a recording does, wherever in whatever input it is. `from` and `to` are what the reader has before and after it.
+-- The parts of a recording, for all inputs and places. `from` and `to` are what the reader has before and after each.
 use Rattle.std.specs.Prelude.{◌≡◌, ◌≢◌, ℕ, suc, ◌<◌, List, [], ◌∷◌, ◌++◌, length, Option, Some}
 use Rattle.std.specs.List.{All, flat_map}
 use Rattle.ds_content.specs.Stands.{ContentStands}
@@ -28,23 +28,23 @@ use Rattle.trace_record.specs.Asking.{AskAll, BeginsNoItem, IsRingLine, asked_by
 use Rattle.trace_record.specs.Reading.{IsAtLine, IsBadHead, IsOfInput}
 use Rattle.trace_record.specs.Record.{IsBeforeFault, header_of}
 
--- ---- what stays as it is
+-- ---- what is unchanged
 
--- what waits to be written
+-- Whether the waiting entries are unchanged.
 abbrev pub KeepsOutput : Recorder → Recorder → Type 0
 KeepsOutput old new = (new.header ≡ old.header) × (new.output.items ≡ old.output.items)
 
--- the store, too
+-- Whether the store is unchanged, too.
 abbrev pub KeepsRun : Recorder → Recorder → Type 0
 KeepsRun old new = (new.header ≡ old.header) × (new.output.items ≡ old.output.items) × (new.store ≡ old.store)
 
--- these lines are gone over
+-- Whether these lines were passed.
 abbrev pub GoesOver : LinesContent → Option (List ℕ) → List ℕ → LinesContent → Option (List ℕ) → Type 0
 GoesOver old from more new to = (bytes front : List ℕ) → IsAt bytes front old from → IsAt bytes (front ++ more) new to
 
 -- ---- the beginning
 
--- The store is the one that the header opens, and the header waits.
+-- Whether the store is the one that the header opens, and the header waits.
 pub record OpensAs (lines : LinesContent) (form : Form) (ring : ℕ) (w : Recorder) : Type 0 where
   pub lines_are : w.lines ≡ lines
   pub header_is : w.header ≡ header_of form ring
@@ -54,7 +54,7 @@ pub record OpensAs (lines : LinesContent) (form : Form) (ring : ℕ) (w : Record
 
 -- ---- the first line of an entry
 
--- it is read, and its text is begun
+-- Whether the line is read, and its text begun.
 pub record HeadsFrom (old new : Recorder) (head : Head) : Type 0 where
   pub pass : ℕ
   pub is : IsHeadOf old.header.format pass head (asked_by old.lines.line)
@@ -63,13 +63,13 @@ pub record HeadsFrom (old new : Recorder) (head : Head) : Type 0 where
   pub keeps : KeepsRun old new
   pub stays : new.lines ≡ old.lines
 
--- it isn't
+-- Whether it isn't.
 abbrev pub FailsAtHead : Recorder → Recorder → RecordFault → Type 0
 FailsAtHead old new fault = IsBadHead old.header.format old.lines.line old.lines.count fault × KeepsRun old new
 
 -- ---- items
 
--- one more is read, and stands in the text
+-- Whether one more item is read, and added to the text.
 pub record AddsItem (old : Recorder) (from : Option (List ℕ)) (before : List Item) (new : Recorder) (to : Option (List ℕ)) (after : List Item) : Type 0 where
   pub item : Item
   pub after_is : after ≡ before ++ item ∷ []
@@ -78,7 +78,7 @@ pub record AddsItem (old : Recorder) (from : Option (List ℕ)) (before : List I
   pub over : GoesOver old.lines from (plus_text item) new.lines to
   pub keeps : KeepsRun old new
 
--- behind the front no item's line stands
+-- Whether no item's line follows the front.
 pub record LacksNext (format : Format) (bytes front : List ℕ) (number : ℕ) : Type 0 where
   pub before : List (List ℕ)
   pub rest : List (List ℕ)
@@ -95,7 +95,7 @@ IsLackingNext format bytes front _ = Unit {0}
 abbrev pub MissesItem : Recorder → Option (List ℕ) → Recorder → RecordFault → Type 0
 MissesItem old from new fault = IsOfInput fault × KeepsRun old new × ((bytes front : List ℕ) → IsAt bytes front old.lines from → IsLackingNext old.header.format bytes front fault)
 
--- so many are read
+-- Whether `count` items are read.
 pub record AddsItems (old : Recorder) (from : Option (List ℕ)) (count : ℕ) (new : Recorder) (to : Option (List ℕ)) (items : List Item) : Type 0 where
   pub counted : length items ≡ count
   pub may : All (MayMerge old.header.format) items
@@ -103,7 +103,7 @@ pub record AddsItems (old : Recorder) (from : Option (List ℕ)) (count : ℕ) (
   pub over : GoesOver old.lines from (flat_map plus_text items) new.lines to
   pub keeps : KeepsRun old new
 
--- behind fewer of them no item's line stands
+-- Whether, after fewer of them, no item's line follows.
 pub record LacksOne (format : Format) (bytes front : List ℕ) (count number : ℕ) : Type 0 where
   pub items : List Item
   pub may : All (MayMerge format) items
@@ -118,9 +118,9 @@ IsLackingOne format bytes front count _ = Unit {0}
 abbrev pub MissesItems : Recorder → Option (List ℕ) → ℕ → Recorder → RecordFault → Type 0
 MissesItems old from count new fault = IsOfInput fault × KeepsRun old new × ((bytes front : List ℕ) → IsAt bytes front old.lines from → IsLackingOne old.header.format bytes front count fault)
 
--- ---- all that is asked
+-- ---- the whole command
 
--- behind its first line it is read
+-- Whether the rest of the command, after its first line, is read.
 pub record AddedLines (old : Recorder) (from : Option (List ℕ)) (pass : ℕ) (new : Recorder) (to : Option (List ℕ)) (asked : Asked) : Type 0 where
   pub more : List ℕ
   pub may : MayAsk old.header.format pass asked
@@ -132,20 +132,20 @@ pub record AddedLines (old : Recorder) (from : Option (List ℕ)) (pass : ℕ) (
 abbrev pub AddsLines : Recorder → Option (List ℕ) → Head → Recorder → Option (List ℕ) → Asked → Type 0
 AddsLines old from head new to asked = (pass : ℕ) → IsHeadOf old.header.format pass head old.entry.items → IsShort old.entry.items → AddedLines old from pass new to asked
 
--- it isn't: an item of a Merge is missing
+-- Whether it isn't: an item of a Merge is missing.
 abbrev pub MissesLines : Recorder → Option (List ℕ) → Head → Recorder → RecordFault → Type 0
 MissesLines old from head new fault = (count : ℕ) × (head ≡ heads.Merge count) × MissesItems old from count new fault
 
 -- ---- the reply
 
--- the entry waits with this reply, worded so
+-- Whether the entry waits with this reply, in this wording.
 pub record AddsReply (wording : Wording) (reply : Reply) (old new : Recorder) : Type 0 where
   pub header : new.header ≡ old.header
   pub lines : new.lines ≡ old.lines
   pub store : new.store ≡ old.store
   pub output : new.output.items ≡ old.output.items ++ (old.entry.items ++ marked (reply_lines wording reply old.header.limits))
 
--- The store takes the step that the entry asks for, and the entry waits with its reply.
+-- Whether the store takes the step of the entry's command, and the entry waits with its reply.
 pub record AnswersIn (old : Recorder) (asked : Asked) (new : Recorder) (s : State) : Type 0 where
   pub command : Command
   pub new_state : State
@@ -160,7 +160,7 @@ AnswersAsked old asked new = (new.header ≡ old.header) × (new.lines ≡ old.l
 
 -- ---- entries
 
--- The text is a legal trace of so many entries, which ask what these lines ask, and leads to the state.
+-- Whether the text is a legal trace of `count` entries, which are these lines, and leads to the state.
 pub record Recorded (h : Header) (text asking : List ℕ) (s : State) (count : ℕ) : Type 0 where
   pub entries : List TraceEntry
   pub asks : AskAll asking entries
@@ -168,7 +168,7 @@ pub record Recorded (h : Header) (text asking : List ℕ) (s : State) (count : �
   pub traced : IsTraced h.format s
   pub counted : length entries ≡ count
 
--- One more entry waits, which is asked by the line that it was at and those gone over since.
+-- Whether one more entry waits: the line that was reached, and those passed since.
 pub record AddedEntry (old : Recorder) (from : Option (List ℕ)) (new : Recorder) (to : Option (List ℕ)) (text asking : List ℕ) (count : ℕ) : Type 0 where
   pub added : List ℕ
   pub more : List ℕ
@@ -182,7 +182,7 @@ pub record AddedEntry (old : Recorder) (from : Option (List ℕ)) (new : Recorde
 abbrev pub AddsEntry : Recorder → Option (List ℕ) → Recorder → Option (List ℕ) → Type 0
 AddsEntry old from new to = (new.header ≡ old.header) × ((text asking : List ℕ) (s : State) (count : ℕ) → Recorded old.header text asking s count → ContentStands old.store s → AddedEntry old from new to text asking count)
 
--- none does; a first line of all that is `ring N` isn't read as an entry's
+-- Whether none does. An input's first line `ring N` isn't read as an entry's.
 abbrev pub FailsInEntry : Recorder → Option (List ℕ) → Recorder → RecordFault → Type 0
 FailsInEntry old from new fault =
     IsOfInput fault × KeepsOutput old new × ((bytes front : List ℕ) → IsAtLine bytes front old.lines from → (front ≡ [] → ¬ IsRingLine old.lines.line) → IsBeforeFault old.header.format fault bytes front)

@@ -12,14 +12,14 @@ use ds_names::NoRoom;
 use line_io::{Lines, Source};
 use std::alloc::Global;
 
-/// How an input begins: how many items the journal keeps, and whether a line is gone to that asks.
+/// The beginning of an input: how many items the journal keeps, and whether a command's line was reached.
 #[derive(Drop)]
 pub(crate) struct Beginning {
     pub ring: u32,
     pub next: Result<bool, RecordFault>,
 }
 
-/// Goes to the first line that asks.
+/// Reads the first line of a command, after `ring N` if that is there.
 pub(crate) fn begin<R: Source>(
     alloc: Global,
     lines: &mut Lines,

@@ -8,17 +8,17 @@ use thiserror::Error;
 /// Why a recording ended before its input did.
 #[derive(Clone, Copy, Debug, PartialEq, Eq, Error)]
 pub enum RecordFault {
-    /// A line that asks nothing: its number, from 1, and the byte, from 0, where the first part that can't be read begins. An item
-    /// that is missing behind the last line is bad at its first byte.
+    /// A line that isn't a command: its number, from 1, and the byte, from 0, where the first part that can't be read
+    /// begins. An item that is missing after the last line is bad at its first byte.
     #[error("line {line} can't be read from byte {place} on")]
     BadLine { line: u64, place: usize },
-    /// The reader failed, or was read 2^32 times.
+    /// The reader failed, or 2^32 reads were made.
     #[error("the input can't be read")]
     ReadFault,
     /// The writer failed, or took no bytes.
     #[error("the trace can't be written")]
     WriteFault,
-    /// Out of memory for a line, for what the store is asked, or for the text of its reply.
+    /// Out of memory for a line, for its command, or for the text of the reply.
     #[error("out of memory")]
     NoRoom,
 }

@@ -1,4 +1,4 @@
-//! In which form a run is recorded.
+//! The form of a recorded trace.
 
 ghost use Rattle.std.specs.Prelude.{◌≡◌};
 ghost use Rattle.trace_model.specs.Text.{FormatHas};
@@ -7,7 +7,7 @@ ghost use Rattle.trace_record.specs.Record.{header_of};
 use ds_held::Limits;
 use trace_model::{Format, Header};
 
-/// The format of a trace, and the limits of its store. Those of format 1 are 64 subscriptions and 1024 keys.
+/// The format of a trace, and the limits of its store. Format 1 has 64 subscriptions and 1024 keys.
 #[derive(Clone, Copy, Debug, PartialEq, Eq)]
 pub enum Form {
     One,
@@ -15,8 +15,8 @@ pub enum Form {
 }
 
 impl Form {
-    /// The header of a trace in this form, of a store of incarnation 1 whose first item has the position 0, and whose journal keeps
-    /// so many items.
+    /// Returns the header of a trace in this form: a store of incarnation 1, whose positions begin at 0, and whose
+    /// journal keeps `ring` items.
     pub(crate) fn header(self, ring: u32) -> Header
         ensures value { result ≡ header_of self ring }
         ensures limits { FormatHas result.format result.limits }

@@ -1,7 +1,7 @@
-//! Recording: one store is asked what the lines of an input ask, and the trace of that run is written.
+//! Recording: runs one store on the commands of an input, and writes the trace of that run.
 //!
-//! What a line asks is what it asks in a trace, with no mark in front and with the pass 0 where none stands. What is written is a
-//! legal trace, as `trace_model` defines it, whatever the input is, and however the recording ends.
+//! A line is a command as in a trace, without its mark, and with the pass 0 if none is there. The output is a legal
+//! trace, as `trace_model` defines it, whatever the input is and however the recording ends. This project's.
 #![tactic(auto)]
 
 mod begin;

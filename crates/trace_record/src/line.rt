@@ -12,7 +12,7 @@ use line_io::{LONGEST_LINE, Lines, Pulled, Source};
 use std::alloc::Global;
 use trace_model::{AskedFault, Format, Head, read_head};
 
-/// Goes to the next line, where such a line has to stand. Gives whether there is one.
+/// Reads the next line, where a line of this sort must follow, and returns whether there is one.
 pub(crate) fn next_line<R: Source>(
     lines: &mut Lines,
     reader: &mut R,
@@ -35,7 +35,7 @@ pub(crate) fn next_line<R: Source>(
     }
 }
 
-/// Reads the first line of an entry as the trace has it, which is made of the input's line of this number.
+/// Reads the first line of an entry, as the trace has it. `line` is that line in the input, and `number` its number.
 pub(crate) fn read_asking(
     alloc: Global,
     text: &[u8],

@@ -1,4 +1,4 @@
-//! The pass of what is asked.
+//! The pass of a command.
 
 ghost use Rattle.std.specs.Prelude.{◌≡◌, ◌≤◌, ◌++◌, OnOk, OnErr};
 ghost use Rattle.trace_record.specs.Asking.{asked_by, has_pass};
@@ -6,7 +6,7 @@ ghost use Rattle.trace_record.specs.Asking.{asked_by, has_pass};
 use ds_line::append_all;
 use ds_names::NoRoom;
 
-/// Whether a pass stands in front of a line: a digit.
+/// Returns whether a line begins with a pass: a digit.
 pub(crate) fn has_pass(line: &[u8]) -> bool
     ensures { result ≡ has_pass line.now }
 {
@@ -16,7 +16,7 @@ pub(crate) fn has_pass(line: &[u8]) -> bool
     }
 }
 
-/// Appends the `>` line that a trace has for a line, or nothing. Where no pass stands, it is 0.
+/// Appends the trace's `>` line for a line, or nothing if memory runs out. Without a pass, it is 0.
 pub(crate) fn append_asking(buffer: &mut Vec<u8>, line: &[u8]) -> Result<(), NoRoom>
     ensures written { OnOk result (buffer.new.items ≡ buffer.old.items ++ asked_by line.now) }
     ensures unchanged { OnErr result (buffer.new.items ≡ buffer.old.items) }
@@ -28,7 +28,7 @@ pub(crate) fn append_asking(buffer: &mut Vec<u8>, line: &[u8]) -> Result<(), NoR
     }
 }
 
-/// How many bytes stand in front of a line in the trace.
+/// Returns how many bytes the trace adds in front of a line.
 pub(crate) fn mark_length(line: &[u8]) -> usize
     ensures { result ≤ 4 }
 {

@@ -1,4 +1,4 @@
-//! Where a bad line can't be read.
+//! The place where a line is bad.
 
 ghost use Rattle.line_io.specs.Lines.{EndsLine};
 
@@ -9,7 +9,7 @@ use line_io::{LONGEST_LINE, Lines};
 use script_commands::{CommandFault, ScriptCommand, read_line_behind};
 use std::alloc::Global;
 
-/// What has to stand on a line.
+/// The sort of line that must follow.
 #[derive(Clone, Copy, Debug, PartialEq, Eq)]
 pub(crate) enum Wanted {
     /// A command, or `merge N`.
@@ -18,12 +18,12 @@ pub(crate) enum Wanted {
     Item,
 }
 
-/// The most bytes that the line may have, its newline not counted: with its mark a trace's has at most 4096.
+/// Returns the most bytes that the line may have, without its newline: with its mark, a trace's line has at most 4096.
 pub(crate) fn longest(line: &[u8]) -> usize {
     LONGEST_LINE - mark_length(line)
 }
 
-/// Where the line behind so many is too long.
+/// Returns where the line after `before` others becomes too long.
 pub(crate) fn place_of_long(lines: &Lines, before: u64, wanted: Wanted) -> usize {
     match wanted {
         Wanted::Command if lines.count() > before => longest(lines.line()),
@@ -32,7 +32,7 @@ pub(crate) fn place_of_long(lines: &Lines, before: u64, wanted: Wanted) -> usize
     }
 }
 
-/// Where a line of this number that comes with its newline, and asks nothing, can't be read.
+/// Returns where a line that isn't a command is bad. `line` has its newline.
 pub(crate) fn place_of_command(alloc: Global, line: &[u8], number: u64) -> usize
     requires { EndsLine line.now }
 {
@@ -49,7 +49,7 @@ pub(crate) fn place_of_command(alloc: Global, line: &[u8], number: u64) -> usize
     before.saturating_add(place_behind_pass(alloc, rest, false))
 }
 
-// The same of what stands behind a pass. The first line alone may be a `ring`.
+// Likewise for the text after a pass. Only the first line may be `ring N`.
 fn place_behind_pass(alloc: Global, text: &[u8], is_first: bool) -> usize
     requires { EndsLine text.now }
 {
@@ -59,7 +59,8 @@ fn place_behind_pass(alloc: Global, text: &[u8], is_first: bool) -> usize
     place_of_read(&read_line_behind(alloc, text, if is_first { 0 } else { 1 }))
 }
 
-// The same of a line that was read; that of an item that a trace hasn't is its item's.
+// Likewise for a line that was parsed. A valid offer has an item that the trace's format doesn't: the place of its
+// item.
 fn place_of_read(read: &Result<ScriptCommand, CommandFault>) -> usize {
     match read {
         Err(CommandFault::BadLine { place, .. }) => *place,
@@ -68,7 +69,7 @@ fn place_of_read(read: &Result<ScriptCommand, CommandFault>) -> usize {
     }
 }
 
-// Where the count of a Merge, or what stands around it, can't be read, if the line begins with the word.
+// Returns where the count of a Merge, or what is around it, is bad, if the line begins with `merge`.
 fn place_of_merge(text: &[u8]) -> Option<usize> {
     if !text.starts_with(b"merge") {
         return None;
@@ -88,7 +89,7 @@ fn place_of_merge(text: &[u8]) -> Option<usize> {
     Some(text.len().saturating_sub(rest.len()))
 }
 
-/// Where a line that comes with its newline, and is no item's, can't be read.
+/// Returns where a line that isn't an item's is bad. `line` has its newline.
 pub(crate) fn place_of_item(alloc: Global, line: &[u8]) -> usize {
     if !line.starts_with(b"+ ") {
         return 0;

@@ -23,8 +23,8 @@ use store_answers::{Wording, append_reply};
 use trace_model::{Asked, AskedFault, Head, Header, append_header, append_marked, read_plus};
 use trace_walk::ask_store;
 
-/// A recording under way: where it is in the input, the store that answers, with what it was opened, whole entries that wait to be
-/// written, and the text of the entry under way and of its reply.
+/// A recording under way: its place in the input, the store and its header, whole entries that wait to be written, and
+/// the text of the current entry and of its reply.
 #[derive(Drop)]
 pub(crate) struct Recorder {
     alloc: Global,
@@ -66,7 +66,7 @@ impl Recorder {
         })
     }
 
-    /// Records the entry whose first line it is at. A fault leaves what waits as it was.
+    /// Records the entry at whose first line the input is. After a fault, the waiting entries are unchanged.
     pub fn entry<R: Source>(&mut self, reader: &mut R) -> Result<(), RecordFault>
         requires { EndsLine self.old.lines.line }
         ensures goes { OnOk result (AddsEntry self.old (R.remaining reader.old) self.new (R.remaining reader.new)) }
@@ -79,7 +79,7 @@ impl Recorder {
         self.answer(asked)
     }
 
-    // Reads the first line of an entry, which it is at.
+    // Reads the first line of an entry, which was reached already.
     fn head(&mut self) -> Result<Head, RecordFault>
         requires { EndsLine self.old.lines.line }
         ensures goes { IfOk result (HeadsFrom self.old self.new) }
@@ -97,7 +97,7 @@ impl Recorder {
         )
     }
 
-    // Reads what else is asked on lines of its own.
+    // Reads the rest of a command: the items of a Merge.
     fn asked<R: Source>(&mut self, reader: &mut R, head: Head) -> Result<Asked, RecordFault>
         ensures goes { IfOk result (AddsLines self.old (R.remaining reader.old) head self.new (R.remaining reader.new)) }
         ensures fails { IfErr result (MissesLines self.old (R.remaining reader.old) head self.new) }
@@ -152,7 +152,7 @@ impl Recorder {
         }
     }
 
-    // Asks the store, and puts the entry with its reply behind those that wait.
+    // Applies the command to the store, and adds the entry with its reply to the waiting ones.
     fn answer(&mut self, asked: Asked) -> Result<(), RecordFault>
         requires { command_asked asked ≢ None }
         ensures goes { OnOk result (AnswersAsked self.old asked self.new) }
@@ -163,7 +163,7 @@ impl Recorder {
         self.add_reply(answer.wording, &answer.reply)
     }
 
-    // Puts the entry with this reply behind those that wait.
+    // Adds the entry with this reply to the waiting ones.
     fn add_reply(&mut self, wording: Wording, reply: &Reply) -> Result<(), RecordFault>
         ensures adds { OnOk result (AddsReply wording reply.now self.old self.new) }
         ensures fault { IfErr result (λ fault. fault ≡ RecordFault.NoRoom) }

@@ -1,4 +1,4 @@
-//! Recording a run of one store.
+//! Records a run of one store.
 
 ghost use Rattle.std.specs.Prelude.{IfOk, IfErr};
 ghost use Rattle.trace_record.specs.Record.{Records, StopsRecording};
@@ -16,20 +16,20 @@ use crate::waiting::send_waiting;
 use line_io::{Lines, Sink, Source, write_out};
 use std::alloc::Global;
 
-/// Asks a store what the lines of an input ask, one after the other, and writes the trace of that run. Gives the number of its
-/// entries.
+/// Runs a store on the lines of an input, in order, and writes the trace of that run. Returns how many entries it has.
 ///
-/// The store has the incarnation 1, its first item the position 0, and its journal keeps 256 items, or as many as a first line
-/// `ring N` says. A line asks what it asks in a trace of this form, without `> ` in front, and the pass may be missing and is 0
-/// then: a command, or `merge N`, behind which N lines of items stand. The last line may have no newline. An input without
-/// lines gives the header alone.
+/// The store has incarnation 1, its positions begin at 0, and its journal keeps 256 items, or as many as a first line
+/// `ring N` says. A line is a command as in a trace of this form, without `> ` and perhaps without a pass, which is 0
+/// then. `merge N` is followed by the lines of N items. The last newline may be missing. An input without lines gives
+/// the header alone.
 ///
-/// An entry is written before the next read, unless the end of another line was read already; then entries are written together.
+/// An entry is written before the next read, unless the end of another line was read already; those entries are written
+/// together.
 ///
-/// A fault ends it: a line that asks nothing, or one above 4096 bytes, as it is or in the trace; a read or a write that failed; or
-/// want of memory for a line, for what is asked or for the text of its reply. Want of memory in the store itself is a reply, and
-/// is recorded. What was written before a fault is a legal trace, but where the writer failed: then it is a front of one. Nothing is
-/// written where there is no memory for the store.
+/// Errors: BadLine, for a line that isn't a command, or is above 4096 bytes in the input or in the trace; ReadFault, if
+/// a read failed or 2^32 reads were made; WriteFault, if a write failed; NoRoom, out of memory for a line, its command
+/// or the text of its reply. Out of memory in the store itself is a reply, and is recorded. The output before a fault
+/// is a legal trace; after WriteFault, a front of one. If memory runs out for the store, nothing is written.
 pub fn record<R: Source, W: Sink>(
     alloc: Global,
     reader: &mut R,
@@ -46,7 +46,7 @@ pub fn record<R: Source, W: Sink>(
     record_all(&mut recorder, reader, writer, beginning.next)
 }
 
-// Records all entries, and writes what waits then, `first` being what came of going to the first line that asks.
+// Records all entries, and writes those that wait. `first` is the result of reading the first command's line.
 fn record_all<R: Source, W: Sink>(
     recorder: &mut Recorder,
     reader: &mut R,
@@ -67,7 +67,7 @@ fn record_all<R: Source, W: Sink>(
     }
 }
 
-// Records entry by entry, `first` being what came of going to the first line that asks.
+// Records entry by entry. `first` is the result of reading the first command's line.
 fn run<R: Source, W: Sink>(
     recorder: &mut Recorder,
     reader: &mut R,
@@ -89,11 +89,11 @@ fn run<R: Source, W: Sink>(
         send_waiting(writer, &mut recorder.output, recorder.lines.front())?;
         next = next_line(&mut recorder.lines, reader, Wanted::Command);
     }
-    // No input has so many lines: 2^32 reads bring fewer.
+    // No input has this many lines: 2^32 reads bring fewer.
     Err(RecordFault::NoRoom)
 }
 
-// WritesBy what waits where a fault ended the recording, and gives the fault. A writer that failed isn't asked again.
+// Writes the waiting entries after a fault, and returns the fault. A writer that failed isn't called again.
 fn settled<W: Sink>(writer: &mut W, output: &[u8], fault: RecordFault) -> RecordFault
     ensures settles { WritesRest fault (W.contents writer.old) (W.contents writer.new) output.now result }
     ensures cause { SettlesBy W.Sink fault writer.old writer.new result }

@@ -1,4 +1,4 @@
-//! The first line of an input, which may say how many items the journal keeps.
+//! An input's first line, `ring N`, which sets how many items the journal keeps.
 
 ghost use Rattle.std.specs.Prelude.{◌≡◌, ◌↔◌, ℕ, true, IfOk};
 ghost use Rattle.line_io.specs.Lines.{EndsLine};
@@ -10,10 +10,10 @@ use ds_names::NoRoom;
 use script_commands::{CommandFault, ScriptCommand, read_line};
 use std::alloc::Global;
 
-/// How many items the journal keeps where no line says it.
+/// How many items the journal keeps without such a line.
 pub(crate) const RING: u32 = 256;
 
-/// How many items the journal keeps by the first line, if one is gone to, and if it is `ring N`. It comes with its newline.
+/// Returns the N of the line that was reached, if that is `ring N`. `line` has its newline.
 pub(crate) fn ring_of(
     alloc: Global,
     next: Result<bool, RecordFault>,
@@ -29,7 +29,7 @@ pub(crate) fn ring_of(
     ring_asked(&read_line(alloc, line))
 }
 
-// How many items the line that was read says, if it is `ring N`.
+// Returns the N of a line that was parsed, if that is `ring N`.
 fn ring_asked(read: &Result<ScriptCommand, CommandFault>) -> Result<Option<u32>, NoRoom>
     ensures { IfOk result (λ ring. (n : ℕ) → (ring ≡ Some n) ↔ (read.now ≡ Ok (ScriptCommand.Ring n))) }
 {

@@ -1,4 +1,4 @@
-//! Writing what waits.
+//! Writes the waiting entries.
 
 ghost use Rattle.std.specs.Prelude.{◌≡◌, OnOk, OnErr, IfErr};
 ghost use Rattle.line_io.specs.Streams.{HasFailedWrite};
@@ -8,10 +8,10 @@ ghost use Rattle.trace_record.specs.declared.fault.RecordFault.TheVariants as fa
 use crate::fault::RecordFault;
 use line_io::{Sink, newline_place, send};
 
-/// What waits is written though another line is there, once that are so many bytes.
+/// The waiting entries are written once they have this many bytes, even if another line was read already.
 const FULL: usize = 65536;
 
-/// WritesBy what waits, unless the end of another line is among the bytes that were read already, and few wait.
+/// Writes the waiting entries, unless they are few and the end of another line was read already.
 pub(crate) fn send_waiting<W: Sink>(
     writer: &mut W,
     output: &mut Vec<u8>,

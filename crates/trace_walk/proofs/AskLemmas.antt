@@ -1,4 +1,4 @@
--- What an entry comes to by its reply.
+-- What follows from the reply of an entry.
 use Rattle.std.proofs.Common.{◌≡◌, ◌≢◌, ℕ, ◌<◌, true, false, List, [], ◌∷◌, ◌++◌, length, Option, Some, is_some, refl, sym, ap, subst, ◌∙◌, arith, append_assoc}
 use Rattle.ds_content.specs.Content.{ContentRecord}
 use Rattle.ds_content.specs.Stands.{ContentStands}
@@ -42,14 +42,14 @@ use Rattle.trace_walk.proofs.FaultLemmas.{wrong_there, place_of}
 use Rattle.trace_walk.proofs.ShortLemmas.{reply_short, may_short, reply_ended, reply_some}
 use Rattle.trace_walk.proofs.ToldLemmas.{told, stop_first, stop_told, sweep_step}
 
--- ---- behind what is asked
+-- ---- after a command
 
--- the first line of a reply has to stand there
+-- the first line of a reply must follow
 pub reply_wanted : (b : Spot) (l : LinesContent) (store : ContentRecord) (h : Header) (from : Option (List ℕ)) (pass : ℕ) (asked : Asked) (kept : List ℕ) (x : HasAsked b l store h from pass asked kept) → IsPlaceInEntry b.front (b.front ++ asked_text pass asked) true IsShort
 reply_wanted b l store h from pass asked kept x =
     place_of b.front _ true (MayReply h.format h.limits b.state asked) IsShort (λ line m. may_short h pass b.state asked line x.behind.trace.header x.behind.traced x.may m) (reply_places b.front h b.state b.count pass asked x.behind x.pass_few x.may)
 
--- and stands there
+-- and does
 pub hears : (b : Spot) (old l : LinesContent) (store : ContentRecord) (h : Header) (from to : Option (List ℕ)) (pass : ℕ) (asked : Asked) (kept : List ℕ) (x : HasAsked b old store h from pass asked kept) (line : List ℕ) → l.line ≡ with_newline line → HasLine b.bytes (b.front ++ asked_text pass asked) line l to → Hears b l store h to pass asked kept
 hears b old l store h from to pass asked kept x line is here =
     record { line = line; here = here; line_is = is; stands = x.stands; behind = x.behind; pass_few = x.pass_few; may = x.may; kept_is = x.kept_is }
@@ -90,7 +90,7 @@ module _ (b : Spot) (old : LinesContent) (store : ContentRecord) (h : Header) (f
               );
         }
 
-    -- all its lines stood there
+    -- all its lines are there
     pub walks_on : (l : LinesContent) (to : Option (List ℕ)) (new : ContentRecord) → IsAt b.bytes (base ++ marked text) l to → ContentStands new t → Walks (spot_behind b h.limits entry t) l new h to
     walks_on l to new at stands =
         record {
@@ -99,13 +99,13 @@ module _ (b : Spot) (old : LinesContent) (store : ContentRecord) (h : Header) (f
           behind = entries_lead b.front h b.state t b.count entry x.behind is_entry leads;
         }
 
-    -- and that is an entry more
+    -- and that is one more entry
     pub passes : (w : Walk) (to : Option (List ℕ)) (passed : Passed) → Walks (spot_behind b h.limits entry t) w.lines w.store h to → w.header ≡ h → w.asked.items ≡ kept → w.reply.items ≡ text →
         (h.format ≡ One → BecomesBy b.state h.limits entry passed) → HasPassed b h w to passed
     passes w to passed walks header asked_is reply_is becomes =
         record { entry = entry; state = t; is = is_entry; leads = leads; walks = walks; header = header; asked = asked_is ∙ x.kept_is; reply = reply_is; becomes = becomes }
 
-    -- whoever reads them against the text so goes on, or finds what is wrong
+    -- a comparison with the text passes it, or finds the wrong line
     pub answered_goes : (said : List ℕ) → said ≡ text → (l : LinesContent) (to : Option (List ℕ)) (new : ContentRecord) →
         ((bytes base here : List ℕ) → HasLine bytes base here old from → old.line ≡ with_newline here → IsEnded said → 0 < length said → IsAt bytes (base ++ marked said) l to) → ContentStands new t → Walks (spot_behind b h.limits entry t) l new h to
     answered_goes said is l to new goes stands =
@@ -113,7 +113,7 @@ module _ (b : Spot) (old : LinesContent) (store : ContentRecord) (h : Header) (f
         let some : 0 < length said = subst (λ (f : List ℕ). 0 < length f) (sym is) (reply_some (worded_as asked) reply h.limits) in
         walks_on l to new (subst (λ (f : List ℕ). IsAt b.bytes (base ++ marked f) l to) is (goes b.bytes base x.line x.here x.line_is whole some)) stands
 
-    -- and is behind an entry more
+    -- and is after one more entry
     pub passes_said : (before w : Walk) (to : Option (List ℕ)) (passed : Passed) (said : List ℕ) → said ≡ text → HasSaid before from said w to → before.lines ≡ old → before.header ≡ h → before.asked.items ≡ kept → ContentStands before.store t →
         (h.format ≡ One → BecomesBy b.state h.limits entry passed) → HasPassed b h w to passed
     passes_said before w to passed said is s lines header asked_is stands becomes =
@@ -126,7 +126,7 @@ module _ (b : Spot) (old : LinesContent) (store : ContentRecord) (h : Header) (f
         (MayReply h.format h.limits b.state asked (with_newline x.line) → (next left : List ℕ) → text ≡ next ++ left → EndsALine next → with_newline x.line ≡ 60 ∷ 32 ∷ next) → IsFault b.front b.bytes fault
     answered_fails said is fault fails known = fails b.front b.bytes base x.line x.here x.line_is (subst (IsToBeSaid b.front base x.line) (sym is) (is_given known))
 
-  -- a reply for want of memory
+  -- a reply for out of memory
   pub noroom_text : reply_lines (worded_as asked) (Refused refusals.NoRoom) h.limits ≡ refused_noroom
   noroom_text = refl
 

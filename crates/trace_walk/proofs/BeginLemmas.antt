@@ -23,14 +23,14 @@ use Rattle.trace_walk.specs.declared.place.Place.TheVariants.{Form}
 use Rattle.trace_walk.specs.Walking.{Spot, Walks, IsAt, IsRead, IsLongFault, HasLine, IsFault, verdict_of}
 use Rattle.trace_walk.proofs.FaultLemmas.{none_here}
 
--- a fault of a walk is the verdict that is said for it
+-- a fault of a walk is its verdict
 pub said_for : (start bytes : List ℕ) (fault : WalkFault) → IsFault start bytes fault → IsVerdict bytes (verdict_of fault)
 said_for start bytes (faults.IllegalAt number) f = (f.0, f.1, f.2)
 said_for start bytes (faults.BadLineAt number) f = (f.0, f.1, f.2)
 said_for start bytes faults.ReadFault f = tt
 said_for start bytes faults.NoRoom f = tt
 
--- where nothing is left, what was gone through is legal
+-- if nothing is left, what was passed is legal
 pub legal_at_end : (b : Spot) (l : LinesContent) (store : ContentRecord) (h : Header) (from : Option (List ℕ)) → Walks b l store h from → (count : ℕ) → b.count ≡ count → (lines : List (List ℕ)) × HasLines b.bytes lines × (b.front ≡ joined lines) → IsVerdict b.bytes (verdicts.Legal count)
 legal_at_end b l store h from w count is ends =
     (ends.0, ends.1, (h, w.behind.entries, b.state, subst (λ (t : List ℕ). IsTrace t h w.behind.entries b.state) ends.2 w.behind.trace, w.behind.counted ∙ is))
@@ -98,7 +98,7 @@ long_none line long h is e = omega (arith, long, header_short h is, ap length e,
 
 -- ---- why no walk begins
 
--- the first line is no header
+-- the first line isn't a header
 pub wrong_first : (bytes line : List ℕ) (number : ℕ) (before more : List (List ℕ)) → HasLines bytes (before ++ line ∷ more) → [] ≡ joined before → number ≡ suc (length before) → IsUnbroken line → HasNoHeader (with_newline line) → IsFault [] bytes (faults.BadLineAt number)
 wrong_first bytes line number before more lines behind counted whole none =
     ([], record { before = before; rest = line ∷ more; lines = lines; behind = behind; counted = counted; begins = nothing_begins; fails = bad_header line more whole none }, no_reply_first, none_here [])
@@ -118,7 +118,7 @@ first_fails bytes (faults.IllegalAt number) l = absurd l
 first_fails bytes faults.ReadFault l = tt
 first_fails bytes faults.NoRoom l = tt
 
--- at the beginning nothing was gone through
+-- at the beginning nothing was passed
 pub at_start : (bytes : List ℕ) (l : LinesContent) (from : Option (List ℕ)) → l ≡ no_lines → from ≡ Some bytes → IsAt bytes [] l from
 at_start bytes l from e f =
     let h = has_lines bytes in
@@ -133,7 +133,7 @@ at_start bytes l from e f =
       counted = ap (λ (x : LinesContent). x.count) e;
     }
 
--- of an input whose bytes aren't known nothing is said
+-- nothing is claimed of an input whose bytes aren't known
 pub by_known : (o : Option (List ℕ)) (P : List ℕ → Type 0) → ((bytes : List ℕ) → o ≡ Some bytes → P bytes) → IfSome o P
 by_known None P all = tt
 by_known (Some bytes) P all = all bytes refl

@@ -20,7 +20,7 @@ is_nothing : (part : List ℕ) → length part ≡ 0 → part ≡ []
 is_nothing [] e = refl
 is_nothing (b ∷ part) e = absurd (omega (arith, e))
 
--- nothing stands between the start and itself
+-- nothing is between the start and itself
 pub none_here : (start : List ℕ) → NoneEnds start start
 none_here start part left n e legal = is_nothing part (omega (arith, ap length e, length-append (start ++ part) left, length-append start part))
 
@@ -28,11 +28,11 @@ at_place : (place : Place) (start bytes front : List ℕ) (number : ℕ) (May : 
 at_place Form start bytes front number May before rest p lines behind counted fails = (front, record { before = before; rest = rest; lines = lines; behind = behind; counted = counted; begins = p.begins; fails = fails }, p.wants, p.none)
 at_place Reply start bytes front number May before rest p lines behind counted fails = (front, record { before = before; rest = rest; lines = lines; behind = behind; counted = counted; begins = p.begins; fails = fails }, p.wants, p.none)
 
--- no line stands there
+-- no line is there
 pub missing : (place : Place) (start bytes front : List ℕ) (count number : ℕ) (May : List ℕ → Type 0) → IsRead bytes front count → IsPlaceInEntry start front (is_reply place) May → number ≡ suc count → IsFault start bytes (line_fault place number)
 missing place start bytes front count number May r p e = at_place place start bytes front number May r.0 [] p (subst (HasLines bytes) (sym (append-nil r.0)) r.1) r.2 (e ∙ ap suc r.3) p.ends
 
--- the line that stands there may not
+-- the line that is there is wrong
 pub wrong_there : (place : Place) (start bytes front line : List ℕ) (l : LinesContent) (to : Option (List ℕ)) (number : ℕ) (May : List ℕ → Type 0) → HasLine bytes front line l to → IsPlaceInEntry start front (is_reply place) May → ¬ May (with_newline line) → number ≡ l.count → IsFault start bytes (line_fault place number)
 wrong_there place start bytes front line l to number May h p none e = at_place place start bytes front number May h.before (line ∷ h.more) p h.lines h.front_is (e ∙ h.counted) (p.wrong line h.more h.whole none)
 
@@ -52,7 +52,7 @@ too_long Reply start bytes front (BadLineAt number) l p = absurd l
 too_long Reply start bytes front ReadFault l p = tt
 too_long Reply start bytes front NoRoom l p = tt
 
--- want of memory is no verdict
+-- out of memory isn't a verdict
 pub no_room : (start bytes : List ℕ) (fault : WalkFault) → fault ≡ NoRoom → IsFault start bytes fault
 no_room start bytes fault e = subst (IsFault start bytes) (sym e) tt
 
@@ -60,11 +60,11 @@ no_room start bytes fault e = subst (IsFault start bytes) (sym e) tt
 pub carried : {T : Type 0} (r : Result T WalkFault) (e : WalkFault) (P : WalkFault → Type 0) → IsErrAnd r (λ f. f ≡ e) → P e → IfErr r P
 carried r e P is p = let exit = err_from_is_err_and r is in rw (exit.1, exit.2) p
 
--- what holds of the value that there is
+-- what holds of the value
 pub some_at : {T : Type 0} (o : Option T) (x : T) (P : T → Type 0) → o ≡ Some x → IfSome o P → P x
 some_at o x P e h = subst (λ q. IfSome q P) e h
 
--- where fewer lines are wrong
+-- a place where fewer lines are wrong
 pub place_of : (start front : List ℕ) (b : Bool) (May More : List ℕ → Type 0) → ((line : List ℕ) → May line → More line) → IsPlaceInEntry start front b May → IsPlaceInEntry start front b More
 place_of start front b May More all p = record { begins = p.begins; wants = p.wants; ends = p.ends; none = p.none; wrong = λ line rest whole none. p.wrong line rest whole (λ m. none (all (with_newline line) m)) }
 
@@ -77,7 +77,7 @@ marked_one line e = marked_line e.front [] e.none ∙ ap (λ (l : List ℕ). 60 
 pub split_on : (bytes base whole rest next : List ℕ) (l : LinesContent) (from : Option (List ℕ)) → IsSaid bytes base whole rest l from → rest ≡ next → IsSaid bytes base whole next l from
 split_on bytes base whole rest next l from x e = record { given = x.given; whole_is = x.whole_is ∙ ap (λ (r : List ℕ). (x.given ++ 10 ∷ []) ++ r) e; at = x.at }
 
--- one line more of it stood there
+-- one more line of it is there
 pub one_more : (bytes base whole line more here : List ℕ) (old l : LinesContent) (from to : Option (List ℕ)) (x : IsSaid bytes base whole (line ++ more) old from) → EndsLine line → HasLine bytes (base ++ marked (x.given ++ 10 ∷ [])) here l to → with_newline here ≡ 60 ∷ 32 ∷ line → IsSaid bytes base whole more l to
 one_more bytes base whole line more here old l from to x e h same =
     let given : List ℕ = (x.given ++ 10 ∷ []) ++ e.front in
@@ -92,11 +92,11 @@ one_more bytes base whole line more here old l from to x e h same =
       at = subst (λ (f : List ℕ). IsAt bytes f l to) text h.then;
     }
 
--- its first line stood there
+-- its first line is there
 pub first_said : (bytes base here line : List ℕ) (l : LinesContent) (to : Option (List ℕ)) (e : EndsLine line) → HasLine bytes base here l to → with_newline here ≡ 60 ∷ 32 ∷ line → IsAt bytes (base ++ marked (e.front ++ 10 ∷ [])) l to
 first_said bytes base here line l to e h same = subst (λ (f : List ℕ). IsAt bytes (base ++ f) l to) (same ∙ sym (marked_one line e)) h.then
 
--- all of it stood there
+-- all of it is there
 pub all_said : (bytes base whole rest : List ℕ) (l : LinesContent) (to : Option (List ℕ)) → IsSaid bytes base whole rest l to → IsEnded whole → IsUnbroken rest → IsAt bytes (base ++ marked whole) l to
 all_said bytes base whole rest l to x all whole_line =
     let none : rest ≡ [] = all (x.given ++ 10 ∷ []) rest x.whole_is whole_line in

@@ -1,4 +1,4 @@
--- The numbers that a reply tells are of 64 bits.
+-- The numbers in a reply have 64 bits.
 use Rattle.std.proofs.Common.{◌≡◌, ℕ, suc, zero, ◌+◌, ◌-◌, ◌<◌, ◌≤◌, ◌^◌, ◌==◌, ◌&&◌, ◌||◌, Bool, true, false, not, cond, nat_le, nat_lt, List, [], ◌∷◌, ◌++◌, length, map, take, filter, fold, Option, Some, None, is_some, inl, inr, refl, sym, ap, subst, arith, length-append, length-take, length-drop}
 use Rattle.std.specs.List.{find}
 use Rattle.std.specs.Option.{option_map, option_map_or, option_and_then}
@@ -187,7 +187,7 @@ name_few false None n all e = absurd (none_some n e)
 abbrev IsFewStop : Option Refusal → Type 0
 IsFewStop stop = option_map_or is_wide stop false ≡ false
 
--- so many items were looked at
+-- how many items were looked at
 record Counts (k : Course) (n : ℕ) : Type 0 where
   done : k.done ≤ n
   taken : length k.taken ≤ n

@@ -1,4 +1,4 @@
--- The lines of what an entry asks.
+-- The lines of a command.
 use Rattle.std.proofs.Common.{◌≡◌, ◌≢◌, ℕ, suc, ◌<◌, false, List, [], ◌∷◌, ◌++◌, length, Option, refl, sym, ap, subst, ◌∙◌, arith, append_assoc, append-nil, length-append}
 use Rattle.std.specs.List.{flat_map}
 use Rattle.std.proofs.lemmas.Grind.{flat_map-append}
@@ -99,10 +99,10 @@ module _ (b : Spot) (old l : LinesContent) (store : ContentRecord) (h : Header) 
         kept_is = keeps ∙ ap (λ (t : List ℕ). t ++ l.line) x.kept_is ∙ more;
       }
 
--- ---- all that is asked
+-- ---- the whole command
 
 module _ (b : Spot) (l : LinesContent) (store : ContentRecord) (h : Header) (from : Option (List ℕ)) (pass : ℕ) (kept : List ℕ) where
-  -- a command that stands on one line
+  -- a command on one line
   pub asks_line : (command : ScriptCommand) → Heads b l store h from pass (heads.Line command) kept → HasAsked b l store h from pass (askeds.Line command) kept
   asks_line command x = record { at = x.at; stands = x.stands; behind = x.behind; pass_few = x.pass_few; may = (x.may.0, x.may.1, x.may.2, x.short); kept_is = x.kept_is }
 

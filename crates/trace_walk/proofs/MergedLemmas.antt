@@ -1,4 +1,4 @@
--- What a store answers to the first items of a Merge that is stopped behind them.
+-- The reply to the first items of a Merge that is stopped after them.
 use Rattle.std.proofs.Common.{◌≡◌, ◌≢◌, ℕ, ◌<◌, ◌≤◌, false, List, length, take, Option, Some, None, is_some, inl, refl, sym, ap, subst, ◌∙◌}
 use Rattle.std.specs.Option.{option_map_or}
 use Rattle.ds_entry.specs.declared.item.Item.{Item}
@@ -16,7 +16,7 @@ use Rattle.trace_model.proofs.OneReplyLemmas.{none_of}
 use Rattle.ds_machine.proofs.BatchLemmas.{none_stands}
 use Rattle.ds_machine.proofs.OneStepLemmas.{steps_one, outcomes_want_none}
 
--- a step of few items that wanted no memory went its course
+-- a step of few items for which memory lasted took its course
 pub by_course : (s t : State) (items : List Item) (reply : Reply) → length items ≤ most_items → is_some (room_wanted reply) ≡ false → Step s (commands.Merge items) reply t → (reply ≡ merge_reply s (course s items)) × (t ≡ (course s items).state)
 by_course s t items reply few room step =
     let one = steps_one s t (outcome s (commands.Merge items)).1 (commands.Merge items) reply (outcome s (commands.Merge items)).0 step (inl (inl (record { reply_is = refl; state_is = refl }))) (none_of (room_wanted reply) room ∙ sym (outcomes_want_none s (commands.Merge items))) in
@@ -39,7 +39,7 @@ merged_stop s t items first done count taken stale mask few less is few_first ro
       state_is = c.1 ∙ ap (λ (l : List Item). (course s l).state) is;
     }
 
--- any other reply says that it was refused
+-- any other reply is a refusal
 pub other_stop : (s t : State) (first : List Item) (reply : Reply) → length first ≤ most_items → is_some (room_wanted reply) ≡ false → Step s (commands.Merge first) reply t → ((count taken stale mask : ℕ) → reply ≢ Merged count taken stale mask) → (course s first).stop ≢ None
 other_stop s t first reply few room step none e =
     let k = course s first in

@@ -35,7 +35,7 @@ use Rattle.trace_walk.specs.Merging.{AreEntries, IsEmpty, taking_entry}
 use Rattle.trace_walk.specs.declared.sweep.Sweep.{Sweep}
 use Rattle.trace_walk.specs.Sweeping.{IsSweptInMerges, tombstone_over}
 
--- the tombstones over these changes
+-- the tombstones for these changes
 abbrev pub gone_of : List ℕ → ℕ → List ChangeRecord → List Item
 gone_of owner generation cs = map (tombstone owner generation) (filter (is_swept owner generation) cs)
 
@@ -67,7 +67,7 @@ module _ (owner : List ℕ) (generation : ℕ) (cs : List ChangeRecord) (i : ℕ
   one_more : (c : ChangeRecord) → slice_get cs i ≡ Some c → gone_of owner generation (take (i + 1) cs) ≡ gone_of owner generation (take i cs) ++ cond (is_swept owner generation c) (tombstone owner generation c ∷ []) []
   one_more c at = ap (λ (l : List ChangeRecord). gone_of owner generation l) (take_more cs i c (slice_get_within cs i c at) ∙ ap (λ (y : ChangeRecord). take i cs ++ y ∷ []) (get_or_from_slice_get cs i c c at)) ∙ gone_push owner generation (take i cs) c
 
-  -- one is put over the change at the index
+  -- the change at the index gets one
   pub gone_added : (t : Item) → Some t ≡ option_and_then (tombstone_over owner generation) (slice_get cs i) → gone_of owner generation (take i cs) ++ t ∷ [] ≡ gone_of owner generation (take (i + 1) cs)
   gone_added t e = by_change (slice_get cs i) refl e
     where
@@ -81,7 +81,7 @@ module _ (owner : List ℕ) (generation : ℕ) (cs : List ChangeRecord) (i : ℕ
               ap (λ (x : Item). gone_of owner generation (take i cs) ++ x ∷ []) same ∙ sym (one_more c at ∙ ap (λ (b : Bool). gone_of owner generation (take i cs) ++ cond b (tombstone owner generation c ∷ []) []) s)
           by_test false s g = absurd (none_some t (sym g))
 
-  -- none is, and there is a change
+  -- it gets none, and there is a change
   pub gone_passed : i < length cs → None ≡ option_and_then (tombstone_over owner generation) (slice_get cs i) → gone_of owner generation (take i cs) ≡ gone_of owner generation (take (i + 1) cs)
   gone_passed lt e = by_change (slice_get cs i) refl e
     where
@@ -138,7 +138,7 @@ one_merged s pass limits part batch before after mask is owes x text count =
       };
     }
 
--- a sweep that is refused is no entry
+-- a sweep that is refused has no entries
 pub none_swept : (s : State) (pass : ℕ) (limits : LimitsRecord) (sweep : Sweep) (refusal : Refusal) (merges : Merges) → IsEmpty merges → IsSweptInMerges s pass limits sweep (Refused refusal) merges
 none_swept s pass limits sweep refusal merges is = ([], refl, record { text = is.text; counted = is.count })
 

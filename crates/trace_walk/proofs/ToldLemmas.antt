@@ -1,4 +1,4 @@
--- What a reply line tells of the store.
+-- What a reply line determines about the store.
 use Rattle.std.proofs.Common.{◌≡◌, ◌≢◌, ℕ, ◌<◌, ◌≤◌, ◌^◌, Bool, true, false, cond, nat_lt, List, [], ◌∷◌, ◌++◌, length, take, drop, codes, Option, Some, None, is_some, inl, inr, refl, sym, ap, subst, ◌∙◌, arith, append_assoc}
 use Rattle.std.specs.Fmt.{decimal}
 use Rattle.std.proofs.lemmas.Option.{same_Some}
@@ -47,7 +47,7 @@ use Rattle.trace_walk.specs.Passing.{BecomesBy, IsRefusedAs}
 use Rattle.trace_walk.specs.Sweeping.{older_of}
 use Rattle.trace_walk.specs.Walking.{IsForStore, StaysUpgraded}
 
--- ---- where memory was wanted, by the reply
+-- ---- where memory ran out, by the reply
 
 refused_by : (b : Bool) → cond b (Some whole_command) None ≡ Some whole_command → b ≡ true
 refused_by true e = refl
@@ -101,7 +101,7 @@ offer_is (lines.Offer i) items is e = (i, refl, cc)
 offer_is (lines.Store (commands.Merge others)) items is e = absurd is
 offer_is c items is e = absurd (cc)
 
--- ---- the lines for want of memory
+-- ---- the lines for out of memory
 
 abbrev noroom_said : List ℕ
 noroom_said = codes "refused noroom\n"
@@ -116,7 +116,7 @@ first_is text first rest next left e f a b = (lines_one first next rest left e f
 noroom_text : (said : Wording) (limits : LimitsRecord) → reply_lines said (Refused refusals.NoRoom) limits ≡ noroom_said ++ []
 noroom_text said limits = refl
 
--- the reply is the refusal for want of memory: its first line says so
+-- the reply is the refusal for lack of memory: its first line says so
 noroom_first : (said : Wording) (limits : LimitsRecord) (line first rest : List ℕ) → reply_lines said (Refused refusals.NoRoom) limits ≡ first ++ rest → EndsLine first → line ≡ 60 ∷ 32 ∷ first → line ≡ noroom_line
 noroom_first said limits line first rest text ends is =
     is ∙ ap (λ (l : List ℕ). 60 ∷ 32 ∷ l) (first_is (reply_lines said (Refused refusals.NoRoom) limits) first rest noroom_said [] ends noroom_ends text (noroom_text said limits))
@@ -145,7 +145,7 @@ few_stop : (s t : State) (items : List Item) (reply : Reply) (done : ℕ) → St
 few_stop s t items reply done x = omega (arith, x.few, x.some_left)
 
 module _ (format : Format) (limits : LimitsRecord) (pass : ℕ) (s : State) (command : Command) (line : List ℕ) where
-  -- where the reply is that a Merge was stopped, an offer is answered as where it was refused, and any other Merge by a line of its own
+  -- if a Merge was stopped, an offer is answered as if it were refused, and any other Merge by a line of its own
   stopped_line_is : (asked : Asked) (t : State) (reply : Reply) (done : ℕ) (first rest : List ℕ) → command_asked asked ≡ Some command → StepOf format s command reply t → IsStop s command reply t done → room_wanted reply ≡ Some (Some done) →
       reply_lines (worded_as asked) reply limits ≡ first ++ rest → EndsLine first → line ≡ 60 ∷ 32 ∷ first → line ≢ noroom_line → ((items : List Item) (done : ℕ) → asked ≡ askeds.Merge items → done < length items → line ≢ stopped_line done) → MayAsk format pass asked → ⊥
   stopped_line_is (askeds.Merge js) t reply done first rest asks step x e text ends is room stops may =
@@ -190,7 +190,7 @@ merge_step Two s t items reply x = x
 pub stop_step : (format : Format) (s t : State) (items : List Item) (reply : Reply) (done : ℕ) → StopsForRoom s items reply t done → StepOf format s (commands.Merge items) reply t
 stop_step format s t items reply done x = merge_step format s t items reply (inr (done, x))
 
--- where the line says so, some step of the store is such a stop
+-- if the line says so, some step of the store is such a stop
 pub stop_told : (format : Format) (limits : LimitsRecord) (pass : ℕ) (s : State) (items : List Item) (done : ℕ) (line : List ℕ) → IsTraced format s → MayAsk format pass (askeds.Merge items) → done < length items → line ≡ stopped_line done → MayReply format limits s (askeds.Merge items) line → (course s (take done items)).stop ≡ None
 stop_told format limits pass s items done line traced may less is m =
     let few : done < 2 ^ 64 = omega (arith, less, may.0) in
@@ -233,7 +233,7 @@ plain_steps Two c command e asks s t reply x = x
 plain_steps One c (commands.Sweep caller owner generation) e asks s t reply x = absurd (sweep_line c caller owner generation e asks)
 plain_steps One c _ e asks s t reply x = x
 
--- in format 2 it stays as it is
+-- it is the same in format 2
 plain_stays : (c : ScriptCommand) (s : State) (e : TraceEntry) → older_of One c ≡ None → BecomesAs s e (askeds.Line c) (e ∷ [])
 plain_stays (lines.Store (commands.Sweep caller owner generation)) s e older = absurd (none_some _ (sym older))
 plain_stays c s e older = refl
@@ -241,7 +241,7 @@ plain_stays c s e older = refl
 line_stays : (format : Format) (c : ScriptCommand) → older_of format c ≡ None → StaysUpgraded format (askeds.Line c)
 line_stays format c older one s e = plain_stays c s e (subst (λ (f : Format). older_of f c ≡ None) one older)
 
--- what was refused for want of memory
+-- what was refused for lack of memory
 pub sweep_refused : (format : Format) (c : ScriptCommand) (swept : Sweep) (merges : Merges) → older_of format c ≡ Some swept → IsEmpty merges → IsRefusedAs format (askeds.Line c) (Swept merges)
 sweep_refused format c swept merges older none one s limits pass =
     subst (λ (k : ScriptCommand). BecomesBy s limits (record { pass = pass; asked = askeds.Line k; reply = Refused refusals.NoRoom }) (Swept merges)) (sym (older_is format c swept older).1)

@@ -1,4 +1,4 @@
--- Where a walk is in its input, line by line.
+-- The place of a walk in its input, line by line.
 use Rattle.std.proofs.Common.{◌≡◌, ◌≢◌, ℕ, suc, ◌<◌, ◌≤◌, List, [], ◌∷◌, ◌++◌, length, get_or, drop, Option, Some, None, inl, inr, refl, sym, ap, subst, ◌∙◌, arith, append_assoc, append-nil, length-append}
 use Rattle.std.specs.List.{All}
 use Rattle.std.specs.Io.KnownBytes.{Consumes, IsAtEnd}
@@ -22,7 +22,7 @@ unbroken_has_none (x ∷ a) b all = unbroken_has_none a b (λ k d lt. all (suc k
 tail_of : (y : List ℕ) (ys : List (List ℕ)) → All IsUnbroken (y ∷ ys) → All IsUnbroken ys
 tail_of y ys all k d lt = all (suc k) d (omega (arith, lt))
 
--- a text that begins with a line has it as its first one
+-- a text that begins with a line has it as its first line
 by_front : (line rest last : List ℕ) (front after : List (List ℕ)) → IsUnbroken line → All IsUnbroken front → IsUnbroken last → with_newline line ++ rest ≡ joined front ++ last → after ≡ front ++ unended last → (more : List (List ℕ)) × (after ≡ line ∷ more) × HasLines rest more
 by_front line rest last [] after whole all all_last e f = absurd (unbroken_has_none line rest (subst IsUnbroken (sym e ∙ append_assoc line (10 ∷ []) rest) all_last))
 by_front line rest last (y ∷ ys) after whole all all_last e f =
@@ -106,7 +106,7 @@ line_comes bytes front old new from to at ends (inr c) count =
     last_unbroken : (last : List ℕ) → (ends : EndsLine new.line) → new.line ≡ with_newline last → IsUnbroken last
     last_unbroken last ends e = subst IsUnbroken (append_cancel_right ends.front last (10 ∷ []) (sym ends.parts ∙ e)) ends.none
 
--- where nothing is left, the front is the whole input
+-- if nothing is left, the front is the whole input
 pub none_comes : (bytes front : List ℕ) (old : LinesContent) (from : Option (List ℕ)) (number : ℕ) → IsAt bytes front old from → IsAtEnd (left old from) → number ≡ old.count → IsRead bytes front number
 none_comes bytes front old from number at e count =
     let none : at.rest ≡ [] = subst (λ (o : Option (List ℕ)). IsAtEnd o) at.left_is e in

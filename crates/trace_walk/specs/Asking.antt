@@ -1,4 +1,4 @@
--- What a store does that is asked what an entry asks.
+-- Steps of a store by an entry's command.
 use Rattle.std.specs.Prelude.{◌≡◌, Some}
 use Rattle.ds_content.specs.Content.{ContentRecord}
 use Rattle.ds_content.specs.Stands.{ContentStands}
@@ -14,13 +14,14 @@ use Rattle.trace_model.specs.Legal.{StepOf}
 use Rattle.trace_model.specs.OneReply.{IsTraced}
 use Rattle.trace_model.specs.Text.{command_asked}
 
--- It takes the step of a trace's store for which the entry asks, and gives the reply, in each state to which a trace of the format comes.
+-- Whether the store takes the step of a trace's store for the entry's command, with this reply, in each state that a
+-- trace of the format may lead to.
 abbrev pub StepsBy : ContentRecord → Format → Asked → Reply → ContentRecord → Type 0
 StepsBy old format asked reply new =
     (s : State) → ContentStands old s → IsTraced format s →
     (command : Command) × (t : State) × (command_asked asked ≡ Some command) × StepOf format s command reply t × ContentStands new t
 
--- it takes the step of the store's command that the line says
+-- Whether the store takes the step of the line's command.
 abbrev pub StepsAsSaid : ContentRecord → ScriptCommand → Reply → ContentRecord → Type 0
 StepsAsSaid old said reply new =
     (s : State) → ContentStands old s → (command : Command) × (t : State) × (store_command said ≡ Some command) × Step s command reply t × ContentStands new t

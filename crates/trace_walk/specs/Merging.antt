@@ -9,20 +9,20 @@ use Rattle.trace_model.specs.declared.asked.Asked.TheVariants.{Merge}
 use Rattle.trace_model.specs.Text.{TraceEntry, entry_text}
 use Rattle.trace_walk.specs.declared.merges.Merges.{Merges}
 
--- the entry of a pass that merges the items, with this reply
+-- The entry of a pass that merges the items, with this reply.
 abbrev pub told_merge : ℕ → List Item → Reply → TraceEntry
 told_merge pass items reply = record { pass = pass; asked = Merge items; reply = reply }
 
--- the entry of a pass that merges the items, all of which took effect, so that this is owed
+-- The entry of a pass that merges the items, all of which took effect, with the mask of what they owe.
 abbrev pub taking_entry : ℕ → List Item → ℕ → TraceEntry
 taking_entry pass items owed = told_merge pass items (Merged (length items) (length items) 0 owed)
 
--- there are none
+-- Whether there are none.
 pub record IsEmpty (merges : Merges) : Type 0 where
   pub text : merges.text.items ≡ []
   pub count : merges.count ≡ 0
 
--- they are these entries, and their text
+-- Whether they are these entries, and their text.
 pub record AreEntries (limits : LimitsRecord) (merges : Merges) (entries : List TraceEntry) : Type 0 where
   pub text : merges.text.items ≡ flat_map (entry_text limits) entries
   pub counted : merges.count ≡ length entries

@@ -1,4 +1,4 @@
--- What a walk keeps of an entry that it went through, and what that is in format 2.
+-- What a walk keeps of an entry that it passed, and what that entry is in format 2.
 use Rattle.std.specs.Prelude.{◌≡◌, ℕ, List, ◌∷◌, [], ◌++◌, Option}
 use Rattle.ds_held.specs.Limits.{LimitsRecord}
 use Rattle.ds_machine.specs.State.{State}
@@ -18,18 +18,18 @@ use Rattle.trace_walk.specs.declared.walk.Walk.{Walk}
 use Rattle.trace_walk.specs.Merging.{AreEntries}
 use Rattle.trace_walk.specs.Walking.{Spot, Walks, spot_behind}
 
--- what the entry is in format 2
+-- Whether this is the entry in format 2.
 abbrev pub BecomesBy : State → LimitsRecord → TraceEntry → Passed → Type 0
 BecomesBy s limits e AsItStands = BecomesAs s e e.asked (e ∷ [])
 BecomesBy s limits e (Swept merges) = (entries : List TraceEntry) × BecomesAs s e e.asked entries × AreEntries limits merges entries
 
--- what an entry of format 1 is in format 2 that was refused for want of memory
+-- Whether this is an entry of format 1, refused for lack of memory, in format 2.
 abbrev pub IsRefusedAs : Format → Asked → Passed → Type 0
 IsRefusedAs format asked passed =
     format ≡ One → (s : State) (limits : LimitsRecord) (pass : ℕ) → BecomesBy s limits (record { pass = pass; asked = asked; reply = Refused NoRoom }) passed
 
--- One more entry was gone through, which is a step of the store. The lines of what it asks are kept, and those of the reply, without
--- their marks.
+-- Whether the walk passed one more entry, which is a step of the store. It keeps the lines of the command, and those of
+-- the reply without their marks.
 pub record HasPassed (b : Spot) (h : Header) (w : Walk) (to : Option (List ℕ)) (passed : Passed) : Type 0 where
   pub entry : TraceEntry
   pub state : State
@@ -41,7 +41,7 @@ pub record HasPassed (b : Spot) (h : Header) (w : Walk) (to : Option (List ℕ))
   pub reply : w.reply.items ≡ reply_lines (worded_as entry.asked) entry.reply h.limits
   pub becomes : h.format ≡ One → BecomesBy b.state h.limits entry passed
 
--- what was appended for an entry that a walk went through, and how many entries that is
+-- What was appended for an entry that a walk passed, and how many entries that is.
 abbrev pub IsWrittenAs : Walk → Passed → List ℕ → List ℕ → ℕ → Type 0
 IsWrittenAs w AsItStands before after count = (after ≡ before ++ (w.asked.items ++ marked w.reply.items)) × (count ≡ 1)
 IsWrittenAs w (Swept merges) before after count = (after ≡ before ++ merges.text.items) × (count ≡ merges.count)

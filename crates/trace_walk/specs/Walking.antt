@@ -1,4 +1,4 @@
--- Where a walk through a trace is in its input.
+-- The place of a walk in its input.
 use Rattle.std.specs.Prelude.{◌≡◌, ◌≢◌, ℕ, suc, ◌<◌, ◌≤◌, Bool, true, false, List, [], ◌∷◌, ◌++◌, length, take, Option, Some, None}
 use Rattle.std.specs.List.{All, flat_map}
 use Rattle.ds_content.specs.Content.{ContentRecord}
@@ -37,7 +37,7 @@ use Rattle.trace_walk.specs.declared.fault.WalkFault.TheVariants.{IllegalAt, Bad
 use Rattle.trace_walk.specs.declared.place.Place.{Place}
 use Rattle.trace_walk.specs.declared.place.Place.TheVariants.{Form, Reply}
 
--- It went through some of the lines of the input, and the others are left.
+-- Whether the walk passed the lines of the front, and the other lines are left.
 pub record IsAt (bytes front : List ℕ) (l : LinesContent) (remaining : Option (List ℕ)) : Type 0 where
   pub before : List (List ℕ)
   pub after : List (List ℕ)
@@ -48,31 +48,32 @@ pub record IsAt (bytes front : List ℕ) (l : LinesContent) (remaining : Option 
   pub front_is : front ≡ joined before
   pub counted : l.count ≡ length before
 
--- Behind some entries of a trace: the whole input, what was gone through of it, to which state that leads, and how many entries it is.
+-- A place between two entries of a trace: the whole input, the front that was passed, the state that it leads to, and
+-- how many entries it has.
 pub record Spot : Type 0 where
   pub bytes : List ℕ
   pub front : List ℕ
   pub state : State
   pub count : ℕ
 
--- one entry further
+-- The place after one more entry.
 abbrev pub spot_behind : Spot → LimitsRecord → TraceEntry → State → Spot
 spot_behind b limits e t = record { bytes = b.bytes; front = b.front ++ entry_text limits e; state = t; count = suc b.count }
 
--- The walk is there, and the store stands for the state.
+-- Whether the walk is at the spot, with a store that stands for its state.
 pub record Walks (b : Spot) (l : LinesContent) (store : ContentRecord) (h : Header) (remaining : Option (List ℕ)) : Type 0 where
   pub at : IsAt b.bytes b.front l remaining
   pub stands : ContentStands store b.state
   pub behind : IsBehind b.front h b.state b.count
 
--- Why it ended early is a verdict on the input, and no legal trace ends behind the start before the line that is wrong.
+-- Whether the fault is a verdict on the input, and no legal trace ends after the start and before the wrong line.
 abbrev pub IsFault : (start bytes : List ℕ) → WalkFault → Type 0
 IsFault start bytes (IllegalAt number) = (front : List ℕ) × IsWrongAt bytes number front × WantsReply front × NoneEnds start front
 IsFault start bytes (BadLineAt number) = (front : List ℕ) × IsWrongAt bytes number front × (¬ WantsReply front) × NoneEnds start front
 IsFault start bytes ReadFault = Unit {0}
 IsFault start bytes NoRoom = Unit {0}
 
--- The line is the first of those that were left: it stands behind the front, and the walk is behind it.
+-- Whether the line is the first after the front, and the walk just passed it.
 pub record HasLine (bytes front line : List ℕ) (l : LinesContent) (remaining : Option (List ℕ)) : Type 0 where
   pub before : List (List ℕ)
   pub more : List (List ℕ)
@@ -82,11 +83,11 @@ pub record HasLine (bytes front line : List ℕ) (l : LinesContent) (remaining :
   pub counted : l.count ≡ suc (length before)
   pub then : IsAt bytes (front ++ with_newline line) l remaining
 
--- it went through the whole input, which has so many lines
+-- Whether the whole input was passed, and has `number` lines.
 abbrev pub IsRead : List ℕ → List ℕ → ℕ → Type 0
 IsRead bytes front number = (lines : List (List ℕ)) × HasLines bytes lines × (front ≡ joined lines) × (number ≡ length lines)
 
--- The next line is above 4096 bytes, and has this number.
+-- Whether the next line is above 4096 bytes, and has this number.
 pub record IsLong (bytes front : List ℕ) (number : ℕ) : Type 0 where
   pub before : List (List ℕ)
   pub line : List ℕ
@@ -97,7 +98,7 @@ pub record IsLong (bytes front : List ℕ) (number : ℕ) : Type 0 where
   pub front_is : front ≡ joined before
   pub counted : number ≡ suc (length before)
 
--- why no line was gone to, where a line of this sort has to stand
+-- Why no line was reached, where a line of this sort must follow.
 abbrev pub IsLongFault : Place → List ℕ → List ℕ → WalkFault → Type 0
 IsLongFault Form bytes front (BadLineAt number) = IsLong bytes front number
 IsLongFault Form bytes front (IllegalAt number) = ⊥
@@ -105,35 +106,35 @@ IsLongFault Reply bytes front (IllegalAt number) = IsLong bytes front number
 IsLongFault Reply bytes front (BadLineAt number) = ⊥
 IsLongFault place bytes front _ = Unit {0}
 
--- the fault of a line of this sort
+-- The fault of a line of this sort.
 abbrev pub line_fault : Place → ℕ → WalkFault
 line_fault Form number = BadLineAt number
 line_fault Reply number = IllegalAt number
 
--- the fault of a line that can't be read
+-- The fault of a line that can't be read.
 abbrev pub of_line : AskedFault → ℕ → WalkFault
 of_line badly.BadLine number = BadLineAt number
 of_line badly.NoRoom number = NoRoom
 
--- what is said of a trace for a fault
+-- The verdict for a fault.
 abbrev pub verdict_of : WalkFault → Verdict
 verdict_of (IllegalAt number) = verdicts.IllegalAt number
 verdict_of (BadLineAt number) = verdicts.BadLineAt number
 verdict_of ReadFault = verdicts.ReadFault
 verdict_of NoRoom = verdicts.NoRoom
 
--- whether a reply line has to stand there
+-- Whether a reply line must follow.
 abbrev pub is_reply : Place → Bool
 is_reply Form = false
 is_reply Reply = true
 
--- at most 4096 bytes, and a newline
+-- Whether the line has at most 4096 bytes before its newline.
 abbrev pub IsShort : List ℕ → Type 0
 IsShort line = length line ≤ 4097
 
--- ---- within an entry, that begins at a spot. The lines of what it asks, so far, are kept.
+-- ---- within an entry that begins at a spot. `kept` is the lines of its command so far.
 
--- It is behind the first line of an entry.
+-- Whether the walk is after the first line of an entry.
 pub record Heads (b : Spot) (l : LinesContent) (store : ContentRecord) (h : Header) (remaining : Option (List ℕ)) (pass : ℕ) (head : Head) (kept : List ℕ) : Type 0 where
   pub at : IsAt b.bytes (b.front ++ head_text pass head) l remaining
   pub stands : ContentStands store b.state
@@ -143,7 +144,7 @@ pub record Heads (b : Spot) (l : LinesContent) (store : ContentRecord) (h : Head
   pub short : IsShort (head_text pass head)
   pub kept_is : kept ≡ head_text pass head
 
--- It is behind some of the items of a Merge.
+-- Whether the walk is after some of the items of a Merge.
 pub record Lists (b : Spot) (l : LinesContent) (store : ContentRecord) (h : Header) (remaining : Option (List ℕ)) (pass most : ℕ) (items : List Item) (kept : List ℕ) : Type 0 where
   pub at : IsAt b.bytes (b.front ++ (pass_text pass (merge_text most) ++ flat_map plus_text items)) l remaining
   pub stands : ContentStands store b.state
@@ -153,7 +154,7 @@ pub record Lists (b : Spot) (l : LinesContent) (store : ContentRecord) (h : Head
   pub may : All (MayMerge h.format) items
   pub kept_is : kept ≡ pass_text pass (merge_text most) ++ flat_map plus_text items
 
--- It is behind what an entry asks.
+-- Whether the walk is after an entry's command.
 pub record HasAsked (b : Spot) (l : LinesContent) (store : ContentRecord) (h : Header) (remaining : Option (List ℕ)) (pass : ℕ) (asked : Asked) (kept : List ℕ) : Type 0 where
   pub at : IsAt b.bytes (b.front ++ asked_text pass asked) l remaining
   pub stands : ContentStands store b.state
@@ -162,7 +163,7 @@ pub record HasAsked (b : Spot) (l : LinesContent) (store : ContentRecord) (h : H
   pub may : MayAsk h.format pass asked
   pub kept_is : kept ≡ asked_text pass asked
 
--- It is at the first line of the reply.
+-- Whether the walk is at the first line of the reply.
 pub record Hears (b : Spot) (l : LinesContent) (store : ContentRecord) (h : Header) (remaining : Option (List ℕ)) (pass : ℕ) (asked : Asked) (kept : List ℕ) : Type 0 where
   pub line : List ℕ
   pub here : HasLine b.bytes (b.front ++ asked_text pass asked) line l remaining
@@ -175,42 +176,42 @@ pub record Hears (b : Spot) (l : LinesContent) (store : ContentRecord) (h : Head
 
 -- ---- the reply
 
--- no line is left without its newline
+-- Whether every line of the text has its newline.
 abbrev pub IsEnded : List ℕ → Type 0
 IsEnded text = (before last : List ℕ) → text ≡ before ++ last → IsUnbroken last → last ≡ []
 
--- if this line stands there, it is this one of a reply
+-- Whether `line`, if it is the one here, is this line of a reply.
 abbrev pub IsThere : (here next line : List ℕ) → Type 0
 IsThere here next line = line ≡ with_newline here → line ≡ 60 ∷ 32 ∷ next
 
--- Behind some lines of the text, its next one has to stand.
+-- Whether, after some lines of the text, its next one must follow.
 abbrev pub GoesOnSaying : (start base text : List ℕ) → Type 0
 GoesOnSaying start base text =
     (given next left : List ℕ) → text ≡ (given ++ 10 ∷ []) ++ (next ++ left) → EndsLine next →
     IsPlaceInEntry start (base ++ marked (given ++ 10 ∷ [])) true (λ (line : List ℕ). line ≡ 60 ∷ 32 ∷ next) × (length next ≤ 4095)
 
--- The line is where the text of the reply has to begin.
+-- Whether the text of the reply must begin at this line.
 pub record IsToBeSaid (start base here text : List ℕ) : Type 0 where
   pub first : (next left : List ℕ) → text ≡ next ++ left → EndsLine next → IsPlaceInEntry start base true (IsThere here next)
   pub further : GoesOnSaying start base text
 
--- It is behind some lines of the text of a reply, whose other lines are left.
+-- Whether the walk is after some lines of a reply's text, and `rest` is left of it.
 pub record IsSaid (bytes base whole rest : List ℕ) (l : LinesContent) (remaining : Option (List ℕ)) : Type 0 where
   pub given : List ℕ
   pub whole_is : whole ≡ (given ++ 10 ∷ []) ++ rest
   pub at : IsAt bytes (base ++ marked (given ++ 10 ∷ [])) l remaining
 
--- why a Merge wasn't stopped behind so many of its items
+-- Why a Merge wasn't stopped after `done` of its items.
 abbrev pub IsStopFault : State → List Item → (done number : ℕ) → WalkFault → Type 0
 IsStopFault s items done number (IllegalAt place) = (place ≡ number) × ((course s (take done items)).stop ≢ None)
 IsStopFault s items done number (BadLineAt place) = ⊥
 IsStopFault s items done number _ = Unit {0}
 
--- in format 2 it stays as it is: but for sweeps, what may be asked in format 1
+-- Whether the entry is the same in format 2: any command of format 1 except a sweep.
 abbrev pub StaysUpgraded : Format → Asked → Type 0
 StaysUpgraded format asked = format ≡ One → (s : State) (e : TraceEntry) → BecomesAs s e asked (e ∷ [])
 
--- The store itself answers what is asked, and the line isn't for want of memory.
+-- Whether the store itself answers the command, and the line isn't one for out of memory.
 pub record IsForStore (format : Format) (asked : Asked) (said : Wording) (command : Command) (line : List ℕ) : Type 0 where
   pub asks : command_asked asked ≡ Some command
   pub words : said ≡ worded_as asked

@@ -1,4 +1,4 @@
-//! Asking a store what an entry of a trace asks.
+//! Applies an entry's command to a store.
 
 ghost use Rattle.std.specs.Prelude.{◌≡◌, ◌≢◌, None, IfOk};
 ghost use Rattle.trace_model.specs.declared.asked.Asked.TheVariants as askeds;
@@ -17,17 +17,17 @@ use std::alloc::Global;
 use store_answers::Wording;
 use trace_model::{Asked, Format};
 
-/// What a store answers to what an entry asks: its reply, and how the lines of it are worded.
+/// The answer of a store to an entry's command: its reply, and the wording of the reply's lines.
 #[derive(Drop)]
 pub struct Answer {
     pub wording: Wording,
     pub reply: Reply,
 }
 
-/// Asks a store what an entry of a trace asks: one step of the store that the trace is of. A sweep of format 1 leaves tombstones,
-/// and everything else is asked as the store's command says.
+/// Applies an entry's command to a store: one step of the trace's store. A sweep of format 1 leaves tombstones;
+/// everything else is the store's own command.
 ///
-/// Out of memory for a command, or in the midst of such a sweep, it gives no reply, and the store is no more the trace's.
+/// NoRoom: out of memory for a command, or in the middle of such a sweep. The store is then no longer the trace's.
 pub fn ask_store(
     alloc: Global,
     store: &mut Store,
@@ -47,7 +47,7 @@ pub fn ask_store(
     }
 }
 
-// Asks what stands on one line.
+// Applies the command of one line.
 fn ask_line(
     alloc: Global,
     store: &mut Store,
@@ -65,7 +65,7 @@ fn ask_line(
     ask_plain(alloc, store, command, wording)
 }
 
-// Asks a sweep of format 1, to whose reply this wording belongs.
+// Applies a sweep of format 1, whose reply has this wording.
 fn ask_older(
     alloc: Global,
     store: &mut Store,
@@ -79,7 +79,7 @@ fn ask_older(
     Ok(Answer { wording, reply })
 }
 
-// Asks as the store's command says, to whose reply this wording belongs.
+// Applies the store's own command, whose reply has this wording.
 fn ask_plain(
     alloc: Global,
     store: &mut Store,

@@ -1,4 +1,4 @@
-//! The text of a reply, which has to stand in a trace line by line.
+//! Compares the text of a reply with the lines of a trace.
 
 ghost use Rattle.std.specs.Prelude.{◌≡◌, ◌∷◌, IfOk, IfErr};
 ghost use Rattle.trace_walk.specs.Steps.{SaysAll, MissesReply, SaysRest, MissesRest, MissesSaid};
@@ -8,7 +8,7 @@ use crate::place::{Place, wanted_line};
 use line_io::{Lines, Source, split_line};
 use trace_model::is_marked;
 
-/// The lines of the reply stand there, the first of which is gone to.
+/// Compares a reply with the trace, from the line that was reached last.
 pub(crate) fn expect<R: Source>(
     lines: &mut Lines,
     reader: &mut R,
@@ -24,7 +24,7 @@ pub(crate) fn expect<R: Source>(
     further(lines, reader, rest)
 }
 
-// The further lines of a reply stand there.
+// Compares the further lines of a reply.
 fn further<R: Source>(lines: &mut Lines, reader: &mut R, text: &[u8]) -> Result<(), WalkFault>
     ensures goes { IfOk result (λ u. SaysRest lines.old (R.remaining reader.old) lines.new (R.remaining reader.new) text.now) }
     ensures fails { IfErr result (λ fault. MissesRest lines.old (R.remaining reader.old) text.now fault) }
@@ -38,7 +38,7 @@ fn further<R: Source>(lines: &mut Lines, reader: &mut R, text: &[u8]) -> Result<
     Ok(())
 }
 
-// The line of a reply stands there.
+// Compares one line of a reply.
 fn said(lines: &Lines, line: &[u8]) -> Result<(), WalkFault>
     ensures same { IfOk result (λ u. lines.now.line ≡ 60 ∷ 32 ∷ line.now) }
     ensures fails { IfErr result (λ fault. MissesSaid lines.now line.now fault) }

@@ -10,18 +10,18 @@ use trace_model::{AskedFault, Verdict};
 /// Why a walk through a trace ended before its input did.
 #[derive(Clone, Copy, Debug, PartialEq, Eq)]
 pub enum WalkFault {
-    /// At this line, from 1, a reply line has to stand that a legal trace has there, and none does.
+    /// This line, from 1, must be a reply line, and isn't one that a legal trace has there.
     IllegalAt(u64),
-    /// The same of a header, `>` or `+` line.
+    /// Likewise for a header, a `>` or a `+` line.
     BadLineAt(u64),
-    /// The reader failed, or gave more than can be counted.
+    /// The reader failed, or 2^32 reads were made.
     ReadFault,
     /// Out of memory.
     NoRoom,
 }
 
 impl WalkFault {
-    /// The fault of a line that can't be read.
+    /// Returns the fault of a line that can't be read.
     pub(crate) fn of_line(fault: AskedFault, number: u64) -> WalkFault
         ensures { result ≡ of_line fault number }
     {
@@ -31,7 +31,7 @@ impl WalkFault {
         }
     }
 
-    /// What is said of the trace for it.
+    /// Returns the verdict for the fault.
     pub fn verdict(self) -> Verdict
         ensures { result ≡ verdict_of self }
     {

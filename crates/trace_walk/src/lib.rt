@@ -1,7 +1,7 @@
 //! A walk through a recorded trace of one store, entry by entry.
 //!
-//! A store is opened by the header of a trace and asked what its entries ask, one after the other, and what it replies has to stand in
-//! the trace. What a trace is, and which are legal, `trace_model` says.
+//! A trace's header opens a store, which runs the commands of the entries in order, and the trace must have the store's
+//! replies. `trace_model` defines traces, and which are legal.
 #![tactic(auto)]
 
 mod asking;

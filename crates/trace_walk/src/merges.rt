@@ -12,7 +12,7 @@ use std::alloc::Global;
 use store_answers::{Wording, append_reply};
 use trace_model::{append_marked, append_merge};
 
-/// Entries of a trace that merge tombstones, as text.
+/// Merges of tombstones, as the text of entries, and their count.
 #[derive(Drop)]
 pub struct Merges {
     pub(crate) text: Vec<u8>,
@@ -20,7 +20,7 @@ pub struct Merges {
 }
 
 impl Merges {
-    /// No entries.
+    /// Returns no entries.
     pub(crate) fn new(alloc: Global) -> Merges
         ensures { IsEmpty result }
     {
@@ -30,7 +30,7 @@ impl Merges {
         }
     }
 
-    /// Adds the entry of a pass that merges the items, all of which took effect, so that this is owed.
+    /// Adds the entry of a pass that merges the items, all of which took effect and owe this mask.
     pub(crate) fn add(
         &mut self,
         alloc: Global,

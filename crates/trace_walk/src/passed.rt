@@ -1,4 +1,4 @@
-//! What an entry of format 1 is in format 2.
+//! An entry of format 1, written in format 2.
 
 ghost use Rattle.std.specs.Prelude.{IfOk};
 ghost use Rattle.trace_walk.specs.Passing.{IsWrittenAs};
@@ -9,16 +9,16 @@ use ds_line::append_all;
 use ds_names::NoRoom;
 use trace_model::append_marked;
 
-/// What an entry of format 1, which a walk went through, is in format 2.
+/// An entry of format 1 that a walk passed, in format 2.
 #[derive(Drop)]
 pub enum Passed {
     /// The same entry.
     AsItStands,
-    /// A sweep's: Merges of the tombstones that it left, if it left any.
+    /// A sweep: Merges of the tombstones that it left, if it left any.
     Swept(Merges),
 }
 
-/// Appends what the entry that the walk went through is in format 2. Gives how many entries that is.
+/// Appends the entry that the walk passed, in format 2, and returns how many entries that is.
 pub fn append_passed(text: &mut Vec<u8>, walk: &Walk, passed: &Passed) -> Result<u64, NoRoom>
     ensures { IfOk result (IsWrittenAs walk.now passed.now text.old.items text.new.items) }
 {

@@ -1,4 +1,4 @@
-//! What has to stand on a line of a trace, and going to that line.
+//! The next line of a trace, and what it must be.
 
 ghost use Rattle.std.specs.Prelude.{◌≡◌, ◌≤◌, length, true, false, IfOk, IfErr};
 ghost use Rattle.line_io.specs.Lines.{EndsLine};
@@ -8,7 +8,7 @@ ghost use Rattle.trace_walk.specs.Steps.{ComesToLine, ComesToLong, FindsNone, Mi
 use crate::fault::WalkFault;
 use line_io::{Lines, Pulled, Source};
 
-/// What has to stand on a line.
+/// The sort of line that must follow.
 #[derive(Clone, Copy, Debug, PartialEq, Eq)]
 pub(crate) enum Place {
     /// A header, `>` or `+` line.
@@ -18,7 +18,7 @@ pub(crate) enum Place {
 }
 
 impl Place {
-    /// Why the line of this number isn't as it should be.
+    /// Returns the fault of this sort of line.
     pub fn fault(self, number: u64) -> WalkFault
         ensures { result ≡ line_fault self number }
     {
@@ -29,7 +29,7 @@ impl Place {
     }
 }
 
-/// Goes to the next line, where a line of this sort has to stand.
+/// Reads the next line, where a line of this sort must follow.
 pub(crate) fn wanted_line<R: Source>(
     lines: &mut Lines,
     reader: &mut R,
@@ -45,7 +45,7 @@ pub(crate) fn wanted_line<R: Source>(
     }
 }
 
-/// Goes to the next line. Gives whether there is one.
+/// Reads the next line, and returns whether there is one.
 pub(crate) fn next_line<R: Source>(
     lines: &mut Lines,
     reader: &mut R,

@@ -1,4 +1,4 @@
-//! Want of memory in the reply to what was asked.
+//! Out of memory in a recorded reply.
 
 ghost use Rattle.std.specs.Prelude.{◌≡◌, ◌<◌, length, is_some, IfOk, IfErr, IfSome, IfNone};
 ghost use Rattle.ds_machine.specs.OneStep.{room_wanted};
@@ -12,7 +12,7 @@ use ds_store::Store;
 use std::alloc::Global;
 use trace_model::stopped_at;
 
-/// Behind how many of its items the line stops a Merge for want of memory.
+/// Returns after how many of its items the line stops a Merge for lack of memory.
 pub(crate) fn stop_of(line: &[u8], count: usize) -> Option<usize>
     ensures found { IfSome result (λ done. (done < count) × (line.now ≡ stopped_line done)) }
     ensures none { IfNone result (StopsNowhere line.now count) }
@@ -21,7 +21,7 @@ pub(crate) fn stop_of(line: &[u8], count: usize) -> Option<usize>
     if done < count { Some(done) } else { None }
 }
 
-/// The reply to a Merge that is stopped for want of memory behind so many items: those are merged.
+/// Merges the first `done` items, and returns the reply of a Merge that memory stopped after them.
 pub(crate) fn stopped(
     alloc: Global,
     store: &mut Store,
@@ -41,7 +41,7 @@ pub(crate) fn stopped(
     stopped_behind(&reply, done, number)
 }
 
-// What a Merge that is stopped behind so many items is answered, where this is the reply to a Merge of those alone.
+// Returns the reply of a Merge that memory stopped after `done` items, from the reply to a Merge of those alone.
 fn stopped_behind(reply: &Reply, done: usize, number: u64) -> Result<Reply, WalkFault>
     ensures stops { IfOk result (EndsMidway reply.now done) }
     ensures fails { IfErr result (λ fault. (fault ≡ WalkFault.IllegalAt number) × IsUnmerged reply.now) }
@@ -56,7 +56,7 @@ fn stopped_behind(reply: &Reply, done: usize, number: u64) -> Result<Reply, Walk
     }
 }
 
-/// Whether the store wanted memory.
+/// Returns whether the store ran out of memory.
 pub(crate) fn wants_room(reply: &Reply) -> bool
     ensures { result ≡ is_some (room_wanted reply.now) }
 {

@@ -18,7 +18,7 @@ use script_commands::ScriptCommand;
 use std::alloc::Global;
 use trace_model::Format;
 
-/// What RS asks to sweep.
+/// A sweep that RS sends.
 #[derive(Clone, Copy, Debug)]
 pub(crate) struct Sweep {
     pub caller: Endpoint,
@@ -26,7 +26,7 @@ pub(crate) struct Sweep {
     pub generation: Generation,
 }
 
-/// The sweep of format 1 that the command is, if it is one.
+/// Returns the sweep of format 1 that the command is, if it is one.
 pub(crate) fn older(command: &ScriptCommand, format: Format) -> Option<Sweep>
     ensures { result ≡ older_of format command.now }
 {
@@ -49,9 +49,9 @@ pub(crate) fn older(command: &ScriptCommand, format: Format) -> Option<Sweep>
     }
 }
 
-/// RS sweeps what an owner left up to a generation: each live entry of it, labels aside, gets a tombstone of that generation and
-/// the last sequence number. The store merges them, and gives the reply. With it comes what this is as entries of format 2, which a
-/// pass asks of a store of these limits.
+/// Sweeps as in format 1: each live entry of an owner up to a generation, labels aside, gets a tombstone of that
+/// generation with the last sequence number. Returns the store's reply, and the sweep as entries of format 2 for a pass
+/// and a store of these limits.
 pub(crate) fn sweep_older(
     alloc: Global,
     store: &mut Store,
@@ -82,7 +82,7 @@ pub(crate) fn sweep_older(
     Ok((Reply::Swept { count, owed }, merges))
 }
 
-// The tombstones of a sweep, in the order of the keys.
+// Returns the tombstones of a sweep, in key order.
 fn tombstones(alloc: Global, held: &Held, sweep: &Sweep) -> Result<Items, NoRoom>
     ensures { IfOk result (λ gone. gone ≡ tombstones (held_items held.now) sweep.now.owner sweep.now.generation) }
 {
@@ -95,7 +95,7 @@ fn tombstones(alloc: Global, held: &Held, sweep: &Sweep) -> Result<Items, NoRoom
     Ok(gone)
 }
 
-// The tombstone that a sweep puts over the change at an index, if it puts one.
+// Returns the tombstone for the change at an index, if the sweep ends it.
 fn tombstone_at(held: &Held, index: usize, sweep: &Sweep) -> Option<Item>
     ensures { result ≡ option_and_then (tombstone_over sweep.now.owner sweep.now.generation) (slice_get (held_changes held.now) index) }
 {
@@ -106,7 +106,7 @@ fn tombstone_at(held: &Held, index: usize, sweep: &Sweep) -> Option<Item>
     tombstone(change, sweep)
 }
 
-// Whether a sweep puts a tombstone over the change: a put of the owner's, of a generation up to there, that is no label's.
+// Whether a sweep ends the change: a live entry of the owner's, not a label, of a generation up to the sweep's.
 fn is_swept(change: &Change, sweep: &Sweep) -> bool
     ensures { result ≡ is_swept sweep.now.owner sweep.now.generation change.now }
 {
@@ -116,7 +116,7 @@ fn is_swept(change: &Change, sweep: &Sweep) -> bool
         && change.version().epoch.number() <= sweep.generation.number()
 }
 
-// The tombstone that a sweep puts over the change.
+// Returns the tombstone for a change that a sweep ends.
 fn tombstone(change: &Change, sweep: &Sweep) -> Option<Item>
     requires { is_swept sweep.now.owner sweep.now.generation change.now ≡ true }
     ensures { result ≡ Some (tombstone sweep.now.owner sweep.now.generation change.now) }
@@ -131,7 +131,7 @@ fn tombstone(change: &Change, sweep: &Sweep) -> Option<Item>
     }
 }
 
-// Gives the store some of the tombstones. Gives what is owed for them.
+// Merges some of the tombstones, and returns the mask of what they owe.
 fn merge_part(alloc: Global, store: &mut Store, part: &[Item]) -> Result<u128, NoRoom>
     requires few { length part.now ≤ 256 }
     ensures { IfOk result (λ mask. MergesPart store.old part.now mask store.new) }

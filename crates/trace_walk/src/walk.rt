@@ -15,8 +15,10 @@ use line_io::{Lines, Source};
 use std::alloc::Global;
 use trace_model::{Asked, Head, Header, read_head, read_header, read_plus};
 
-/// A walk under way: where it is in the input, the store that answers, and what it was opened with. Of the entry it keeps the lines of
-/// what it asks, as they stand, and those of the reply, without their marks, the first of which has to stand in the line `first`.
+/// A walk under way: its place in the input, the store, and the header that opened it.
+///
+/// Of the current entry it keeps the lines of the command, and those of the reply without their marks. The reply is
+/// expected from line `first` on.
 #[derive(Drop)]
 pub struct Walk {
     alloc: Global,
@@ -66,14 +68,14 @@ impl Walk {
         })
     }
 
-    /// With what the store was opened.
+    /// Returns the header that the store was opened with.
     pub fn header(&self) -> Header
         ensures { result ≡ self.now.header }
     {
         self.header
     }
 
-    /// Goes through one entry, if there is one. Gives what it is in format 2, if the trace is of format 1.
+    /// Passes one entry, if there is one, and returns what it is in format 2, if the trace is of format 1.
     pub fn next<R: Source>(&mut self, reader: &mut R) -> Result<Option<Passed>, WalkFault>
         ensures goes { IfOk result (λ o. IfSome o (GoesPast self.old (R.remaining reader.old) self.new (R.remaining reader.new))) }
         ensures ends { IfOk result (λ o. IfNone o (EndsThere self.old (R.remaining reader.old))) }
@@ -112,7 +114,7 @@ impl Walk {
         }
     }
 
-    // Reads what else is asked on lines of its own.
+    // Reads the rest of a command: the items of a Merge.
     fn asked<R: Source>(&mut self, reader: &mut R, head: Head) -> Result<Asked, WalkFault>
         ensures goes { IfOk result (ReadsAsked self.old (R.remaining reader.old) head self.new (R.remaining reader.new)) }
         ensures fails { IfErr result (FailsBehindHead self.old (R.remaining reader.old) head) }

@@ -1,4 +1,4 @@
-//! What is known of the line of a trace at which a walk ended.
+//! The first wrong line of a trace.
 
 ghost use Rattle.std.specs.Prelude.{◌≡◌, ◌≢◌};
 ghost use Rattle.trace_walk.specs.declared.wrong_line.Wanted.TheVariants as wanteds;
@@ -6,7 +6,7 @@ ghost use Rattle.trace_walk.specs.declared.wrong_line.Wanted.TheVariants as want
 use crate::walk::Walk;
 use line_io::{LONGEST_LINE, Lines, split_line};
 
-/// What has to stand in a line of a trace.
+/// The sort of line that must follow.
 #[derive(Clone, Copy, Debug, PartialEq, Eq)]
 pub enum Wanted {
     /// The header.
@@ -19,12 +19,12 @@ pub enum Wanted {
     Reply,
 }
 
-/// What stands in a line of a trace.
+/// The line that a trace has.
 #[derive(Clone, Copy, Debug)]
 pub enum Stands<'a> {
     /// This line, with its newline.
     Line(&'a [u8]),
-    /// One above 4096 bytes.
+    /// A line above 4096 bytes.
     Long,
     /// None: the trace ends.
     Nothing,
@@ -35,18 +35,18 @@ pub enum Stands<'a> {
 pub struct WrongLine<'a> {
     /// Its number, from 1.
     pub number: u64,
-    /// What has to stand there.
+    /// Which sort of line must follow.
     pub wanted: Wanted,
-    /// The first line of the entry that it belongs to, or of the one before; nothing where there is none.
+    /// The first line of its entry, or of the entry before; empty if there is none.
     pub asked: &'a [u8],
-    /// The line of the store's reply that has to stand there, with its newline and without its mark, where the store was asked.
+    /// The line of the store's reply that must follow, with its newline and without its mark, if the store was called.
     pub reply: Option<&'a [u8]>,
-    /// What stands there; of a header that isn't told.
+    /// What is there; a line in a header's place isn't kept.
     pub stands: Stands<'a>,
 }
 
 impl Walk {
-    /// What has to stand in the place of a bad line behind the header.
+    /// Returns what must be there instead of a bad line after the header.
     pub fn wanted(&self) -> Wanted
         ensures { result ≢ wanteds.Reply }
     {
@@ -57,7 +57,7 @@ impl Walk {
         }
     }
 
-    /// What is known of the line of a number, in whose place this has to stand.
+    /// Returns the wrong line of this number, where a line of this sort must follow.
     pub fn line_at(&self, number: u64, wanted: Wanted) -> WrongLine<'_>
         ensures number { result.number ≡ number }
         ensures wanted { result.wanted ≡ wanted }
@@ -72,7 +72,7 @@ impl Walk {
     }
 }
 
-// The first line of a text, or nothing.
+// Returns the first line of a text, or nothing.
 fn first_line(text: &[u8]) -> &[u8] {
     match split_line(text) {
         Some((line, _)) => line,
@@ -80,7 +80,7 @@ fn first_line(text: &[u8]) -> &[u8] {
     }
 }
 
-// The line of a text that has so many before it.
+// Returns the line of a text after `before` others.
 fn nth_line(text: &[u8], before: u64) -> Option<&[u8]> {
     let mut rest = text;
     for _line in 0..before {
@@ -91,7 +91,7 @@ fn nth_line(text: &[u8], before: u64) -> Option<&[u8]> {
     Some(line)
 }
 
-// What stands in the line of this number, at which or in front of which the lines are.
+// Returns what is in the line of this number, which is the last that was read, or the one after it.
 fn standing(lines: &Lines, number: u64) -> Stands<'_> {
     if lines.count() != number {
         if lines.front().is_empty() {

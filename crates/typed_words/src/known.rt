@@ -1,8 +1,8 @@
-//! The nearest word that is known, for one that isn't.
+//! The known word that is nearest to an unknown one.
 
 use std::fmt;
 
-/// The search for the known word that a word is nearest to.
+/// A search for the nearest known word.
 #[derive(Clone, Copy)]
 pub struct Search<'a> {
     word: &'a [u8],
@@ -11,7 +11,7 @@ pub struct Search<'a> {
 }
 
 impl<'a> Search<'a> {
-    /// Begins a search for this word, with no known word yet.
+    /// Begins a search for this word, with no known words yet.
     pub fn to(word: &'a [u8]) -> Search<'a> {
         Search {
             word,
@@ -20,7 +20,7 @@ impl<'a> Search<'a> {
         }
     }
 
-    /// Compares one more known word. Of two that are as near the first one stays.
+    /// Compares one more known word. Of two equally near words the first one stays.
     pub fn compare(&mut self, known: &'static str) {
         let apart = apart(self.word, known.as_bytes());
         if apart < self.fewest {
@@ -29,14 +29,14 @@ impl<'a> Search<'a> {
         }
     }
 
-    /// Returns the nearest of the known words, if half of it is the same.
+    /// Returns the nearest known word, if at most half of its bytes differ.
     pub fn found(&self) -> Option<&'static str> {
         let fewest = self.fewest;
         self.best.filter(|it| fewest <= it.len() / 2)
     }
 }
 
-/// Returns the one of these words that a word is nearest to, if half of it is the same.
+/// Returns the nearest of these words, if at most half of its bytes differ.
 pub fn nearest(word: &[u8], known: &[&'static str]) -> Option<&'static str> {
     let mut search = Search::to(word);
     for it in known {
@@ -45,7 +45,7 @@ pub fn nearest(word: &[u8], known: &[&'static str]) -> Option<&'static str> {
     search.found()
 }
 
-/// The nearest word in a sentence, after the one that isn't known; nothing where none is near.
+/// The nearest word as the end of a sentence; empty if none is near.
 #[derive(Clone, Copy)]
 pub struct IfNear<'a>(pub Option<&'a str>);
 
@@ -58,8 +58,7 @@ impl fmt::Display for IfNear<'_> {
     }
 }
 
-// How many bytes of the longer text stand between what both begin with and what both end with, letters of either case
-// being one.
+// Returns how many bytes of the longer text are left between the common front and the common end, ignoring case.
 fn apart(one: &[u8], other: &[u8]) -> usize {
     let longest = one.len().max(other.len());
     let shortest = one.len().min(other.len());

@@ -1,6 +1,6 @@
-//! Words that somebody typed: how they are shown, and the nearest word that is known.
+//! Words that a user typed: how they are shown, and the nearest known word.
 //!
-//! `ds_explain` shows words of lines and of settings, `dsctl_cli` those of the prompt's help. Of this project.
+//! `ds_explain` shows words of lines and of settings, `dsctl_cli` those of the prompt's help. This project's.
 #![tactic(auto)]
 
 mod known;

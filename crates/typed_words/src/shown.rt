@@ -2,7 +2,7 @@
 
 use std::fmt;
 
-/// Bytes for a terminal, one column each.
+/// Bytes for a terminal, one column each: a byte that isn't printable ASCII is shown as `?`.
 #[derive(Clone, Copy)]
 pub struct Plain<'a>(pub &'a [u8]);
 

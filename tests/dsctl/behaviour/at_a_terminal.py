@@ -10,7 +10,7 @@ from .running import expect
 from .samples import GOOD
 
 NO_HEADER = b"line 1: a header was expected, `trace 2 INCARNATION FIRST RING SUBS KEYS`\n"
-GREETING = b"dsctl: `help` shows the lines, ^D ends. A bad line ends nothing\n"
+GREETING = b"dsctl: `help` shows the lines, ^D ends. Bad lines are skipped\n"
 
 
 def greets_and_prompts(program):
@@ -31,7 +31,7 @@ def points_at_the_place(program):
 
 def goes_on_at_a_terminal(program):
     """At a terminal a line that can't be read is answered, and the next one is asked for; with --keep-going too."""
-    told = b"line 1, byte 0: `shwo` is no command, the nearest is `show`: see help\n"
+    told = b"line 1, byte 0: `shwo` isn't a command, the nearest is `show`: see help\n"
     wanted = b"> shwo\nbadline 1 0\n  shwo\n  ^\n" + told + b"> show\nshown 0\n> \n"
     for words in ([], ["replay"], ["replay", "--keep-going"]):
         ran = terminal.session(program, words, [b"shwo\n", b"show\n"])
@@ -41,9 +41,9 @@ def goes_on_at_a_terminal(program):
 def stops_where_it_is_asked_to(program):
     """With --stop a line that can't be read ends the script at a terminal, as it does elsewhere with and without it."""
     ran = terminal.session(program, ["replay", "--stop"], [b"show\n", b"shwo\n"])
-    told = b"line 2, byte 0: `shwo` is no command, the nearest is `show`: see help\n"
+    told = b"line 2, byte 0: `shwo` isn't a command, the nearest is `show`: see help\n"
     wanted = b"> show\nshown 0\n> shwo\nbadline 2 0\n  shwo\n  ^\n" + told
-    assert ran.seen.endswith(b"ends, and so does a bad line\n" + wanted) and ran.status == 1, f"{ran}"
+    assert ran.seen.endswith(b"^D or a bad line ends\n" + wanted) and ran.status == 1, f"{ran}"
     expect(harness.run([program, "replay", "--stop"], b"show\nshwo\nshow\n"), b"shown 0\nbadline 2 0\n", 1)
 
 
@@ -63,8 +63,8 @@ def takes_words_of_its_own_at_the_prompt(program):
 # What help says of a word at the prompt: what its rows begin with, and what they have.
 EXPLAINED = [
     (b"help publish", [b"  publish CALLER new NAME KIND EPOCH.SEQ = VALUE\n"], b"put a value in the caller's name"),
-    (b"help offer", [b"  offer CHANGE ", b"  offer FLOOR "], b"merge one change, whoever made it\n"),
-    (b"help settings", [b"  settings REST "], b"RS begins with the services of a settings text"),
+    (b"help offer", [b"  offer CHANGE ", b"  offer FLOOR "], b"merge one change, from any owner\n"),
+    (b"help settings", [b"  settings REST "], b"begin RS, once, with the services of a settings text"),
     (b"help label", [b"  label  GENERATION/SLOT, the endpoint of a driver"], b"0 for a put and 1 for a tombstone\n"),
     (b"? mem", [b"  mem    up to 1024 bytes in lower-case hex\n"], b""),
     (b"help nocaller", [b"  nocaller "], b"RS hasn't published it yet\n"),
@@ -132,7 +132,7 @@ def names_the_keys_of_a_terminal(program):
     """The bytes of a cursor key are told by its name, wherever they stand, and end nothing."""
     for bytes_, name, place in ((b"\x1b[A", b"Up", 0), (b"\x1bOB", b"Down", 0), (b"show\x1b[C", b"Right", 4), (b"nameof 3/1\x1b[D", b"Left", 10)):
         ran = terminal.session(program, [], [bytes_ + b"\n", b"show\n"])
-        told = b"line 1, byte %d: the key %s stands there: `rlwrap dsctl` adds history and editing\n> show\nshown 0\n> \n" % (place, name)
+        told = b"line 1, byte %d: the %s key was found: `rlwrap dsctl` adds history and editing\n> show\nshown 0\n> \n" % (place, name)
         assert ran.seen.endswith(told) and ran.status == 1, f"{name}: {ran}"
 
 

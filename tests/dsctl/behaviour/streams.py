@@ -78,7 +78,7 @@ def waits_for_a_whole_line(program):
         answers(started, b"badline 3 0\n")
     finally:
         rest = end(started)
-    expect(rest, b"", 1, b"line 3, byte 0: `showx` is no command, the nearest is `show`: see --help\n")
+    expect(rest, b"", 1, b"line 3, byte 0: `showx` isn't a command, the nearest is `show`: see --help\n")
 
 
 def judges_usage_before_input(program):

@@ -81,10 +81,10 @@ def does_as_its_help_shows(program):
     typed = [row[2:] for row in session if row.startswith("> ")]
     assert len(typed) == 4, f"the help shows {session}"
     expect(harness.run([program], script_of(typed)), script_of(row for row in session if not row.startswith("> ")), 0)
-    five = [re.split(" {2,}", row)[0] for row in rows_below("A driver that dies and is started again, in five lines", help_)]
+    five = [re.split(" {2,}", row)[0] for row in rows_below("A driver that dies and is restarted, in five lines", help_)]
     assert len(five) == 5, f"the help shows {five}"
     expect(harness.run([program], script_of(five)), FIVE_ANSWERED, 0)
-    trace = rows_below("A trace that is legal, of two entries", harness.run([program, "verify", "--help"], b"").output.decode())
+    trace = rows_below("A legal trace of two entries", harness.run([program, "verify", "--help"], b"").output.decode())
     assert len(trace) == 5, f"the help shows {trace}"
     expect(harness.run([program, "verify"], script_of(trace)), b"legal 2\n", 0)
     help_ = harness.run([program, "upgrade", "--help"], b"").output.decode()
@@ -136,7 +136,7 @@ def points_at_standard_input(program):
     tips = [(["script.ds"], b"dsctl < SCRIPT"), (["replay", "a/script"], b"dsctl < SCRIPT"), (["settings", "machine.toml"], settings)]
     tips += [(["verify", "recorded.trace"], b"dsctl verify < TRACE"), (["verify", "a/trace"], b"dsctl verify < TRACE")]
     tips += [(["upgrade", "older.trace"], b"dsctl upgrade < TRACE"), (["record", "recorded.commands"], b"dsctl record < COMMANDS > TRACE")]
-    tips += [(["live", "script.ds"], b"Nothing is read by dsctl live")]
+    tips += [(["live", "script.ds"], b"dsctl live reads nothing")]
     tips += [(["--keep-going"], b"dsctl replay --keep-going"), (["--stop"], b"dsctl replay --keep-going")]
     for words, tip in tips:
         ran = harness.run([program, *words], b"")

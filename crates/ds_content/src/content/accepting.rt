@@ -19,8 +19,8 @@ use ds_names::{Key, NoRoom};
 use ds_watch::{Mask, Masks};
 
 impl Content {
-    /// The subscriptions to which a change of the key is owed, whose place is told. For a held key it asks no pattern, and takes
-    /// no memory.
+    /// Returns the subscriptions that are owed a change of the key at `place`. For a held key it matches no pattern and
+    /// takes no memory.
     #[inline(always)]
     pub fn owed_at(&self, place: Result<usize, usize>, key: &Key) -> Result<Mask, NoRoom>
         requires { IsPlace (changes_in self.now.held) key.now place }
@@ -36,9 +36,8 @@ impl Content {
         }
     }
 
-    /// A change against which nothing stands takes effect at the place of its key, and is to be shown to all to which it is owed.
-    /// It is only lent: what is held and the journal keep a copy each. Want of memory changes nothing, and is only met where the
-    /// key isn't held, or where a copy of the change takes memory.
+    /// Lets a change take effect at its key's place, to be shown to all that it is owed to. What is held and the
+    /// journal get a copy each. NoRoom changes nothing, and comes only if the key isn't held or the copy takes memory.
     pub fn accept_at(
         &mut self,
         place: Result<usize, usize>,
@@ -62,7 +61,7 @@ impl Content {
     }
 }
 
-// The change again, with a copy of its body.
+// Returns the change with another copy of its body.
 #[inline(always)]
 fn again(change: &Change, body: Body) -> Change
     requires { body ≡ change.now.body }

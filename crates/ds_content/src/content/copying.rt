@@ -12,7 +12,7 @@ use ds_held::Held;
 use ds_names::NoRoom;
 use std::alloc::Global;
 
-/// The item at the index once more, floors first and then changes in key order. `None` behind the last one.
+/// Returns a copy of the item at the index (floors first, then changes in key order), or `None` past the end.
 pub(super) fn copy_at(alloc: Global, held: &Held, index: usize) -> Result<Option<Item>, NoRoom>
     ensures { IfOk result (λ item. item ≡ slice_get (held_items held.now) index) }
 {
@@ -22,7 +22,7 @@ pub(super) fn copy_at(alloc: Global, held: &Held, index: usize) -> Result<Option
     }
 }
 
-// Whether the item is under the scope, as every floor is.
+// Returns whether the item is under the scope. A floor always is.
 fn admits<S: KeyScope>(scope: &mut S, item: ItemRef<'_>) -> bool
     ensures answer { result ≡ passes (S.keeps scope.old) (item_lent item.entry) }
     ensures scope { S.keeps scope.new ≡ S.keeps scope.old }
@@ -33,8 +33,7 @@ fn admits<S: KeyScope>(scope: &mut S, item: ItemRef<'_>) -> bool
     }
 }
 
-// Adds the item at the index where it is under the scope, as every floor is, and copies no other. It tells whether there
-// is one.
+// Appends a copy of the item at the index if it is under the scope, and returns whether there is such an item.
 fn add_at<S: KeyScope>(
     alloc: Global,
     held: &Held,
@@ -56,7 +55,7 @@ fn add_at<S: KeyScope>(
     Ok(true)
 }
 
-/// All that is held under the scope, floors first and then changes in key order.
+/// Returns everything held under the scope, floors first, then changes in key order.
 pub(super) fn all_under<S: KeyScope>(
     alloc: Global,
     held: &Held,

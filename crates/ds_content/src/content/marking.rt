@@ -1,4 +1,4 @@
-//! The masks beside what is held, for all subscriptions.
+//! The masks of held items, for all subscriptions.
 
 ghost use Rattle.std.specs.Prelude.{◌≡◌, ◌<◌, ◌≤◌, ◌&&◌, Some, None, length, map, false, slice_get, slice_index_or, IfOk};
 ghost use Rattle.std.specs.Option.{option_map};
@@ -20,14 +20,14 @@ use ds_pattern::{Asker, Filter};
 use ds_watch::Masks;
 use std::alloc::Global;
 
-// The masks at the index.
+// Returns the masks at the index.
 fn nth(marks: &[Masks], index: usize) -> Option<Masks>
     ensures { result ≡ slice_get marks.now index }
 {
     marks.get(index).copied()
 }
 
-// The masks beside the item at the index, floors first and then changes in key order.
+// Returns the masks of the item at the index, floors first, then changes in key order.
 fn masks_of(held: &Marked<Masks>, index: usize) -> Option<Masks>
     ensures here { (i : items.Item) → slice_get (held_items held.now.held) index ≡ Some i → result ≡ masks_at held.now i }
     ensures none { slice_get (held_items held.now.held) index ≡ None → result ≡ None }
@@ -40,8 +40,7 @@ fn masks_of(held: &Marked<Masks>, index: usize) -> Option<Masks>
     }
 }
 
-// The index of the first masks, from this one on, that say that their item is still to be shown to the subscription with this
-// number.
+// Returns the index of the first masks at or after `from` whose item is still to be shown to subscription `sub`.
 fn next_mask(marks: &[Masks], from: usize, sub: usize) -> Option<usize>
     requires { sub < 128 }
     ensures { IsNext (says_unseen sub) marks.now from result }
@@ -54,8 +53,8 @@ fn next_mask(marks: &[Masks], from: usize, sub: usize) -> Option<usize>
     None
 }
 
-/// The index of the first held item, from this one on, that is still to be shown to the subscription with this number; floors
-/// come first and then changes in key order. It looks at the masks alone, one behind the other.
+/// Returns the index of the first held item at or after `from` that is still to be shown to subscription `sub` (floors
+/// first, then changes in key order). It reads only the masks, in order.
 pub(super) fn next_unseen(held: &Marked<Masks>, from: usize, sub: usize) -> Option<usize>
     requires { sub < 128 }
     ensures { IsNext (is_to_show held.now sub) (held_items held.now.held) from result }
@@ -68,7 +67,7 @@ pub(super) fn next_unseen(held: &Marked<Masks>, from: usize, sub: usize) -> Opti
     Some(floors.len() + index)
 }
 
-// Other masks for the item at the index.
+// Replaces the masks of the item at the index.
 fn set_masks(held: &mut Indexed<Masks>, index: usize, masks: Masks)
     ensures { IsSet held.old held.new index masks }
 {
@@ -81,7 +80,7 @@ fn set_masks(held: &mut Indexed<Masks>, index: usize, masks: Masks)
     }
 }
 
-// The item at the index was shown to the subscription with this number.
+// Marks the item at the index as shown to subscription `sub`.
 fn show_one(held: &mut Indexed<Masks>, index: usize, sub: usize)
     requires { sub < 128 }
     ensures { IsRemarked held.old held.new index (shown_to sub) }
@@ -91,7 +90,7 @@ fn show_one(held: &mut Indexed<Masks>, index: usize, sub: usize)
     }
 }
 
-/// The first so many items were shown to the subscription with this number. It takes no memory.
+/// Marks the first `count` items as shown to subscription `sub`. Takes no memory.
 pub(super) fn show_first(held: &mut Indexed<Masks>, count: usize, sub: usize)
     requires { sub < 128 }
     ensures { AreRemarked held.old held.new count (λ k. shown_to sub) }
@@ -106,7 +105,7 @@ pub(super) fn show_first(held: &mut Indexed<Masks>, count: usize, sub: usize)
     }
 }
 
-// The subscription with this number was made, and the item at the index is under its query or not.
+// Marks the item at the index for a new subscription `sub`, by whether it is under its query.
 fn make_one(held: &mut Indexed<Masks>, index: usize, sub: usize, is_under: bool, initial: bool)
     requires { sub < 128 }
     ensures { IsRemarked held.old held.new index (made_at sub is_under initial) }
@@ -116,8 +115,7 @@ fn make_one(held: &mut Indexed<Masks>, index: usize, sub: usize, is_under: bool,
     }
 }
 
-/// The subscription with this number was made, where the flags say which held items are under its query. It takes no
-/// memory.
+/// Marks the held items for a new subscription `sub`; the flags say which are under its query. Takes no memory.
 pub(super) fn make_all(held: &mut Indexed<Masks>, sub: usize, flags: &[bool], initial: bool)
     requires { sub < 128 }
     ensures { AreRemarked held.old held.new (length flags.now) (λ k. made_at sub (slice_index_or flags.now k false) initial) }
@@ -127,7 +125,7 @@ pub(super) fn make_all(held: &mut Indexed<Masks>, sub: usize, flags: &[bool], in
     }
 }
 
-// Whether the held item at the index is under the query, as every floor is.
+// Returns whether the held item at the index is under the query. A floor always is.
 fn is_under_at(held: &Held, asker: &mut Asker<'_>, index: usize) -> Option<bool>
     ensures told { result ≡ option_map (passes (is_under asker.old)) (slice_get (held_items held.now) index) }
     ensures same { asker.new ≡ asker.old }
@@ -138,7 +136,7 @@ fn is_under_at(held: &Held, asker: &mut Asker<'_>, index: usize) -> Option<bool>
     }
 }
 
-/// Which of the held items are under the query, floors first and then changes in key order.
+/// Returns which held items are under the query, floors first, then changes in key order.
 pub(super) fn flags_under(alloc: Global, held: &Held, filter: &Filter) -> Result<Vec<bool>, NoRoom>
     ensures { IfOk result (λ flags. flags.items ≡ map (passes (is_under filter.now)) (held_items held.now)) }
 {

@@ -11,7 +11,7 @@ use crate::content::Content;
 use ds_names::{Endpoint, Name};
 
 impl Content {
-    // The least name whose live label holds an endpoint. RS's own name is no label's. It takes no memory.
+    // Returns the least name whose live label holds the endpoint. No label is named `rs`. Takes no memory.
     #[inline(always)]
     fn label_of(&self, endpoint: Endpoint) -> Option<&Name>
         ensures { option_copied result ≡ first_name_of endpoint (changes_in self.now.held) }
@@ -19,7 +19,8 @@ impl Content {
         self.held.name_of(endpoint)
     }
 
-    /// The name of an endpoint: RS is `rs`, another one the least name whose live label holds it. It takes no memory.
+    /// Returns the name of an endpoint: `rs` for RS, otherwise the least name whose live label holds it. Takes no
+    /// memory.
     pub fn name_of(&self, endpoint: Endpoint) -> Option<Name>
         ensures { result ≡ name_of self.now.held endpoint }
     {

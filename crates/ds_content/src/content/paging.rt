@@ -16,7 +16,7 @@ use ds_held::Held;
 use ds_names::{Key, NoRoom};
 use std::alloc::Global;
 
-// All held floors, for the first page.
+// Returns all held floors for the first page, and nothing for a later one.
 fn first_floors(alloc: Global, held: &Held, first: bool) -> Result<Items, NoRoom>
     ensures { IfOk result (λ items. items ≡ cond first (map floored (held_floors held.now)) []) }
 {
@@ -33,8 +33,8 @@ fn first_floors(alloc: Global, held: &Held, first: bool) -> Result<Items, NoRoom
     Ok(items)
 }
 
-// Adds the change where it is under the scope, and tells how many more may be added. `None` where it is under the scope and
-// no more may be.
+// Appends the change if it is under the scope, and returns how many more fit, or `None` if it is under the scope and
+// doesn't fit.
 fn add_change<S: KeyScope>(
     alloc: Global,
     scope: &mut S,
@@ -56,7 +56,7 @@ fn add_change<S: KeyScope>(
     Ok(Some(left - 1))
 }
 
-// Adds the first `max` of the changes that are under the scope, and tells whether no more follow.
+// Appends the first `max` changes under the scope, and returns whether they were all.
 fn add_changes<S: KeyScope>(
     alloc: Global,
     changes: &[Change],
@@ -79,9 +79,9 @@ fn add_changes<S: KeyScope>(
 }
 
 impl Content {
-    /// The first `max` changes behind the key of what is held under the scope, in key order; where there is no key, behind all
-    /// floors. It tells whether no more follow, and the cursor behind all that took effect. One search finds
-    /// where they begin, and it looks at nothing in front of the key.
+    /// Returns the first `max` changes after the key that are held under the scope, in key order; without a key, all
+    /// floors come first. The page says whether it is the last, and has the cursor after everything that took effect.
+    /// One binary search finds its start.
     pub fn page<S: KeyScope>(
         &self,
         scope: &mut S,

@@ -18,7 +18,7 @@ use ds_names::NoRoom;
 use ds_watch::{Mask, Masks};
 
 impl Content {
-    /// The subscriptions to which a floor is owed: all that are made.
+    /// Returns the subscriptions that are owed a floor: all of them.
     pub fn owed_by_floor(&self) -> Mask
         ensures value { result ≡ padded (map is_some self.now.subscriptions) }
         ensures owed { (s : State) (f : floors.Floor) → ContentStands self.now s → result ≡ owed_flags s (Floored f) }
@@ -26,9 +26,9 @@ impl Content {
         self.subscriptions.made()
     }
 
-    /// A floor against which nothing stands takes effect at the place of its owner: it is raised, what it makes void is dropped with
-    /// its masks, and it is to be shown to all to which it is owed. It tells how many puts it dropped. Want of memory changes nothing,
-    /// and is only met where its owner has no floor yet.
+    /// Lets a floor take effect at its owner's place: raises it, drops what it makes void, and marks it to be shown to
+    /// all that it is owed to. Returns how many puts it dropped. NoRoom changes nothing, and comes only if the owner
+    /// has no floor.
     pub fn raise_at(
         &mut self,
         place: Result<usize, usize>,
@@ -51,7 +51,7 @@ impl Content {
     }
 }
 
-// The floor as an item.
+// Returns the floor as an item.
 fn item_of(floor: &Floor) -> Item
     ensures { result ≡ Floored floor.now }
 {

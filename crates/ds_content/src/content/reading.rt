@@ -1,4 +1,4 @@
-//! What readers are given: from the journal, and of all that is held.
+//! Reads of the journal and of everything held.
 
 ghost use Rattle.std.specs.Prelude.{◌≡◌, IfOk, IfErr};
 ghost use Rattle.ds_entry.specs.Item.{passes};
@@ -12,9 +12,9 @@ use ds_feed::{Cursor, KeyScope, Since, SinceFault, Snapshot};
 use ds_names::NoRoom;
 
 impl Content {
-    /// What took effect under the scope from the cursor on, at most `max` items, and the cursor behind all that was looked
-    /// at. OldCursor where the cursor is of another incarnation, Ahead where it stands behind the position of the next item,
-    /// Behind where the journal doesn't reach back to it, and NoRoom last.
+    /// Returns at most `max` items that took effect under the scope from the cursor on, and the cursor after all that
+    /// was looked at. Refuses as OldCursor for another incarnation, Ahead past the next item's position, Behind if the
+    /// journal no longer reaches back to the cursor, and last as NoRoom.
     pub fn since<S: KeyScope>(
         &self,
         scope: &mut S,
@@ -28,8 +28,8 @@ impl Content {
         self.journal.since_under(self.alloc, scope, cursor, max)
     }
 
-    /// All that is held under the scope, floors first and then changes in key order, and the cursor behind all that took
-    /// effect.
+    /// Returns everything held under the scope, floors first, then changes in key order, and the cursor after
+    /// everything that took effect.
     pub fn snapshot<S: KeyScope>(&self, scope: &mut S) -> Result<Snapshot, NoRoom>
         ensures given { IfOk result (λ snapshot. snapshot ≡ content_snapshot self.now (passes (S.keeps scope.old))) }
         ensures stands { InEachState self.now (λ s. IfOk result (λ snapshot. snapshot ≡ state_snapshot s (passes (S.keeps scope.old)))) }

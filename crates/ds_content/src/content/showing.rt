@@ -19,14 +19,14 @@ use ds_names::NoRoom;
 use ds_watch::Masks;
 use std::alloc::Global;
 
-/// What is shown, and how many held items were passed for that, from the first on.
+/// The items to show, and how many held items were passed to find them, from the first on.
 #[derive(Drop)]
 pub struct Shown {
     pub items: Items,
     pub passed: usize,
 }
 
-// Adds a copy of the held item at the index.
+// Appends a copy of the held item at the index.
 fn add_copy(alloc: Global, items: &mut Items, held: &Held, index: usize) -> Result<(), NoRoom>
     ensures { OnOk result (IsItemAdded held.now index (λ i. true) items.old items.new) }
 {
@@ -37,7 +37,7 @@ fn add_copy(alloc: Global, items: &mut Items, held: &Held, index: usize) -> Resu
     Ok(())
 }
 
-// The first `max` held items that are to be shown to the subscription with this number.
+// Returns the first `max` held items to show to subscription `sub`.
 fn first_unseen(
     alloc: Global,
     held: &Marked<Masks>,
@@ -69,8 +69,8 @@ fn first_unseen(
 }
 
 impl Content {
-    /// The first `max` held items that are still to be shown to the subscription with this number, floors first and then
-    /// changes in key order. It takes memory for these alone, so want of it says that there are some.
+    /// Returns the first `max` held items still to be shown to subscription `sub`, floors first, then changes in key
+    /// order. Only these take memory, so NoRoom means that there is something to show.
     pub fn first_unseen(&self, sub: u32, max: u32) -> Result<Shown, NoRoom>
         requires { sub < self.now.limits.subs }
         ensures unseen { IfOk result (λ shown. AreUnseen self.now sub shown.items shown.passed) }
@@ -81,7 +81,7 @@ impl Content {
         first_unseen(self.alloc, self.held.marked(), sub as usize, max as usize)
     }
 
-    /// These items were shown to the subscription with this number, at the next stamp. It takes no memory.
+    /// Marks the items as shown to subscription `sub`, which takes the next stamp. Takes no memory.
     pub fn show(&mut self, sub: u32, shown: &Shown)
         requires made { is_some (slice_index_or self.old.subscriptions sub None) ≡ true }
         requires unseen { AreUnseen self.old sub shown.now.items shown.now.passed }

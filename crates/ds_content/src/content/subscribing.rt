@@ -1,4 +1,4 @@
-//! Subscriptions that are made.
+//! Making a subscription.
 
 ghost use Rattle.std.specs.Prelude.{◌≡◌, ◌<◌, IfOk, OnOk, OnErr};
 ghost use Rattle.std.specs.List.{list_any};
@@ -15,7 +15,7 @@ use ds_names::NoRoom;
 use ds_pattern::Filter;
 use ds_watch::Subscription;
 
-// Whether any of the flags is set.
+// Returns whether any flag is set.
 fn has_any(flags: &[bool]) -> bool
     ensures { result ≡ list_any (λ b. b) flags.now }
 {
@@ -23,9 +23,9 @@ fn has_any(flags: &[bool]) -> bool
 }
 
 impl Content {
-    /// The subscription with this number is made, at the next stamp, in place of the one that was there: with `initial` all
-    /// that is held under its query is to be shown to it, without it only what comes later. It tells whether something is
-    /// held under the query, a floor always is. Want of memory changes nothing.
+    /// Makes subscription `sub`, in place of any earlier one, with the next stamp. With `initial`, everything held
+    /// under its query is to be shown; without it, only later changes. Returns whether something held is under the
+    /// query (any floor is). NoRoom changes nothing.
     pub fn subscribe(&mut self, sub: u32, filter: Filter, initial: bool) -> Result<bool, NoRoom>
         requires place { sub < self.old.limits.subs }
         requires room { self.old.stamp < last_place }

@@ -1,5 +1,5 @@
-//! What a holder gives those that keep marks beside it, and judge before they ask: places in its lists, and the steps of a merge
-//! and of a raised floor.
+//! What a holder offers callers that keep marks beside it and judge a command first: places in its lists, and the
+//! steps of a merge and of a raised floor.
 
 ghost use Rattle.std.specs.Prelude.{◌≡◌, length, Ok, None, IfOk, OnOk, OnErr};
 ghost use Rattle.ds_entry.specs.Change.{IsChange};
@@ -18,17 +18,17 @@ use ds_entry::{Change, Floor};
 use ds_names::{Key, Name, NoRoom};
 
 impl Held {
-    /// Where the change of a key stands, by an index from 0 in the order of the keys, or else where it would.
-    /// Where it was last seen is looked at, and else one search finds it.
+    /// Returns the index of a key's change in key order, or the index that it would get. The guessed place is checked
+    /// first; otherwise one search finds it.
     pub fn place(&self, key: &Key) -> Result<usize, usize>
         ensures { IsPlace (held_changes self.now) key.now result }
     {
         place_of(&self.changes, self.guesses.of(key), key)
     }
 
-    /// Puts a change that is to be taken at its place: what [`Held::merge`] would answer was judged before. All else stays.
+    /// Puts a change at its place. The caller has judged already that [`Held::merge`] would take it.
     ///
-    /// It takes memory only for a key that isn't held, and only for want of it is the change refused; then nothing changes.
+    /// It allocates only for a key that isn't held, and is refused only if memory runs out; then nothing changes.
     #[inline(always)]
     pub fn put(&mut self, place: Result<usize, usize>, change: Change) -> Result<(), NoRoom>
         requires place { IsPlace (held_changes self.old) change.key place }
@@ -46,7 +46,7 @@ impl Held {
         answer
     }
 
-    /// Where the floor of an owner stands, by an index from 0 in the order of the owners' names, or else where it would. One
+    /// Returns the index of an owner's floor in the order of the owners' names, or the index that it would get. One
     /// search finds it.
     pub fn floor_place(&self, owner: &Name) -> Result<usize, usize>
         ensures { IsFloorPlace (held_floors self.now) owner.now result }
@@ -54,12 +54,12 @@ impl Held {
         floors::place_of(&self.floors, owner)
     }
 
-    /// Puts a floor that is to be taken at its owner's place, and drops what it makes void: what [`Held::raise`] would answer was
-    /// judged before. From a list beside the changes it drops what stands beside the dropped ones; the others in the list stay, in
-    /// their order. It tells how many puts it dropped.
+    /// Puts a floor at its owner's place, drops what it voids, and returns how many puts it dropped. The caller has
+    /// judged already that [`Held::raise`] would take it. From `marks`, the list beside the changes, it drops the
+    /// elements of the dropped changes; the others keep their order.
     ///
-    /// It takes memory only for an owner who has no floor, and only for want of it is the floor refused; then neither what is held
-    /// nor the list changes.
+    /// It allocates only for an owner without a floor, and is refused only if memory runs out; then neither what is
+    /// held nor the list changes.
     pub fn raise_at<M: Drop>(
         &mut self,
         place: Result<usize, usize>,

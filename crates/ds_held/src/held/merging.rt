@@ -1,4 +1,4 @@
-//! The two steps of a merge: what a change is answered, and how it is taken.
+//! The two steps of a merge: to judge a change, and to take it.
 
 ghost use Rattle.std.specs.Prelude.{◌≡◌, Ok, IfErr};
 ghost use Rattle.ds_entry.specs.Change.{IsChange};
@@ -14,7 +14,7 @@ use ds_join::{JoinFault, Merge};
 use ds_names::NoRoom;
 
 impl Held {
-    // What a change, whose place is told, is answered, where there is memory for it.
+    // Judges a change at its place, as if there were memory for it.
     pub(super) fn outlook(
         &self,
         place: Result<usize, usize>,
@@ -31,7 +31,7 @@ impl Held {
         }
     }
 
-    // Puts a change that is to be taken at its place.
+    // Puts a change that was judged to be taken at its place.
     pub(super) fn take(
         &mut self,
         place: Result<usize, usize>,

@@ -1,4 +1,4 @@
-//! Putting a change, with the list of what labels hold.
+//! Putting a change, and updating the index of labels.
 
 ghost use Rattle.std.specs.Prelude.{◌≡◌, Ok, None, OnOk, OnErr};
 ghost use Rattle.std.specs.Option.{option_map};
@@ -18,7 +18,7 @@ use ds_entry::Change;
 use ds_marked::Marked;
 use ds_names::{Key, NoRoom};
 
-// What is listed of a label that is held, where its place is told.
+// Returns the index's element of a held label, by the label's place.
 fn listed_at<M: Drop>(marked: &Marked<M>, place: Result<usize, usize>, key: &Key) -> Option<Named>
     requires { IsPlace (held_changes marked.now.held) key.now place }
     ensures { result ≡ option_map (λ (c : ChangeRecord). named_at (endpoint_left c) key.now.name) (held_for marked.now.held key.now) }
@@ -30,8 +30,8 @@ fn listed_at<M: Drop>(marked: &Marked<M>, place: Result<usize, usize>, key: &Key
     })
 }
 
-// Puts the change of a label at its place, with its mark, and lists what it leaves of the label. For one that is held the index
-// takes no memory.
+// Puts the change of a label, with its mark, at its place, and updates the index. For a held label, the index
+// allocates nothing.
 fn put_label<M: Drop>(
     marked: &mut Marked<M>,
     index: &mut Index,
@@ -66,7 +66,7 @@ fn put_label<M: Drop>(
     Ok(())
 }
 
-// Puts a change at its place, with its mark, and lists what it leaves of a label.
+// Puts a change, with its mark, at its place, and updates the index if it is a label's.
 pub(super) fn put_indexed<M: Drop>(
     marked: &mut Marked<M>,
     index: &mut Index,

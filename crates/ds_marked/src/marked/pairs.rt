@@ -9,7 +9,7 @@ ghost use Rattle.ds_marked.specs.Beside.{IsBeside};
 use ds_entry::Change;
 use ds_held::Held;
 
-// The change at an index, and its mark.
+// Returns the change at an index, and its mark.
 pub(super) fn pair_at<'a, M>(
     held: &'a Held,
     marks: &'a [M],

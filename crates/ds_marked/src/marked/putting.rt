@@ -1,4 +1,4 @@
-//! Marks that are put at their places, with a change or a floor that is to be taken.
+//! Putting marks at their places, with a change or a floor that is to be taken.
 
 ghost use Rattle.std.specs.Prelude.{◌≡◌, Ok, None, length, slice_set, vec_len, vec_capacity, IfOk, OnOk, OnErr};
 ghost use Rattle.ds_entry.specs.Change.{IsChange};
@@ -14,7 +14,7 @@ use ds_entry::{Change, Floor};
 use ds_held::Held;
 use ds_names::NoRoom;
 
-// Makes room for a mark at a place.
+// Reserves memory for a mark at a place.
 fn make_room<M>(marks: &mut Vec<M>, place: Result<usize, usize>) -> Result<(), NoRoom>
     ensures items { marks.new.items ≡ marks.old.items }
     ensures room { OnOk result (HasRoomAt place (vec_len marks.new) (vec_capacity marks.new)) }
@@ -26,7 +26,7 @@ fn make_room<M>(marks: &mut Vec<M>, place: Result<usize, usize>) -> Result<(), N
     Ok(())
 }
 
-// Puts a mark at its place, for which there is room.
+// Puts a mark at its place, for which memory is reserved.
 fn put_mark<M: Drop>(marks: &mut Vec<M>, place: Result<usize, usize>, mark: M)
     requires { FitsAt place (vec_len marks.old) (vec_capacity marks.old) }
     ensures { marks.new.items ≡ put_at marks.old.items place mark }
@@ -39,7 +39,7 @@ fn put_mark<M: Drop>(marks: &mut Vec<M>, place: Result<usize, usize>, mark: M)
     }
 }
 
-// Another mark at an index.
+// Replaces the mark at an index.
 pub(super) fn set_at<M: Drop>(marks: &mut Vec<M>, index: usize, mark: M)
     ensures { marks.new.items ≡ slice_set marks.old.items index mark }
 {
@@ -48,7 +48,7 @@ pub(super) fn set_at<M: Drop>(marks: &mut Vec<M>, index: usize, mark: M)
     }
 }
 
-// Puts a change that is to be taken, and its mark, at their place. Room for both is there before either is.
+// Puts a change that is to be taken, and its mark, at their place. Memory for both is reserved before either is put.
 #[inline(always)]
 pub(super) fn put_marked<M: Drop>(
     held: &mut Held,
@@ -77,8 +77,8 @@ pub(super) fn put_marked<M: Drop>(
     Ok(())
 }
 
-// Puts a floor that is to be taken, and its mark, at their place, and drops what it makes void, with its marks. It tells how many
-// puts it dropped.
+// Puts a floor that is to be taken, and its mark, at their place. It drops what the floor voids, with the marks, and
+// returns how many puts it dropped.
 pub(super) fn raise_marked<M: Drop>(
     held: &mut Held,
     marks: &mut Vec<M>,

@@ -1,4 +1,4 @@
-//! What a script asks of RS and of the driver tables.
+//! The commands of a script to RS and the driver tables. Each appends its answer to the output.
 
 ghost use Rattle.std.specs.Prelude.{◌≡◌, OnOk, OnErr};
 ghost use Rattle.script_services.specs.Services.{AnswersSettings};
@@ -13,7 +13,7 @@ use script_services::answer_event;
 use std::alloc::Global;
 
 impl Session {
-    /// Begins RS with settings, if there are none yet, and puts the answer behind those that wait.
+    /// Begins RS with settings, unless it has settings already.
     pub(crate) fn accept(
         &mut self,
         alloc: Global,
@@ -26,7 +26,7 @@ impl Session {
         self.servers.accept(alloc, text.bytes(), output)
     }
 
-    /// Tells RS an event at a tick, gives what it does to the store that is asked, and puts the answer behind those that wait.
+    /// Passes an event at a tick to RS, and the commands among its actions to the current store.
     pub(crate) fn serve(
         &mut self,
         alloc: Global,
@@ -48,7 +48,7 @@ impl Session {
         )
     }
 
-    /// Assigns a device, and puts the answer behind those that wait.
+    /// Assigns a device to a label.
     pub(crate) fn assign(
         &mut self,
         device: Device,
@@ -61,7 +61,7 @@ impl Session {
         self.servers.assign(device, &label, output)
     }
 
-    /// Has both tables follow a map, and puts the answer behind those that wait.
+    /// Makes both tables follow a map.
     pub(crate) fn follow(
         &mut self,
         alloc: Global,
@@ -76,7 +76,7 @@ impl Session {
             .follow(alloc, self.world.map(map as usize), output)
     }
 
-    /// Has a table follow a map and take a request, and puts the answer behind those that wait.
+    /// Makes a table follow a map and take a request.
     pub(crate) fn submit(
         &mut self,
         alloc: Global,
@@ -100,7 +100,7 @@ impl Session {
         )
     }
 
-    /// Gives a table a driver's reply, and puts the answer behind those that wait.
+    /// Passes a driver's reply to a table.
     pub(crate) fn reply(
         &mut self,
         server: Server,

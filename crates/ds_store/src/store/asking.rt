@@ -1,4 +1,4 @@
-//! What callers ask: publishing and deleting.
+//! Publish and Delete.
 
 ghost use Rattle.std.specs.Prelude.{◌≡◌, None, IfNone};
 ghost use Rattle.ds_entry.specs.Change.{IsChange};
@@ -27,7 +27,7 @@ use ds_machine::{Cause, Command, Refusal, Reply};
 use ds_names::{Endpoint, Key, Name, NoRoom, Version};
 
 impl Store {
-    // What is there before what a caller of this name asks for, where the place of its key is told.
+    // Returns what a change asked for by a caller of this name meets. `place` is its key's.
     fn standing_before(
         &self,
         place: Result<usize, usize>,
@@ -47,7 +47,7 @@ impl Store {
         self.standing(place, &asked.key, void)
     }
 
-    // The first cause against what a caller of this name asks for, where the place of its key is told.
+    // Returns the first cause against what a caller of this name asks for. `place` is its key's.
     fn cause_against(
         &self,
         place: Result<usize, usize>,
@@ -65,7 +65,7 @@ impl Store {
         cause_of_asked(&standing, *caller, asked, body)
     }
 
-    // What a caller asks for takes effect, unless a cause stands against it.
+    // Answers a Publish or a Delete: the change takes effect unless a cause applies to it.
     #[inline(always)]
     pub(super) fn ask(&mut self, asked: &Asked, body: Body) -> Reply
         ensures step { ContentSteps self.old (λ s t. Answers s (asking s (request_of asked.now) body) result t) self.new }
@@ -88,7 +88,7 @@ impl Store {
         }
     }
 
-    // A caller publishes a value.
+    // Answers a Publish.
     #[inline(always)]
     pub(super) fn publish(
         &mut self,

@@ -1,4 +1,4 @@
-//! Merges of what another holder gives.
+//! Merges of another holder's items.
 
 ghost use Rattle.std.specs.Prelude.{◌≡◌, Err, IfNone};
 ghost use Rattle.ds_entry.specs.declared.item.Item.TheVariants.{Change as Changed, Floor as Floored};
@@ -25,7 +25,7 @@ use ds_names::{Key, NoRoom};
 use ds_watch::Mask;
 
 impl Store {
-    // What is there before a change of the key, whose place is told, by whether a floor makes the change void.
+    // Returns what a change of the key meets, given its place and whether a floor makes it void.
     pub(super) fn standing(
         &self,
         place: Result<usize, usize>,
@@ -44,7 +44,7 @@ impl Store {
         }
     }
 
-    // The first cause against a change that another holder gave, and whose place is told.
+    // Returns the first cause against another holder's change, given its key's place.
     fn cause_of_change(&self, place: Result<usize, usize>, change: &Change) -> Option<Cause>
         requires { IsPlace (changes_in self.now.held) change.now.key place }
         ensures first { (s : State) → ContentStands self.now s → result ≡ cause_of s (Changed change.now) }
@@ -54,7 +54,7 @@ impl Store {
         cause_of_change(&standing, change)
     }
 
-    // The first cause against a floor that another holder gave, where the place of its owner is told.
+    // Returns the first cause against another holder's floor, given its owner's place.
     fn cause_of_floor(&self, place: Result<usize, usize>, floor: &Floor) -> Option<Cause>
         requires { IsFloorPlace (floors_in self.now.held) floor.now.owner place }
         ensures first { (s : State) → ContentStands self.now s → result ≡ cause_of s (Floored floor.now) }
@@ -64,7 +64,8 @@ impl Store {
         cause_of_floor(&standing, floor)
     }
 
-    // A change of a merge: it takes effect, is passed over, or is refused. Those to which it is owed are added.
+    // Merges a change: it takes effect, is passed over, or is refused. Adds to `total` the subscriptions that are owed
+    // it.
     fn merge_change(&mut self, change: &Change, total: &mut Mask) -> Result<Merge, Refusal>
         ensures owed { InEachState self.old (λ s. total.new ≡ owed_after result total.old (owed_flags s (Changed change.now))) }
         ensures step { ContentSteps self.old (λ s t. MergesItem s (Changed change.now) result t) self.new }
@@ -86,7 +87,7 @@ impl Store {
         }
     }
 
-    // A floor of a merge, likewise. It is owed to every subscription that is made.
+    // Merges a floor, as `merge_change` does. It is owed to every subscription.
     fn merge_floor(&mut self, floor: Floor, total: &mut Mask) -> Result<Merge, Refusal>
         ensures owed { InEachState self.old (λ s. total.new ≡ owed_after result total.old (owed_flags s (Floored floor))) }
         ensures step { ContentSteps self.old (λ s t. MergesItem s (Floored floor) result t) self.new }
@@ -106,7 +107,7 @@ impl Store {
         }
     }
 
-    // An item of a merge.
+    // Merges an item.
     fn merge_item(&mut self, item: &Item, total: &mut Mask) -> Result<Merge, Refusal>
         ensures owed { InEachState self.old (λ s. total.new ≡ owed_after result total.old (owed_flags s item.now)) }
         ensures step { ContentSteps self.old (λ s t. MergesItem s item.now result t) self.new }
@@ -118,8 +119,9 @@ impl Store {
         }
     }
 
-    /// Answers as `apply` does a Merge of the items, which are only lent. They take effect in their order, up to the first that is
-    /// refused. TooMany: more than 256. An item is judged before it is copied, so out-of-memory comes last.
+    /// Merges the items like `apply`, but only borrows them. They take effect in order, up to the first that is
+    /// refused. More than 256 are refused as TooMany. An item is judged before it is copied, so out-of-memory comes
+    /// last.
     pub fn fast_merge(&mut self, items: &[Item]) -> Reply
         ensures step { ContentSteps self.old (λ s t. Step s (Command.Merge items.now) result t) self.new }
         ensures last { (s : State) → ContentStands self.old s → IsLast s (Command.Merge items.now) result }

@@ -1,4 +1,4 @@
-//! What readers are given: the journal from a cursor on, and what is held, whole or in pages.
+//! Since, Snapshot and Page.
 
 ghost use Rattle.std.specs.Prelude.{◌≡◌, IfOk, IfErr};
 ghost use Rattle.ds_machine.specs.State.{State};
@@ -18,8 +18,8 @@ use ds_machine::{Command, Refusal, Reply, Scope};
 use ds_names::{Key, NoRoom};
 
 impl Store {
-    // The refusal of a cursor where there is no room to ask the scope: OldCursor, Ahead or Behind, and NoRoom where none of them
-    // stands.
+    // Returns the refusal of a Since when memory for the scope's matcher ran out: that of the cursor (OldCursor, Ahead
+    // or Behind), else NoRoom.
     fn refusal_without_room(&self, cursor: Cursor) -> Refusal
         ensures { (s : State) → ContentStands self.now s → IsJournalRefusal s.feed cursor result }
     {
@@ -29,7 +29,7 @@ impl Store {
         }
     }
 
-    // What took effect under a scope that was read, likewise.
+    // Reads the journal under a scope that was read.
     fn give_since(&self, filter: &ScopeFilter, cursor: Cursor, max: u32) -> Result<Since, Refusal>
         ensures given { (s : State) → ContentStands self.now s → IfOk result (IsGiven s.feed (is_kept (scope_of filter.now)) cursor max) }
         ensures refused { (s : State) → ContentStands self.now s → IfErr result (IsJournalRefusal s.feed cursor) }
@@ -43,7 +43,7 @@ impl Store {
         }
     }
 
-    // What took effect under the scope from the cursor on, up to `max` items.
+    // Answers a Since: up to `max` items that took effect under the scope from the cursor on.
     pub(super) fn since(&self, scope: &Scope, cursor: Cursor, max: u32) -> Reply
         ensures answer { (s : State) → ContentStands self.now s → Answers s (journaling s scope.now cursor max) result s }
         ensures last { (s : State) → ContentStands self.now s → IsLast s (Command.Since scope.now cursor max) result }
@@ -58,7 +58,7 @@ impl Store {
         }
     }
 
-    // All that is held under a scope that was read.
+    // Returns everything held under a scope that was read.
     fn give_snapshot(&self, filter: &ScopeFilter) -> Result<Snapshot, NoRoom>
         ensures { (s : State) → ContentStands self.now s → IfOk result (λ snapshot. snapshot ≡ snapshot_in s (scope_of filter.now)) }
     {
@@ -66,7 +66,7 @@ impl Store {
         self.content.snapshot(&mut asker)
     }
 
-    // All that is held under the scope.
+    // Answers a Snapshot: everything held under the scope.
     pub(super) fn snapshot(&self, scope: &Scope) -> Reply
         ensures answer { (s : State) → ContentStands self.now s → Answers s (snapping s scope.now) result s }
         ensures last { (s : State) → ContentStands self.now s → IsLast s (Command.Snapshot scope.now) result }
@@ -81,7 +81,7 @@ impl Store {
         }
     }
 
-    // A page under a scope that was read.
+    // Returns a page under a scope that was read.
     fn give_page(&self, filter: &ScopeFilter, after: Option<Key>, max: u32) -> Result<Page, NoRoom>
         ensures { (s : State) → ContentStands self.now s → IfOk result (λ page. page ≡ page_in s (scope_of filter.now) after max) }
     {
@@ -89,7 +89,8 @@ impl Store {
         self.content.page(&mut asker, after, max)
     }
 
-    // The first `max` changes behind the key of what is held under the scope, with all floors on the first page.
+    // Answers a Page: the first `max` changes after the key that are held under the scope, and all floors on the first
+    // page.
     pub(super) fn page(&self, scope: &Scope, after: Option<Key>, max: u32) -> Reply
         ensures answer { (s : State) → ContentStands self.now s → Answers s (paging s scope.now after max) result s }
         ensures last { (s : State) → ContentStands self.now s → IsLast s (Command.Page scope.now after max) result }

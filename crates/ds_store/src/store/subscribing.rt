@@ -1,4 +1,4 @@
-//! Subscriptions and their checks.
+//! Subscribe and Check.
 
 ghost use Rattle.std.specs.Prelude.{◌≡◌, ◌<◌, ◌^◌, ◌&&◌, cond};
 ghost use Rattle.ds_machine.specs.State.{State};
@@ -14,7 +14,7 @@ use ds_machine::{Command, Refusal, Reply};
 use ds_names::NoRoom;
 use ds_pattern::Query;
 
-// The bit of the subscription, where with INITIAL something is to be shown to it.
+// Returns the subscription's bit if INITIAL is set and something is to be shown to it, else 0.
 fn own_bit(sub: u32, initial: bool, some: bool) -> u128
     requires { sub < 128 }
     ensures { result ≡ cond (initial && some) (2 ^ sub) 0 }
@@ -23,7 +23,7 @@ fn own_bit(sub: u32, initial: bool, some: bool) -> u128
 }
 
 impl Store {
-    // A subscription is made at the place, over another one only with `overwrite`.
+    // Answers a Subscribe: makes subscription `sub`, over another one only with `overwrite`.
     pub(super) fn subscribe(
         &mut self,
         sub: u32,
@@ -55,7 +55,7 @@ impl Store {
         }
     }
 
-    // The first `max` items that are to be shown to the subscription at the place are shown.
+    // Answers a Check: shows the first `max` items that are to be shown to subscription `sub`.
     pub(super) fn check(&mut self, sub: u32, max: u32) -> Reply
         ensures step { ContentSteps self.old (λ s t. Answers s (checking s sub max) result t) self.new }
         ensures last { (s : State) → ContentStands self.old s → IsLast s (Command.Check sub max) result }

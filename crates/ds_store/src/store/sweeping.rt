@@ -1,4 +1,4 @@
-//! Sweeps, which raise a floor under what a dead owner left.
+//! Sweeps, which end what a dead owner left.
 
 ghost use Rattle.std.specs.Prelude.{◌≡◌, IfNone};
 ghost use Rattle.ds_held.specs.Kept.{IsFloorPlace};
@@ -21,7 +21,7 @@ use ds_machine::{Cause, Command, Refusal, Reply};
 use ds_names::{Endpoint, NoRoom};
 
 impl Store {
-    // What is there before a floor, where the place of its owner is told.
+    // Returns what a floor meets, given its owner's place.
     pub(super) fn floor_standing(&self, place: Result<usize, usize>, floor: &Floor) -> FloorStanding
         requires { IsFloorPlace (floors_in self.now.held) floor.now.owner place }
         ensures { machine_floor_standing floor.now.owner result ≡ floor_standing_in self.now floor.now }
@@ -34,7 +34,7 @@ impl Store {
         }
     }
 
-    // The first cause against a sweep, where the place of the owner is told.
+    // Returns the first cause against a Sweep, given the owner's place.
     fn cause_of_sweep(
         &self,
         place: Result<usize, usize>,
@@ -49,7 +49,7 @@ impl Store {
         cause_of_sweep(&standing, caller, floor)
     }
 
-    // RS raises the floor of an owner. It is owed to every subscription that is made.
+    // Answers a Sweep: raises an owner's floor, which is owed to every subscription.
     pub(super) fn sweep(&mut self, caller: Endpoint, floor: Floor) -> Reply
         ensures step { ContentSteps self.old (λ s t. Answers s (sweeping s caller floor) result t) self.new }
         ensures last { (s : State) → ContentStands self.old s → IsLast s (Command.Sweep caller floor.owner floor.generation) result }

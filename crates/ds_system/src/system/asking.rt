@@ -1,4 +1,4 @@
-//! What goes to a store beside what RS and the services make: a change that was made once more, and the world's own events.
+//! What reaches a store besides new changes: a change that is repeated, and the world's own events.
 
 ghost use Rattle.std.specs.Prelude.{◌≡◌, ◌∷◌, [], slice_get, IfOk};
 ghost use Rattle.std.specs.Option.{option_copied};
@@ -16,7 +16,6 @@ use ds_replica::{Event, Side};
 use std::alloc::Global;
 use system_model::{SystemFault, SystemOutcome};
 
-// A list of one change.
 fn alone(alloc: Global, change: &Change) -> Result<Items, NoRoom>
     ensures alone { IfOk result (λ items. items ≡ Changed change.now ∷ []) }
     ensures change { IsChange change.now }
@@ -26,7 +25,7 @@ fn alone(alloc: Global, change: &Change) -> Result<Items, NoRoom>
     Ok(items)
 }
 
-// Whether the command brings something in.
+// Returns whether the command brings something in.
 fn is_bringing(command: &Command) -> bool
     ensures { result ≡ is_bringing command.now }
 {
@@ -39,7 +38,7 @@ fn is_bringing(command: &Command) -> bool
     }
 }
 
-// Whether the event is an Ask of such a command, which only RS and the services may make.
+// Returns whether the event is an Ask that brings something in, which only RS and the services may do.
 fn is_barred(event: &Event) -> bool
     ensures { result ≡ is_barred event.now }
 {
@@ -50,14 +49,14 @@ fn is_barred(event: &Event) -> bool
 }
 
 impl System {
-    // The change of a number, of those that were made.
+    // Returns the made change of this number.
     fn made_at(&self, number: usize) -> Option<&Change>
         ensures { option_copied result ≡ slice_get self.now.made number }
     {
         self.made.get(number)
     }
 
-    // A change that was made comes once more.
+    // Repeats a change that was made, as a Merge.
     pub(super) fn again(&mut self, change: usize, side: Side) -> SystemOutcome
         ensures { SystemEventLeads (events.Again change side) result self.old self.new }
     {
@@ -70,7 +69,7 @@ impl System {
         }
     }
 
-    // An event of the world.
+    // Passes an event to the world.
     pub(super) fn pass(&mut self, event: Event) -> SystemOutcome
         ensures { SystemEventLeads (events.World event) result self.old self.new }
     {

@@ -1,4 +1,4 @@
-//! What both servers do: they follow their maps, take requests and replies.
+//! The servers' events: they follow their maps, and take requests and replies.
 
 ghost use Rattle.std.specs.Prelude.{◌≡◌};
 ghost use Rattle.system_model.specs.declared.event.SystemEvent.TheVariants as events;
@@ -10,7 +10,7 @@ use ds_names::Endpoint;
 use system_model::{Rounds, SystemOutcome, Table};
 
 impl System {
-    // Both servers look at the labels in their maps, the file server first.
+    // Follows both maps, the file server's first.
     pub(super) fn follow(&mut self) -> SystemOutcome
         ensures { SystemEventLeads events.Follow result self.old self.new }
     {
@@ -23,7 +23,7 @@ impl System {
         }
     }
 
-    // A server looks at the labels in its map, and takes a request.
+    // Follows a server's map, and takes a request.
     pub(super) fn submit(&mut self, table: Table, id: u64, unit: u8) -> SystemOutcome
         ensures { SystemEventLeads (events.Submit table id unit) result self.old self.new }
     {
@@ -40,7 +40,7 @@ impl System {
         }
     }
 
-    // A driver replies to a request.
+    // Takes a driver's reply to a request.
     pub(super) fn answered(&mut self, table: Table, endpoint: Endpoint, id: u64) -> SystemOutcome
         ensures { SystemEventLeads (events.Answered table endpoint id) result self.old self.new }
     {

@@ -1,4 +1,4 @@
-//! What RS is told, and does.
+//! RS's events.
 
 ghost use Rattle.std.specs.Prelude.{◌≡◌, ◌<◌, ◌≤◌, ◌+◌, ◌++◌, ◌∷◌, [], length, vec_len, vec_capacity};
 ghost use Rattle.std.specs.List.{AllByRecursion};
@@ -19,10 +19,10 @@ use rs_to_store::command_of;
 use std::alloc::Global;
 use system_model::{Replies, SystemFault, SystemOutcome};
 
-/// The most that RS does at one event: a kill, a label taken back, a sweep, a start and a label put.
+/// The most actions of one event: a kill, a tombstone of a label, a sweep, a start and a label's put.
 const MOST_ACTIONS: usize = 5;
 
-// Adds the change that an action offers to what was made. There is room for one.
+// Appends the change that an action offers. The list has room for one.
 fn note(alloc: Global, made: &mut Vec<Change>, action: &Action)
     requires in_place { IsActionInPlace action.now }
     requires room { vec_len made.old < vec_capacity made.old }
@@ -37,7 +37,8 @@ fn note(alloc: Global, made: &mut Vec<Change>, action: &Action)
     }
 }
 
-// Asks the store of a side what an action asks of one, if anything, and adds the reply. There is room for one.
+// Sends the command of an action to the store of a side, if it has one, and appends the reply. The list has room for
+// one.
 fn ask(world: &mut World, side: Side, action: &Action, replies: &mut Vec<Reply>)
     requires in_place { IsActionInPlace action.now }
     requires room { vec_len replies.old < vec_capacity replies.old }
@@ -49,7 +50,8 @@ fn ask(world: &mut World, side: Side, action: &Action, replies: &mut Vec<Reply>)
     }
 }
 
-// Gives RS's label changes and sweeps to the store of a side, in their order. There is room for what is made and for the replies.
+// Sends RS's label changes and sweeps to the store of a side, in order. The lists have room for the changes and the
+// replies.
 fn pass_on(
     alloc: Global,
     world: &mut World,
@@ -75,7 +77,7 @@ fn pass_on(
 }
 
 impl System {
-    // RS is told something. Where memory is wanting it is told nothing.
+    // Passes an event to RS. If memory runs out, RS doesn't get it.
     pub(super) fn serve(&mut self, event: Event, tick: u64, side: Side) -> SystemOutcome
         ensures { SystemEventLeads (events.Service event tick side) result self.old self.new }
     {

@@ -1,4 +1,4 @@
-//! How a system begins.
+//! The beginning of a system.
 
 ghost use Rattle.std.specs.Prelude.{◌≡◌, [], length, replicate, IfOk, IfErr, OnOk};
 ghost use Rattle.std.specs.List.{filter_map};
@@ -21,7 +21,7 @@ use rs_core::Rs;
 use rs_settings::Settings;
 use std::alloc::Global;
 
-// A world of two seeds in which both servers' maps were made.
+// Returns a world of two seeds, with both servers' maps.
 fn opened(alloc: Global, a: Seed, b: Seed) -> Result<World, SeedFault>
     ensures maps { IfOk result (λ world. HasBothMaps a b world) }
     ensures fits { OnOk result (AreSeeds a b) }
@@ -36,7 +36,7 @@ fn opened(alloc: Global, a: Seed, b: Seed) -> Result<World, SeedFault>
     }
 }
 
-// RS of which every service is down. Only memory can be wanting.
+// Returns RS with every service down. It fails only if memory runs out.
 fn resting(alloc: Global, settings: Settings, next: u32) -> Result<Rs, NoRoom>
     ensures { IfOk result (λ rs. rs ≡ resting_rs settings next) }
 {
@@ -46,7 +46,7 @@ fn resting(alloc: Global, settings: Settings, next: u32) -> Result<Rs, NoRoom>
     }
 }
 
-// What has all parts is a system: nothing fails here.
+// Returns the system of all its parts. It can't fail.
 fn joined(alloc: Global, rs: Rs, world: World, parts: Parts) -> System
     requires { length parts.numberers.items ≡ length rs.settings.services }
     ensures { result ≡ system_of rs parts.numberers.items world parts.file parts.net [] }
@@ -62,7 +62,7 @@ fn joined(alloc: Global, rs: Rs, world: World, parts: Parts) -> System
     }
 }
 
-// The system of these parts over a world.
+// Returns the system of these parts over a world.
 fn over_parts(
     alloc: Global,
     settings: Settings,
@@ -80,7 +80,7 @@ fn over_parts(
     Ok(joined(alloc, rs, world, parts))
 }
 
-// The system of the settings over a world.
+// Returns the system of the settings over a world.
 fn over(alloc: Global, settings: Settings, next: u32, world: World) -> Result<System, NoRoom>
     ensures { IfOk result (λ system. BeginsOver settings next world system) }
 {
@@ -88,7 +88,6 @@ fn over(alloc: Global, settings: Settings, next: u32, world: World) -> Result<Sy
     over_parts(alloc, settings, next, world, parts)
 }
 
-// The fault of a world's seeds, as one of a system that begins.
 fn begin_fault(fault: SeedFault) -> BeginFault
     ensures { result ≡ begin_fault_of fault }
 {
@@ -101,12 +100,12 @@ fn begin_fault(fault: SeedFault) -> BeginFault
 }
 
 impl System {
-    /// A system that begins: every service is down, both stores are empty and opened with their seeds, both servers' maps of all labels
-    /// are made, each table has the settings' units in their order, and no change was made. `next` is the generation of RS's first
-    /// start.
+    /// Returns a new system. Every service is down; both stores are opened with their seeds and empty; both servers'
+    /// maps of all labels exist; each table has the settings' units in order; no change was made. `next` is the
+    /// generation of RS's first start.
     ///
-    /// OutOfRange unless `next` is 1 to 2097152, as of `Rs::new`; then BadRing, BadFirst and OldIncarnation, as of `World::new`; NoRoom
-    /// comes last.
+    /// Refusals in order: OutOfRange unless `next` is 1 to 2097152, like `Rs::new`; BadRing, BadFirst and
+    /// OldIncarnation, like `World::new`; NoRoom.
     pub fn new(
         alloc: Global,
         settings: Settings,

@@ -1,4 +1,4 @@
-//! What services put and take back.
+//! The changes of services.
 
 ghost use Rattle.std.specs.Prelude.{slice_index_or, true, false, ◌≡◌, ◌<◌, ◌≤◌, length, vec_len, vec_capacity, Ok, Err, IfOk, IfErr, OnOk};
 ghost use Rattle.ds_names.specs.Kind.{is_label};
@@ -19,7 +19,7 @@ use rs_to_store::asking;
 use std::alloc::Global;
 use system_model::{SystemFault, SystemOutcome};
 
-/// The instance that draws a number, and the numbers that are left to it.
+/// The instance that draws a number, and the numbers left to it.
 #[derive(Drop)]
 struct Draw {
     place: usize,
@@ -27,7 +27,7 @@ struct Draw {
     numbers: Numberer,
 }
 
-// The numbers of a generation: those that are left of it, or all.
+// Returns the numbers of a generation: those left of it, or all.
 fn numbers_of(numbers: &Numberer, generation: Generation) -> Numberer
     ensures { result ≡ numbers_of numbers.now generation }
 {
@@ -37,8 +37,8 @@ fn numbers_of(numbers: &Numberer, generation: Generation) -> Numberer
     Numberer::of(generation, 0)
 }
 
-// A service's own change, of parts that fit together: its value is of the key's kind, which is no label's, and its number leaves the
-// greatest one to sweeps.
+// Returns a service's own change. Its parts fit together: the value is of the key's kind, which isn't label, and the
+// version's number isn't the greatest, which is reserved for sweeps.
 fn entry(key: &Key, owner: Name, version: Version, content: Body) -> Change
     requires plain { is_label key.now.kind ≡ false }
     requires kind { is_of_kind key.now.kind content ≡ true }
@@ -53,7 +53,7 @@ fn entry(key: &Key, owner: Name, version: Version, content: Body) -> Change
     Change::from_parts(*key, owner, version, content)
 }
 
-// A copy of what a change says, and room for one more among the changes that were made.
+// Returns a copy of a change's body, and reserves room for one more made change.
 fn copy_with_room(alloc: Global, content: &Body, made: &mut Vec<Change>) -> Result<Body, NoRoom>
     ensures copy { IfOk result (λ kept. kept ≡ content.now) }
     ensures room { OnOk result (vec_len made.new < vec_capacity made.new) }
@@ -64,7 +64,7 @@ fn copy_with_room(alloc: Global, content: &Body, made: &mut Vec<Change>) -> Resu
 }
 
 impl System {
-    // The service at a place of the settings.
+    // Returns the service at an index of the settings.
     fn service_at(&self, place: usize) -> &Service
         requires { place < length self.now.rs.settings.services }
         ensures { result.now ≡ service_at self.now.rs place }
@@ -75,7 +75,7 @@ impl System {
         }
     }
 
-    // Its numbers.
+    // Returns the numbers of the service at an index.
     fn numbers_at(&self, place: usize) -> &Numberer
         requires { place < length self.now.rs.settings.services }
         ensures value { result.now ≡ numberer_at self.now.numberers place }
@@ -84,7 +84,8 @@ impl System {
         &self.numberers[place]
     }
 
-    // What stands against a change of the service with the label, or the instance that draws a number for it.
+    // Returns the instance that draws a number for a change of the service with the label, or the first cause against
+    // the change.
     fn judge(&self, label: &Name, key: &Key, content: &Body) -> Result<Draw, SystemFault>
         ensures drawn { IfOk result (λ d. judged_by self.now label.now key.now content.now ≡ Ok (instance_at d.place d.running)) }
         ensures numbers { IfOk result (λ d. d.numbers ≡ numbers_left self.now.numberers (instance_at d.place d.running)) }
@@ -117,7 +118,8 @@ impl System {
         })
     }
 
-    // A service's change: it is numbered, made, and given to the store of the side. Where memory is wanting no number is drawn.
+    // Draws a number for a service's change, makes it, and sends it to the store of the side. If memory runs out, no
+    // number is drawn.
     pub(super) fn write(
         &mut self,
         label: Name,

@@ -1,4 +1,4 @@
-//! How a world's stores are asked.
+//! Commands to a world's stores.
 
 ghost use Rattle.std.specs.Prelude.{◌≡◌, ◌∷◌, [], true, false};
 ghost use Rattle.ds_machine.specs.Says.{IsReplyTo};
@@ -27,7 +27,7 @@ use std::slice;
 /// The most messages.
 const MOST_MESSAGES: usize = 65536;
 
-// Asks the store of the side.
+// Sends a command to the store of a side.
 fn apply(a: &mut Store, b: &mut Store, side: Side, command: Command) -> Reply
     ensures step { StoreSteps a.old b.old a.new b.new side command result }
     ensures last { LastOf a.old b.old side command result }
@@ -39,7 +39,7 @@ fn apply(a: &mut Store, b: &mut Store, side: Side, command: Command) -> Reply
     }
 }
 
-// Asks a store to merge an item.
+// Merges an item into a store.
 fn merge_item(store: &mut Store, item: &Item) -> Reply
     ensures step { ContentSteps store.old (λ s t. Step s (Merge (item.now ∷ [])) result t) store.new }
     ensures last { (s : State) → ContentStands store.old s → IsLast s (Merge (item.now ∷ [])) result }
@@ -49,7 +49,7 @@ fn merge_item(store: &mut Store, item: &Item) -> Reply
     store.fast_merge(items)
 }
 
-// Asks the store of the side to merge an item.
+// Merges an item into the store of a side.
 fn merge_one(a: &mut Store, b: &mut Store, side: Side, item: &Item) -> Reply
     ensures step { StoreSteps a.old b.old a.new b.new side (Merge (item.now ∷ [])) result }
     ensures last { LastOf a.old b.old side (Merge (item.now ∷ [])) result }
@@ -62,7 +62,7 @@ fn merge_one(a: &mut Store, b: &mut Store, side: Side, item: &Item) -> Reply
 }
 
 impl World {
-    // Asks a store. A reply with items is kept as the next message; room for that is taken first.
+    // Sends a command to a store. A reply with items is kept as the next message; memory for that is taken first.
     pub(super) fn ask(&mut self, side: Side, command: Command) -> Outcome
         ensures leads { EventLeads (Ask side command) result self.old self.new }
         ensures told { IsTold (Ask side command) result self.old self.new }
@@ -74,8 +74,8 @@ impl World {
         Outcome::Replied(self.reply(side, command))
     }
 
-    /// Asks the store of a side a command whose reply has no items, and returns the reply: the event of an Ask with that outcome,
-    /// which no world refuses. It takes memory only where the store does.
+    /// Sends a command whose reply has no items to the store of a side, and returns the reply. This is the event of an
+    /// Ask with that outcome, which no world refuses. Takes memory only if the store does.
     pub fn reply(&mut self, side: Side, command: Command) -> Reply
         requires { gives_items command ≡ false }
         ensures leads { EventLeads (Ask side command) (Replied result) self.old self.new }
@@ -85,8 +85,8 @@ impl World {
         apply(&mut self.a, &mut self.b, side, command)
     }
 
-    /// Asks the store of a side to merge one item, which is only lent, and returns the reply, as `reply` does of that Merge. It makes
-    /// no list for the item.
+    /// Merges one borrowed item into the store of a side, and returns the reply: like `reply` with a Merge of that
+    /// item, but without a list.
     pub fn fast_offer(&mut self, side: Side, item: &Item) -> Reply
         ensures leads { EventLeads (Ask side (Merge (item.now ∷ []))) (Replied result) self.old self.new }
         ensures told { IsTold (Ask side (Merge (item.now ∷ []))) (Replied result) self.old self.new }
@@ -95,7 +95,7 @@ impl World {
         merge_one(&mut self.a, &mut self.b, side, item)
     }
 
-    // Asks a store a command whose reply has items.
+    // Sends a command whose reply has items to a store.
     fn ask_for_items(&mut self, side: Side, command: Command) -> Outcome
         requires { gives_items command ≡ true }
         ensures leads { EventLeads (Ask side command) result self.old self.new }

@@ -1,4 +1,4 @@
-//! How items of a message go to a holder.
+//! Deliveries of a message's items to a holder.
 
 ghost use Rattle.std.specs.Prelude.{◌≡◌, ◌≤◌, length, IfErr, IfOk};
 ghost use Rattle.ds_names.specs.Limits.{most_items};
@@ -29,7 +29,7 @@ use ds_submap::SubMap;
 use std::alloc::Global;
 use std::slice;
 
-// Asks a store to merge a group of items.
+// Merges a group of items into a store.
 fn merge_group(store: &mut Store, group: &[Item]) -> Tally
     requires { length group.now ≤ most_items }
     ensures takes { ItemsAreTaken store.old group.now (tally_of result) store.new }
@@ -53,7 +53,7 @@ fn merge_group(store: &mut Store, group: &[Item]) -> Tally
     }
 }
 
-// The items go to a store, as Merges of at most 256. Nothing is asked after one that was stopped.
+// Merges the items into a store, at most 256 at once. Stops after a Merge that stopped.
 fn merge_slice(store: &mut Store, items: &[Item]) -> Tally
     ensures { ItemsAreTaken store.old items.now (tally_of result) store.new }
 {
@@ -67,7 +67,7 @@ fn merge_slice(store: &mut Store, items: &[Item]) -> Tally
     tally
 }
 
-// Items that are packed go to a store, as a Merge of each. Nothing is asked after one that was stopped.
+// Merges packed items into a store, one at a time. Stops after a Merge that stopped.
 fn merge_packed(store: &mut Store, mut items: Unpacking<'_>) -> Tally
     ensures { ItemsAreTaken store.old items.entry (tally_of result) store.new }
 {
@@ -83,7 +83,7 @@ fn merge_packed(store: &mut Store, mut items: Unpacking<'_>) -> Tally
     tally
 }
 
-// The items of a message go to a store.
+// Merges the items of a message into a store.
 fn merge_all(store: &mut Store, items: Lent<'_>) -> Tally
     ensures { ItemsAreTaken store.old (items_lent items.entry) (tally_of result) store.new }
 {
@@ -93,7 +93,7 @@ fn merge_all(store: &mut Store, items: Lent<'_>) -> Tally
     }
 }
 
-// They go to a map.
+// Lets a map take the items.
 fn take(alloc: Global, map: &mut SubMap, items: Lent<'_>) -> Result<Count, Stop>
     ensures joined { JoinsUnder map.old.query map.old.held (done_items result (items_lent items.entry)) map.new.held }
     ensures counted { IfOk result (AreCounted map.old.query map.old.held (items_lent items.entry) map.new.held) }
@@ -124,7 +124,7 @@ fn take_all(alloc: Global, map: &mut SubMap, items: Lent<'_>) -> Tally
 }
 
 impl World {
-    // The first items of a message, or all, go to a holder.
+    // Delivers the first `count` items of a message, or all, to a holder.
     pub(super) fn deliver(
         &mut self,
         message: usize,
@@ -140,7 +140,7 @@ impl World {
         }
     }
 
-    // They go to a store.
+    // Delivers them to a store.
     fn deliver_to_store(&mut self, message: usize, side: Side, count: Option<usize>) -> Outcome
         ensures leads { EventLeads (Deliver message (OfStore side) count) result self.old self.new }
         ensures told { IsTold (Deliver message (OfStore side) count) result self.old self.new }
@@ -158,7 +158,7 @@ impl World {
         tally.outcome()
     }
 
-    // They go to a map.
+    // Delivers them to a map.
     fn deliver_to_map(&mut self, message: usize, map: usize, count: Option<usize>) -> Outcome
         ensures leads { EventLeads (Deliver message (OfMap map) count) result self.old self.new }
         ensures told { IsTold (Deliver message (OfMap map) count) result self.old self.new }

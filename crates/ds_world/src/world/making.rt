@@ -1,4 +1,4 @@
-//! How a world's maps are made and cleared.
+//! Making and clearing a world's maps.
 
 ghost use Rattle.ds_replica.specs.declared.event.Event.TheVariants.{NewMap, ClearMap};
 ghost use Rattle.ds_world.specs.Run.{EventLeads};
@@ -33,7 +33,7 @@ impl World {
         }
     }
 
-    // Lets a map drop all that it holds.
+    // Empties a map.
     pub(super) fn clear_map(&mut self, map: usize) -> Outcome
         ensures leads { EventLeads (ClearMap map) result self.old self.new }
         ensures told { IsTold (ClearMap map) result self.old self.new }

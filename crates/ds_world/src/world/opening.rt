@@ -1,4 +1,4 @@
-//! How a world's stores are opened, and opened again.
+//! Opening and restarting a world's stores.
 
 ghost use Rattle.std.specs.Prelude.{◌≡◌, true, false, IfOk, IfErr, IfNone, IfSome};
 ghost use Rattle.ds_feed.specs.Kept.{IsRing};
@@ -17,7 +17,7 @@ use ds_replica::{EventFault, Outcome, Seed, Side};
 use ds_store::Store;
 use std::alloc::Global;
 
-// Whether a ring keeps 1 to 4096 items.
+// Returns whether a ring keeps 1 to 4096 items.
 fn is_ring(ring: u32) -> bool
     ensures yes { result ≡ true → IsRing ring }
     ensures no { result ≡ false → ¬ IsRing ring }
@@ -25,7 +25,7 @@ fn is_ring(ring: u32) -> bool
     0 < ring && ring <= LARGEST_RING
 }
 
-// The first fault of two seeds.
+// Returns the first fault of two seeds.
 pub(super) fn seed_fault(a: &Seed, b: &Seed) -> Option<SeedFault>
     ensures none { IfNone result (AreSeeds a.now b.now) }
     ensures some { IfSome result (λ fault. IsSeedFault fault a.now b.now) }
@@ -42,7 +42,7 @@ pub(super) fn seed_fault(a: &Seed, b: &Seed) -> Option<SeedFault>
     None
 }
 
-// A store that is opened with a seed. What stands against it then is want of memory alone.
+// Opens a store with a seed. Its precondition leaves NoRoom as the only error.
 pub(super) fn opened(alloc: Global, seed: Seed) -> Result<Store, SeedFault>
     requires { IsSeed seed }
     ensures opened { IfOk result (λ store. ContentStands store (opening seed.incarnation seed.first seed.ring larger)) }

@@ -1,4 +1,4 @@
-//! What an event asks, and what stands against it.
+//! What an event calls for, and the faults against it.
 
 ghost use Rattle.std.specs.Prelude.{◌≡◌, ◌<◌, ◌≤◌, ◌^◌, length, None, Some, Ok, IfOk, IfErr, IfSome, OnOk};
 ghost use Rattle.rs_core.specs.Table.{on_label};
@@ -15,7 +15,7 @@ use crate::rs::Rs;
 use ds_names::{Endpoint, Name};
 
 impl Rs {
-    // What is due at the tick.
+    // Returns what is due at the tick.
     fn due_at(&self, tick: u64) -> Option<Plan>
         ensures value { result ≡ due self.now tick }
         ensures within { IfSome result (λ p. p.place < length self.now.states) }
@@ -60,7 +60,7 @@ impl Rs {
         }
     }
 
-    // What the event asks.
+    // Returns what the event calls for.
     pub(crate) fn asked(&self, event: &Event, tick: u64) -> Result<Option<Plan>, RsFault>
         ensures value { result ≡ asked self.now event.now tick }
         ensures within { IfOk result (λ p. IfSome p (λ p. p.place < length self.now.states)) }
@@ -74,7 +74,7 @@ impl Rs {
         }
     }
 
-    // What the deed lacks.
+    // Returns what is missing for the deed.
     fn lack_for(&self, deed: Deed) -> Option<RsFault>
         ensures { result ≡ lack_for self.now deed }
     {
@@ -87,7 +87,7 @@ impl Rs {
         None
     }
 
-    // What the event asks, unless something stands against it.
+    // Returns what the event calls for, unless a fault applies to it.
     pub(crate) fn judge(&self, event: &Event, tick: u64) -> Result<Option<Plan>, RsFault>
         ensures refused { IfErr result (λ fault. refusal self.now event.now tick ≡ Some fault) }
         ensures allowed { OnOk result (refusal self.now event.now tick ≡ None) }

@@ -1,4 +1,4 @@
-//! What is done, once nothing stands against it.
+//! Doing what an event calls for, once no fault applies to it.
 
 ghost use Rattle.std.specs.Prelude.{◌≡◌, ◌<◌, ◌≤◌, ◌+◌, ◌^◌, ◌∷◌, [], true, false, length, None, IfOk, OnOk, OnErr};
 ghost use Rattle.rs_core.specs.Action.{start_actions, stop_actions};
@@ -17,7 +17,7 @@ use crate::state::{Pause, Running, State, endpoint_at, failed};
 use ds_names::NoRoom;
 
 impl Rs {
-    // Leaves all as it is but the tick.
+    // Changes only the tick.
     pub(crate) fn idle(&mut self, tick: u64) -> Actions
         requires { tick ≤ 2 ^ 62 }
         ensures done { result ≡ [] }
@@ -27,7 +27,7 @@ impl Rs {
         Actions::new(self.alloc)
     }
 
-    // Does what is planned.
+    // Carries out the plan.
     pub(crate) fn follow(&mut self, plan: Plan, tick: u64) -> Result<Actions, NoRoom>
         requires within { plan.place < length self.old.states }
         requires tick { tick ≤ 2 ^ 62 }
@@ -51,7 +51,7 @@ impl Rs {
         }
     }
 
-    // Does it to a service whose instance runs.
+    // Does the deed to a service that is up.
     fn follow_up(
         &mut self,
         place: usize,
@@ -78,7 +78,7 @@ impl Rs {
         }
     }
 
-    // The slot that is given next.
+    // Returns the slot that is taken next.
     fn next_slot(&self) -> u16
         requires { up_count self.now.states < self.now.settings.slots }
         ensures value { result ≡ self.now.slots.first + next_key self.now.slots }
@@ -87,7 +87,7 @@ impl Rs {
         self.slots.first() + self.next_key() as u16
     }
 
-    // Starts the service in the slot that is given next.
+    // Starts the service in the next slot.
     fn begin(&mut self, place: usize, tick: u64, failures: u32) -> Result<Actions, NoRoom>
         requires within { place < length self.old.states }
         requires tick { tick ≤ 2 ^ 62 }
@@ -115,7 +115,7 @@ impl Rs {
         Ok(actions)
     }
 
-    // Stops the instance of the service, which is then in the state `after`.
+    // Stops the service's instance, and leaves the service in the state `after`.
     fn end(
         &mut self,
         place: usize,
@@ -142,7 +142,7 @@ impl Rs {
         Ok(actions)
     }
 
-    // Stops the instance of the service, and starts one in its slot: that which a stop freed is given next.
+    // Stops the service's instance, and starts another in the same slot, since the slot freed last is taken next.
     fn replace(&mut self, place: usize, tick: u64, running: Running) -> Result<Actions, NoRoom>
         requires within { place < length self.old.states }
         requires tick { tick ≤ 2 ^ 62 }
@@ -168,7 +168,7 @@ impl Rs {
         Ok(actions)
     }
 
-    // The instance of the service failed.
+    // Handles a failure of the service's instance.
     fn lose(
         &mut self,
         place: usize,
@@ -188,7 +188,7 @@ impl Rs {
         self.end(place, tick, kill, running, after)
     }
 
-    // Keeps what is known of the instance of the service, which goes on.
+    // Keeps the running instance, with these ticks of its heartbeat and its ping.
     fn keep(&mut self, place: usize, tick: u64, running: Running, beat: u64, ping: u64)
         requires within { place < length self.old.states }
         requires tick { tick ≤ 2 ^ 62 }
@@ -204,7 +204,7 @@ impl Rs {
         self.tick = tick;
     }
 
-    // Notes a heartbeat of the instance of the service.
+    // Notes a heartbeat of the service's instance.
     fn hear(&mut self, place: usize, tick: u64, running: Running) -> Actions
         requires within { place < length self.old.states }
         requires tick { tick ≤ 2 ^ 62 }
@@ -217,7 +217,7 @@ impl Rs {
         Actions::new(self.alloc)
     }
 
-    // Asks the instance of the service whether it lives.
+    // Pings the service's instance.
     fn ping(&mut self, place: usize, tick: u64, running: Running) -> Result<Actions, NoRoom>
         requires within { place < length self.old.states }
         requires tick { tick ≤ 2 ^ 62 }
@@ -233,7 +233,7 @@ impl Rs {
         Ok(actions)
     }
 
-    // The service waits no longer.
+    // Ends the service's wait.
     fn forget(&mut self, place: usize, tick: u64, pause: Pause) -> Actions
         requires within { place < length self.old.states }
         requires tick { tick ≤ 2 ^ 62 }
@@ -247,7 +247,7 @@ impl Rs {
         Actions::new(self.alloc)
     }
 
-    // Leaves the service as it is.
+    // Leaves the service unchanged.
     fn leave(&mut self, place: usize, tick: u64) -> Actions
         requires { tick ≤ 2 ^ 62 }
         ensures done { result ≡ [] }

@@ -1,4 +1,4 @@
-//! What is read of RS between two events.
+//! What callers read from RS between events.
 
 ghost use Rattle.std.specs.Prelude.{◌≡◌, ◌<◌, ◌≤◌, ◌^◌, ℕ, nat_le, length, slice_get, is_some, IfSome};
 ghost use Rattle.rs_core.specs.Machine.{asked, due, failures_of};
@@ -15,11 +15,11 @@ use crate::state::State;
 use ds_names::{Endpoint, Key};
 use rs_settings::Service;
 
-/// The last tick that RS takes.
+/// The last tick that RS accepts.
 const LAST_TICK: u64 = 4611686018427387904;
 
 impl Rs {
-    /// Returns whether an event at a tick has actions, where no fault stands against it. `event` takes memory only then.
+    /// Returns whether an event at a tick has actions, if no fault applies to it. `event` takes memory only then.
     pub fn acts(&self, event: &Event, tick: u64) -> bool
         ensures { result ≡ asks has_actions (asked self.now event.now tick) }
     {
@@ -29,8 +29,8 @@ impl Rs {
         }
     }
 
-    /// Returns the index of the service that RS gives up at the event, where no fault stands against the event: its instance fails
-    /// once more than its limit. `event` tells it by no action.
+    /// Returns the index of the service that RS gives up at the event, if no fault applies to the event: its instance
+    /// fails once more than its limit. No action reports it.
     pub fn gives_up(&self, event: &Event, tick: u64) -> Option<usize>
         ensures value { result ≡ given_up self.now event.now tick }
         ensures within { IfSome result (λ i. i < length self.now.states) }
@@ -46,9 +46,10 @@ impl Rs {
         if gives_up { Some(plan.place) } else { None }
     }
 
-    /// Returns the first tick, from the last event's on, at which a tick has actions. `None` where no tick has any until another event.
+    /// Returns the first tick, not below the last event's, at which a `Tick` has actions, or `None` if no `Tick` has
+    /// any until another event.
     ///
-    /// From that tick on each tick has actions, until one is served; below it none has.
+    /// From that tick on, every `Tick` has actions until one is handled. No earlier one does.
     pub fn due(&self) -> Option<u64>
         ensures first { (tick : ℕ) → self.now.tick ≤ tick → tick ≤ 2 ^ 62 → is_some (due self.now tick) ≡ is_from result tick }
         ensures range { IfSome result (λ first. (self.now.tick ≤ first) × (first ≤ 2 ^ 62)) }
@@ -59,14 +60,14 @@ impl Rs {
         }
     }
 
-    /// Returns what RS knows of the service at an index of the settings. `None` past the end.
+    /// Returns what RS knows about the service at an index of the settings, or `None` past the end.
     pub fn state_of(&self, index: usize) -> Option<State>
         ensures { result ≡ slice_get self.now.states index }
     {
         self.states.as_slice().get(index).copied()
     }
 
-    /// Returns the index of the service that runs under the endpoint. `None` where none does.
+    /// Returns the index of the service that runs under the endpoint, or `None` if none does.
     pub fn place_of_instance(&self, endpoint: Endpoint) -> Option<usize>
         ensures value { result ≡ place_of_instance self.now endpoint }
         ensures within { IfSome result (λ i. i < length self.now.states) }
@@ -74,7 +75,8 @@ impl Rs {
         self.place(Sought::Instance(endpoint))
     }
 
-    /// Returns whether the instance with the endpoint may publish under the key: it runs, and its service declares the key.
+    /// Returns whether the instance with the endpoint may publish under the key: it runs, and its service declares the
+    /// key.
     pub fn may_publish(&self, endpoint: Endpoint, key: &Key) -> bool
         ensures { result ≡ declares_at self.now (place_of_instance self.now endpoint) key.now }
     {
@@ -84,14 +86,14 @@ impl Rs {
         }
     }
 
-    // The first tick at which something is due of some service, which may be before the last event's.
+    // Returns the first tick at which something is due for any service; it may be below the last event's.
     fn first_due(&self) -> Option<u64>
         ensures { IsFrom (λ tick. any_due tick self.now.settings.services self.now.states) result }
     {
         first_due(self.settings.services(), self.states.as_slice())
     }
 
-    // The tick, or the last event's where that is later. `None` for a tick that RS never takes.
+    // Returns the tick, or the last event's if that is later, or `None` for a tick that RS never accepts.
     #[tactic(auto, using(std::proofs::lemmas::Bool::Decides::nat_tests))]
     fn reached(&self, first: u64) -> Option<u64>
         ensures first { (tick : ℕ) → self.now.tick ≤ tick → tick ≤ 2 ^ 62 → is_from result tick ≡ nat_le first tick }
@@ -107,7 +109,7 @@ impl Rs {
     }
 }
 
-// Whether the deed makes RS give up the service.
+// Returns whether the deed makes RS give up the service.
 fn gives_up(deed: Deed, service: &Service, state: &State) -> bool
     requires { failures_of state.now ≤ 1000 }
     ensures { result ≡ gives_up deed service.now state.now }

@@ -1,4 +1,4 @@
-//! What a walk does at a reply.
+//! Judges the replies of a trace.
 
 ghost use Rattle.std.specs.Prelude.{◌≡◌, ◌≢◌, ◌<◌, length, None, IfOk, IfErr};
 ghost use Rattle.trace_model.specs.declared.asked.Asked.TheVariants as askeds;
@@ -24,7 +24,7 @@ use store_answers::{Wording, append_noroom, append_reply};
 use trace_model::{Asked, Format, is_noroom};
 
 impl Walk {
-    /// Reads the reply to what was asked, which the store has to give.
+    /// Reads the reply to a command, which must be the store's.
     pub(crate) fn judge<R: Source>(
         &mut self,
         reader: &mut R,
@@ -43,7 +43,7 @@ impl Walk {
         }
     }
 
-    // Judges the reply whose first line the walk is at. One for want of memory may stand there, and then nothing changed.
+    // Judges the reply whose first line was reached. It may be one for out of memory, and then nothing changed.
     fn answered<R: Source>(
         &mut self,
         reader: &mut R,
@@ -62,7 +62,7 @@ impl Walk {
         }
     }
 
-    // Goes past the reply for want of memory, at which the walk is.
+    // Passes the reply for out of memory that was reached.
     fn judge_noroom(&mut self, asked: &Asked) -> Result<Passed, WalkFault>
         ensures goes { IfOk result (HasRefused self.old asked.now self.new) }
         ensures fault { IfErr result (λ fault. fault ≡ WalkFault.NoRoom) }
@@ -72,7 +72,7 @@ impl Walk {
         Ok(refused(self.alloc, asked, self.header.format))
     }
 
-    // Judges the reply to a command that stands on one line.
+    // Judges the reply to a command on one line.
     fn judge_line<R: Source>(
         &mut self,
         reader: &mut R,
@@ -89,7 +89,7 @@ impl Walk {
         }
     }
 
-    // Judges the reply to one that is no sweep of format 1, whatever its pass.
+    // Judges the reply to a command that isn't a sweep of format 1, whatever its pass.
     fn judge_plain<R: Source>(
         &mut self,
         reader: &mut R,
@@ -119,7 +119,7 @@ impl Walk {
         }
     }
 
-    // A Merge that is stopped for want of memory behind so many items: those are merged.
+    // Judges the reply of a Merge that memory stopped after `done` items: those are merged.
     fn judge_stopped<R: Source>(
         &mut self,
         reader: &mut R,
@@ -136,7 +136,7 @@ impl Walk {
         self.says(reader, Wording::AsMerge, &reply, Passed::AsItStands)
     }
 
-    // A sweep of format 1.
+    // Judges the reply to a sweep of format 1.
     fn judge_sweep<R: Source>(
         &mut self,
         reader: &mut R,
@@ -158,7 +158,7 @@ impl Walk {
         self.says(reader, Wording::AsMerge, &reply, Passed::Swept(merges))
     }
 
-    // Asks the store, whose reply has to stand there.
+    // Applies the command to the store, and compares its reply with the trace.
     fn ask<R: Source>(
         &mut self,
         reader: &mut R,
@@ -175,7 +175,7 @@ impl Walk {
         self.says(reader, wording, &reply, Passed::AsItStands)
     }
 
-    // The reply stands there, at whose first line the walk is. Gives what the entry is in format 2.
+    // Compares the reply with the trace, from the line that was reached last. Returns what the entry is in format 2.
     fn says<R: Source>(
         &mut self,
         reader: &mut R,
@@ -196,7 +196,7 @@ impl Walk {
     }
 }
 
-// What an entry is in format 2 that is refused for want of memory: a sweep of format 1 is left out.
+// Returns, in format 2, an entry refused for lack of memory: a sweep of format 1 is left out.
 fn refused(alloc: Global, asked: &Asked, format: Format) -> Passed
     ensures { IsRefusedAs format asked.now result }
 {

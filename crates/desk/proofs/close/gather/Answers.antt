@@ -31,7 +31,9 @@ pub loop-pass-preserved : goal.loop-pass-preserved
 loop-pass-preserved g c = let i = c.loop-pass.invariant in let p = c.in-Some.pass in let join = c.join_pass.ensures in
     let both = all_last (λ p. desk_of p ≡ c.args.shared.now.table_id) c.pop.new.self.items c.loop-pass.others.items p c.in-Some.ensures.items i.1 in (
       gathers_more (Stepped g.M.Machine.stands g.M.Machine.steps) _ _ _ _ _ _ p _ _ _ _ _ _ _ i.0 c.in-Some.ensures.items (c.look.ensures.same.0.0 ∙ join.same.0)
-          (subst (λ m. Looks (Stepped g.M.Machine.stands g.M.Machine.steps) m.0 c.look.result m.0.holding c.look.new.seat.me.0) {y = (after_pass c.loop-pass.seat.me.0 p.seat.me.0, c.loop-pass.seat.me.1)} join.both c.look.ensures.looks) p.raises_counted c.add_rows.ensures p.takes_counted c.add_rows-in-Some.ensures,
+          (subst (λ m. Looks (Stepped g.M.Machine.stands g.M.Machine.steps) m.0 c.look.result m.0.holding c.look.new.seat.me.0)
+          {y = (after_pass c.loop-pass.seat.me.0 p.seat.me.0, c.loop-pass.seat.me.1)} join.both
+          c.look.ensures.looks) p.raises_counted c.add_rows.ensures p.takes_counted c.add_rows-in-Some.ensures,
       both.0,
     )
 

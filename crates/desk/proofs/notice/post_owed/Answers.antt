@@ -22,7 +22,8 @@ loop-server-preserved g c = let i = c.loop-server.invariant in
             table = n.same.0.0 ∙ i.table;
             id = n.same.0.1 ∙ i.id;
             out = n.same.1 ∙ i.out;
-            posted = posted_more c.args.seat.now.me.0 c.loop-server.seat.me.0 w.post-found.new.seat.me.0 c.loop-server.server _ c.args.owed w.post-found.result _ _ _ _ _ c.loop-server-test.true refl n.word n.posted refl w.tally.ensures refl i.posted;
+            posted = posted_more c.args.seat.now.me.0 c.loop-server.seat.me.0 w.post-found.new.seat.me.0 c.loop-server.server _ c.args.owed w.post-found.result _ _ _ _ _
+                c.loop-server-test.true refl n.word n.posted refl w.tally.ensures refl i.posted;
           }
       | else-bits-ne0 w ↦ posting_moved c.args.seat.now c.loop-server.seat _ _ _ _ _ _ _ w.seat-is w.raises-is w.raised-is record {
         table = i.table;

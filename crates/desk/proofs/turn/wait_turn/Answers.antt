@@ -14,7 +14,8 @@ hold-found-requires-clause-free g c = let below = c.look-word.ensures.below in l
 
 pub returns-then-found-word-clause-turn : goal.returns-then-found-word-clause-turn
 returns-then-found-word-clause-turn g c = let l = c.look-word.ensures in
-    turn_taken _ _ c.look-word.new.seat _ _ _ c.requires.rests (waits_look _ _ _ _ _ c.loop.invariant.2 l.same.0 l.same.1 l.looks) c.if-found-word.true c.if-word-eq0.true l.below c.if-word.false (c.hold-found.ensures.held c.if-found-word.true)
+    turn_taken _ _ c.look-word.new.seat _ _ _ c.requires.rests (waits_look _ _ _ _ _ c.loop.invariant.2 l.same.0 l.same.1 l.looks) c.if-found-word.true c.if-word-eq0.true l.below
+    c.if-word.false (c.hold-found.ensures.held c.if-found-word.true)
 
 pub loop-preserved : goal.loop-preserved
 loop-preserved g c = let l = c.look-word.ensures in let w = waits_look _ _ _ _ _ c.loop.invariant.2 l.same.0 l.same.1 l.looks in

@@ -19,7 +19,8 @@ pending_words-pending-requires g c =
     subst (λ w. IsFull w × (slots_len w ≡ 17)) (sym c.take-slot.ensures.others.3) (c.close_with-closed.ensures.values.0, c.close_with-closed.ensures.counts.0 ∙ c.requires.at.1)
 
 pub machine_of-requires : goal.machine_of-requires
-machine_of-requires g c = let e = final_machine _ _ _ _ _ _ _ _ _ _ _ c.close_with-closed.ensures.values.2 c.requires.resting c.requires.all c.take-slot.ensures.value (λ t small. c.pending_words-pending.ensures t small ∙ ap (λ w. slice_index (slots_items w) (t + 1)) c.take-slot.ensures.others.3) in some_is _ _ e.1
+machine_of-requires g c = let e = final_machine _ _ _ _ _ _ _ _ _ _ _ c.close_with-closed.ensures.values.2 c.requires.resting c.requires.all c.take-slot.ensures.value
+    (λ t small. c.pending_words-pending.ensures t small ∙ ap (λ w. slice_index (slots_items w) (t + 1)) c.take-slot.ensures.others.3) in some_is _ _ e.1
 
 pub returns-clause-closed : goal.returns-clause-closed
 returns-clause-closed g c =

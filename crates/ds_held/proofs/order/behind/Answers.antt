@@ -18,4 +18,5 @@ returns c =
     let xs = c.args.changes.now in
     take_rest xs c.partition_point-past.result
     ∙ all_behind (comes_after low) xs c.partition_point-past.result
-    (IsPartitionPoint-from_clause (λ (x : ChangeRecord). not (comes_after low x)) xs c.partition_point-past.result c.partition_point-past.ensures.partitioned (after_partitioned low xs (rising_order key_cmp keys_total exact_keys keyed xs c.requires)) (λ a r f' t. search rules))
+    (IsPartitionPoint-from_clause (λ (x : ChangeRecord). not (comes_after low x)) xs c.partition_point-past.result c.partition_point-past.ensures.partitioned
+    (after_partitioned low xs (rising_order key_cmp keys_total exact_keys keyed xs c.requires)) (λ a r f' t. search rules))

@@ -21,7 +21,8 @@ add-new-requires-clause-sorted c =
 
 pub stays-requires-clause-within : goal.stays-requires-clause-within
 stays-requires-clause-within c =
-    stands_within c.args.before.now c.args.names.now.items c.deref.result.now c.place_of-old.result _ c.requires.sorted c.requires.listed c.deref.ensures.value c.place_of-old.ensures.place (ap (λ (l : List Named). length l) c.deref-2.ensures.value)
+    stands_within c.args.before.now c.args.names.now.items c.deref.result.now c.place_of-old.result _ c.requires.sorted c.requires.listed c.deref.ensures.value
+    c.place_of-old.ensures.place (ap (λ (l : List Named). length l) c.deref-2.ensures.value)
 
 pub returns-then-stays : goal.returns-then-stays
 returns-then-stays c =

@@ -7,7 +7,7 @@ use Rattle.ds_machine.specs.declared.command.Scope.TheVariants.{All, Under}
 use Rattle.ds_judge.specs.Last.{ReadsPattern}
 use Rattle.ds_judge.proofs.reading.scope_of_since.Goals as goal
 
--- what a Since asks before its cursor is what a Page asks
+-- before its cursor, a Since is judged as a Page is
 same_reading : (scope : Scope) (max : ℕ) (f : Feed) (at : Cursor) → ReadsPattern scope (against_page scope max) → ReadsPattern scope (against_since f scope at max)
 same_reading All max f at h = h
 same_reading (Under query) max f at h = h

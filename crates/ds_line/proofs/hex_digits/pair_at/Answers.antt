@@ -29,4 +29,6 @@ pub returns-clause-found : goal.returns-clause-found
 returns-clause-found c =
     let high : c.number_of-high.result < 16 = omega (arith, c.if-high-gt15.false) in
     let low : c.number_of-low.result < 16 = omega (arith, c.if-low-gt15.false) in
-    (c.in_ok-high.ensures.cases.0 ∙ ap (λ (t : List ℕ). c.in_ok-high.high.now ∷ t) c.in_ok-low.ensures.cases.0) ∙ pair_is c.in_ok-high.high.now c.in_ok-low.low.now c.number_of-high.result c.number_of-low.result c.in_ok-low.rest.now high low (c.number_of-high.ensures.number high) (c.number_of-low.ensures.number low)
+    (c.in_ok-high.ensures.cases.0 ∙ ap (λ (t : List ℕ). c.in_ok-high.high.now ∷ t) c.in_ok-low.ensures.cases.0) ∙
+    pair_is c.in_ok-high.high.now c.in_ok-low.low.now c.number_of-high.result c.number_of-low.result c.in_ok-low.rest.now high low (c.number_of-high.ensures.number high)
+    (c.number_of-low.ensures.number low)

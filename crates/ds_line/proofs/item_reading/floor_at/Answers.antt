@@ -14,14 +14,16 @@ returns-in_default-read_byte c =
 
 pub returns-in_default-name_at : goal.returns-in_default-name_at
 returns-in_default-name_at c =
-    owner_missing c.args.bytes.now c.in-Some.rest.now c.in-Some-read_byte.at.now c.stop_at-in_default-name_at.result c.stop_at-in_default-name_at.ensures c.in-Some.ensures.found c.in-Some-read_byte.ensures.found c.in_default-name_at.ensures.none
+    owner_missing c.args.bytes.now c.in-Some.rest.now c.in-Some-read_byte.at.now c.stop_at-in_default-name_at.result c.stop_at-in_default-name_at.ensures c.in-Some.ensures.found
+    c.in-Some-read_byte.ensures.found c.in_default-name_at.ensures.none
 
 pub returns-in_default-read_byte-2 : goal.returns-in_default-read_byte-2
 returns-in_default-read_byte-2 c =
     let at = c.in-Some-read_byte.at.now in
     let owner = c.in-Some-name_at.owner in
     let name = subst (λ (t : List ℕ). Begins is_name_byte at owner t) (sym c.behind_name-rest.ensures) c.in-Some-name_at.ensures.found in
-    generation_space_missing owner c.args.bytes.now c.in-Some.rest.now at c.behind_name-rest.result.now c.stop_at-in_default-read_byte-2.result c.stop_at-in_default-read_byte-2.ensures c.in-Some.ensures.found c.in-Some-read_byte.ensures.found
+    generation_space_missing owner c.args.bytes.now c.in-Some.rest.now at c.behind_name-rest.result.now c.stop_at-in_default-read_byte-2.result
+    c.stop_at-in_default-read_byte-2.ensures c.in-Some.ensures.found c.in-Some-read_byte.ensures.found
     c.in-Some-name_at.ensures.name name c.in_default-read_byte-2.ensures.none
 
 pub returns-in_default-read_decimal : goal.returns-in_default-read_decimal
@@ -38,5 +40,6 @@ returns-in_default-read_byte-3 c =
     let owner = c.in-Some-name_at.owner in
     let name = subst (λ (t : List ℕ). Begins is_name_byte at owner t) (sym c.behind_name-rest.ensures) c.in-Some-name_at.ensures.found in
     newline_missing owner c.in-Some-read_decimal.number c.args.bytes.now c.in-Some.rest.now at c.behind_name-rest.result.now c.in-Some-read_byte-2.at.now c.in-Some-read_decimal.rest.now c.stop_at-in_default-read_byte-3.result
-    c.stop_at-in_default-read_byte-3.ensures c.in-Some.ensures.found c.in-Some-read_byte.ensures.found c.in-Some-name_at.ensures.name name c.in-Some-read_byte-2.ensures.found c.in-Some-read_decimal.ensures.limit c.in-Some-read_decimal.ensures.found
+    c.stop_at-in_default-read_byte-3.ensures c.in-Some.ensures.found c.in-Some-read_byte.ensures.found c.in-Some-name_at.ensures.name name c.in-Some-read_byte-2.ensures.found
+    c.in-Some-read_decimal.ensures.limit c.in-Some-read_decimal.ensures.found
     c.in_default-read_byte-3.ensures.none

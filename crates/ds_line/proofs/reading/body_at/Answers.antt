@@ -11,7 +11,8 @@ pub returns-in-Some : goal.returns-in-Some
 returns-in-Some c = mark_then c.args.key.now c.args.owner.now c.args.version 61 c.args.bytes.now c.in-Some.rest.now (with_body c.args.key.now c.args.owner.now c.args.version c.put_at.result) c.in-Some.ensures.found c.put_at.ensures
 
 pub returns-in-Some-read_byte : goal.returns-in-Some-read_byte
-returns-in-Some-read_byte c = mark_then c.args.key.now c.args.owner.now c.args.version 45 c.args.bytes.now c.in-Some-read_byte.rest.now (with_body c.args.key.now c.args.owner.now c.args.version c.gone_at.result) c.in-Some-read_byte.ensures.found c.gone_at.ensures
+returns-in-Some-read_byte c = mark_then c.args.key.now c.args.owner.now c.args.version 45 c.args.bytes.now c.in-Some-read_byte.rest.now
+    (with_body c.args.key.now c.args.owner.now c.args.version c.gone_at.result) c.in-Some-read_byte.ensures.found c.gone_at.ensures
 
 pub returns : goal.returns
 returns c =

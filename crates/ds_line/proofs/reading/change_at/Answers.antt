@@ -22,7 +22,9 @@ returns-in_default-kind_at c =
 pub returns-then-not-has_owner : goal.returns-then-not-has_owner
 returns-then-not-has_owner c =
     name_space_then c.read_front.new.self c.args.bytes.now c.in-Some.rest.now c.in-Some-read_byte.at.now (Err c.stop_at-then-not-has_owner.result) c.in-Some.ensures.name c.in-Some.ensures.found c.in-Some-read_byte.ensures.found
-    (kind_refused (record { name = c.read_front.new.self; kind = c.in-Some-kind_at.kind }) c.in-Some-read_byte.at.now c.in-Some-kind_at.rest.now c.stop_at-then-not-has_owner.result c.in-Some.ensures.name c.stop_at-then-not-has_owner.ensures c.in-Some-kind_at.ensures.found (λ has. is_false c.has_owner.result c.if-not-has_owner.true (c.has_owner.ensures.1 has)))
+    (kind_refused (record { name = c.read_front.new.self; kind = c.in-Some-kind_at.kind }) c.in-Some-read_byte.at.now c.in-Some-kind_at.rest.now c.stop_at-then-not-has_owner.result
+    c.in-Some.ensures.name c.stop_at-then-not-has_owner.ensures c.in-Some-kind_at.ensures.found
+    (λ has. is_false c.has_owner.result c.if-not-has_owner.true (c.has_owner.ensures.1 has)))
 
 pub returns : goal.returns
 returns c =

@@ -16,13 +16,15 @@ returns-in_default-read_front c =
 pub returns-then-not-has_version : goal.returns-then-not-has_version
 returns-then-not-has_version c =
     owner_space_then c.args.key.now c.args.bytes.now c.in-Some.at.now (Err c.stop_at-then-not-has_version.result) c.in-Some.ensures.found
-    (owner_refused c.args.key.now c.read_front.new.self c.in-Some.at.now _ c.stop_at-then-not-has_version.result c.requires c.stop_at-then-not-has_version.ensures c.in-Some-read_front.ensures.name c.in-Some-read_front.ensures.found (λ has. is_false c.has_version.result c.if-not-has_version.true (c.has_version.ensures.1 has)))
+    (owner_refused c.args.key.now c.read_front.new.self c.in-Some.at.now _ c.stop_at-then-not-has_version.result c.requires c.stop_at-then-not-has_version.ensures
+    c.in-Some-read_front.ensures.name c.in-Some-read_front.ensures.found (λ has. is_false c.has_version.result c.if-not-has_version.true (c.has_version.ensures.1 has)))
 
 pub returns-in_default-read_byte : goal.returns-in_default-read_byte
 returns-in_default-read_byte c =
     owner_space_then c.args.key.now c.args.bytes.now c.in-Some.at.now (Err c.stop_at-in_default-read_byte.result) c.in-Some.ensures.found
     (owner_then c.args.key.now c.read_front.new.self c.in-Some.at.now c.in-Some-read_front.rest.now (Err c.stop_at-in_default-read_byte.result) c.in-Some-read_front.ensures.name c.in-Some-read_front.ensures.found
-    (epoch_space_missing c.args.key.now c.read_front.new.self c.in-Some-read_front.rest.now c.stop_at-in_default-read_byte.result (c.has_version.ensures.0 c.if-not-has_version.false) c.stop_at-in_default-read_byte.ensures c.in_default-read_byte.ensures.none))
+    (epoch_space_missing c.args.key.now c.read_front.new.self c.in-Some-read_front.rest.now c.stop_at-in_default-read_byte.result
+    (c.has_version.ensures.0 c.if-not-has_version.false) c.stop_at-in_default-read_byte.ensures c.in_default-read_byte.ensures.none))
 
 pub returns : goal.returns
 returns c =

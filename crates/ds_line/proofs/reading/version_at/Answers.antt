@@ -19,7 +19,8 @@ returns-then-not-has_seq c =
     let is = c.in-Some-of.ensures.1 in
     let most : c.in-Some-of.epoch ≤ 2097151 = omega (arith, is, c.in-Some.ensures.limit) in
     let there = subst (λ x. Begins is_ascii_digit c.args.bytes.now (decimal x) c.in-Some.rest.now) (sym is) c.in-Some.ensures.found in
-    epoch_refused c.args.key.now c.args.owner.now c.args.bytes.now c.in-Some.rest.now c.in-Some-of.epoch c.stop_at-then-not-has_seq.result c.requires c.stop_at-then-not-has_seq.ensures most there (λ has. is_false c.has_seq.result c.if-not-has_seq.true (c.has_seq.ensures.1 has))
+    epoch_refused c.args.key.now c.args.owner.now c.args.bytes.now c.in-Some.rest.now c.in-Some-of.epoch c.stop_at-then-not-has_seq.result c.requires
+    c.stop_at-then-not-has_seq.ensures most there (λ has. is_false c.has_seq.result c.if-not-has_seq.true (c.has_seq.ensures.1 has))
 
 pub returns-in_default-read_byte : goal.returns-in_default-read_byte
 returns-in_default-read_byte c =
@@ -27,7 +28,8 @@ returns-in_default-read_byte c =
     let most : c.in-Some-of.epoch ≤ 2097151 = omega (arith, is, c.in-Some.ensures.limit) in
     let there = subst (λ x. Begins is_ascii_digit c.args.bytes.now (decimal x) c.in-Some.rest.now) (sym is) c.in-Some.ensures.found in
     epoch_then c.args.key.now c.args.owner.now c.args.bytes.now c.in-Some.rest.now c.in-Some-of.epoch (Err c.stop_at-in_default-read_byte.result) most there
-    (dot_missing c.args.key.now c.args.owner.now c.in-Some.rest.now c.in-Some-of.epoch c.stop_at-in_default-read_byte.result (c.has_seq.ensures.0 c.if-not-has_seq.false) c.stop_at-in_default-read_byte.ensures c.in_default-read_byte.ensures.none)
+    (dot_missing c.args.key.now c.args.owner.now c.in-Some.rest.now c.in-Some-of.epoch c.stop_at-in_default-read_byte.result (c.has_seq.ensures.0 c.if-not-has_seq.false)
+    c.stop_at-in_default-read_byte.ensures c.in_default-read_byte.ensures.none)
 
 pub returns-in_default-read_decimal : goal.returns-in_default-read_decimal
 returns-in_default-read_decimal c =
@@ -36,7 +38,8 @@ returns-in_default-read_decimal c =
     let there = subst (λ x. Begins is_ascii_digit c.args.bytes.now (decimal x) c.in-Some.rest.now) (sym is) c.in-Some.ensures.found in
     epoch_then c.args.key.now c.args.owner.now c.args.bytes.now c.in-Some.rest.now c.in-Some-of.epoch (Err c.stop_at-in_default-read_decimal.result) most there
     (dot_then c.args.key.now c.args.owner.now c.in-Some.rest.now c.in-Some-read_byte.at.now c.in-Some-of.epoch (Err c.stop_at-in_default-read_decimal.result) c.in-Some-read_byte.ensures.found
-    (seq_missing c.args.key.now c.args.owner.now c.in-Some-read_byte.at.now c.in-Some-of.epoch c.stop_at-in_default-read_decimal.result (c.has_seq.ensures.0 c.if-not-has_seq.false) c.stop_at-in_default-read_decimal.ensures c.in_default-read_decimal.ensures.none))
+    (seq_missing c.args.key.now c.args.owner.now c.in-Some-read_byte.at.now c.in-Some-of.epoch c.stop_at-in_default-read_decimal.result (c.has_seq.ensures.0 c.if-not-has_seq.false)
+    c.stop_at-in_default-read_decimal.ensures c.in_default-read_decimal.ensures.none))
 
 pub returns-then-not-has_body : goal.returns-then-not-has_body
 returns-then-not-has_body c =
@@ -46,7 +49,9 @@ returns-then-not-has_body c =
     let fits : c.in-Some-read_decimal.seq < 2 ^ 32 = omega (arith, c.in-Some-read_decimal.ensures.limit) in
     epoch_then c.args.key.now c.args.owner.now c.args.bytes.now c.in-Some.rest.now c.in-Some-of.epoch (Err c.stop_at-then-not-has_body.result) most there
     (dot_then c.args.key.now c.args.owner.now c.in-Some.rest.now c.in-Some-read_byte.at.now c.in-Some-of.epoch (Err c.stop_at-then-not-has_body.result) c.in-Some-read_byte.ensures.found
-    (seq_refused c.args.key.now c.args.owner.now c.in-Some-read_byte.at.now c.in-Some-read_decimal.rest.now (version_of c.in-Some-of.epoch c.in-Some-read_decimal.seq) c.stop_at-then-not-has_body.result (c.has_seq.ensures.0 c.if-not-has_seq.false) c.stop_at-then-not-has_body.ensures fits c.in-Some-read_decimal.ensures.found (λ has. is_false c.has_body.result c.if-not-has_body.true (c.has_body.ensures.1 has))))
+    (seq_refused c.args.key.now c.args.owner.now c.in-Some-read_byte.at.now c.in-Some-read_decimal.rest.now (version_of c.in-Some-of.epoch c.in-Some-read_decimal.seq)
+    c.stop_at-then-not-has_body.result (c.has_seq.ensures.0 c.if-not-has_seq.false) c.stop_at-then-not-has_body.ensures fits c.in-Some-read_decimal.ensures.found
+    (λ has. is_false c.has_body.result c.if-not-has_body.true (c.has_body.ensures.1 has))))
 
 pub returns-in_default-read_byte-2 : goal.returns-in_default-read_byte-2
 returns-in_default-read_byte-2 c =
@@ -56,8 +61,10 @@ returns-in_default-read_byte-2 c =
     let fits : c.in-Some-read_decimal.seq < 2 ^ 32 = omega (arith, c.in-Some-read_decimal.ensures.limit) in
     epoch_then c.args.key.now c.args.owner.now c.args.bytes.now c.in-Some.rest.now c.in-Some-of.epoch (Err c.stop_at-in_default-read_byte-2.result) most there
     (dot_then c.args.key.now c.args.owner.now c.in-Some.rest.now c.in-Some-read_byte.at.now c.in-Some-of.epoch (Err c.stop_at-in_default-read_byte-2.result) c.in-Some-read_byte.ensures.found
-    (seq_then c.args.key.now c.args.owner.now c.in-Some-read_byte.at.now c.in-Some-read_decimal.rest.now (version_of c.in-Some-of.epoch c.in-Some-read_decimal.seq) (Err c.stop_at-in_default-read_byte-2.result) fits c.in-Some-read_decimal.ensures.found
-    (mark_space_missing c.args.key.now c.args.owner.now c.in-Some-read_decimal.rest.now (version_of c.in-Some-of.epoch c.in-Some-read_decimal.seq) c.stop_at-in_default-read_byte-2.result (c.has_body.ensures.0 c.if-not-has_body.false) c.stop_at-in_default-read_byte-2.ensures c.in_default-read_byte-2.ensures.none)))
+    (seq_then c.args.key.now c.args.owner.now c.in-Some-read_byte.at.now c.in-Some-read_decimal.rest.now (version_of c.in-Some-of.epoch c.in-Some-read_decimal.seq)
+    (Err c.stop_at-in_default-read_byte-2.result) fits c.in-Some-read_decimal.ensures.found
+    (mark_space_missing c.args.key.now c.args.owner.now c.in-Some-read_decimal.rest.now (version_of c.in-Some-of.epoch c.in-Some-read_decimal.seq)
+    c.stop_at-in_default-read_byte-2.result (c.has_body.ensures.0 c.if-not-has_body.false) c.stop_at-in_default-read_byte-2.ensures c.in_default-read_byte-2.ensures.none)))
 
 pub returns-in-Ok : goal.returns-in-Ok
 returns-in-Ok c =
@@ -82,4 +89,5 @@ returns-in-Err c =
     epoch_then c.args.key.now c.args.owner.now c.args.bytes.now c.in-Some.rest.now c.in-Some-of.epoch (Err c.in-Err.stop) most there
     (dot_then c.args.key.now c.args.owner.now c.in-Some.rest.now c.in-Some-read_byte.at.now c.in-Some-of.epoch (Err c.in-Err.stop) c.in-Some-read_byte.ensures.found
     (seq_then c.args.key.now c.args.owner.now c.in-Some-read_byte.at.now c.in-Some-read_decimal.rest.now (version_of c.in-Some-of.epoch c.in-Some-read_decimal.seq) (Err c.in-Err.stop) fits c.in-Some-read_decimal.ensures.found
-    (mark_space_then c.args.key.now c.args.owner.now c.in-Some-read_decimal.rest.now c.in-Some-read_byte-2.rest.now (version_of c.in-Some-of.epoch c.in-Some-read_decimal.seq) (Err c.in-Err.stop) c.in-Some-read_byte-2.ensures.found c.in-Err.ensures)))
+    (mark_space_then c.args.key.now c.args.owner.now c.in-Some-read_decimal.rest.now c.in-Some-read_byte-2.rest.now (version_of c.in-Some-of.epoch c.in-Some-read_decimal.seq)
+    (Err c.in-Err.stop) c.in-Some-read_byte-2.ensures.found c.in-Err.ensures)))

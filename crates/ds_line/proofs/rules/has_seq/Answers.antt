@@ -13,5 +13,8 @@ returns-then-is_label c =
     )
 
 pub returns-else-is_label : goal.returns-else-is_label
-returns-else-is_label c =
-    (λ h. seq_of_other c.args.key.now c.args.owner.now c.args.epoch (λ kind. is_false c.is_label.result c.if-is_label.false (c.is_label.ensures.label.1 kind)) c.requires (omega (arith, c.number-number.ensures.value, c.number-number.ensures.limit)), λ has. refl)
+returns-else-is_label c = (
+  λ h. seq_of_other c.args.key.now c.args.owner.now c.args.epoch (λ kind. is_false c.is_label.result c.if-is_label.false (c.is_label.ensures.label.1 kind)) c.requires
+      (omega (arith, c.number-number.ensures.value, c.number-number.ensures.limit)),
+  λ has. refl,
+)

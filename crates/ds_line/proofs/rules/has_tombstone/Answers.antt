@@ -11,5 +11,8 @@ returns-then-is_label c =
     )
 
 pub returns-else-is_label : goal.returns-else-is_label
-returns-else-is_label c =
-    (λ h. body_of_other c.args.key.now c.args.owner.now c.args.version.now (λ kind. is_false c.is_label.result c.if-is_label.false (c.is_label.ensures.label.1 kind)) (seq_of_body c.args.key.now c.args.owner.now c.args.version.now c.requires) c.requires.1.seq, λ has. refl)
+returns-else-is_label c = (
+  λ h. body_of_other c.args.key.now c.args.owner.now c.args.version.now (λ kind. is_false c.is_label.result c.if-is_label.false (c.is_label.ensures.label.1 kind))
+      (seq_of_body c.args.key.now c.args.owner.now c.args.version.now c.requires) c.requires.1.seq,
+  λ has. refl,
+)

@@ -27,4 +27,5 @@ returns-then-ends_digits-2-clause-valid c =
 pub returns-else-ends_digits-2-clause-none : goal.returns-else-ends_digits-2-clause-none
 returns-else-ends_digits-2-clause-none c =
     let end : c.loop-len.len ≡ 1024 = omega (arith, c.loop-len-test.false, c.loop-len.auto.len-end) in
-    paired_full c.args.bytes.now c.loop-len.block c.loop-len.rest.now (subst (IsPaired c.args.bytes.now c.loop-len.block c.loop-len.rest.now) end c.loop-len.invariant) (λ ends. false≢true (sym c.if-ends_digits-2.false ∙ c.ends_digits-2.ensures.1 ends))
+    paired_full c.args.bytes.now c.loop-len.block c.loop-len.rest.now (subst (IsPaired c.args.bytes.now c.loop-len.block c.loop-len.rest.now) end c.loop-len.invariant)
+    (λ ends. false≢true (sym c.if-ends_digits-2.false ∙ c.ends_digits-2.ensures.1 ends))

@@ -20,7 +20,8 @@ returns-in_default-text_byte_at-clause-none c =
 
 pub loop-len-preserved : goal.loop-len-preserved
 loop-len-preserved c =
-    open_more c.args.bytes.now c.loop-len.block c.loop-len.rest.now c.in-Some-text_byte_at.behind.now c.loop-len.len c.in-Some-text_byte_at.byte c.loop-len.invariant c.loop-len-test.true c.in-Some-text_byte_at.ensures.found c.in-Some-text_byte_at.ensures.valid
+    open_more c.args.bytes.now c.loop-len.block c.loop-len.rest.now c.in-Some-text_byte_at.behind.now c.loop-len.len c.in-Some-text_byte_at.byte c.loop-len.invariant
+    c.loop-len-test.true c.in-Some-text_byte_at.ensures.found c.in-Some-text_byte_at.ensures.valid
 
 pub returns-in_default-read_byte-2-clause-none : goal.returns-in_default-read_byte-2-clause-none
 returns-in_default-read_byte-2-clause-none c =

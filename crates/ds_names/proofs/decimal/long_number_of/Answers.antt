@@ -15,7 +15,8 @@ pub returns-in_err-number : goal.returns-in_err-number
 returns-in_err-number c =
     let digit : is_ascii_digit (get_or c.args.bytes.now c.loop-at.at 0) ≡ true = grind (arith, nat_tests) in
     let more = goes_on c.args.bytes.now c.loop-at.at c.loop-at-test.true c.loop-at.invariant.run digit in
-    rw c.from_residual-in_err-number.ensures (too_large (take (prefix_len is_ascii_digit c.args.bytes.now) c.args.bytes.now) c.loop-at.at more.within more.digits (omega (arith, c.in_err-number.ensures, c.in_ok-checked_mul.ensures, c.from.ensures, c.loop-at.invariant.value, more.byte)))
+    rw c.from_residual-in_err-number.ensures (too_large (take (prefix_len is_ascii_digit c.args.bytes.now) c.args.bytes.now) c.loop-at.at more.within more.digits
+    (omega (arith, c.in_err-number.ensures, c.in_ok-checked_mul.ensures, c.from.ensures, c.loop-at.invariant.value, more.byte)))
 
 pub loop-at-preserved : goal.loop-at-preserved
 loop-at-preserved c =

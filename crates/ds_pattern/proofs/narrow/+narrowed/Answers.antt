@@ -31,4 +31,5 @@ narrowed-returns-in_ok-all_narrowed-in-Alternation t c = rw c.in-Alternation.is 
 
 pub all_narrowed-loop-i-preserved : goal.all_narrowed-loop-i-preserved
 all_narrowed-loop-i-preserved t c =
-    rw c.in_ok-push.ensures.items (each_next c.loop-i.all.items c.args.trees.now c.in_ok-narrowed.field-0 c.loop-i.i c.index-trees-i.result (omega (arith, c.loop-i-test.true)) (sym c.index-trees-i.is) c.loop-i.invariant c.in_ok-narrowed.ensures)
+    rw c.in_ok-push.ensures.items (each_next c.loop-i.all.items c.args.trees.now c.in_ok-narrowed.field-0 c.loop-i.i c.index-trees-i.result (omega (arith, c.loop-i-test.true))
+    (sym c.index-trees-i.is) c.loop-i.invariant c.in_ok-narrowed.ensures)

@@ -128,7 +128,7 @@ returns-clause-stopped g c = λ s stands.
       ),
     )
 
--- ---- what it asked
+-- ---- which commands it sent
 pub returns-in_err-stamp-clause-only : goal.returns-in_err-stamp-clause-only
 returns-in_err-stamp-clause-only g c =
     let reading = c.args.reading.now in
@@ -173,7 +173,7 @@ returns-clause-only g c =
     let small : q._question ≤ c.args.reading.now.questions = omega (arith, c.loop-question-test.false, q.auto._question-end) in
     by_checks g.A.Asks.asks_once c.args.sub c.args.reading.now q._question c.args.asked.now q.asked small q.invariant.1
 
--- ---- which reader asked, and what a reader that gives up says
+-- ---- which reader it was, and what a reader that gives up says
 
 pub returns-in_err-query-clause-worn : goal.returns-in_err-query-clause-worn
 returns-in_err-query-clause-worn g c = has_room c.from_residual.result c.from_residual.ensures.1
@@ -247,7 +247,7 @@ returns-in_err-query-clause-stopped g c =
     let exit = err_from_is_err_and c.from_residual.result c.from_residual.ensures.1 in
     rw (exit.1, exit.2) (λ s stands. (s, c.laws.ensures.same s, stands, inl refl))
 
--- ---- each item is given once
+-- ---- each item comes once
 
 pub returns-then-len-reading-clause-items : goal.returns-then-len-reading-clause-items
 returns-then-len-reading-clause-items g c = λ s stands.

@@ -4,7 +4,7 @@ use Rattle.ds_reader.proofs.CheckLemmas.{Checking}
 use Rattle.ds_reader.proofs.QuestionLemmas.{HasChecked}
 use Rattle.ds_reader.proofs.checks.read_by_checks.Given as goal
 
--- the checks so far, before which it subscribed, gave these items, each as many as it asked for
+-- after it subscribed, the checks so far showed these items, each as many as it asked for
 abbrev pub invariant-loop-question : goal.invariant-loop-question
 invariant-loop-question g l =
     (g.A.Asks.origin_of l.asked ≡ g.A.Asks.origin_of l.fn.asked) ×

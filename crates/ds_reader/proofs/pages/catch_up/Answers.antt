@@ -106,7 +106,7 @@ returns-clause-stopped g c = λ s stands.
     (arith, c.loop-question-test.false, c.loop-question.auto._question-end) in
     (k.now, k.goes, k.stands, (k.turns, k.all, k.count_is ∙ last))
 
--- ---- what it asked
+-- ---- which commands it sent
 pub returns-in_err-scope-clause-only : goal.returns-in_err-scope-clause-only
 returns-in_err-scope-clause-only g c =
     let q = c.loop-question in
@@ -144,7 +144,7 @@ returns-clause-only g c =
     let small : q._question ≤ reading.questions = omega (arith, c.loop-question-test.false, q.auto._question-end) in
     fewer g.A.Asks.asks_once (IsSinceOf reading) q._question reading.questions c.args.asked.now q.asked small q.invariant.1
 
--- ---- which reader asked, and what a reader that gives up says
+-- ---- which reader it was, and what a reader that gives up says
 
 pub returns-in_err-scope-clause-worn : goal.returns-in_err-scope-clause-worn
 returns-in_err-scope-clause-worn g c = has_room c.from_residual.result c.from_residual.ensures.1

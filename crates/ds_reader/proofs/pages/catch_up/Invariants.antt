@@ -4,7 +4,7 @@ use Rattle.ds_reader.proofs.QuestionLemmas.{Sinces}
 use Rattle.ds_reader.proofs.SinceLemmas.{Catching}
 use Rattle.ds_reader.proofs.pages.catch_up.Given as goal
 
--- the journal's replies so far added these items, each as many as it was asked for
+-- the journal's replies so far added these items, each as many as the Since asked for
 abbrev pub invariant-loop-question : goal.invariant-loop-question
 invariant-loop-question g l =
     (g.A.Asks.origin_of l.asked ≡ g.A.Asks.origin_of l.fn.asked) ×

@@ -145,7 +145,7 @@ returns-then-given-clause-whole g c = λ s stands.
           c.catch_up.new.items b.1 caught,
     )
 
--- ---- each item is given once
+-- ---- each item comes once
 
 pub returns-then-given-clause-items : goal.returns-then-given-clause-items
 returns-then-given-clause-items g c = λ s stands.
@@ -184,7 +184,7 @@ returns-in_err-append_copies-clause-items g c = nothing_read c.from_residual-in_
 pub returns-in_err-catch_up-clause-items : goal.returns-in_err-catch_up-clause-items
 returns-in_err-catch_up-clause-items g c = nothing_read c.from_residual-in_err-catch_up.result _ _ c.from_residual-in_err-catch_up.ensures.1
 
--- ---- what it asked
+-- ---- which commands it sent
 pub returns-in_err-scope-clause-only : goal.returns-in_err-scope-clause-only
 returns-in_err-scope-clause-only g c =
     let q = c.loop-question in
@@ -230,7 +230,7 @@ returns-clause-only g c =
     let small : q._question ≤ c.args.reading.now.questions = omega (arith, c.loop-question-test.false, q.auto._question-end) in
     by_pages g.A.Asks.asks_once c.args.reading.now q._question c.args.asked.now q.asked small q.invariant.1
 
--- ---- which reader asked, and what a reader that gives up says
+-- ---- which reader it was, and what a reader that gives up says
 
 pub returns-in_err-scope-clause-worn : goal.returns-in_err-scope-clause-worn
 returns-in_err-scope-clause-worn g c = has_room c.from_residual.result c.from_residual.ensures.1

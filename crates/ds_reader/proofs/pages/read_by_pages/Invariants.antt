@@ -4,7 +4,7 @@ use Rattle.ds_reader.proofs.PageLemmas.{Paging}
 use Rattle.ds_reader.proofs.QuestionLemmas.{Pages}
 use Rattle.ds_reader.proofs.pages.read_by_pages.Given as goal
 
--- the pages so far gave these items, and none was the last
+-- the pages so far had these items, and none was the last
 abbrev pub invariant-loop-question : goal.invariant-loop-question
 invariant-loop-question g l =
     (g.A.Asks.origin_of l.asked ≡ g.A.Asks.origin_of l.fn.asked) ×

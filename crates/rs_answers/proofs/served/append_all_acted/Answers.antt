@@ -40,4 +40,5 @@ loop-index-preserved c =
 
 pub returns-clause-some : goal.returns-clause-some
 returns-clause-some c =
-    some_after c.append_action_count.result c.args.buffer.now.items (acted_lines (take c.loop-index.index c.args.actions.now) c.args.replies.now) c.loop-index.buffer.items c.append_action_count.new.buffer.items c.loop-index.invariant c.append_action_count.ensures.unchanged
+    some_after c.append_action_count.result c.args.buffer.now.items (acted_lines (take c.loop-index.index c.args.actions.now) c.args.replies.now) c.loop-index.buffer.items
+    c.append_action_count.new.buffer.items c.loop-index.invariant c.append_action_count.ensures.unchanged

@@ -20,7 +20,8 @@ pub returns-then-repeats : goal.returns-then-repeats
 returns-then-repeats c =
     let d = c.index-drafts-i.result in
     let h : repeats c.loop-i.seen (service_of_draft d).publishes ≡ true = sym c.repeats.ensures.value ∙ c.if-repeats.true in
-    sym (first_repeat-here c.loop-i.seen c.args.drafts.now c.loop-i.i d (omega arith) c.loop-i.invariant.value c.loop-i.invariant.same (subst (λ (z : Draft). repeats c.loop-i.seen (service_of_draft z).publishes ≡ true) c.index-drafts-i.is h))
+    sym (first_repeat-here c.loop-i.seen c.args.drafts.now c.loop-i.i d (omega arith) c.loop-i.invariant.value c.loop-i.invariant.same
+    (subst (λ (z : Draft). repeats c.loop-i.seen (service_of_draft z).publishes ≡ true) c.index-drafts-i.is h))
 
 pub loop-i-preserved : goal.loop-i-preserved
 loop-i-preserved c =
@@ -32,6 +33,8 @@ loop-i-preserved c =
     let m : length (map text_in_value d.publishes.now) ≡ length d.publishes.now = length-map d.publishes.now text_in_value in
     record {
       value = first_repeat-past c.loop-i.seen c.args.drafts.now c.loop-i.i d l c.loop-i.invariant.value c.loop-i.invariant.same (subst (λ (z : Draft). repeats c.loop-i.seen (service_of_draft z).publishes ≡ false) c.index-drafts-i.is h);
-      same = names-past c.loop-i.seen c.args.drafts.now c.loop-i.i d l c.loop-i.invariant.value c.loop-i.invariant.same c.repeats.new.seen (λ n. subst (λ (z : Draft). has_name c.repeats.new.seen n ≡ has_name (c.loop-i.seen ++ (service_of_draft z).publishes) n) c.index-drafts-i.is (c.repeats.ensures.after n c.if-repeats.false));
+      same = names-past c.loop-i.seen c.args.drafts.now c.loop-i.i d l c.loop-i.invariant.value c.loop-i.invariant.same c.repeats.new.seen
+          (λ n. subst (λ (z : Draft). has_name c.repeats.new.seen n ≡ has_name (c.loop-i.seen ++ (service_of_draft z).publishes) n) c.index-drafts-i.is
+          (c.repeats.ensures.after n c.if-repeats.false));
       count = omega (arith, c.loop-i.invariant.count, c.repeats.ensures.len);
     }

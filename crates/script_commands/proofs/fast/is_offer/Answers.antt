@@ -1,4 +1,4 @@
--- whatever place the other byte has, from the first on
+-- at any place of the other byte, from the first on
 use Rattle.std.proofs.Common.{arith, rules}
 use Rattle.std.specs.Prelude.{codes}
 use Rattle.script_commands.proofs.FirstBytesLemmas.{other_byte}

@@ -5,7 +5,7 @@ use Rattle.trace_walk.specs.Walking.{Spot}
 use Rattle.trace_check.proofs.UpgradingLemmas.{IsUnderWay}
 use Rattle.trace_check.proofs.upgrading.upgrade_entries.Given as goal
 
--- what was gone through is written, in format 2
+-- what was passed is written in format 2
 abbrev pub invariant-loop-entry : goal.invariant-loop-entry
 invariant-loop-entry g l =
     (b : Spot) (before : List ℕ) → WalksAt b l.fn.walk (g.R.Source.remaining l.fn.reader) → Upgrades b l.fn.walk.header before 0 →

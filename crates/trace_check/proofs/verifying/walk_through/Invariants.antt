@@ -3,7 +3,7 @@ use Rattle.trace_walk.specs.Steps.{WalksAt}
 use Rattle.trace_walk.specs.Walking.{Spot}
 use Rattle.trace_check.proofs.verifying.walk_through.Given as goal
 
--- from behind the header it came to somewhere behind so many entries
+-- the walk is `length` entries after the header
 abbrev pub invariant-loop-length : goal.invariant-loop-length
 invariant-loop-length g l =
     (b : Spot) → WalksAt b l.fn.walk (g.R.Source.remaining l.fn.reader) → b.count ≡ 0 →

@@ -2,7 +2,7 @@ use Rattle.std.proofs.Common.{◌≡◌, ◌++◌, length}
 use Rattle.trace_model.specs.Text.{marked}
 use Rattle.trace_model.proofs.writing.append_marked.Given as goal
 
--- with what is left, the text is as it has to be
+-- with what is left, the text is what it has to be
 abbrev pub invariant-loop-line : goal.invariant-loop-line
 invariant-loop-line l = l.text.items ++ marked l.rest ≡ l.fn.text.items ++ marked l.fn.lines
 

@@ -5,7 +5,7 @@ use Rattle.trace_record.specs.Reading.{IsReady}
 use Rattle.trace_record.specs.Running.{Runs}
 use Rattle.trace_record.proofs.recording.run.Given as goal
 
--- so many entries are recorded, whatever was before, by so many reads
+-- how many entries are recorded, whatever was before, by how many reads
 abbrev pub invariant-loop-count : goal.invariant-loop-count
 invariant-loop-count g l =
     IsReady l.recorder.lines l.next

@@ -20,7 +20,7 @@ returns-in-Line-clause-step c =
 pub returns-in-Line-clause-wording : goal.returns-in-Line-clause-wording
 returns-in-Line-clause-wording c = IfOk-weaker c.ask_line.result _ _ (λ answer is. is ∙ ap worded_as (sym c.in-Line.is)) c.ask_line.ensures.wording
 
--- a Merge is one in either format
+-- a Merge is the same in either format
 merge_step : (format : Format) (s t : State) (items : List Item) (reply : Reply) → Step s (Merge items) reply t → StepOf format s (Merge items) reply t
 merge_step One s t items reply step = step
 merge_step Two s t items reply step = step

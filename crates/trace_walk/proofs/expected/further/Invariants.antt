@@ -3,7 +3,7 @@ use Rattle.trace_model.specs.Text.{marked}
 use Rattle.trace_walk.specs.Walking.{IsAt, IsSaid}
 use Rattle.trace_walk.proofs.expected.further.Given as goal
 
--- whatever it stands behind when it begins, it then stands behind some more lines of the text
+-- whatever comes before it, some more lines of the text were compared
 abbrev pub invariant-loop-line : goal.invariant-loop-line
 invariant-loop-line g l =
     (bytes base whole given : List ℕ) → whole ≡ (given ++ 10 ∷ []) ++ l.fn.text → IsAt bytes (base ++ marked (given ++ 10 ∷ [])) l.fn.lines (g.R.Source.remaining l.fn.reader) →

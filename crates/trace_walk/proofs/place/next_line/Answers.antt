@@ -21,7 +21,7 @@ returns-in-Long-clause-long g c bytes front at =
     subst (λ (f : WalkFault). IsLongFault c.args.place bytes front f) (sym c.fault.ensures)
     (long_fault c.args.place bytes front number (long_comes bytes front c.args.lines.now (g.R.Source.remaining c.args.reader.now) l.0 number at l.1 l.2 l.3 (omega (arith, c.count-number.ensures.value))))
 
--- what no line is read for is no verdict, whatever has to stand there
+-- a failed read, or out of memory, isn't a verdict
 unread : (place : Place) (bytes front : List ℕ) → IsLongFault place bytes front ReadFault × IsLongFault place bytes front NoRoom
 unread Form bytes front = (tt, tt)
 unread Reply bytes front = (tt, tt)

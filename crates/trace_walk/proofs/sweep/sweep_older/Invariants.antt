@@ -6,7 +6,7 @@ use Rattle.ds_machine.specs.Batches.{AreFree}
 use Rattle.trace_walk.proofs.SweepLemmas.{AreMerged}
 use Rattle.trace_walk.proofs.sweep.sweep_older.Given as goal
 
--- the store took the first of the tombstones, this is owed for them, and the Merges merge them
+-- the store took the first of the tombstones, with this mask, and the Merges merge them
 abbrev pub invariant-loop-rest : goal.invariant-loop-rest
 invariant-loop-rest l = record {
   count : l.merges.count + length l.rest ≤ length l.initial.rest;

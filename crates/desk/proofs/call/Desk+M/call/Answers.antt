@@ -12,7 +12,9 @@ post_owed-raised-requires-clause-room g c = can_post _ _ _ c.wait_turn.new.seat 
 
 pub invariant_of-pass-2-clause-takes_counted : goal.invariant_of-pass-2-clause-takes_counted
 invariant_of-pass-2-clause-takes_counted g c =
-    tallies_taken c.args.pass.now.seat.me.0 c.post_owed-raised.new.seat.me.0 _ (same_taken _ _ c.wait_turn.new.seat.me.0 _ _ _ _ _ _ _ c.in-Some.ensures.turn.0 (ap (λ m. m.0) c.run_turn-reply.ensures.ended) c.post_owed-raised.ensures.posts (rests_facts c.args.pass.now.seat.me.0 c.args.pass.now.resting).1) c.args.pass.now.takes_counted
+    tallies_taken c.args.pass.now.seat.me.0 c.post_owed-raised.new.seat.me.0 _
+    (same_taken _ _ c.wait_turn.new.seat.me.0 _ _ _ _ _ _ _ c.in-Some.ensures.turn.0 (ap (λ m. m.0) c.run_turn-reply.ensures.ended) c.post_owed-raised.ensures.posts
+    (rests_facts c.args.pass.now.seat.me.0 c.args.pass.now.resting).1) c.args.pass.now.takes_counted
 
 pub returns-clause-called : goal.returns-clause-called
 returns-clause-called g c = let r = rests_facts c.args.pass.now.seat.me.0 c.args.pass.now.resting in let w = c.run_turn-reply.ensures in

@@ -11,7 +11,8 @@ pub invariant_of-pass-clause-raises_counted : goal.invariant_of-pass-clause-rais
 invariant_of-pass-clause-raises_counted g c = take_raises _ _ _ _ _ _ _ _ _ _ c.take-bits.ensures.taken c.look-floor.ensures.looks (rests_facts c.args.pass.now.seat.me.0 c.args.pass.now.resting).1 c.args.pass.now.raises_counted
 
 pub invariant_of-pass-clause-takes_counted : goal.invariant_of-pass-clause-takes_counted
-invariant_of-pass-clause-takes_counted g c = take_counts _ _ _ _ _ _ _ _ _ _ _ c.take-bits.ensures.taken c.look-floor.ensures.looks (rests_facts c.args.pass.now.seat.me.0 c.args.pass.now.resting).1 c.tally.ensures c.args.pass.now.takes_counted
+invariant_of-pass-clause-takes_counted g c = take_counts _ _ _ _ _ _ _ _ _ _ _ c.take-bits.ensures.taken c.look-floor.ensures.looks
+    (rests_facts c.args.pass.now.seat.me.0 c.args.pass.now.resting).1 c.tally.ensures c.args.pass.now.takes_counted
 
 pub returns-clause-owed : goal.returns-clause-owed
 returns-clause-owed g c b set_bit = owed_later _ _ _ _ _ _ _ _ b _ c.take-bits.ensures.taken c.look-floor.ensures.looks set_bit

@@ -31,7 +31,8 @@ returns-then-is_same_state-clause-answer c = λ t s.
     let v = table_of c.self.inside in
     let here : TableStands v t = subst (λ (v : TableRecord). TableStands v t) (sym c.self.view_is) s in
     ap (λ (l : List Move). Ok l) c.new-then-is_same_state.ensures
-    ∙ sym (ap (λ p. p.0) (change_judged v t c.args.label.now c.args.state.now c.in-Some.device false true here (sym c.first_of.ensures ∙ c.in-Some.is) (sym c.is_old.ensures ∙ c.if-is_old.false) (sym c.is_same_state.ensures ∙ c.if-is_same_state.true)))
+    ∙ sym (ap (λ p. p.0) (change_judged v t c.args.label.now c.args.state.now c.in-Some.device false true here (sym c.first_of.ensures ∙ c.in-Some.is)
+    (sym c.is_old.ensures ∙ c.if-is_old.false) (sym c.is_same_state.ensures ∙ c.if-is_same_state.true)))
 
 pub returns-then-is_same_state-clause-after : goal.returns-then-is_same_state-clause-after
 returns-then-is_same_state-clause-after c = λ t s.
@@ -48,8 +49,11 @@ pub returns-in_default-moves_of-clause-answer : goal.returns-in_default-moves_of
 returns-in_default-moves_of-clause-answer c = λ t s.
     let v = table_of c.self.inside in
     let here : TableStands v t = subst (λ (v : TableRecord). TableStands v t) (sym c.self.view_is) s in
-    let k : (a : List Move) × ((changing t c.args.label.now c.args.state.now).0 ≡ Ok a) =
-    (_, ap (λ p. p.0) (change_judged v t c.args.label.now c.args.state.now c.in-Some.device false false here (sym c.first_of.ensures ∙ c.in-Some.is) (sym c.is_old.ensures ∙ c.if-is_old.false) (sym c.is_same_state.ensures ∙ c.if-is_same_state.false))) in
+    let k : (a : List Move) × ((changing t c.args.label.now c.args.state.now).0 ≡ Ok a) = (
+      _,
+      ap (λ p. p.0) (change_judged v t c.args.label.now c.args.state.now c.in-Some.device false false here (sym c.first_of.ensures ∙ c.in-Some.is)
+          (sym c.is_old.ensures ∙ c.if-is_old.false) (sym c.is_same_state.ensures ∙ c.if-is_same_state.false)),
+    ) in
     search rules
 
 pub returns-in_default-moves_of-clause-room : goal.returns-in_default-moves_of-clause-room
@@ -57,7 +61,8 @@ returns-in_default-moves_of-clause-room c = λ t s.
     let v = table_of c.self.inside in
     let here : TableStands v t = subst (λ (v : TableRecord). TableStands v t) (sym c.self.view_is) s in
     let some : all_moves t c.args.label.now c.args.state.now ≢ [] = subst (λ (l : List Move). l ≢ []) (moves_are v t c.args.label.now c.args.state.now here) c.in_default-moves_of.ensures.room in
-    let is_so = ap (λ p. p.0) (change_judged v t c.args.label.now c.args.state.now c.in-Some.device false false here (sym c.first_of.ensures ∙ c.in-Some.is) (sym c.is_old.ensures ∙ c.if-is_old.false) (sym c.is_same_state.ensures ∙ c.if-is_same_state.false)) in
+    let is_so = ap (λ p. p.0) (change_judged v t c.args.label.now c.args.state.now c.in-Some.device false false here (sym c.first_of.ensures ∙ c.in-Some.is)
+    (sym c.is_old.ensures ∙ c.if-is_old.false) (sym c.is_same_state.ensures ∙ c.if-is_same_state.false)) in
     let takes : HasMoves (changing t c.args.label.now c.args.state.now).0 = subst HasMoves (sym is_so) some in
     search rules
 
@@ -67,7 +72,8 @@ returns-clause-answer c = λ t s.
     let here : TableStands v t = subst (λ (v : TableRecord). TableStands v t) (sym c.self.view_is) s in
     let moves = c.in-Ok.ensures.all ∙ moves_are v t c.args.label.now c.args.state.now here in
     ap (λ (l : List Move). Ok l) moves
-    ∙ sym (ap (λ p. p.0) (change_judged v t c.args.label.now c.args.state.now c.in-Some.device false false here (sym c.first_of.ensures ∙ c.in-Some.is) (sym c.is_old.ensures ∙ c.if-is_old.false) (sym c.is_same_state.ensures ∙ c.if-is_same_state.false)))
+    ∙ sym (ap (λ p. p.0) (change_judged v t c.args.label.now c.args.state.now c.in-Some.device false false here (sym c.first_of.ensures ∙ c.in-Some.is)
+    (sym c.is_old.ensures ∙ c.if-is_old.false) (sym c.is_same_state.ensures ∙ c.if-is_same_state.false)))
 
 pub returns-clause-after : goal.returns-clause-after
 returns-clause-after c = λ t s.
@@ -77,4 +83,6 @@ returns-clause-after c = λ t s.
     let old = sym c.is_old.ensures ∙ c.if-is_old.false in
     subst (TableStands (record { devices = c.note-2.new.devices.entries; pending = c.settle.new.pending.items; last = v.last }))
     (sym (ap (λ p. p.1) (change_judged v t c.args.label.now c.args.state.now c.in-Some.device false false here first old (sym c.is_same_state.ensures ∙ c.if-is_same_state.false))))
-    (stands_moved v t c.args.label.now c.args.state.now c.note-2.new.devices.entries c.settle.new.pending.items here (first_device v t c.args.label.now c.in-Some.device here first).0 (not_old v t c.args.label.now c.args.state.now c.in-Some.device here first old) c.note-2.ensures c.settle.ensures)
+    (stands_moved v t c.args.label.now c.args.state.now c.note-2.new.devices.entries c.settle.new.pending.items here
+    (first_device v t c.args.label.now c.in-Some.device here first).0 (not_old v t c.args.label.now c.args.state.now c.in-Some.device here first old) c.note-2.ensures
+    c.settle.ensures)

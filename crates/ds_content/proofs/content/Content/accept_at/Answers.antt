@@ -31,7 +31,7 @@ use Rattle.ds_content.proofs.content.Content.accept_at.Goals.{In_ok-put_at, Afte
 use Rattle.ds_content.specs.Standing.{standing_in}
 use Rattle.ds_machine.specs.Standing.{IsFree}
 
--- what stands before the change, read off the fields
+-- what the change meets, read from the fields
 free_in : (v : ContentRecord) (now : ContentRecord) (c : ChangeRecord) → v ≡ now → IsFree (standing_in now c) c → IsFree (standing_in v c) c
 free_in v now c is f = subst (λ (x : ContentRecord). IsFree (standing_in x c) c) (sym is) f
 
@@ -40,7 +40,8 @@ free c = free_in (content_of c.self.inside) c.args.self.now c.args.change.now c.
 
 pub put_at-requires-clause-place : goal.put_at-requires-clause-place
 put_at-requires-clause-place c =
-    let here = subst (λ l. IsPlace l c.args.change.now.key c.args.place) (changes_are c.self.inside.held.held) (subst (λ (v : ContentRecord). IsPlace (changes_in v.held) c.args.change.now.key c.args.place) (sym c.self.view_is) c.requires.place) in
+    let here = subst (λ l. IsPlace l c.args.change.now.key c.args.place) (changes_are c.self.inside.held.held)
+    (subst (λ (v : ContentRecord). IsPlace (changes_in v.held) c.args.change.now.key c.args.place) (sym c.self.view_is) c.requires.place) in
     subst (λ (x : ChangeRecord). IsPlace (held_changes c.self.inside.held.held) x.key c.args.place) (sym c.again.ensures) here
 
 pub put_at-requires-clause-taken : goal.put_at-requires-clause-taken
@@ -52,7 +53,8 @@ pub returns-in_err-put_at-clause-wants : goal.returns-in_err-put_at-clause-wants
 returns-in_err-put_at-clause-wants c =
     let new : held_at (held_items c.self.inside.held.held) c.args.change.now.key ≡ None =
     held_at-is c.self.inside.held.held c.held-held.ensures.sound c.args.change.now.key ∙ subst (λ (x : ChangeRecord). held_for c.self.inside.held.held x.key ≡ None) c.again.ensures c.in_err-put_at.ensures.new in
-    on_err c.from_residual-in_err-put_at.result ((held_at c.args.self.now.held c.args.change.now.key ≡ None) ⊎ (IsBodyInPlace c.args.change.now.body → ⊥)) (inl (subst (λ (v : ContentRecord). held_at v.held c.args.change.now.key ≡ None) c.self.view_is new))
+    on_err c.from_residual-in_err-put_at.result ((held_at c.args.self.now.held c.args.change.now.key ≡ None) ⊎ (IsBodyInPlace c.args.change.now.body → ⊥))
+    (inl (subst (λ (v : ContentRecord). held_at v.held c.args.change.now.key ≡ None) c.self.view_is new))
 
 -- the copy was put, which is the change
 put : (c : In_ok-put_at) → IsPutMarked c.self.inside.held c.args.change.now c.fresh.result c.put_at.new.self
@@ -67,7 +69,7 @@ joined c =
     merged_joins c.self.inside.held.held c.put_at.new.self.held c.args.change.now (Ok Taken) c.held-held.ensures.sound
     (change_taken c.self.inside.held.held c.held-held.ensures.sound c.args.change.now (free c).room (free c).valid) (held c)
 
--- its masks came with it
+-- its masks were inserted with it
 marks : (c : In_ok-put_at) → c.put_at.new.self.marks ≡ insert c.self.inside.held.marks c.args.change.now.key (fresh c.args.owed)
 marks c = (put c).marks ∙ ap (λ (m : Masks). insert c.self.inside.held.marks c.args.change.now.key m) c.fresh.ensures
 
@@ -102,7 +104,8 @@ invariant_of-self-2 c =
     let stood = c.self.invariant.stood in
     record {
       places = places_then old new c.self.inside.journal c.push.new.self c.self.inside.stamp c.self.inside.subscriptions (Changed c.args.change.now) c.args.owed (joined b) bounds here kept (owes b) (pushed d) enters c.self.invariant.places;
-      marked = marked_then old new c.self.inside.journal c.push.new.self c.self.inside.stamp c.self.inside.subscriptions (Changed c.args.change.now) c.args.owed (joined b) bounds here kept (owes b) (pushed d) enters stood.0 stood.1 c.self.invariant.places c.self.invariant.marked;
+      marked = marked_then old new c.self.inside.journal c.push.new.self c.self.inside.stamp c.self.inside.subscriptions (Changed c.args.change.now) c.args.owed (joined b) bounds
+          here kept (owes b) (pushed d) enters stood.0 stood.1 c.self.invariant.places c.self.invariant.marked;
       stood = (
         takes_effect stood.0 (Changed c.args.change.now ∷ []),
         effect old new c.self.inside.journal c.push.new.self c.self.inside.stamp c.self.inside.subscriptions (Changed c.args.change.now) c.args.owed (joined b) bounds here kept (owes b) (pushed d) enters stood.0 stood.1,

@@ -18,14 +18,20 @@ first_unseen-requires c =
 pub returns-clause-unseen : goal.returns-clause-unseen
 returns-clause-unseen c =
     if_ok (λ (x : Shown). AreFirst c.self.inside.held c.args.sub c.args.max x.items x.passed) (λ (x : Shown). AreUnseen c.args.self.now c.args.sub x.items x.passed) c.first_unseen.result
-    (λ x first. subst (λ (v : ContentRecord). AreUnseen v c.args.sub x.items x.passed) c.self.view_is (are_unseen c.self.inside.held c.self.inside.subscriptions c.args.sub c.self.inside.journal c.self.inside.stamp x.items x.passed first.shown)) (subst (λ h. IfOk c.first_unseen.result (λ (x : Shown). AreFirst h c.args.sub c.args.max x.items x.passed)) c.marked.ensures c.first_unseen.ensures.first)
+    (λ x first. subst (λ (v : ContentRecord). AreUnseen v c.args.sub x.items x.passed) c.self.view_is
+    (are_unseen c.self.inside.held c.self.inside.subscriptions c.args.sub c.self.inside.journal c.self.inside.stamp x.items x.passed first.shown)) (subst
+    (λ h. IfOk c.first_unseen.result (λ (x : Shown). AreFirst h c.args.sub c.args.max x.items x.passed)) c.marked.ensures c.first_unseen.ensures.first)
 
 pub returns-clause-first : goal.returns-clause-first
 returns-clause-first c = λ s seer stands here.
     if_ok (λ (x : Shown). AreFirst c.self.inside.held c.args.sub c.args.max x.items x.passed) (λ (x : Shown). x.items ≡ take c.args.max (unseen s seer)) c.first_unseen.result
     (λ x first. first_are c.self.inside.held c.args.sub c.args.max x.items x.passed first
-    ∙ ap (take c.args.max) (to_show c.self.inside.held c.self.inside.subscriptions c.args.sub c.held-held.ensures.sound c.self.inside.journal c.self.inside.stamp s (subst (λ (v : ContentRecord). ContentStands v s) (sym c.self.view_is) stands) seer here)) (subst (λ h. IfOk c.first_unseen.result (λ (x : Shown). AreFirst h c.args.sub c.args.max x.items x.passed)) c.marked.ensures c.first_unseen.ensures.first)
+    ∙ ap (take c.args.max) (to_show c.self.inside.held c.self.inside.subscriptions c.args.sub c.held-held.ensures.sound c.self.inside.journal c.self.inside.stamp s
+    (subst (λ (v : ContentRecord). ContentStands v s) (sym c.self.view_is) stands) seer here)) (subst (λ h. IfOk c.first_unseen.result
+    (λ (x : Shown). AreFirst h c.args.sub c.args.max x.items x.passed)) c.marked.ensures c.first_unseen.ensures.first)
 
 pub returns-clause-refused : goal.returns-clause-refused
 returns-clause-refused c = λ s seer stands here.
-    if_err c.first_unseen.result (some_to_show c.self.inside.held c.self.inside.subscriptions c.args.sub c.held-held.ensures.sound c.self.inside.journal c.self.inside.stamp s (subst (λ (v : ContentRecord). ContentStands v s) (sym c.self.view_is) stands) seer here) (subst (λ h. OnErr c.first_unseen.result (list_any (is_to_show h c.args.sub) (held_items h.held) ≡ true)) c.marked.ensures c.first_unseen.ensures.refused)
+    if_err c.first_unseen.result (some_to_show c.self.inside.held c.self.inside.subscriptions c.args.sub c.held-held.ensures.sound c.self.inside.journal c.self.inside.stamp s
+    (subst (λ (v : ContentRecord). ContentStands v s) (sym c.self.view_is) stands) seer here) (subst
+    (λ h. OnErr c.first_unseen.result (list_any (is_to_show h c.args.sub) (held_items h.held) ≡ true)) c.marked.ensures c.first_unseen.ensures.refused)

@@ -12,11 +12,13 @@ invariant_of-result c =
       marked = none_marked c.bounded.result c.new-2.result c.args.limits c.bounded.ensures none;
       stood = (
         opening c.args.incarnation c.args.first c.args.ring c.args.limits,
-        stands_opening c.bounded.result c.new-2.result c.args.limits c.bounded.ensures none c.in_ok-journal.journal c.args.incarnation c.args.first c.args.ring c.args.first c.in_ok-journal.ensures.opened (λ i. c.args.first) c.subs-subs.ensures.limits c.in_ok-journal.ensures.fits.1,
+        stands_opening c.bounded.result c.new-2.result c.args.limits c.bounded.ensures none c.in_ok-journal.journal c.args.incarnation c.args.first c.args.ring c.args.first
+            c.in_ok-journal.ensures.opened (λ i. c.args.first) c.subs-subs.ensures.limits c.in_ok-journal.ensures.fits.1,
       );
     }
 
 pub returns-clause-opened : goal.returns-clause-opened
 returns-clause-opened c =
     let none : c.new-2.result ≡ replicate c.args.limits.subs None = c.new-2.ensures ∙ ap (λ n. replicate {A = Option Watching} n None) c.subs-subs.ensures.count in
-    stands_opening c.bounded.result c.new-2.result c.args.limits c.bounded.ensures none c.in_ok-journal.journal c.args.incarnation c.args.first c.args.ring c.args.first c.in_ok-journal.ensures.opened (λ i. c.args.first) c.subs-subs.ensures.limits c.in_ok-journal.ensures.fits.1
+    stands_opening c.bounded.result c.new-2.result c.args.limits c.bounded.ensures none c.in_ok-journal.journal c.args.incarnation c.args.first c.args.ring c.args.first
+    c.in_ok-journal.ensures.opened (λ i. c.args.first) c.subs-subs.ensures.limits c.in_ok-journal.ensures.fits.1

@@ -34,7 +34,7 @@ use Rattle.ds_content.proofs.content.Content.raise_at.Goals.{In_ok-count, After-
 use Rattle.ds_content.specs.Standing.{floor_standing_in}
 use Rattle.ds_machine.specs.Standing.{IsFloorFree}
 
--- what stands before the floor, read off the fields
+-- what the floor meets, read from the fields
 free_in : (v : ContentRecord) (now : ContentRecord) (f : Floor) → v ≡ now → IsFloorFree (floor_standing_in now f) f → IsFloorFree (floor_standing_in v f) f
 free_in v now f is free = subst (λ (x : ContentRecord). IsFloorFree (floor_standing_in x f) f) (sym is) free
 
@@ -59,7 +59,8 @@ returns-in_err-count-clause-new_owner c =
 pub returns-clause-count : goal.returns-clause-count
 returns-clause-count c =
     let b = (goal.at.returns-clause-count c).In_ok-count in
-    b.in_ok-count.ensures.count ∙ ap (λ (l : List ChangeRecord). length (puts_void_by c.args.floor l)) (sym (changes_are c.self.inside.held.held)) ∙ ap (λ (v : ContentRecord). length (puts_void_by c.args.floor (changes_in v.held))) c.self.view_is
+    b.in_ok-count.ensures.count ∙ ap (λ (l : List ChangeRecord). length (puts_void_by c.args.floor l)) (sym (changes_are c.self.inside.held.held)) ∙
+    ap (λ (v : ContentRecord). length (puts_void_by c.args.floor (changes_in v.held))) c.self.view_is
 
 held : (c : In_ok-count) → c.raise_at.new.self.held ≡ after_raise c.self.inside.held.held c.args.floor (Ok Taken)
 held c = c.in_ok-count.ensures.raised.held
@@ -74,7 +75,7 @@ joined c =
 marks : (c : In_ok-count) → c.raise_at.new.self.marks ≡ at_kept_keys c.args.floor c.self.inside.held.held.changes c.self.inside.held.marks
 marks c = c.in_ok-count.ensures.raised.marks
 
--- its own masks came with it
+-- its own masks were inserted with it
 floors : (c : In_ok-count) → c.raise_at.new.self.floor_marks ≡ insert c.self.inside.held.floor_marks c.args.floor.owner (fresh c.args.owed)
 floors c = c.in_ok-count.ensures.raised.floor_marks ∙ ap (λ (m : Masks). insert c.self.inside.held.floor_marks c.args.floor.owner m) c.fresh.ensures
 
@@ -109,7 +110,8 @@ invariant_of-self-2 c =
     let stood = c.self.invariant.stood in
     record {
       places = places_then old new c.self.inside.journal c.push.new.self c.self.inside.stamp c.self.inside.subscriptions (Floored c.args.floor) c.args.owed (joined b) bounds here kept (owes b) (pushed d) enters c.self.invariant.places;
-      marked = marked_then old new c.self.inside.journal c.push.new.self c.self.inside.stamp c.self.inside.subscriptions (Floored c.args.floor) c.args.owed (joined b) bounds here kept (owes b) (pushed d) enters stood.0 stood.1 c.self.invariant.places c.self.invariant.marked;
+      marked = marked_then old new c.self.inside.journal c.push.new.self c.self.inside.stamp c.self.inside.subscriptions (Floored c.args.floor) c.args.owed (joined b) bounds here
+          kept (owes b) (pushed d) enters stood.0 stood.1 c.self.invariant.places c.self.invariant.marked;
       stood = (
         takes_effect stood.0 (Floored c.args.floor ∷ []),
         effect old new c.self.inside.journal c.push.new.self c.self.inside.stamp c.self.inside.subscriptions (Floored c.args.floor) c.args.owed (joined b) bounds here kept (owes b) (pushed d) enters stood.0 stood.1,

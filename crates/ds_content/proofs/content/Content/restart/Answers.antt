@@ -27,14 +27,28 @@ none c =
     c.new.ensures ∙ ap (λ n. replicate {A = Option Watching} n None) (c.subs.ensures.count ∙ ap (λ (l : LimitsRecord). l.subs) (bounds c))
 
 stands_after : (c : After-new) (s : State) → ContentStands (content_of c.self.inside) s
-    → ContentStands (record { held = held_items c.bounded.result.held; journal = c.restart.new.self; limits = c.bounded.result.held.limits; stamp = c.first-self-inside.result; subscriptions = followed_from (held_items c.bounded.result.held) (unseen_at c.bounded.result) 0 c.new.result }) (opening c.args.incarnation s.feed.first s.feed.ring s.limits)
+    → ContentStands (record {
+      held = held_items c.bounded.result.held;
+      journal = c.restart.new.self;
+      limits = c.bounded.result.held.limits;
+      stamp = c.first-self-inside.result;
+      subscriptions = followed_from (held_items c.bounded.result.held) (unseen_at c.bounded.result) 0 c.new.result;
+    }) (opening c.args.incarnation s.feed.first s.feed.ring s.limits)
 stands_after c s stands =
     let l = c.self.inside.held.held.limits in
     let keeps : Keeps c.restart.new.self (restarted s.feed c.args.incarnation) = c.restart.ensures s.feed stands.journal in
     let is_limits : IsLimits l = subst IsLimits (sym stands.limits) stands.reached.limits in
     let within : s.feed.first + length s.feed.accepted ≤ last_place = stands.within.position in
     let low : s.feed.first ≤ last_place = omega (arith, within) in
-    subst (λ (x : LimitsRecord). ContentStands (record { held = held_items c.bounded.result.held; journal = c.restart.new.self; limits = c.bounded.result.held.limits; stamp = c.first-self-inside.result; subscriptions = followed_from (held_items c.bounded.result.held) (unseen_at c.bounded.result) 0 c.new.result }) (opening c.args.incarnation s.feed.first s.feed.ring x)) stands.limits
+    subst (λ (x : LimitsRecord). ContentStands
+    (record {
+      held = held_items c.bounded.result.held;
+      journal = c.restart.new.self;
+      limits = c.bounded.result.held.limits;
+      stamp = c.first-self-inside.result;
+      subscriptions =
+          followed_from (held_items c.bounded.result.held) (unseen_at c.bounded.result) 0 c.new.result;
+    }) (opening c.args.incarnation s.feed.first s.feed.ring x)) stands.limits
     (stands_opening c.bounded.result c.new.result l (nothing c) (none c) c.restart.new.self c.args.incarnation s.feed.first s.feed.ring c.first-self-inside.result keeps (c.first-self-inside.ensures ∙ keeps.first) is_limits low)
 
 pub invariant_of-self : goal.invariant_of-self

@@ -46,7 +46,8 @@ stands_after : (c : After-set_stamp) (s : State) (seer : Subscription) → Conte
     → ContentStands (value_of c.show_first.new.held c.self.inside.journal (c.self.inside.stamp + 1) c.set_stamp.new.self) (subscribes s c.args.sub seer.query (seer.shown ++ c.args.shown.now.items))
 stands_after c s seer stands here =
     subst (λ (ws : List (Option Watching)). ContentStands (value_of c.show_first.new.held c.self.inside.journal (c.self.inside.stamp + 1) ws) (subscribes s c.args.sub seer.query (seer.shown ++ c.args.shown.now.items))) (sym (places c))
-    (shown_stands c.self.inside.held c.show_first.new.held c.self.inside.journal c.self.inside.stamp c.self.inside.subscriptions c.args.sub c.self.invariant.places (within_places c.self.inside.subscriptions c.args.sub (seat c).0 (seat c).1) (room c) c.held-held.ensures.sound
+    (shown_stands c.self.inside.held c.show_first.new.held c.self.inside.journal c.self.inside.stamp c.self.inside.subscriptions c.args.sub c.self.invariant.places
+    (within_places c.self.inside.subscriptions c.args.sub (seat c).0 (seat c).1) (room c) c.held-held.ensures.sound
     c.args.shown.now.passed c.show_first.ensures s seer (seat c).0 c.args.shown.now.items stands here (seat c).1 (items c))
 
 pub invariant_of-self : goal.invariant_of-self

@@ -41,10 +41,14 @@ room c = subst (λ (v : ContentRecord). v.stamp < last_place) (sym c.self.view_i
 places : (c : After-put) → c.put.new.self ≡ set c.self.inside.subscriptions c.args.sub (Some (watching c.args.filter (c.self.inside.stamp + 1)))
 places c = c.put.ensures ∙ ap (λ (w : Watching). set c.self.inside.subscriptions c.args.sub (Some w)) c.new.ensures
 
-stands_after : (c : After-put) (s : State) → ContentStands (content_of c.self.inside) s → ContentStands (value_of c.make_all.new.held c.self.inside.journal (c.self.inside.stamp + 1) c.put.new.self) (subscribes s c.args.sub c.args.filter (shown_at_first (held_items c.self.inside.held.held) c.args.initial))
+stands_after : (c : After-put) (s : State) → ContentStands (content_of c.self.inside) s →
+    ContentStands (value_of c.make_all.new.held c.self.inside.journal (c.self.inside.stamp + 1) c.put.new.self)
+    (subscribes s c.args.sub c.args.filter (shown_at_first (held_items c.self.inside.held.held) c.args.initial))
 stands_after c s stands =
-    subst (λ (ws : List (Option Watching)). ContentStands (value_of c.make_all.new.held c.self.inside.journal (c.self.inside.stamp + 1) ws) (subscribes s c.args.sub c.args.filter (shown_at_first (held_items c.self.inside.held.held) c.args.initial))) (sym (places c))
-    (made_stands c.self.inside.held c.make_all.new.held c.self.inside.journal c.self.inside.stamp c.self.inside.subscriptions c.args.sub c.self.invariant.places (within c).0 (room c) c.args.filter c.args.initial c.deref-2.result.now (flags c) (within c).1 c.make_all.ensures c.self.invariant.marked s stands)
+    subst (λ (ws : List (Option Watching)). ContentStands (value_of c.make_all.new.held c.self.inside.journal (c.self.inside.stamp + 1) ws)
+    (subscribes s c.args.sub c.args.filter (shown_at_first (held_items c.self.inside.held.held) c.args.initial))) (sym (places c))
+    (made_stands c.self.inside.held c.make_all.new.held c.self.inside.journal c.self.inside.stamp c.self.inside.subscriptions c.args.sub c.self.invariant.places (within c).0
+    (room c) c.args.filter c.args.initial c.deref-2.result.now (flags c) (within c).1 c.make_all.ensures c.self.invariant.marked s stands)
 
 pub invariant_of-self : goal.invariant_of-self
 invariant_of-self c =
@@ -61,7 +65,8 @@ invariant_of-self c =
 pub returns-clause-ok : goal.returns-clause-ok
 returns-clause-ok c = λ s stands.
     let d = (goal.at.returns-clause-ok c).After-put in
-    subst (λ (hs : List Item). ContentStands (value_of c.make_all.new.held c.self.inside.journal (c.self.inside.stamp + 1) c.put.new.self) (subscribes s c.args.sub c.args.filter (shown_at_first hs c.args.initial))) (ap (λ (v : ContentRecord). v.held) c.self.view_is)
+    subst (λ (hs : List Item). ContentStands (value_of c.make_all.new.held c.self.inside.journal (c.self.inside.stamp + 1) c.put.new.self)
+    (subscribes s c.args.sub c.args.filter (shown_at_first hs c.args.initial))) (ap (λ (v : ContentRecord). v.held) c.self.view_is)
     (stands_after d s (subst (λ (v : ContentRecord). ContentStands v s) (sym c.self.view_is) stands))
 
 pub returns-clause-some : goal.returns-clause-some

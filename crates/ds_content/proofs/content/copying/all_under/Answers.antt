@@ -15,7 +15,8 @@ overflow_add-index g c =
     let i = some_is (slice_get hs c.loop-items.index) (sym c.if-branch.true ∙ c.in_ok-add_at.ensures.there) in
     let within : c.loop-items.index < length hs = slice_get_within hs c.loop-items.index i.0 i.1 in
     let few : length hs ≤ 4160 =
-    few_items c.args.held.now c.limits.result c.len-count.result c.floor_count-floors.result c.limits.ensures c.keys-keys.ensures.limits c.len-count.ensures.count c.len-count.ensures.few c.floor_count-floors.ensures.count c.floor_count-floors.ensures.few in
+    few_items c.args.held.now c.limits.result c.len-count.result c.floor_count-floors.result c.limits.ensures c.keys-keys.ensures.limits c.len-count.ensures.count
+    c.len-count.ensures.few c.floor_count-floors.ensures.count c.floor_count-floors.ensures.few in
     omega (arith, within, few)
 
 pub loop-items-smaller : goal.loop-items-smaller

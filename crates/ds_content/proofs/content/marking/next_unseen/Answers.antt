@@ -9,7 +9,8 @@ returns-in-Some c = next_floor c.args.held.now c.args.sub c.floor_marks-floors.r
 pub returns-in_err-index : goal.returns-in_err-index
 returns-in_err-index c =
     rw c.from_residual.ensures
-    (no_change c.args.held.now c.args.sub c.floor_marks-floors.result.now c.floor_marks-floors.ensures c.marks.result.now c.marks.ensures c.args.from c.saturating_sub.result c.in_default.ensures c.saturating_sub.ensures c.in_err-index.ensures)
+    (no_change c.args.held.now c.args.sub c.floor_marks-floors.result.now c.floor_marks-floors.ensures c.marks.result.now c.marks.ensures c.args.from c.saturating_sub.result
+    c.in_default.ensures c.saturating_sub.ensures c.in_err-index.ensures)
 
 pub overflow_add-result : goal.overflow_add-result
 overflow_add-result c =

@@ -37,7 +37,8 @@ returns-in-None-clause-added g c =
     let there : slice_get all c.loop-change.change-index ≡ Some change = slice_get-get_or all c.loop-change.change-index change c.loop-change-test.true ∙ ap (λ (x : ChangeRecord). Some x) (sym c.change-item.is) in
     let told = c.in_ok-more.ensures.more ∙ ap (λ (k : Key → Bool). more_after (k change.key) c.loop-change.left) c.loop-change.invariant.same in
     let added = c.in_ok-more.ensures.added ∙ ap (λ (k : Key → Bool). c.loop-change.items ++ map change_item (given_change (k change.key) c.loop-change.left change)) c.loop-change.invariant.same in
-    paged_stops keep all c.args.max c.args.items.now c.loop-change.change-index c.loop-change.left c.loop-change.items c.loop-change.invariant.paged change there (keep change.key) (λ i. keep change.key) (sym c.in-None.is ∙ told) c.add_change.new.items added
+    paged_stops keep all c.args.max c.args.items.now c.loop-change.change-index c.loop-change.left c.loop-change.items c.loop-change.invariant.paged change there (keep change.key)
+    (λ i. keep change.key) (sym c.in-None.is ∙ told) c.add_change.new.items added
 
 pub returns-in-None-clause-last : goal.returns-in-None-clause-last
 returns-in-None-clause-last g c =
@@ -54,4 +55,5 @@ returns-clause-added g c =
 
 pub returns-clause-last : goal.returns-clause-last
 returns-clause-last g c =
-    sym (paged_all (g.S.KeyScope.keeps c.args.scope.now) c.args.changes.now c.args.max c.args.items.now c.loop-change.change-index c.loop-change.left c.loop-change.items c.loop-change.invariant.paged (omega (arith, c.loop-change-test.false))).1
+    sym (paged_all (g.S.KeyScope.keeps c.args.scope.now) c.args.changes.now c.args.max c.args.items.now c.loop-change.change-index c.loop-change.left c.loop-change.items
+    c.loop-change.invariant.paged (omega (arith, c.loop-change-test.false))).1

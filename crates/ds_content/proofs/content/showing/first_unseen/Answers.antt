@@ -12,7 +12,7 @@ use Rattle.ds_content.proofs.OpenLemmas.{on_err}
 use Rattle.ds_content.proofs.content.showing.first_unseen.Goals as goal
 use Rattle.ds_content.proofs.content.showing.first_unseen.Goals.{After-len-changes}
 
--- what wants memory is to be shown
+-- an item that ran out of memory is one to show
 pub returns-in_err-add_copy-clause-refused : goal.returns-in_err-add_copy-clause-refused
 returns-in_err-add_copy-clause-refused c =
     let h = c.args.held.now in
@@ -23,10 +23,13 @@ returns-in_err-add_copy-clause-refused c =
 few : (c : After-len-changes) → length (held_items c.args.held.now.held) ≤ 4160
 few c =
     few_items c.args.held.now.held c.limits.result c.len-changes.result c.floor_count-floors.result (c.limits.ensures ∙ ap (λ (h : Holding). h.limits) c.held-content.ensures.value) c.keys-keys.ensures.limits
-    (c.len-changes.ensures.count ∙ ap held_count c.held-content.ensures.value) (omega (arith, c.len-changes.ensures.few, ap (λ (h : Holding). h.limits.keys) c.held-content.ensures.value)) (c.floor_count-floors.ensures.count ∙ ap (λ (h : Holding). floor_count h) c.held-content.ensures.value) c.floor_count-floors.ensures.few
+    (c.len-changes.ensures.count ∙ ap held_count c.held-content.ensures.value)
+    (omega (arith, c.len-changes.ensures.few, ap (λ (h : Holding). h.limits.keys) c.held-content.ensures.value))
+    (c.floor_count-floors.ensures.count ∙ ap (λ (h : Holding). floor_count h) c.held-content.ensures.value) c.floor_count-floors.ensures.few
 
 all : (c : After-len-changes) → length (held_items c.args.held.now.held) ≡ c.floor_count-floors.result + c.len-changes.result
-all c = items_counted c.args.held.now.held c.len-changes.result c.floor_count-floors.result (c.len-changes.ensures.count ∙ ap held_count c.held-content.ensures.value) (c.floor_count-floors.ensures.count ∙ ap (λ (h : Holding). floor_count h) c.held-content.ensures.value)
+all c = items_counted c.args.held.now.held c.len-changes.result c.floor_count-floors.result (c.len-changes.ensures.count ∙ ap held_count c.held-content.ensures.value)
+    (c.floor_count-floors.ensures.count ∙ ap (λ (h : Holding). floor_count h) c.held-content.ensures.value)
 
 pub overflow_add-count : goal.overflow_add-count
 overflow_add-count c = let d = (goal.at.overflow_add-count c).After-len-changes in omega (arith, few d, all d)
@@ -39,7 +42,9 @@ returns-in_default-clause-first c =
     let within = c.loop-content.invariant.within in
     let n = all (goal.at.returns-in_default-clause-first c).After-len-changes in
     record {
-      shown = c.loop-content.invariant.shown ∙ sym (filter_past (is_to_show h c.args.sub) c.loop-content.passed (c.floor_count-floors.result + c.len-changes.result) hs (omega (arith, within, n)) (λ k i e l below. c.in_default.ensures.none_before k i e l tt));
+      shown = c.loop-content.invariant.shown ∙ sym
+          (filter_past (is_to_show h c.args.sub) c.loop-content.passed (c.floor_count-floors.result + c.len-changes.result) hs (omega (arith, within, n))
+          (λ k i e l below. c.in_default.ensures.none_before k i e l tt));
       few = c.loop-content.invariant.few;
       enough = inr (omega (arith, n));
     }

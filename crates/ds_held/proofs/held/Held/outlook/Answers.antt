@@ -9,13 +9,15 @@ use Rattle.ds_held.proofs.held.Held.outlook.Goals as goal
 
 pub index-requires : goal.index-requires
 index-requires c =
-    let here : IsPlace c.self.inside.changes.items c.args.change.now.key (Ok c.in-Ok.i) = change_place c.self.inside.floors.items c.self.inside.changes.items c.self.inside.limits c.self.invariant c.args.self.now c.self.view_is c.args.change.now (Ok c.in-Ok.i)
+    let here : IsPlace c.self.inside.changes.items c.args.change.now.key (Ok c.in-Ok.i) = change_place c.self.inside.floors.items c.self.inside.changes.items c.self.inside.limits
+    c.self.invariant c.args.self.now c.self.view_is c.args.change.now (Ok c.in-Ok.i)
     (subst (IsPlace (held_changes c.args.self.now) c.args.change.now.key) c.in-Ok.is c.requires) in
     omega (arith, here.0, c.self.inside.changes.ok.0)
 
 pub judge-requires : goal.judge-requires
 judge-requires c =
-    let here : IsPlace c.self.inside.changes.items c.args.change.now.key (Ok c.in-Ok.i) = change_place c.self.inside.floors.items c.self.inside.changes.items c.self.inside.limits c.self.invariant c.args.self.now c.self.view_is c.args.change.now (Ok c.in-Ok.i)
+    let here : IsPlace c.self.inside.changes.items c.args.change.now.key (Ok c.in-Ok.i) = change_place c.self.inside.floors.items c.self.inside.changes.items c.self.inside.limits
+    c.self.invariant c.args.self.now c.self.view_is c.args.change.now (Ok c.in-Ok.i)
     (subst (IsPlace (held_changes c.args.self.now) c.args.change.now.key) c.in-Ok.is c.requires) in
     ap (λ (x : ChangeRecord). x.key) c.index.ensures ∙ exact_keys _ _ (here.1 c.index.result.now)
 

@@ -62,7 +62,7 @@ returns-in-Merge-clause-step c = λ s stands.
     let r = c.fast_merge.ensures.step s stands in
     (r.0, subst (λ (x : Command). Step s x c.fast_merge.result r.0) (ap (λ l. Merge l) c.as_slice.ensures ∙ sym c.in-Merge.is) r.1, r.2)
 
--- where want of memory is told
+-- where lack of memory is reported
 pub returns-in-Publish-clause-last : goal.returns-in-Publish-clause-last
 returns-in-Publish-clause-last c = λ s stands. subst (λ (x : Command). IsLast s x c.publish.result) (sym c.in-Publish.is) (c.publish.ensures.last s stands)
 

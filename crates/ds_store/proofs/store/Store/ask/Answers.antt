@@ -36,13 +36,16 @@ returns-in-Ok-accept_at-clause-step c = λ s stands.
     let here : ContentStands v s = subst (λ (x : ContentRecord). ContentStands x s) (sym c.self.view_is) stands in
     let change = c.change_asked-change.result in
     let none = sym (c.cause_against.ensures.first s stands) ∙ c.in_default.is in
-    let bits : c.number.result ≡ owed s (Changed change ∷ []) = owed_number s (Changed change) c.in-Ok.owed c.number.result c.number.ensures (c.in-Ok.ensures.owed s change (subst (λ (x : ContentRecord). ContentStands x s) (sym c.deref-3.ensures) here) (ap (λ x. x.key) c.change_asked-change.ensures)) in (
+    let bits : c.number.result ≡ owed s (Changed change ∷ []) = owed_number s (Changed change) c.in-Ok.owed c.number.result c.number.ensures
+    (c.in-Ok.ensures.owed s change (subst (λ (x : ContentRecord). ContentStands x s) (sym c.deref-3.ensures) here) (ap (λ x. x.key) c.change_asked-change.ensures)) in (
       takes_effect s (Changed change ∷ []),
-      asked_taken v s a c.args.body change c.number.result here none (c.change_asked-change.ensures ∙ ap (λ m. change_asked m a c.args.body) (c.name_of-caller.ensures ∙ ap (λ (x : ContentRecord). name_of x.held a.caller) c.deref-2.ensures)) bits,
+      asked_taken v s a c.args.body change c.number.result here none
+          (c.change_asked-change.ensures ∙ ap (λ m. change_asked m a c.args.body)
+          (c.name_of-caller.ensures ∙ ap (λ (x : ContentRecord). name_of x.held a.caller) c.deref-2.ensures)) bits,
       c.in-Ok-accept_at.ensures.ok s (subst (λ (x : ContentRecord). ContentStands x s) (sym c.deref_mut.ensures.value) here),
     )
 
--- no room to ask the patterns
+-- out of memory for matching the patterns
 pub returns-in_default-owed_at-clause-last : goal.returns-in_default-owed_at-clause-last
 returns-in_default-owed_at-clause-last c = λ e s stands.
     let v = c.self.inside.content.value in
@@ -51,7 +54,7 @@ returns-in_default-owed_at-clause-last c = λ e s stands.
     asked_lacks v s a c.args.body here (sym (c.cause_against.ensures.first s stands) ∙ c.in_default.is)
     (inl (sym (ap (λ (x : ContentRecord). held_at x.held a.key) c.deref-3.ensures) ∙ c.in_default-owed_at.ensures.held))
 
--- no room for the change
+-- out of memory for the change
 pub returns-clause-step : goal.returns-clause-step
 returns-clause-step c = λ s stands.
     let here : ContentStands c.self.inside.content.value s = subst (λ (x : ContentRecord). ContentStands x s) (sym c.self.view_is) stands in

@@ -8,7 +8,7 @@ use Rattle.ds_content.specs.Stands.{ContentStands}
 use Rattle.ds_store.proofs.MergeLemmas.{Reached}
 use Rattle.ds_store.proofs.store.Store.fast_merge.Given as goal
 
--- the items so far are merged, and those to which they are owed are told
+-- the items so far are merged, and `total` has the subscriptions that are owed them
 abbrev pub invariant-loop-item : goal.invariant-loop-item
 invariant-loop-item l = record {
   counted : l.item-index ≡ l.count.done;

@@ -6,7 +6,7 @@ use Rattle.ds_content.specs.Content.{ContentRecord}
 use Rattle.ds_content.specs.Stands.{ContentStands}
 use Rattle.ds_store.proofs.store.Store.give_since.Goals as goal
 
--- what is given under the scope that is asked is given under the one that was read
+-- what is returned under the scope's matcher is returned under the scope that was read
 pub returns-in-Ok-since-clause-given : goal.returns-in-Ok-since-clause-given
 returns-in-Ok-since-clause-given c = λ s stands.
     let here : ContentStands c.deref.result.now s = subst (λ (x : ContentRecord). ContentStands x s) (sym (c.deref.ensures ∙ c.self.view_is)) stands in

@@ -39,7 +39,7 @@ returns-in-Some-clause-last c = λ e s stands.
     let room = passed_no_room c.in-Some.cause (sym c.passed_as.ensures.value ∙ e) in
     absurd (no_cause (Some change.version) (against_change (standing_of s change) change) (sym (c.cause_of_change.ensures.first s stands) ∙ c.in-Some.is ∙ ap (λ (x : Cause). Some x) room))
 
--- no room to ask the patterns
+-- out of memory for matching the patterns
 pub returns-in_default-owed_at-clause-last : goal.returns-in_default-owed_at-clause-last
 returns-in_default-owed_at-clause-last c = λ e s stands.
     let v = c.self.inside.content.value in

@@ -14,7 +14,7 @@ returns-clause-step c = λ s stands.
     let r = c.ask.ensures.step s stands in
     (r.0, inl (subst (λ (a : AskedChange). Answers s (asking s a (Put c.args.value)) c.ask.result r.0) c.published.ensures r.1), r.2)
 
--- where want of memory is told
+-- where lack of memory is reported
 pub returns-clause-last : goal.returns-clause-last
 returns-clause-last c = λ s stands.
     let command : Command = Publish c.args.caller c.args.key c.args.version c.args.value c.args.overwrite in

@@ -56,11 +56,20 @@ returns-clause-step c = λ s stands.
     let same = subscribe_same s sub query c.args.overwrite c.subs.result c.is_some.result c.stamp-stamp.result places taken (c.stamp-stamp.ensures.value ∙ ap (λ (x : ContentRecord). x.stamp) c.deref.ensures ∙ here.stamp) in
     elim c.match-subscribe.branch [
       | in-Ok-subscribe w ↦
-          (let owes = w.own_bit.ensures ∙ ap (λ b. cond (initial && b) (2 ^ sub) 0) (w.in-Ok-subscribe.ensures.some ∙ ap (λ (x : ContentRecord). list_any (passes (is_under c.in-Ok.filter)) x.held) c.deref_mut.ensures.value ∙ ap (λ (q : Query). list_any (passes (is_under q)) v.held) c.in-Ok.ensures.value) in (
+          (let owes = w.own_bit.ensures ∙ ap (λ b. cond (initial && b) (2 ^ sub) 0)
+          (w.in-Ok-subscribe.ensures.some ∙ ap (λ (x : ContentRecord). list_any (passes (is_under c.in-Ok.filter)) x.held) c.deref_mut.ensures.value ∙
+          ap (λ (q : Query). list_any (passes (is_under q)) v.held) c.in-Ok.ensures.value) in (
             subscribes s sub query (shown_at_first v.held initial),
             subst (λ (r : Reply). Answers s (subscribing s sub query initial c.args.overwrite) r (subscribes s sub query (shown_at_first v.held initial))) (sym w.result-is)
                 (subscribe_made s sub query initial c.args.overwrite v case _ w.own_bit.result here same c.in-Ok.ensures.none (ap (λ n. n + 1) (c.stamp-stamp.ensures.value ∙ ap (λ (x : ContentRecord). x.stamp) c.deref.ensures)) owes),
-            subst (λ (q : Query). ContentStands c.subscribe.new.self (subscribes s sub q (shown_at_first v.held initial))) c.in-Ok.ensures.value (subst (λ (x : ContentRecord). ContentStands c.subscribe.new.self (subscribes s sub c.in-Ok.filter (shown_at_first x.held initial))) c.deref_mut.ensures.value (w.in-Ok-subscribe.ensures.ok s (subst (λ (x : ContentRecord). ContentStands x s) (sym c.deref_mut.ensures.value) here))),
+            subst (λ (q : Query). ContentStands c.subscribe.new.self (subscribes s sub q (shown_at_first v.held initial))) c.in-Ok.ensures.value
+                (subst (λ (x : ContentRecord). ContentStands c.subscribe.new.self (subscribes s sub c.in-Ok.filter (shown_at_first x.held initial))) c.deref_mut.ensures.value
+                (w.in-Ok-subscribe.ensures.ok s (subst (λ (x : ContentRecord). ContentStands x s) (sym c.deref_mut.ensures.value) here))),
           ))
-      | in-Err-subscribe w ↦ (s, inr (record { reply_is = w.result-is; state_is = refl }), subst (λ (x : ContentRecord). ContentStands x s) (sym w.in-Err-subscribe.ensures.err) (subst (λ (x : ContentRecord). ContentStands x s) (sym c.deref_mut.ensures.value) here))
+      | in-Err-subscribe w ↦ (
+        s,
+        inr (record { reply_is = w.result-is; state_is = refl }),
+        subst (λ (x : ContentRecord). ContentStands x s) (sym w.in-Err-subscribe.ensures.err)
+            (subst (λ (x : ContentRecord). ContentStands x s) (sym c.deref_mut.ensures.value) here),
+      )
     ]

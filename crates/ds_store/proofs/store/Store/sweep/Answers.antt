@@ -32,12 +32,18 @@ returns-clause-step c = λ s stands.
     let none = sym (c.cause_of_sweep.ensures.first s stands) ∙ c.in_default.is in
     elim c.match-raise_at.branch [
       | in-Ok w ↦
-          (let bits : w.number.result ≡ owed s (Floored f ∷ []) = owed_number s (Floored f) c.owed_by_floor-owed.result w.number.result w.number.ensures (c.owed_by_floor-owed.ensures.owed s f (subst (λ (x : ContentRecord). ContentStands x s) (sym c.deref-2.ensures) here)) in (
+          (let bits : w.number.result ≡ owed s (Floored f ∷ []) = owed_number s (Floored f) c.owed_by_floor-owed.result w.number.result w.number.ensures
+          (c.owed_by_floor-owed.ensures.owed s f (subst (λ (x : ContentRecord). ContentStands x s) (sym c.deref-2.ensures) here)) in (
             takes_effect s (Floored f ∷ []),
             subst (λ (r : Reply). Answers s (sweeping s c.args.caller f) r (takes_effect s (Floored f ∷ []))) (sym w.result-is)
                 (inl (sweep_taken v s c.args.caller f w.in-Ok.count w.number.result here none
                 (w.in-Ok.ensures.count ∙ ap (λ (x : ContentRecord). length (puts_void_by f (changes_in x.held))) c.deref_mut.ensures.value) bits)),
             w.in-Ok.ensures.ok s (subst (λ (x : ContentRecord). ContentStands x s) (sym c.deref_mut.ensures.value) here),
           ))
-      | in-Err w ↦ (s, inr (record { reply_is = w.result-is; state_is = refl }), subst (λ (x : ContentRecord). ContentStands x s) (sym w.in-Err.ensures.err) (subst (λ (x : ContentRecord). ContentStands x s) (sym c.deref_mut.ensures.value) here))
+      | in-Err w ↦ (
+        s,
+        inr (record { reply_is = w.result-is; state_is = refl }),
+        subst (λ (x : ContentRecord). ContentStands x s) (sym w.in-Err.ensures.err)
+            (subst (λ (x : ContentRecord). ContentStands x s) (sym c.deref_mut.ensures.value) here),
+      )
     ]

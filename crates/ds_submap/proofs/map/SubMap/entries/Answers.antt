@@ -18,7 +18,7 @@ use Rattle.ds_entry.specs.Left.{value_in, leaves_value}
 use Rattle.ds_entry.specs.Under.{entries_of}
 use Rattle.ds_held.proofs.HeldLemmas.{count_is}
 
--- a change stands at each index below the number of keys
+-- There is a change at each index below the number of keys.
 pub unreachable-requires : goal.unreachable-requires
 unreachable-requires c =
     let held = held_changes c.self.inside.held in

@@ -10,7 +10,7 @@ left c = take_leaves c.self.inside.filter c.self.inside.held c.args.items.now c.
 pub invariant_of-self : goal.invariant_of-self
 invariant_of-self c = (left c).map
 
--- the same of the map as callers see it
+-- The same, for the map as callers see it.
 told : (c : After-take_items) → Took c.args.self.now.query c.args.self.now.held c.args.items.now c.take_items.new.held c.take_items.result
 told c = subst (λ (m : SubMapRecord). Took m.query m.held c.args.items.now c.take_items.new.held c.take_items.result) c.self.view_is (left c)
 

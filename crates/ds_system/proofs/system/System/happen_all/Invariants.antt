@@ -2,7 +2,7 @@ use Rattle.std.proofs.Common.{◌≡◌, ◌≤◌, ◌++◌, length, vec_capaci
 use Rattle.ds_system.specs.Since.{SystemRunLeads}
 use Rattle.ds_system.proofs.system.System.happen_all.Given as goal
 
--- the events so far happened, and there is room for the outcomes of all
+-- the events so far happened, and the list has room for all outcomes
 abbrev pub invariant-loop-event : goal.invariant-loop-event
 invariant-loop-event l = record {
   all : l.yielded ++ l.event-iterator.rest.items ≡ l.fn.events;

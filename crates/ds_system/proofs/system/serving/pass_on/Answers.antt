@@ -53,7 +53,7 @@ pub note-requires-clause-in_place : goal.note-requires-clause-in_place
 note-requires-clause-in_place c =
     all_at IsActionInPlace c.args.actions.now c.loop-index.index c.in-Some.action.now c.requires.in_place (sym (subst (λ o. option_copied o ≡ slice_get c.args.actions.now c.loop-index.index) c.in-Some.is c.get.ensures))
 
--- there is an action at each index below their number
+-- there is an action at each index below their count
 pub unreachable-requires : goal.unreachable-requires
 unreachable-requires c =
     let acts = c.args.actions.now in

@@ -1,7 +1,7 @@
 use Rattle.std.proofs.Common.{◌≡◌, ℕ, ◌<◌, ◌≤◌, None, is_some, false, length, get_or}
 use Rattle.ds_watch.proofs.subscriptions.Subscriptions.made.Given as goal
 
--- the flags so far are those of the places, and behind them none is set
+-- The flags so far are those of the places, padded with false.
 abbrev pub invariant-loop-i : goal.invariant-loop-i
 invariant-loop-i l = record {
   long : length l.made ≡ 128;

@@ -2,7 +2,7 @@ use Rattle.std.proofs.Common.{◌≡◌, ℕ, ◌<◌, ◌≤◌, None, false, l
 use Rattle.ds_watch.specs.Watching.{watches}
 use Rattle.ds_watch.proofs.subscriptions.Subscriptions.owed.Given as goal
 
--- the flags so far are those of the places, and behind them none is set
+-- The flags so far are those of the places, padded with false.
 abbrev pub invariant-loop-i : goal.invariant-loop-i
 invariant-loop-i l = record {
   long : length l.owed ≡ 128;

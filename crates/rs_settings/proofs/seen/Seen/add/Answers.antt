@@ -28,14 +28,20 @@ there c =
     subst (λ (z : List (List ℕ)). has_name z name ≡ true) v (subst (λ (z : Names). has_name (map text z) name ≡ true) s found)
 
 -- where it ended at none, this is the place
-place : (xs found : Names) (name : List ℕ) (i : ℕ) → found ≡ xs → AreAscending text xs → (IsNonDecreasingBy (λ y. ordering_index (slice_cmp nat_cmp (text y) name)) found → IsPartitionPoint (λ y. slice_cmp nat_cmp (text y) name ≡ Less) (λ y. slice_cmp nat_cmp (text y) name ≡ Greater) found i) → IsPartitionPoint (λ y. slice_cmp nat_cmp (text y) name ≡ Less) (λ y. slice_cmp nat_cmp (text y) name ≡ Greater) xs i
-place xs found name i same rise find = subst (λ (z : Names). IsPartitionPoint (λ y. slice_cmp nat_cmp (text y) name ≡ Less) (λ y. slice_cmp nat_cmp (text y) name ≡ Greater) z i) same (find (search_rises text found name (subst (λ (z : Names). AreAscending text z) (sym same) rise)))
+place : (xs found : Names) (name : List ℕ) (i : ℕ) → found ≡ xs → AreAscending text xs →
+    (IsNonDecreasingBy (λ y. ordering_index (slice_cmp nat_cmp (text y) name)) found →
+    IsPartitionPoint (λ y. slice_cmp nat_cmp (text y) name ≡ Less) (λ y. slice_cmp nat_cmp (text y) name ≡ Greater) found i) → IsPartitionPoint (λ y. slice_cmp nat_cmp (text y)
+    name ≡ Less) (λ y. slice_cmp nat_cmp (text y) name ≡ Greater) xs i
+place xs found name i same rise find = subst (λ (z : Names). IsPartitionPoint (λ y. slice_cmp nat_cmp (text y) name ≡ Less) (λ y. slice_cmp nat_cmp (text y) name ≡ Greater) z i)
+    same (find (search_rises text found name (subst (λ (z : Names). AreAscending text z) (sym same) rise)))
 
 pub invariant_of-self : goal.invariant_of-self
 invariant_of-self c =
     let rise : AreAscending text c.self.inside.names.items = c.self.invariant in
     let le : c.in-Err.place ≤ length c.self.inside.names.items = subst (λ (z : Names). c.in-Err.place ≤ length z) c.as_slice.ensures.value c.in-Err.ensures.bound in
-    subst (λ (z : Names). AreAscending text z) (sym c.insert.ensures.items) (ascending-insert text c.self.inside.names.items c.in-Err.place c.args.name le rise (place c.self.inside.names.items c.as_slice.result.now c.args.name.now c.in-Err.place c.as_slice.ensures.value rise c.in-Err.ensures.position))
+    subst (λ (z : Names). AreAscending text z) (sym c.insert.ensures.items)
+    (ascending-insert text c.self.inside.names.items c.in-Err.place c.args.name le rise
+    (place c.self.inside.names.items c.as_slice.result.now c.args.name.now c.in-Err.place c.as_slice.ensures.value rise c.in-Err.ensures.position))
 
 pub returns-in-Ok-clause-added : goal.returns-in-Ok-clause-added
 returns-in-Ok-clause-added c = rw (there c) refl
@@ -55,4 +61,5 @@ pub returns-in-Err-clause-after : goal.returns-in-Err-clause-after
 returns-in-Err-clause-after c = λ n.
     let v : map text c.self.inside.names.items ≡ c.args.self.now = c.self.view_is in
     subst (λ (z : Names). has_name (map text z) n ≡ (has_name c.args.self.now n || is_same n c.args.name.now)) (sym c.insert.ensures.items)
-    (subst (λ (z : List (List ℕ)). has_name (map text (insert c.self.inside.names.items c.in-Err.place c.args.name)) n ≡ (has_name z n || is_same n c.args.name.now)) v (has_name-insert text c.self.inside.names.items c.in-Err.place c.args.name n))
+    (subst (λ (z : List (List ℕ)). has_name (map text (insert c.self.inside.names.items c.in-Err.place c.args.name)) n ≡ (has_name z n || is_same n c.args.name.now)) v
+    (has_name-insert text c.self.inside.names.items c.in-Err.place c.args.name n))

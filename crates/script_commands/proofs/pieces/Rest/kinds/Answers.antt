@@ -12,4 +12,5 @@ returns-in_default c = misses_at _ _ _ c.stop_at.ensures (no_kinds c.stop_at.res
 pub returns-in_default-of : goal.returns-in_default-of
 returns-in_default-of c =
     misses_at _ _ _ c.stop_at-in_default-of.ensures
-    (kinds_zero c.stop_at-in_default-of.result c.args.self.now.bytes.now _ c.in-Some.rest.now c.in-Some.number c.in_ok-byte.ensures.found c.stop_at-in_default-of.ensures c.in-Some.ensures.found c.in-Some.ensures.limit c.in_default-of.ensures)
+    (kinds_zero c.stop_at-in_default-of.result c.args.self.now.bytes.now _ c.in-Some.rest.now c.in-Some.number c.in_ok-byte.ensures.found c.stop_at-in_default-of.ensures
+    c.in-Some.ensures.found c.in-Some.ensures.limit c.in_default-of.ensures)

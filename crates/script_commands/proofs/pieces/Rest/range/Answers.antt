@@ -17,7 +17,9 @@ unfolding ReadsOr
 returns-in_err-max c =
     let none : NoKind c.name.new.self.bytes.now = λ kind rest found. false≢true (sym c.if-not-is_before_kind.true ∙ c.is_before_kind.ensures.1 (kind, rest, found)) in
     exits _ _ _ _ c.from_residual-in_err-max.ensures.1 c.in_err-max.ensures.room
-    (range_follow_stops c.in_ok-name.name c.in_err-max.field-0.0 c.args.self.now.bytes.now c.name.new.self.bytes.now c.in_ok-name.ensures.found (follow_max_stops c.in_ok-name.name c.in_err-max.field-0.0 c.name.new.self.bytes.now (c.is_dash.ensures.0 c.if-is_dash.true) none c.in_err-max.ensures.room c.in_err-max.ensures.stop))
+    (range_follow_stops c.in_ok-name.name c.in_err-max.field-0.0 c.args.self.now.bytes.now c.name.new.self.bytes.now c.in_ok-name.ensures.found
+    (follow_max_stops c.in_ok-name.name c.in_err-max.field-0.0 c.name.new.self.bytes.now (c.is_dash.ensures.0 c.if-is_dash.true) none c.in_err-max.ensures.room
+    c.in_err-max.ensures.stop))
 
 pub returns-in_err-kind : goal.returns-in_err-kind
 unfolding ReadsOr
@@ -28,13 +30,16 @@ returns-in_err-kind c =
       | else-is_dash-via-else-is_dash w ↦ λ is none. false≢true (sym w.if-is_dash.false ∙ c.is_dash.ensures.1 is)
     ] in
     exits _ _ _ _ c.from_residual-in_err-kind.ensures.1 c.in_err-kind.ensures.room
-    (range_follow_stops c.in_ok-name.name c.in_err-kind.field-0.0 c.args.self.now.bytes.now c.name.new.self.bytes.now c.in_ok-name.ensures.found (follow_kind_stops c.in_ok-name.name c.in_err-kind.field-0.0 c.name.new.self.bytes.now other c.in_err-kind.ensures.room c.in_err-kind.ensures.stop))
+    (range_follow_stops c.in_ok-name.name c.in_err-kind.field-0.0 c.args.self.now.bytes.now c.name.new.self.bytes.now c.in_ok-name.ensures.found
+    (follow_kind_stops c.in_ok-name.name c.in_err-kind.field-0.0 c.name.new.self.bytes.now other c.in_err-kind.ensures.room c.in_err-kind.ensures.stop))
 
 pub returns-in_err-max-2 : goal.returns-in_err-max-2
 unfolding ReadsOr
 returns-in_err-max-2 c =
     exits _ _ _ _ c.from_residual-in_err-max-2.ensures.1 c.in_err-max-2.ensures.room
-    (range_follow_stops c.in_ok-name.name c.in_err-max-2.field-0.0 c.args.self.now.bytes.now c.name.new.self.bytes.now c.in_ok-name.ensures.found (follow_behind_stops c.in_ok-name.name c.in_ok-kind.kind c.in_err-max-2.field-0.0 c.name.new.self.bytes.now _ c.in_ok-kind.ensures.found c.in_err-max-2.ensures.room c.in_err-max-2.ensures.stop))
+    (range_follow_stops c.in_ok-name.name c.in_err-max-2.field-0.0 c.args.self.now.bytes.now c.name.new.self.bytes.now c.in_ok-name.ensures.found
+    (follow_behind_stops c.in_ok-name.name c.in_ok-kind.kind c.in_err-max-2.field-0.0 c.name.new.self.bytes.now _ c.in_ok-kind.ensures.found c.in_err-max-2.ensures.room
+    c.in_err-max-2.ensures.stop))
 
 pub returns : goal.returns
 unfolding ReadsOr

@@ -11,4 +11,5 @@ returns-in_err-byte c = exits_byte 32 (a_word Server server_word) File tt _ _ c.
 pub returns-in_default : goal.returns-in_default
 returns-in_default c =
     misses_at _ _ _ c.stop_at.ensures
-    (no_word Server server_word File c.stop_at.result c.args.self.now.bytes.now _ c.word_at.result.0.now c.word_at.result.1.now server_is_word c.in_ok-byte.ensures.found c.stop_at.ensures c.word_at.ensures.valid c.word_at.ensures.found c.in_default.ensures.none)
+    (no_word Server server_word File c.stop_at.result c.args.self.now.bytes.now _ c.word_at.result.0.now c.word_at.result.1.now server_is_word c.in_ok-byte.ensures.found
+    c.stop_at.ensures c.word_at.ensures.valid c.word_at.ensures.found c.in_default.ensures.none)

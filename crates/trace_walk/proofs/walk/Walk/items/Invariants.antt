@@ -3,7 +3,7 @@ use Rattle.trace_walk.specs.Steps.{ListsAt}
 use Rattle.trace_walk.specs.Walking.{Spot}
 use Rattle.trace_walk.proofs.walk.Walk.items.Given as goal
 
--- whatever it stands behind when it begins, it then stands behind so many items
+-- whatever comes before it, the walk is after this many items
 abbrev pub invariant-loop-index : goal.invariant-loop-index
 invariant-loop-index g l = record {
   header : l.self.header ≡ l.fn.self.header;
