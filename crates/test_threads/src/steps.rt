@@ -11,7 +11,7 @@ use crate::asked::Asked;
 use crate::tell::{tell, tell_fault};
 use crate::world::Side;
 use desk::{Desk, Pass};
-use ds_exchange::{Exchanged, exchange_once};
+use ds_exchange::{ExchangeFault, Exchanged, exchange_once};
 use ds_feed::Cursor;
 use ds_live::LiveFault;
 use ds_machine::Reply;
@@ -172,12 +172,7 @@ pub(crate) fn exchange<R: Print + Wait>(
     ensures sides { IsSide a.new × IsSide b.new }
     ensures readers { (a.new.reader ≡ a.old.reader) × (b.new.reader ≡ b.old.reader) }
 {
-    let mut here = Seat::new(rt, &a.desk, &mut a.caller);
-    let mut there = Seat::new(rt, &b.desk, &mut b.caller);
-    let told = exchange_once(&mut here, &mut there, *from);
-    let _there = there.leave();
-    let _here = here.leave();
-    match told {
+    match exchange_at(rt, &a.desk, &mut a.caller, &b.desk, &mut b.caller, *from) {
         Ok(exchanged) => {
             *from = Some(exchanged.cursor);
             tell_exchanged(rt, exchanged)
@@ -187,6 +182,28 @@ pub(crate) fn exchange<R: Print + Wait>(
             tell_fault(rt, LiveFault::from(fault))
         }
     }
+}
+
+// Gives what the store of the first desk has to the store of the second.
+fn exchange_at<W: Wait>(
+    rt: &W,
+    first: &Desk<Box<Store>>,
+    pass: &mut Pass<Box<Store>>,
+    second: &Desk<Box<Store>>,
+    other: &mut Pass<Box<Store>>,
+    from: Option<Cursor>,
+) -> Result<Exchanged, ExchangeFault>
+    requires first { desk_of pass.old ≡ identity first.now }
+    requires second { desk_of other.old ≡ identity second.now }
+    ensures stays { desk_of pass.new ≡ desk_of pass.old }
+    ensures other_stays { desk_of other.new ≡ desk_of other.old }
+{
+    let mut here = Seat::new(rt, first, pass);
+    let mut there = Seat::new(rt, second, other);
+    let told = exchange_once(&mut here, &mut there, from);
+    let _other = there.leave();
+    let _pass = here.leave();
+    told
 }
 
 // Prints what an exchange did.
