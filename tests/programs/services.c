@@ -242,6 +242,7 @@ static void run(long n, uint64_t *wanted) {
     } steps[] = {{DS_RS_UP, 0, 0, 1}, {DS_RS_BEAT, 1, 0, 2}, {DS_RS_TICK, 0, 0, 6}, {DS_RS_DEATH, 1, 4, 7}, {DS_RS_TICK, 0, 0, 8}, {DS_RS_DEATH, 2, 1, 9}};
     char text[512];
     struct ds_given given;
+    int missed = 0; /* the store had no memory for an offer: from there on it may hold less */
     left = n;
     while (again(ds_open(&store, 1, 0, 256))) {}
     while (again(ds_rs_open(&store, settings, sizeof settings - 1, 1, 16, &fault))) {}
@@ -254,7 +255,6 @@ static void run(long n, uint64_t *wanted) {
         do bad += ds_text(&store, 0, text, sizeof text, &given) != 0;
         while (again(given.stop));
         uint64_t sum = answer.count * 1000 + given.length;
-        int missed = 0; /* the store had no memory for an offer */
         for (size_t at = 0; ds_rs_action(&store, at, &action) == 0; at++) {
             if (again(action.refusal)) missed = 1;
             sum = sum * 31 + action.kind * 7 + action.generation;
