@@ -11,6 +11,7 @@ HEADER = (pathlib.Path(__file__).resolve().parents[2] / "c" / "ds.h").read_text(
 WHOLE, TOO_SMALL = 0, 1
 ASKED = {b"offer", b"show", b"all", *c_calls.COMMANDS} - {b"merge"}
 SERVICES = {b"settings", b"service", b"death", b"beat", b"tick"}
+BY_RS = re.compile(rb"(?:publish|delete|sweep) 0/2 ")
 
 
 class Session(c_calls.Session):
@@ -90,12 +91,26 @@ def model_word(number):
     return re.search(r"^enum ds_refusal \{(.*?)\};", HEADER, re.DOTALL | re.MULTILINE)[1].replace(" = 1", "").split()[number - 1].strip(",")[3:].lower().encode()
 
 
+def other_answer(line, is_open):
+    """What a line prints to which a script answers something else, or None: a command in RS's name, an event before RS is open."""
+    if is_open and BY_RS.match(line):
+        return b"refused notallowed\n"
+    return b"" if not is_open and line.split(b" ")[0] in SERVICES - {b"settings"} else None
+
+
 def play(library, room, script, wanted):
-    """A store with RS answers the lines of a script as the script prints."""
+    """A store with RS answers the lines of a script as the script prints, up to the first one that a script answers otherwise."""
     store = Session(library, room)
     store.open(1, 0, 256)
     at, is_open = 0, False
     for line in script:
+        other = other_answer(line, is_open)
+        if other is not None:
+            store.call_line(line)
+            given = store.text()
+            if given != other or store.close() != 0:
+                raise AssertionError(f"{line[:120]}: {given[:600]}, and not {other}")
+            return
         if line.startswith(b"settings ") and not is_open:
             given = opened(store, line[9:])
             is_open = given.startswith(b"services")
