@@ -160,13 +160,13 @@ class Playing:
         return None
 
     def subscribe(self, number):
-        self.map = world.Map(self.map.query)
         if self.is_wanting("copied", number):
             raise Wanting
         if self.is_wanting("called", number):
             self.first.place += 1
             raise Wanting
         (answer,) = self.first.call(b"subscribe", (self.row.sub, (self.row.pattern, 15), True, True))
+        self.map = world.Map(self.map.query)  # only now: a refusal keeps what the follower knew
         self.stamp = int(answer.split()[1])
 
     def check(self, number):
@@ -251,7 +251,7 @@ class Playing:
             raise Wanting(stop)
         if word == b"stopped":
             cause = WORDS[taken].format(*cause[0].decode().split("."))
-            raise model.store.Refused(f"stopped behind {done.decode()} items: {cause}")
+            raise model.store.Refused(f"stopped after {done.decode()} items: {cause}")
         return int(taken)
 
     # ---- the end ----
@@ -281,7 +281,7 @@ def all_played():
 def likely(row, played, local, rest):
     """The points of a row at which memory may have been wanting, the likeliest first: its text differs from this line on."""
     asking = rest.startswith(b"refused: ")
-    told = re.match(rb"stopped behind (\d+) |.*\nkeys (\d+)\n", rest)
+    told = re.match(rb"stopped after (\d+) |.*\nkeys (\d+)\n", rest)
     number = int(told[1] or told[2]) if told else None
     points = [it for it in played.points if played.begun[it[0]] <= local and row.steps[it[0]][0].startswith(("ask", "start")) == asking]
     return sorted(points, key=lambda it: (it[1][0] in ("merged", "taking") and it[1][-1] != number, -it[0]))
