@@ -1,10 +1,12 @@
-"""The workloads of bench/measure: scripts of so many lines, the same bytes each time, with an `all` at the end.
+"""The workloads of bench/measure: scripts of so many lines, the same bytes each time, most with all that is held at the end.
 
-Each yields first what has to be there, over a thousand keys, and then the lines that are measured.
+Each yields first what has to be there, and then the lines that are measured.
 """
 import random
 
 NAMES = 1000
+MOST_KEYS = 4096  # what a store holds
+PAGE = 256
 DRIVERS = [f"driver-{at}" for at in range(16)]
 ESCAPED = [{'"': '\\"', "\\": "\\\\"}.get(chr(byte), chr(byte)) for byte in range(0x20, 0x7F)]
 
@@ -139,6 +141,39 @@ def catchup(lines, chance):
             yield from (f"page * {behind} u32 256\n" for behind in names[255::256])
 
 
+def newkeys(lines, chance):
+    """Offers of new keys, in an order by chance, into an empty store."""
+    keys = list(range(MOST_KEYS))
+    chance.shuffle(keys)
+    for at in keys[:lines]:
+        yield offer(at, 1, chance.getrandbits(32))
+
+
+def churn(lines, chance):
+    """Drivers that come and go: each new generation of a driver is swept of the one before, and publishes entries of new names."""
+    entries = 14  # of a generation, beside its label and its sweep
+    for start in range((lines + entries + 1) // (entries + 2)):
+        name, slot, epoch = DRIVERS[start % len(DRIVERS)], 16 + start % len(DRIVERS), 3 + start // len(DRIVERS)
+        yield f"publish 0/2 over {name} label {epoch}.0 = {epoch}/{slot}\n"
+        yield f"sweep 0/2 {name} {epoch - 1}\n"
+        for entry in range(entries):
+            new = f"{chance.getrandbits(32):08x}-{start}-{entry}"
+            yield f"publish {epoch}/{slot} new {name}.{new} u32 {epoch}.{entry} = {chance.getrandbits(32)}\n"
+
+
+def resync(lines, chance):
+    """A map that is cleared, and filled by pages of all keys that a store holds."""
+    names = sorted(f"{owner(at)}.entry-{at}" for at in range(MOST_KEYS))
+    for at in range(MOST_KEYS):
+        yield offer(at, 0, chance.getrandbits(32))
+    yield 'map ".*" 15\n'
+    after = ["-"] + [f"{name} u32" for name in names[PAGE - 1 : -1 : PAGE]]
+    for message in range((lines + 1) // 2):
+        at = message % len(after)
+        yield f"page * {after[at]} {PAGE}\n" if at else f"clear 0\npage * - {PAGE}\n"
+        yield f"deliver {message} m0 *\n"
+
+
 ALL = {
     "labels": labels,
     "offers-hot": offers_hot,
@@ -148,11 +183,19 @@ ALL = {
     "watch": watch,
     "catchup": catchup,
     "long": long,
+    "newkeys": newkeys,
+    "churn": churn,
+    "resync": resync,
 }
-PART = {"watch": 100}  # a slow workload is measured at one in so many of its lines
+PART = {"watch": 100, "resync": 100}  # a slow workload is measured at one in so many of its lines
+MOST = {"newkeys": MOST_KEYS}  # a workload that ends has at most so many lines
+
+
+# Lines at the end, `all` where none are named. Floors are left out of `show`; a line for each new key would count as the key's.
+END = {"churn": "show\n", "newkeys": ""}
 
 
 def script(name, lines):
-    """The lines of a workload, `all` at the end."""
+    """The lines of a workload, and what is held at the end."""
     yield from ALL[name](lines, random.Random(1))
-    yield "all\n"
+    yield END.get(name, "all\n")

@@ -8,12 +8,12 @@ _dsctl() {
         esac
     done
     case $command in
-        replay) words="--keep-going --stop -h --help" ;;
+        replay) words="--keep-going --stop --ends -h --help" ;;
         settings) words="-h --help" ;;
         verify) words="-h --help" ;;
         upgrade) words="-h --help" ;;
         record) words="--format --keys -h --help" ;;
-        live) words="--publishers --subscribers --changes -h --help" ;;
+        live) words="--publishers --subscribers --changes --seed --for -h --help" ;;
         help) words="replay settings verify upgrade record live" ;;
     esac
     # bash takes an equals sign for a word of its own
@@ -28,6 +28,8 @@ _dsctl() {
         live:--publishers) words="1 2 3 4 5 6 7 8" is_number=1 ;;
         live:--subscribers) words="1 2 3 4 5 6 7 8" is_number=1 ;;
         live:--changes) words="" is_number=1 ;;
+        live:--seed) words="" is_number=1 ;;
+        live:--for) words="" is_number=1 ;;
     esac
     COMPREPLY=($(compgen -W "$words" -- "$current"))
     # a number is no file, so bash's own completion of files isn't asked for one

@@ -9,8 +9,11 @@ complete -c dsctl -n __fish_use_subcommand -a live -d 'Run threads that publish,
 complete -c dsctl -n __fish_use_subcommand -a help -d 'Print this message or the help of the given subcommand(s)'
 complete -c dsctl -n __fish_use_subcommand -s h -l help -d 'Print help (see a summary with \'-h\')'
 complete -c dsctl -n __fish_use_subcommand -s V -l version -d 'Print version'
+complete -c dsctl -n __fish_use_subcommand -F
+complete -c dsctl -n '__fish_seen_subcommand_from replay settings verify upgrade record' -F
 complete -c dsctl -n '__fish_seen_subcommand_from replay' -l keep-going -d 'Continue after a bad line; status 1 at the end'
 complete -c dsctl -n '__fish_seen_subcommand_from replay' -l stop -d 'End at a bad line, at a terminal too'
+complete -c dsctl -n '__fish_seen_subcommand_from replay' -l ends -d 'End each answer by an empty line'
 complete -c dsctl -n '__fish_seen_subcommand_from replay' -s h -l help -d 'Print help'
 complete -c dsctl -n '__fish_seen_subcommand_from settings' -s h -l help -d 'Print help (see a summary with \'-h\')'
 complete -c dsctl -n '__fish_seen_subcommand_from verify' -s h -l help -d 'Print help (see a summary with \'-h\')'
@@ -21,5 +24,7 @@ complete -c dsctl -n '__fish_seen_subcommand_from record' -s h -l help -d 'Print
 complete -c dsctl -n '__fish_seen_subcommand_from live' -l publishers -x -a '1 2 3 4 5 6 7 8' -d 'How many publish, 1 to 8 [default: 2]'
 complete -c dsctl -n '__fish_seen_subcommand_from live' -l subscribers -x -a '1 2 3 4 5 6 7 8' -d 'How many follow, 1 to 8 [default: 2]'
 complete -c dsctl -n '__fish_seen_subcommand_from live' -l changes -x -d 'How many turns each takes, 1 to 1000 [default: 3]'
+complete -c dsctl -n '__fish_seen_subcommand_from live' -l seed -x -d 'Draw pauses before turns, by 0 to 4294967295'
+complete -c dsctl -n '__fish_seen_subcommand_from live' -l for -x -d 'Repeat runs for seconds, 1 to 86400'
 complete -c dsctl -n '__fish_seen_subcommand_from live' -s h -l help -d 'Print help (see a summary with \'-h\')'
 complete -c dsctl -n '__fish_seen_subcommand_from help' -a 'replay settings verify upgrade record live'

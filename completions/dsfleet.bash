@@ -3,10 +3,11 @@ _dsfleet() {
     local current=${COMP_WORDS[COMP_CWORD]} before=${COMP_WORDS[COMP_CWORD - 1]}
     case $before in
         --group | --readers) mapfile -t COMPREPLY < <(compgen -g -- "$current") ;;
+        --log-format) mapfile -t COMPREPLY < <(compgen -W "text json" -- "$current") ;;
         --stream | --scope | --keep | --replicas | --within | --mode | --maxclients | --timeout | --client-output-buffer-limit | --maxmemory-clients) ;;
         *)
             if [[ $before != --password-file && $current == -* ]]; then
-                mapfile -t COMPREPLY < <(compgen -W "--check --password-file --stream --scope --keep --replicas --within --mode --group --readers --maxclients --timeout --client-output-buffer-limit --maxmemory-clients --version --help" -- "$current")
+                mapfile -t COMPREPLY < <(compgen -W "--check --password-file --stream --scope --keep --replicas --within --mode --group --readers --maxclients --timeout --client-output-buffer-limit --maxmemory-clients --log-format --version --help" -- "$current")
             else
                 mapfile -t COMPREPLY < <(compgen -f -- "$current")
             fi

@@ -13,5 +13,6 @@ complete -c dsfleet -l maxclients -d 'clients at once' -x
 complete -c dsfleet -l timeout -d 'seconds until an idle client is dropped' -x
 complete -c dsfleet -l client-output-buffer-limit -d 'bytes that wait for a client' -x
 complete -c dsfleet -l maxmemory-clients -d 'bytes that wait for all clients' -x
+complete -c dsfleet -l log-format -d 'the format of standard error' -x -a 'text json'
 complete -c dsfleet -l version -d 'prints the version'
 complete -c dsfleet -l help -d 'prints the help'

@@ -2,10 +2,11 @@
 _dsrs() {
     local current=${COMP_WORDS[COMP_CWORD]} before=${COMP_WORDS[COMP_CWORD - 1]}
     case $before in
-        --tick | --grace | --slot | --kinds | --sub | --watch) COMPREPLY=(); compopt +o default 2> /dev/null || :; return ;;
+        --log-format) COMPREPLY=($(compgen -W "text json" -- "$current")); return ;;
+        --tick | --grace | --slot | --stream | --stream-name | --kinds | --sub | --watch) COMPREPLY=(); compopt +o default 2> /dev/null || :; return ;;
     esac
     case $1:$current in
-        dsrs:-*) COMPREPLY=($(compgen -W "--tick --grace --slot --generations -h --help --version" -- "$current")) ;;
+        dsrs:-*) COMPREPLY=($(compgen -W "--tick --grace --slot --generations --log-format --cgroup --stream --stream-name -h --help --version" -- "$current")) ;;
         dsask:-*) COMPREPLY=($(compgen -W "--watch --kinds --sub -h --help --version" -- "$current")) ;;
         dsask:*) if [ -S "$before" ]; then COMPREPLY=($(compgen -W "status log show all" -- "$current")); else COMPREPLY=(); fi ;;
         *) COMPREPLY=() ;;

@@ -223,7 +223,7 @@ int main(int count, char **words) {
         free(options.url);
         return status;
     }
-    log_open(&host.log);
+    log_open(&host.log, options.logs_json);
     host.place.path = options.socket;
     host.place.access = options.access;
     host.place.log = &host.log;

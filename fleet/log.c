@@ -10,16 +10,26 @@
 #include <sys/stat.h>
 #include <unistd.h>
 
-enum { SECOND = 1000, COUNTED_EACH = 10 * SECOND };
+enum {
+    SECOND = 1000,
+    COUNTED_EACH = 10 * SECOND,
+    LOG_WHOLE = 6 * LOG_PASSED + 200, /* bytes of the longest line: in JSON a byte may take six */
+    LOG_NAME = 100
+};
+
+bool log_read_format(const char *word, bool *as_json) {
+    *as_json = !strcmp(word, "json");
+    return *as_json || !strcmp(word, "text");
+}
 
 /* A pipe or a terminal is opened anew, not to wait: that standard error itself doesn't wait would be seen by all who
  * share it. A file is not, since it would have a place of its own to write at. */
-void log_open(struct log *log) {
+void log_open(struct log *log, bool as_json) {
     struct stat it;
     for (int standard = 0; standard <= STDERR_FILENO; standard++) {
         if (fcntl(standard, F_GETFD) < 0 && open("/dev/null", O_RDWR) < 0) break;
     }
-    *log = (struct log){.descriptor = STDERR_FILENO};
+    *log = (struct log){.descriptor = STDERR_FILENO, .as_json = as_json};
     if (fstat(STDERR_FILENO, &it)) return;
     log->is_socket = S_ISSOCK(it.st_mode);
     if (!S_ISFIFO(it.st_mode) && !S_ISCHR(it.st_mode)) return;
@@ -44,33 +54,61 @@ static bool is_due(struct log *log, const char *event, size_t length) {
     return true;
 }
 
+/* Appends a text in quotes. JSON allows no byte that isn't printable ASCII, so each of these is `\u00XX` there. Returns the line's length. */
+static size_t quote(const struct log *log, char *line, size_t length, const char *text, size_t count) {
+    line[length++] = '"';
+    for (size_t i = 0; i < count; i++) {
+        unsigned char byte = (unsigned char)text[i];
+        if (log->as_json && (byte < ' ' || byte > '~')) {
+            length += (size_t)sprintf(line + length, "\\u%04x", byte);
+            continue;
+        }
+        if (byte == '"' || byte == '\\') line[length++] = '\\';
+        line[length++] = (char)byte;
+    }
+    line[length++] = '"';
+    return length;
+}
+
 void log_say(struct log *log, const char *level, const char *format, ...) {
-    char text[LOG_LINE], line[2 * LOG_LINE + 100];
+    char text[LOG_LINE], line[LOG_WHOLE];
     va_list given;
     va_start(given, format);
     vsnprintf(text, sizeof text, format, given);
     va_end(given);
-    size_t event = strcspn(text, ":");
-    size_t length = (size_t)snprintf(line, sizeof line, "%s event=%.*s text=\"", level, (int)event, text);
-    for (const char *byte = text + event + strspn(text + event, ": "); *byte; byte++) {
-        if (*byte == '"' || *byte == '\\') line[length++] = '\\';
-        line[length++] = *byte;
-    }
-    memcpy(line + length, "\"\n", 2);
-    if (!is_due(log, text, event) || !written(log, line, length + 2)) log->left_out++;
+    size_t event = strcspn(text, ":"), rest = event + strspn(text + event, ": ");
+    const char *head = log->as_json ? "{\"level\":\"%s\",\"event\":\"%.*s\",\"text\":" : "%s event=%.*s text=";
+    size_t length = (size_t)snprintf(line, sizeof line, head, level, (int)event, text);
+    length = quote(log, line, length, text + rest, strlen(text + rest));
+    length += (size_t)sprintf(line + length, log->as_json ? "}\n" : "\n");
+    if (!is_due(log, text, event) || !written(log, line, length)) log->left_out++;
+}
+
+/* Writes a line of another program as JSON. */
+static bool pass_json(const struct log *log, const char *name, const char *line, size_t length) {
+    char whole[LOG_WHOLE];
+    if (length > LOG_PASSED || strlen(name) > LOG_NAME) return false;
+    size_t put = (size_t)sprintf(whole, "{\"level\":\"" LOG_INFO "\",\"event\":\"output\",\"service\":\"%s\",\"text\":", name);
+    put = quote(log, whole, put, line, length);
+    put += (size_t)sprintf(whole + put, "}\n");
+    return written(log, whole, put);
+}
+
+static bool pass_text(const struct log *log, const char *name, const char *line, size_t length) {
+    char whole[LOG_PASSED + LOG_NAME];
+    int put = snprintf(whole, sizeof whole, "%s: %.*s\n", name, (int)length, line);
+    return put > 0 && put < (int)sizeof whole && written(log, whole, (size_t)put);
 }
 
 void log_pass(struct log *log, const char *name, const char *line, size_t length) {
-    char whole[2 * LOG_LINE + 100];
-    int put = snprintf(whole, sizeof whole, "%s: %.*s\n", name, (int)length, line);
-    bool is_whole = put > 0 && put < (int)sizeof whole;
-    if (!is_whole || !written(log, whole, (size_t)put)) log->left_out++;
+    if (!(log->as_json ? pass_json : pass_text)(log, name, line, length)) log->left_out++;
 }
 
 void log_count(struct log *log) {
     char line[LOG_LINE];
     if (!log->left_out || clock_now() < log->count_at) return;
-    int length = snprintf(line, sizeof line, LOG_WARN " event=left_out lines=%llu\n", (unsigned long long)log->left_out);
+    const char *format = log->as_json ? "{\"level\":\"" LOG_WARN "\",\"event\":\"left_out\",\"lines\":%llu}\n" : LOG_WARN " event=left_out lines=%llu\n";
+    int length = snprintf(line, sizeof line, format, (unsigned long long)log->left_out);
     if (!written(log, line, (size_t)length)) return;
     log->left_out = 0;
     log->count_at = clock_now() + COUNTED_EACH;

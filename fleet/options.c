@@ -1,5 +1,6 @@
 /* The command line of dsfleet. See options.h. */
 #include "options.h"
+#include "log.h"
 #include <fcntl.h>
 #include <getopt.h>
 #include <stdio.h>
@@ -32,6 +33,7 @@ static const char help[] =
     "  --timeout S       drops a client that sends nothing for S seconds and listens to nothing: 0, never\n"
     "  --client-output-buffer-limit N   bytes that wait for one client before its next line is answered: 1048576\n"
     "  --maxmemory-clients N            bytes that wait for all clients before long answers wait: 67108864\n"
+    "  --log-format json writes each line of standard error as an object of JSON: text\n"
     "  --version         prints the version\n"
     "  -h, --help        prints this\n"
     "\n"
@@ -156,6 +158,7 @@ static int read_option(int option, char *value, struct options *options) {
     case 's': options->fleet.stream = value; return -1;
     case 'p': return read_scope(value, &options->fleet) ? -1 : usage("a scope is a pattern, a space, and kinds from 1 to 15");
     case 'w': return read_password(value, &options->fleet) ? -1 : usage("the password file can't be read, or its first line is empty");
+    case 'l': return log_read_format(value, &options->logs_json) ? -1 : usage("a log's format is text or json");
     case 'm': return read_mode(value, &options->access) ? -1 : usage("a mode is octal, 1 to 777");
     case 'g':
         options->access.has_group = true;
@@ -195,7 +198,7 @@ int options_read(int count, char **words, struct options *options) {
         {"within", required_argument, NULL, 'i'}, {"mode", required_argument, NULL, 'm'}, {"group", required_argument, NULL, 'g'},
         {"readers", required_argument, NULL, 'r'}, {"maxclients", required_argument, NULL, 'x'}, {"timeout", required_argument, NULL, 't'},
         {"client-output-buffer-limit", required_argument, NULL, 'o'}, {"maxmemory-clients", required_argument, NULL, 'a'},
-        {"help", no_argument, NULL, 'h'}, {"version", no_argument, NULL, 'v'}, {0},
+        {"log-format", required_argument, NULL, 'l'}, {"help", no_argument, NULL, 'h'}, {"version", no_argument, NULL, 'v'}, {0},
     };
     opterr = 0;
     options->limits = (struct clients_limits){.clients = CLIENTS, .output = CLIENT_WAITS, .all_output = CLIENTS_WAIT};

@@ -17,6 +17,7 @@ struct options {
     const char *socket;
     char *url;          /* a copy that main frees; NULL: the URL is the environment's */
     bool checks;        /* only says whether a server will do */
+    bool logs_json;
     bool shows_password; /* the words have one, which other users could see */
 };
 

@@ -26,14 +26,15 @@ enum {
     TICK = 10, TICK_MOST = 60000,   /* milliseconds */
     GRACE = 2000, GRACE_MOST = 3600000,
     SLOT = 16, SLOT_MOST = 1023,
-    EACH_SERVICE = 4,               /* descriptors besides that of its peer */
+    EACH_SERVICE = 5 + PARCELS,     /* descriptors besides that of its peer */
     DESCRIPTORS = 32,               /* of dsrs itself */
+    SOON = 10,                      /* milliseconds until an event is reported again for which memory ran out */
     REST = 100,                     /* milliseconds before a client is taken in again, where none could be */
     FOLDER = PLACE_PATH - 16        /* bytes of the folder of sockets: each socket has up to 15 more */
 };
 
 static const char help[] =
-    "usage: dsrs [--tick MS] [--grace MS] [--slot N] [--generations FILE] SETTINGS.toml SERVICES_DIR SOCKET\n"
+    "usage: dsrs [OPTION ..] SETTINGS.toml SERVICES_DIR SOCKET\n"
     "\n"
     "Starts the services of the settings, SERVICES_DIR/LABEL/run each, and starts them again when they fail, as RS decides.\n"
     "A file SERVICES_DIR/LABEL/down keeps a service down until it is asked for. dsask(1) sends lines to SOCKET.\n"
@@ -42,6 +43,11 @@ static const char help[] =
     "  --grace MS          between SIGTERM and SIGKILL of a service that is to go down: 2000\n"
     "  --slot N            the first slot of endpoints, so that hosts don't share them: 16\n"
     "  --generations FILE  keeps the next generation: SERVICES_DIR/.generation\n"
+    "  --log-format json   writes each line of standard error as an object of JSON: text\n"
+    "  --cgroup FOLDER     a cgroup, version 2, in which each process gets its own: that of dsrs, if systemd delegates it\n"
+    "  --stream URL        keeps the store in step with those of other hosts, over this redis server, as dsfleet does;\n"
+    "                      `-` takes the URL from the environment, DSRS_STREAM\n"
+    "  --stream-name NAME  the front of the names of the keys in redis: ds\n"
     "  --version           prints the version\n"
     "  -h, --help          prints this\n"
     "\n"
@@ -49,9 +55,16 @@ static const char help[] =
     "settings again: unless they have a fault, all services stop, and those of the new settings start.\n"
     "Statuses: 0 ended by a signal, 2 usage, 3 a failure, which standard error tells.\n";
 
+#define STREAM "DSRS_STREAM"
+
 static const char version[] = "dsrs " DS_VERSION "\n";
 
-struct options { long tick, grace, slot; const char *settings, *services, *socket; char generations[4096]; };
+struct options {
+    long tick, grace, slot;
+    bool logs_json;
+    const char *settings, *services, *socket, *cgroup, *stream, *stream_name;
+    char generations[4096];
+};
 
 struct host {
     struct rs rs;
@@ -59,8 +72,7 @@ struct host {
     struct place place;
     char folder[FOLDER];
     struct watch listener, signals, timer, heard;
-    const char *settings;
-    uint16_t slot;                /* the first one */
+    const char *cgroup;
     bool reloads;                 /* all services go down because settings are read again */
     int epoll;
     uint64_t timer_at, admit_at; /* by clock_now: for when the timer is set; when clients are taken in again */
@@ -99,7 +111,11 @@ static int read_option(int option, char *value, struct options *options) {
     case 't': return read_number(value, 1, TICK_MOST, &options->tick, "a tick has 1 to 60000 milliseconds");
     case 'g': return read_number(value, 0, GRACE_MOST, &options->grace, "a grace has 0 to 3600000 milliseconds");
     case 's': return read_number(value, SLOT, SLOT_MOST, &options->slot, "the first slot is 16 to 1023");
+    case 'l': return log_read_format(value, &options->logs_json) ? -1 : usage("a log's format is text or json");
     case 'k': snprintf(options->generations, sizeof options->generations, "%s", value); return -1;
+    case 'c': options->cgroup = value; return -1;
+    case 'n': options->stream_name = value; return -1;
+    case 'u': options->stream = strcmp(value, "-") ? value : getenv(STREAM); return options->stream ? -1 : usage(STREAM " isn't set");
     default: return usage("no such option, or no value after it");
     }
 }
@@ -111,6 +127,10 @@ static int read_words(int count, char **words, struct options *options) {
         {"grace", required_argument, NULL, 'g'},
         {"slot", required_argument, NULL, 's'},
         {"generations", required_argument, NULL, 'k'},
+        {"log-format", required_argument, NULL, 'l'},
+        {"cgroup", required_argument, NULL, 'c'},
+        {"stream", required_argument, NULL, 'u'},
+        {"stream-name", required_argument, NULL, 'n'},
         {"help", no_argument, NULL, 'h'},
         {"version", no_argument, NULL, 'v'},
         {0},
@@ -193,13 +213,16 @@ static int open_all(struct host *host) {
     if (!watch_open(&host->timer, host->epoll, timer, EPOLLIN)) return failed(host, "timerfd");
     if (!heard_open(&host->heard, host->epoll, host->folder)) return failed(host, "notify");
     if (prctl(PR_SET_CHILD_SUBREAPER, 1)) return failed(host, "subreaper"); /* what a dead instance leaves is ours */
-    if (!rs_open(rs, host->settings, host->slot)) return FAILED;
+    if (!cgroups_open(&rs->instances.cgroups, host->cgroup, &rs->events)) return FAILED;
+    if (!rs_read(rs) || !rs_open(rs)) return FAILED;
     return open_place(host);
 }
 
 static void close_all(struct host *host) {
     peers_close(&host->rs.peers);
     rs_close(&host->rs);
+    text_free(&host->rs.settings);
+    cgroups_close(&host->rs.instances.cgroups);
     if (host->heard.file >= 0) empty_folder(host->folder), rmdir(host->folder);
     place_leave(&host->place);
     log_close(&host->log);
@@ -227,9 +250,9 @@ static void take_end(struct host *host) {
     rs->instances.grace = 0;
 }
 
-/* Settings with a fault change nothing. */
+/* Settings with a fault, or the same ones, change nothing. */
 static void take_reload(struct host *host) {
-    if (host->rs.ending || !rs_judge(&host->rs, host->settings, host->slot)) return;
+    if (host->rs.ending || !rs_read(&host->rs)) return;
     host->reloads = true;
     begin_end(host);
 }
@@ -279,19 +302,18 @@ static void pass_output(struct rs *rs) {
         if (rs->service[i].output.from.ready) output_pass(&rs->service[i].output, rs->service[i].label, rs->events.log);
 }
 
-/* Processes that began get their voice. */
+/* Instances that were started get their voice. */
 static void take_in(struct rs *rs) {
     for (struct instance *it = rs->instances.first; it; it = it->next) {
-        if (it->socket < 0 || it->state != INSTANCE_RUNS) continue;
+        if (it->socket < 0 || it->state == INSTANCE_ENDS) continue;
         peers_add(&rs->peers, it->socket, it, 0);
         it->socket = -1;
     }
 }
 
-/* Orders the next turn for when something is due by the clock. */
-static void set_timer(struct host *host) {
+/* Orders the next turn for when something is due by the clock: at a time, unless that is 0, and what else there is. */
+static void set_timer(struct host *host, uint64_t at) {
     struct rs *rs = &host->rs;
-    uint64_t at = instances_due(&rs->instances);
     bool rests = host->admit_at || rs->peers.of_public >= PEERS_PUBLIC;
     rs->ticks.due = rs_due(rs);
     if (rs->ticks.due != TICKS_NEVER) {
@@ -332,10 +354,17 @@ static bool turn(struct host *host, bool *more) {
     rs_bury(rs); /* what couldn't begin */
     *more = rs->ending && rs_go_down(rs);
     take_in(rs);
-    *more |= peers_write(&rs->peers);
-    set_timer(host);
+    rs_keep_step(rs);
+    *more |= peers_send(&rs->peers);
+    bool is_down = rs->ending && !rs->left && !rs->instances.first;
+    if (is_down) rs_end_logs(rs);
+    uint64_t due = instances_due(&rs->instances);
+    if (rs->repeats) due = clock_now() + SOON;
+    rs->repeats = false;
+    bool logs = rs_turn_logs(rs, &due);
+    set_timer(host, due);
     log_count(&host->log);
-    return !rs->ending || rs->left || rs->instances.first;
+    return !is_down || logs;
 }
 
 /* Serves until a signal ends it. A reload ends all services, and begins with a new store: RS takes settings once. */
@@ -349,7 +378,7 @@ static int run(struct host *host) {
         if (!host->reloads) return DONE;
         peers_close(&host->rs.peers); /* so that clients notice */
         rs_close(&host->rs);
-    } while (rs_open(&host->rs, host->settings, host->slot));
+    } while (rs_open(&host->rs));
     return FAILED;
 }
 
@@ -357,11 +386,14 @@ static void prepare(struct host *host, const struct options *options) {
     struct rs *rs = &host->rs;
     host->listener.file = host->signals.file = host->timer.file = host->heard.file = -1;
     host->place = (struct place){.path = options->socket, .log = &host->log, .lock = -1, .listener = -1};
-    host->settings = options->settings;
-    host->slot = (uint16_t)options->slot;
+    host->cgroup = options->cgroup;
+    rs->path = options->settings;
+    rs->slot = (uint16_t)options->slot;
     rs->events.log = &host->log;
     rs->events.begun = clock_now();
     rs->generations = (struct generations){.path = options->generations, .file = -1};
+    rs->stream = (struct stream){.url = options->stream, .name = options->stream_name, .bell.file = -1};
+    rs->instances.cgroups.folder = -1;
     rs->instances.services = options->services;
     rs->instances.endpoints = host->folder;
     rs->instances.events = &rs->events;
@@ -375,7 +407,8 @@ int main(int count, char **words) {
     struct options options = {.tick = TICK, .grace = GRACE, .slot = SLOT};
     int status = read_words(count, words, &options);
     if (status >= 0) return status;
-    log_open(&host.log);
+    unsetenv(STREAM); /* it isn't for services */
+    log_open(&host.log, options.logs_json);
     prepare(&host, &options);
     status = open_all(&host);
     if (status == DONE) status = run(&host);

@@ -7,7 +7,6 @@
 #include <sys/socket.h>
 #include <sys/stat.h>
 #include <sys/un.h>
-#include <unistd.h>
 
 enum { MESSAGE = 4096, AT_ONCE = 64 /* messages of one turn */, ALL_MAY_WRITE = 0666 };
 
@@ -37,24 +36,17 @@ static void hear(struct rs *rs, struct instance *from, const char *line) {
     rs_event(rs, &beat, NULL);
 }
 
-/* Returns the process that sent a message, or 0. Descriptors that came with it are closed. */
+/* Returns the process that sent a message, or 0. */
 static pid_t sender_of(struct msghdr *message) {
     struct ucred who = {0};
-    for (struct cmsghdr *it = CMSG_FIRSTHDR(message); it; it = CMSG_NXTHDR(message, it)) {
-        if (it->cmsg_level != SOL_SOCKET) continue;
-        if (it->cmsg_type == SCM_CREDENTIALS) memcpy(&who, CMSG_DATA(it), sizeof who);
-        if (it->cmsg_type != SCM_RIGHTS) continue;
-        for (size_t at = 0; at + CMSG_LEN(0) < it->cmsg_len; at += sizeof(int)) {
-            int file;
-            memcpy(&file, CMSG_DATA(it) + at, sizeof file);
-            close(file);
-        }
-    }
+    const struct cmsghdr *it = CMSG_FIRSTHDR(message);
+    if (it && it->cmsg_level == SOL_SOCKET && it->cmsg_type == SCM_CREDENTIALS) memcpy(&who, CMSG_DATA(it), sizeof who);
     return who.pid;
 }
 
+/* There is room for the number alone, so the kernel drops descriptors that come with a message. */
 void heard_read(struct watch *heard, struct rs *rs) {
-    _Alignas(struct cmsghdr) char control[CMSG_SPACE(sizeof(struct ucred)) + CMSG_SPACE(sizeof(int))];
+    _Alignas(struct cmsghdr) char control[CMSG_SPACE(sizeof(struct ucred))];
     char text[MESSAGE];
     struct iovec part = {text, sizeof text - 1};
     heard->ready = 0;

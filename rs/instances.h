@@ -1,8 +1,10 @@
 /* The instances of services: RS's `start` and `kill`, carried out. An instance is a process group that dsrs began, with
- * the endpoint that RS gave it. Nothing of an older instance of a label runs when the next one begins. */
+ * the endpoint that RS gave it, in a cgroup of its own where there are cgroups. Nothing of an older instance of a label runs
+ * when the next one begins. */
 #ifndef DSRS_INSTANCES_H
 #define DSRS_INSTANCES_H
 
+#include "cgroups.h"
 #include "events.h"
 #include "service.h"
 #include "watch.h"
@@ -10,7 +12,10 @@
 #include <stdint.h>
 #include <sys/types.h>
 
-enum { ENDPOINT = 16 /* bytes of an endpoint's text, with its zero */ };
+enum {
+    ENDPOINT = 16,            /* bytes of an endpoint's text, with its zero */
+    INSTANCES = 3 * SERVICES  /* of each service one that runs, one that waits, and one that ends */
+};
 
 enum instance_state {
     INSTANCE_WAITS, /* until nothing of an older instance of its label is left */
@@ -27,7 +32,9 @@ struct instance {
     char endpoint[ENDPOINT];
     enum instance_state state;
     pid_t pid;
-    int socket, listener; /* socket: dsrs' end, until a peer has it; listener: where others connect to the instance */
+    int socket, theirs;   /* dsrs' end of the pair of sockets, until a peer has it; the end of the process, until that begins */
+    int cgroup;           /* its own, or -1 */
+    int listener;         /* where others connect to the instance */
     uint64_t kill_at;     /* when what is left of it is killed, by clock_now; 0: it is already */
     bool is_ready;        /* it sent READY=1 */
     bool died;            /* by itself, or it couldn't begin, and RS isn't told yet */
@@ -35,18 +42,21 @@ struct instance {
 };
 
 struct instances {
+    struct instance all[INSTANCES]; /* here, so that starting one needs no memory; without a service: unused */
     struct instance *first;
     const char *services, *endpoints; /* the folders of the programs and of the sockets */
     struct events *events;
     uint64_t tick;        /* milliseconds */
     uint64_t grace;       /* milliseconds between SIGTERM and SIGKILL */
+    struct cgroups cgroups;
+    const struct logger *loggers; /* the log programs of all services */
     int epoll;
     uint64_t sweep_at;    /* when strays are looked for, by clock_now; 0: no instance ended since */
 };
 
 /* Carries out RS's `start`: the endpoint's socket listens at once, and the process begins in this turn or a later one.
- * A start that fails is a death of the instance. Returns false if there is no memory for it. */
-bool instances_start(struct instances *all, struct service *service, uint32_t generation, uint16_t slot);
+ * A start that fails is a death of the instance. */
+void instances_start(struct instances *all, struct service *service, uint32_t generation, uint16_t slot);
 /* Ends an instance, of whose end RS knows. Gently: by SIGTERM, and SIGKILL after the grace. */
 void instances_kill(struct instances *all, struct instance *instance, bool gently);
 /* Takes an instance for dead, as one that couldn't begin. */

@@ -7,12 +7,16 @@
 
 enum { PIECE = 1 << 12 /* bytes that are read at a time */ };
 
-void output_open(struct output *output, int epoll) {
+static bool begin_reading(struct output *output, int epoll, int end) {
+    return !fcntl(end, F_SETFL, O_NONBLOCK) && watch_open(&output->from, epoll, end, EPOLLIN);
+}
+
+void output_open(struct output *output, int epoll, bool has_logger) {
     int ends[2];
     *output = (struct output){.from.file = -1, .to = -1};
     if (pipe2(ends, O_CLOEXEC)) return;
-    output->to = ends[1];
-    if (!fcntl(ends[0], F_SETFL, O_NONBLOCK) && watch_open(&output->from, epoll, ends[0], EPOLLIN)) return;
+    *output = (struct output){.from.file = ends[0], .to = ends[1]};
+    if (has_logger || begin_reading(output, epoll, ends[0])) return;
     close(ends[0]);
     close(ends[1]);
     *output = (struct output){.from.file = -1, .to = -1};
@@ -34,10 +38,15 @@ bool output_pass(struct output *output, const char *label, struct log *log) {
     return got > 0;
 }
 
-void output_close(struct output *output, int epoll, const char *label, struct log *log) {
+void output_end(struct output *output) {
     if (output->to >= 0) close(output->to);
+    output->to = -1;
+}
+
+void output_close(struct output *output, int epoll, const char *label, struct log *log) {
+    output_end(output);
+    if (output->from.file >= 0) fcntl(output->from.file, F_SETFL, O_NONBLOCK); /* a process that lives on may hold the other end */
     while (output_pass(output, label, log)) {}
     if (output->length) put_line(output, label, log);
     watch_close(&output->from, epoll);
-    output->to = -1;
 }

@@ -30,6 +30,7 @@ static void drop(struct peers *peers, size_t at) {
     watch_close(&peer->socket, peers->epoll);
     text_free(&peer->in);
     text_free(&peer->out);
+    parcels_drop(&peer->parcels);
     peers->of_public -= !peer->is_instance;
     free(peer);
     peers->peer[at] = peers->peer[--peers->count];
@@ -76,7 +77,9 @@ static void drop_lines(struct peer *peer, size_t done) {
     text_drop(&peer->in, peer->in.length - 1);
 }
 
-static bool may_answer(const struct peer *peer) { return !peer->gone && peer->out.length < PEER_WAITS; }
+static bool has_room(const struct peer *peer) { return !peer->gone && peer->out.length < PEER_WAITS; }
+
+static bool may_answer(const struct peer *peer) { return has_room(peer) && peer->parcels.count < PARCELS; }
 
 /* Whether it has a line that may be answered. */
 static bool is_ready(const struct peer *peer) {
@@ -128,7 +131,24 @@ void peers_finish(struct rs *rs, struct instance *instance) {
 
 void peers_tell(struct peers *peers, const struct instance *instance, const char *line) {
     struct peer *peer = peer_of(peers, instance);
-    if (peer && may_answer(peer)) text_print(&peer->out, "%s\n\n", line);
+    if (peer && has_room(peer)) text_print(&peer->out, "%s\n\n", line);
+}
+
+const char *peers_connect(struct peers *peers, struct peer *from, const struct instance *to) {
+    struct peer *other = peer_of(peers, to);
+    int pair[2];
+    while (other && other->parcels.count == PARCELS && parcels_send(&other->parcels, &other->out, other->socket.file)) {}
+    if (!other || !may_answer(other)) return "full";
+    size_t at = other->out.length;
+    if (socketpair(AF_UNIX, SOCK_SEQPACKET | SOCK_CLOEXEC, 0, pair)) return "noroom";
+    if (!text_print(&other->out, "peer %s\n\n", from->instance->endpoint)) {
+        close(pair[0]);
+        close(pair[1]);
+        return "noroom";
+    }
+    parcels_take(&other->parcels, at, pair[1]);
+    parcels_take(&from->parcels, from->out.length, pair[0]);
+    return NULL;
 }
 
 void peers_owe(struct peers *peers, const uint8_t owed[16]) {
@@ -139,7 +159,7 @@ void peers_owe(struct peers *peers, const uint8_t owed[16]) {
 }
 
 static void put_notices(struct peer *peer) {
-    for (int sub = 0; sub < 128 && may_answer(peer); sub++) {
+    for (int sub = 0; sub < 128 && has_room(peer); sub++) {
         bool is_due = peer->due[sub / 8] >> sub % 8 & 1;
         if (is_due && text_print(&peer->out, "notice %d\n\n", sub)) peer->due[sub / 8] &= (uint8_t)~(1 << sub % 8);
     }
@@ -149,13 +169,12 @@ static void put_notices(struct peer *peer) {
 static void hang_up(struct peer *peer) {
     peer->ended = true;
     text_free(&peer->out);
+    parcels_drop(&peer->parcels);
 }
 
 static void write_out(struct peer *peer) {
     if (!peer->out.length) return;
-    ssize_t put = send(peer->socket.file, peer->out.bytes, peer->out.length, MSG_DONTWAIT | MSG_NOSIGNAL);
-    if (put > 0) text_drop(&peer->out, (size_t)put);
-    else if (put < 0 && errno != EAGAIN && errno != EINTR) hang_up(peer);
+    if (!parcels_send(&peer->parcels, &peer->out, peer->socket.file) && errno != EAGAIN && errno != EINTR) hang_up(peer);
 }
 
 /* One that has ended and isn't written to isn't watched, since its hang-up would be reported again and again. */
@@ -177,7 +196,7 @@ static void limit(struct peers *peers) {
     if (waiting > PEERS_WAIT) most->gone = true;
 }
 
-bool peers_write(struct peers *peers) {
+bool peers_send(struct peers *peers) {
     bool ready = false;
     limit(peers);
     for (size_t i = peers->count; i-- > 0;) {

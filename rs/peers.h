@@ -4,6 +4,7 @@
 #define DSRS_PEERS_H
 
 #include "instances.h"
+#include "parcels.h"
 #include "text.h"
 #include "watch.h"
 #include <stdbool.h>
@@ -30,6 +31,7 @@ struct peer {
     bool gone;                 /* it is freed at the end of the turn */
     uint64_t lines;            /* how many it has sent */
     struct text in, out;
+    struct parcels parcels;       /* descriptors that go with bytes of `out` */
     uint8_t listens[16], due[16]; /* the subscriptions whose notices it wants, and those of them that it has to be sent */
     uint8_t leased[16];           /* the public's subscriptions that are its own as long as it is connected */
 };
@@ -52,10 +54,13 @@ void peers_finish(struct rs *rs, struct instance *instance);
 void peers_forget(struct peers *peers, const struct instance *instance);
 /* Sends an instance a line of dsrs' own. */
 void peers_tell(struct peers *peers, const struct instance *instance, const char *line);
+/* Gives an instance's peer and another instance an end each of a new pair of connected sockets: the peer with the line
+ * that is put for it next, the other with a line `peer ENDPOINT`. Returns NULL, or why not: `full` or `noroom`. */
+const char *peers_connect(struct peers *peers, struct peer *from, const struct instance *to);
 /* Owes the notices of a mask to those who listen. */
 void peers_owe(struct peers *peers, const uint8_t owed[16]);
 /* Writes what can be written, and frees who is gone. Returns whether some peer has lines that can be answered at once. */
-bool peers_write(struct peers *peers);
+bool peers_send(struct peers *peers);
 void peers_close(struct peers *peers);
 
 #endif

@@ -1,40 +1,73 @@
-/* The process of an instance. See process.h. */
+/* A process that dsrs begins. See process.h. */
 #include "process.h"
 #include <errno.h>
 #include <fcntl.h>
 #include <limits.h>
+#include <linux/sched.h>
 #include <signal.h>
+#include <stdarg.h>
 #include <stdbool.h>
 #include <stdio.h>
 #include <stdlib.h>
 #include <string.h>
 #include <sys/prctl.h>
+#include <sys/syscall.h>
 #include <unistd.h>
 
 enum { NOT_RUN = 127, SPARE = 16 /* descriptors below this one are given out by number */ };
+enum { VARIABLES = 9, VARIABLE = 192 /* bytes of one; paths of sockets are short */ };
 
-static void set_number(const char *name, unsigned long long value) {
-    char text[24];
-    snprintf(text, sizeof text, "%llu", value);
-    setenv(name, text, 1);
+/* The variables that are a process' own. They are made on the stack of the child: it may not allocate memory, since dsrs
+ * may have had another thread. */
+struct variables { size_t count; char text[VARIABLES][VARIABLE]; };
+
+/* ---- its environment ---- */
+
+__attribute__((format(printf, 2, 3))) static void set(struct variables *own, const char *format, ...) {
+    va_list given;
+    va_start(given, format);
+    vsnprintf(own->text[own->count++], VARIABLE, format, given);
+    va_end(given);
 }
 
-static void set_environment(const struct process *process) {
-    char path[PATH_MAX];
-    setenv("DS_LABEL", process->label, 1);
-    setenv("DS_ENDPOINT", process->endpoint, 1);
-    setenv("DS_FOLDER", process->endpoints, 1);
-    set_number("DS_FD", PROCESS_SOCKET);
-    set_number("DS_LISTEN", PROCESS_LISTENER);
-    if (process->first_sub >= 0) set_number("DS_SUB", (unsigned long long)process->first_sub);
-    snprintf(path, sizeof path, "%s/notify", process->endpoints);
-    setenv("NOTIFY_SOCKET", path, 1);
-    unsetenv("WATCHDOG_USEC");
-    unsetenv("WATCHDOG_PID");
+static void set_all(struct variables *own, const struct process *process) {
+    set(own, "DS_LABEL=%s", process->label);
+    if (!process->endpoint) return;
+    set(own, "DS_ENDPOINT=%s", process->endpoint);
+    set(own, "DS_FOLDER=%s", process->endpoints);
+    set(own, "DS_FD=%d", PROCESS_SOCKET);
+    set(own, "DS_LISTEN=%d", PROCESS_LISTENER);
+    set(own, "NOTIFY_SOCKET=%s/notify", process->endpoints);
+    if (process->first_sub >= 0) set(own, "DS_SUB=%d", process->first_sub);
     if (!process->silence) return;
-    set_number("WATCHDOG_USEC", process->silence);
-    set_number("WATCHDOG_PID", (unsigned long long)getpid());
+    set(own, "WATCHDOG_USEC=%llu", (unsigned long long)process->silence);
+    set(own, "WATCHDOG_PID=%d", getpid());
 }
+
+/* Whether dsrs gives a variable to some processes. Such a one of its own isn't passed on. */
+static bool is_given(const char *variable) {
+    static const char *const names[] = {"DS_LABEL", "DS_ENDPOINT", "DS_FOLDER", "DS_FD", "DS_LISTEN", "DS_SUB", "NOTIFY_SOCKET",
+                                        "WATCHDOG_USEC", "WATCHDOG_PID"};
+    size_t length = strcspn(variable, "=");
+    for (size_t i = 0; i < sizeof names / sizeof *names; i++)
+        if (strlen(names[i]) == length && !memcmp(names[i], variable, length)) return true;
+    return false;
+}
+
+static void execute_run(const struct process *process) {
+    struct variables own = {0};
+    size_t count = 0, used = 0;
+    while (environ[count]) count++;
+    char *list[count + VARIABLES + 1], *words[] = {"./run", NULL};
+    for (size_t i = 0; i < count; i++)
+        if (!is_given(environ[i])) list[used++] = environ[i];
+    set_all(&own, process);
+    for (size_t i = 0; i < own.count; i++) list[used++] = own.text[i];
+    list[used] = NULL;
+    execve(*words, words, list);
+}
+
+/* ---- the rest ---- */
 
 /* Both ignored and blocked signals would pass the exec: a shell's `&` ignores some, and dsrs blocks some. */
 static void reset_signals(void) {
@@ -44,34 +77,40 @@ static void reset_signals(void) {
     sigprocmask(SIG_SETMASK, &none, NULL);
 }
 
-/* Leaves the standard streams, the socket and the listener, and no other descriptor. Returns false, with errno. */
+/* Leaves the standard streams, an instance's socket and listener, and no other descriptor. Returns false, with errno. */
 static bool set_descriptors(const struct process *process) {
-    int null = open("/dev/null", O_RDONLY | O_CLOEXEC);
-    int socket = fcntl(process->socket, F_DUPFD_CLOEXEC, SPARE), listener = fcntl(process->listener, F_DUPFD_CLOEXEC, SPARE);
-    if (null < 0 || dup2(null, STDIN_FILENO) < 0) return false;
-    bool has_output = process->output >= 0;
+    bool has_sockets = process->endpoint, has_output = process->output >= 0;
+    int input = process->input < 0 ? open("/dev/null", O_RDONLY | O_CLOEXEC) : process->input, socket = -1, listener = -1;
+    if (has_sockets) socket = fcntl(process->socket, F_DUPFD_CLOEXEC, SPARE), listener = fcntl(process->listener, F_DUPFD_CLOEXEC, SPARE);
+    if (input < 0 || dup2(input, STDIN_FILENO) < 0) return false;
     if (has_output && (dup2(process->output, STDOUT_FILENO) < 0 || dup2(process->output, STDERR_FILENO) < 0)) return false;
-    if (dup2(socket, PROCESS_SOCKET) < 0 || dup2(listener, PROCESS_LISTENER) < 0) return false;
-    return !close_range(PROCESS_LISTENER + 1, ~0U, 0);
+    if (has_sockets && (dup2(socket, PROCESS_SOCKET) < 0 || dup2(listener, PROCESS_LISTENER) < 0)) return false;
+    return !close_range(has_sockets ? PROCESS_LISTENER + 1 : PROCESS_SOCKET, ~0U, 0);
 }
 
 /* The child. A change of user in `run` clears PDEATHSIG; the end of its socket tells it then that dsrs ended. */
 static _Noreturn void become(const struct process *process, pid_t parent) {
     char folder[PATH_MAX];
-    setsid();
+    if (process->endpoint) setsid();
+    else setpgid(0, 0);
     prctl(PR_SET_PDEATHSIG, SIGKILL);
     if (getppid() != parent) _exit(NOT_RUN); /* it ended before the line above */
     reset_signals();
-    set_environment(process);
-    int length = snprintf(folder, sizeof folder, "%s/%s", process->services, process->label);
+    int length = snprintf(folder, sizeof folder, "%s/%s", process->services, process->folder);
     errno = ENAMETOOLONG;
-    if (length < (int)sizeof folder && set_descriptors(process) && !chdir(folder)) execl("./run", "./run", (char *)NULL);
+    if (length < (int)sizeof folder && set_descriptors(process) && !chdir(folder)) execute_run(process);
     dprintf(STDERR_FILENO, "dsrs: %s/run: %s\n", folder, strerror(errno));
     _exit(NOT_RUN);
 }
 
+/* Forks, straight into the cgroup if there is one. */
+static pid_t fork_into(int cgroup) {
+    struct clone_args how = {.flags = CLONE_INTO_CGROUP, .exit_signal = SIGCHLD, .cgroup = (uint64_t)cgroup};
+    return cgroup < 0 ? fork() : (pid_t)syscall(SYS_clone3, &how, sizeof how);
+}
+
 pid_t process_begin(const struct process *process) {
-    pid_t parent = getpid(), child = fork();
+    pid_t parent = getpid(), child = fork_into(process->endpoint ? process->cgroup : -1);
     if (!child) become(process, parent);
     return child;
 }

@@ -1,24 +1,27 @@
-/* The process of an instance: what it is given at its start. Used by instances.c alone. */
+/* A process that dsrs begins: what it is given at its start. Used by instances.c and logger.c. */
 #ifndef DSRS_PROCESS_H
 #define DSRS_PROCESS_H
 
 #include <stdint.h>
 #include <sys/types.h>
 
-enum { PROCESS_SOCKET = 3, PROCESS_LISTENER = 4 }; /* its descriptors besides the standard ones */
+enum { PROCESS_SOCKET = 3, PROCESS_LISTENER = 4 }; /* descriptors of an instance besides the standard ones */
 
 struct process {
-    const char *services;  /* the folder in which the folder of its label has `run` */
+    const char *services, *folder; /* SERVICES/FOLDER/run is executed, in its folder */
+    const char *label;
+    int input, output;     /* what becomes its standard input, or -1: /dev/null; its standard output and error, or -1: those of dsrs */
+    const char *endpoint;  /* of an instance; NULL, for a log program, and then the rest isn't used */
     const char *endpoints; /* the folder of sockets */
-    const char *label, *endpoint;
-    int socket, listener;  /* what becomes its descriptors; */
-    int output;            /* and its standard output and error, or -1: those of dsrs */
+    int socket, listener;
+    int cgroup;            /* that it begins in, or -1 */
     int first_sub;         /* the first of its subscriptions, or -1 */
     uint64_t silence;      /* for how many microseconds it may be silent; 0: for ever */
 };
 
-/* Forks a process that runs `run` in the leader of a new session, and so of a new group. It ends with dsrs. Returns its
- * number, or -1. If `run` can't be executed, the process ends with status 127 after a line to standard error. */
+/* Forks a process that becomes `run`. It ends with dsrs. An instance is the leader of a new session, and so of
+ * a new group; a log program of a new group in the session of dsrs. Returns its number, or -1. If `run` can't be executed, the
+ * process ends with status 127 after a line to standard error. */
 pid_t process_begin(const struct process *process);
 
 #endif

@@ -54,14 +54,13 @@ static long read_number(const char *text, size_t length, long most) {
     return value <= most ? value : -1;
 }
 
-static bool read_endpoint(const char *text, size_t length, uint32_t *generation, uint16_t *slot) {
-    const char *slash = memchr(text, '/', length);
-    if (!slash) return false;
-    long high = read_number(text, (size_t)(slash - text), 2097151);
-    long low = read_number(slash + 1, length - (size_t)(slash - text) - 1, 1023);
-    *generation = (uint32_t)high;
-    *slot = (uint16_t)low;
-    return high >= 0 && low >= 0;
+/* Returns the instance whose endpoint is the rest of a request, or NULL where none is up there. */
+static const struct instance *read_instance(const struct rs *rs, const struct request *it) {
+    const char *slash = memchr(it->rest, '/', it->left);
+    if (!slash) return NULL;
+    size_t length = (size_t)(slash - it->rest);
+    long generation = read_number(it->rest, length, 2097151), slot = read_number(slash + 1, it->left - length - 1, 1023);
+    return generation < 0 || slot < 0 ? NULL : instances_at(&rs->instances, (uint32_t)generation, (uint16_t)slot);
 }
 
 static bool refuse(struct peer *peer, const char *word) { return text_print(&peer->out, "refused %s\n", word); }
@@ -145,19 +144,35 @@ static bool answer_beat(struct rs *rs, struct peer *peer) {
     return rs_event(rs, &beat, &peer->out);
 }
 
-/* `complain ENDPOINT`: a server says that an instance of a driver is wrong. By its endpoint, so a late complaint hits no
+/* A call of the library that says whether an instance may deal with a service in some way. */
+typedef uint32_t judge(struct ds_handle *, uint32_t generation, uint16_t slot, const char *label, size_t length);
+
+/* Returns NULL if a peer may deal with another instance, or the word by which that is refused. */
+static const char *barred(struct rs *rs, const struct peer *peer, const struct instance *other, judge *judge) {
+    const struct instance *from = peer->instance;
+    if (!from) return "notallowed";
+    if (!other) return "oldendpoint";
+    const char *label = other->service->label;
+    return from == other || judge(&rs->store, from->generation, from->slot, label, strlen(label)) ? "notallowed" : NULL;
+}
+
+/* `complain ENDPOINT`: an instance says that an instance of a driver is wrong. By its endpoint, so a late complaint hits no
  * newer instance. */
 static bool answer_complaint(struct rs *rs, struct peer *peer, const struct request *it) {
-    uint32_t generation;
-    uint16_t slot;
-    if (!peer->instance || !peer->instance->service->is_server) return refuse(peer, "notallowed");
-    const struct instance *about = NULL;
-    if (read_endpoint(it->rest, it->left, &generation, &slot)) about = instances_at(&rs->instances, generation, slot);
-    if (!about) return refuse(peer, "oldendpoint");
-    if (about->service->is_server) return refuse(peer, "notallowed");
+    const struct instance *about = read_instance(rs, it);
+    const char *why = barred(rs, peer, about, ds_rs_may_complain);
+    if (why) return refuse(peer, why);
     events_tell(&rs->events, LOG_WARN, "complaint: %s %s by %s", about->service->label, about->endpoint, peer->instance->service->label);
-    struct ds_rs_event death = rs_of_instance(DS_RS_DEATH, generation, slot, CAUSE_COMPLAINT);
+    struct ds_rs_event death = rs_of_instance(DS_RS_DEATH, about->generation, about->slot, CAUSE_COMPLAINT);
     return rs_event(rs, &death, &peer->out);
+}
+
+/* `connect ENDPOINT`: both ends know by dsrs' word who has the other one, and no right to a file is needed. */
+static bool answer_connect(struct rs *rs, struct peer *peer, const struct request *it) {
+    const struct instance *to = read_instance(rs, it);
+    const char *why = barred(rs, peer, to, ds_rs_may_connect);
+    if (!why) why = peers_connect(&rs->peers, peer, to);
+    return why ? refuse(peer, why) : text_print(&peer->out, "connected %s\n", to->endpoint);
 }
 
 /* `service up LABEL`, or down, refresh, restart, from the user that dsrs has: the tick is the clock's. */
@@ -187,6 +202,7 @@ bool requests_answer(struct rs *rs, struct peer *peer, const char *line, size_t 
     if (begins_with_any(&it, subscriptions)) return answer_subscription(rs, peer, &it);
     if (begins_with_any(&it, changes)) return answer_change(rs, peer, &it);
     if (begins(&it, "complain")) return answer_complaint(rs, peer, &it);
+    if (begins(&it, "connect")) return answer_connect(rs, peer, &it);
     if (begins(&it, "service")) return answer_service(rs, peer, &it);
     if (begins(&it, "beat") && !it.left && peer->instance) return answer_beat(rs, peer);
     if (begins(&it, "status") && !it.left) return status_put(rs, &peer->out);

@@ -12,35 +12,57 @@ enum { ACTIONS = 8 /* of one event; the library has six at most */, FIRST_GENERA
 
 /* ---- opening and closing ---- */
 
+/* What it prints goes to its log program, if it has one. */
+static void open_output(struct rs *rs, struct service *service) {
+    char program[PATH_MAX];
+    int length = snprintf(program, sizeof program, "%s/%s/log/run", rs->instances.services, service->label);
+    bool has_logger = length < (int)sizeof program && !access(program, F_OK);
+    output_open(&service->output, rs->instances.epoll, has_logger);
+    logger_open(&service->logger, has_logger ? service->output.from.file : -1);
+    service->logger.next = rs->instances.loggers;
+    rs->instances.loggers = &service->logger;
+}
+
 static void learn_services(struct rs *rs) {
     struct ds_rs_service it;
     uint64_t shortest = UINT64_MAX;
     int servers = 0;
     for (rs->services = 0; rs->services < SERVICES && !ds_rs_service(&rs->store, rs->services, &it); rs->services++) {
         struct service *service = &rs->service[rs->services];
-        *service = (struct service){.is_server = it.service_class == DS_RS_SERVER, .period = it.period, .server = -1};
+        *service = (struct service){.period = it.period, .server = -1};
         memcpy(service->label, it.label, it.label_length);
-        output_open(&service->output, rs->instances.epoll);
-        if (service->is_server && servers < SERVERS - 1) service->server = servers++; /* the last one's are the public's */
+        open_output(rs, service);
+        if (it.service_class == DS_RS_SERVER && servers < SERVERS - 1) service->server = servers++; /* the last one's are the public's */
         if (it.period && it.period < shortest) shortest = it.period;
     }
     rs->ticks.leap = shortest > 3 ? shortest / 2 : 1; /* RS misses nobody before two periods */
 }
 
-bool rs_judge(struct rs *rs, const char *path, uint16_t slot) {
-    struct ds_handle store = DS_CLOSED;
-    if (!settings_open(&store, path, FIRST_GENERATION, slot, &rs->events)) return false;
-    ds_close(&store);
+static bool is_in_use(struct rs *rs, const struct text *settings) {
+    if (settings->length != rs->settings.length || memcmp(settings->bytes, rs->settings.bytes, settings->length)) return false;
+    events_tell(&rs->events, LOG_INFO, "settings: %s: they are in use", rs->path);
     return true;
 }
 
-bool rs_open(struct rs *rs, const char *path, uint16_t slot) {
+bool rs_read(struct rs *rs) {
+    struct ds_handle judged = DS_CLOSED;
+    struct text settings = {0};
+    bool fine = settings_read(rs->path, &settings, &rs->events) && !(rs->services && is_in_use(rs, &settings))
+                && settings_open(&judged, rs->path, &settings, FIRST_GENERATION, rs->slot, &rs->events);
+    ds_close(&judged);
+    text_free(fine ? &rs->settings : &settings);
+    if (fine) rs->settings = settings;
+    return fine;
+}
+
+bool rs_open(struct rs *rs) {
     uint32_t next = generations_open(&rs->generations, rs->generations.path);
     if (!next) {
         const char *why = errno == EINVAL ? "it holds no generation" : strerror(errno);
         events_tell(&rs->events, LOG_ERROR, "generations: %s: %s", rs->generations.path, why);
     }
-    if (!next || !settings_open(&rs->store, path, next, slot, &rs->events)) return false;
+    if (!next || !settings_open(&rs->store, rs->path, &rs->settings, next, rs->slot, &rs->events)) return false;
+    if (!stream_open(&rs->stream, &rs->store, rs->instances.epoll, rs->events.log)) return false;
     ticks_open(&rs->ticks, rs->ticks.length);
     learn_services(rs);
     rs->ending = false;
@@ -52,8 +74,10 @@ void rs_close(struct rs *rs) {
     for (size_t i = 0; i < rs->services; i++)
         output_close(&rs->service[i].output, rs->instances.epoll, rs->service[i].label, rs->events.log);
     rs->services = 0;
+    rs->instances.loggers = NULL;
     if (ds_rs_next(&rs->store, &next)) next = 0;
     generations_close(&rs->generations, next);
+    stream_close(&rs->stream, rs->instances.epoll);
     ds_close(&rs->store);
 }
 
@@ -90,8 +114,7 @@ static void kill_instance(struct rs *rs, const struct ds_rs_action *action) {
 
 static void start_instance(struct rs *rs, const struct ds_rs_action *action) {
     struct service *service = service_of(rs, action);
-    if (service && instances_start(&rs->instances, service, action->generation, action->slot)) return;
-    events_tell(&rs->events, LOG_ERROR, "noroom: %u/%u isn't started", action->generation, action->slot);
+    if (service) instances_start(&rs->instances, service, action->generation, action->slot);
 }
 
 static void ping_instance(struct rs *rs, const struct ds_rs_action *action) {
@@ -137,6 +160,17 @@ static void keep_generation(struct rs *rs) {
     events_tell(&rs->events, LOG_ERROR, "generations: %s: %s", rs->generations.path, strerror(errno));
 }
 
+/* Notes which servers get a notice of what RS did. */
+static void note_told(struct rs *rs, const uint8_t owed[16]) {
+    for (size_t i = 0; i < rs->peers.count; i++) {
+        const struct peer *peer = rs->peers.peer[i];
+        const struct instance *it = peer->instance;
+        bool is_told = false;
+        for (size_t byte = 0; byte < sizeof peer->listens; byte++) is_told |= owed[byte] & peer->listens[byte];
+        if (it && is_told) events_tell(&rs->events, LOG_INFO, "told: %s %s", it->service->label, it->endpoint);
+    }
+}
+
 /* Fetches all actions before the first is carried out, since the next request replaces them. */
 static bool report(struct rs *rs, struct ds_rs_event *event, struct text *to, struct ds_answer *answer) {
     struct ds_rs_action actions[ACTIONS];
@@ -149,7 +183,17 @@ static bool report(struct rs *rs, struct ds_rs_event *event, struct text *to, st
     while (count < ACTIONS && !ds_rs_action(&rs->store, count, &actions[count])) count++;
     for (size_t i = 0; i < count; i++) act(rs, &actions[i]);
     peers_owe(&rs->peers, answer->owed);
+    note_told(rs, answer->owed);
     return put;
+}
+
+/* Reports what RS has to learn. Returns false where memory ran out for it, and then it is to be reported again. */
+static bool has_learnt(struct rs *rs, struct ds_rs_event *event) {
+    struct ds_answer answer = {0};
+    report(rs, event, NULL, &answer);
+    bool ran_out = answer.word == DS_REFUSED && answer.refusal == DS_NOROOM;
+    rs->repeats |= ran_out;
+    return !ran_out;
 }
 
 bool rs_event(struct rs *rs, struct ds_rs_event *event, struct text *to) {
@@ -163,11 +207,11 @@ void rs_bury(struct rs *rs) {
     for (struct instance *it = rs->instances.first, *next; it; it = next) {
         next = it->next;
         if (!it->died) continue;
-        it->died = false;
         it->service->cause = it->cause;
         struct ds_rs_event death = rs_of_instance(DS_RS_DEATH, it->generation, it->slot, it->cause);
         peers_forget(&rs->peers, it);
-        rs_event(rs, &death, NULL);
+        if (!has_learnt(rs, &death)) continue;
+        it->died = false;
         instances_kill(&rs->instances, it, false); /* what may be left of its group */
     }
 }
@@ -179,6 +223,12 @@ void rs_tick(struct rs *rs) {
         struct ds_rs_event tick = {.kind = DS_RS_TICK};
         report(rs, &tick, NULL, &answer);
     }
+}
+
+void rs_keep_step(struct rs *rs) {
+    uint8_t owed[16] = {0};
+    stream_turn(&rs->stream, owed, rs->events.log);
+    peers_owe(&rs->peers, owed);
 }
 
 uint64_t rs_due(struct rs *rs) {
@@ -193,15 +243,36 @@ void rs_begin(struct rs *rs) {
         int length = snprintf(path, sizeof path, "%s/%s/down", rs->instances.services, label);
         if (length >= (int)sizeof path || !access(path, F_OK)) continue;
         struct ds_rs_event up = rs_of_label(DS_RS_UP, label, strlen(label));
-        rs_event(rs, &up, NULL);
+        if (!has_learnt(rs, &up)) events_tell(&rs->events, LOG_ERROR, "noroom: %s isn't started", label);
     }
 }
 
 bool rs_go_down(struct rs *rs) {
     bool is_last = rs->left == rs->services;
     if (!rs->left || (!is_last && instances_has(&rs->instances, &rs->service[rs->left]))) return false;
-    const char *label = rs->service[--rs->left].label;
+    const char *label = rs->service[rs->left - 1].label;
     struct ds_rs_event down = rs_of_label(DS_RS_DOWN, label, strlen(label));
-    rs_event(rs, &down, NULL);
+    if (!has_learnt(rs, &down)) return false;
+    rs->left--;
     return true;
+}
+
+/* ---- log programs ---- */
+
+bool rs_turn_logs(struct rs *rs, uint64_t *due) {
+    bool runs = false;
+    for (size_t i = 0; i < rs->services; i++) {
+        struct service *it = &rs->service[i];
+        runs |= logger_turn(&it->logger, rs->instances.services, it->label, rs->instances.epoll, &rs->events);
+        if (it->logger.due && (!*due || it->logger.due < *due)) *due = it->logger.due;
+    }
+    return runs;
+}
+
+void rs_end_logs(struct rs *rs) {
+    for (size_t i = 0; i < rs->services; i++) {
+        if (rs->service[i].output.to < 0) continue;
+        output_end(&rs->service[i].output);
+        logger_end(&rs->service[i].logger, rs->instances.grace);
+    }
 }

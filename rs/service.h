@@ -2,6 +2,7 @@
 #ifndef DSRS_SERVICE_H
 #define DSRS_SERVICE_H
 
+#include "logger.h"
 #include "output.h"
 #include <stdbool.h>
 #include <stdint.h>
@@ -19,13 +20,13 @@ enum cause { CAUSE_NONE, CAUSE_EXIT, CAUSE_EXCEPTION, CAUSE_SIGNAL, CAUSE_HEARTB
 
 struct service {
     char label[SERVICE_LABEL];
-    bool is_server;
     int server;      /* its number among the servers that have subscriptions, or -1 */
     uint64_t period; /* ticks between two heartbeats, or 0 */
     uint64_t since;  /* when its last instance was started or ended, by clock_now */
     enum cause cause; /* why the last instance ended */
     char status[SERVICE_STATUS]; /* the last STATUS= of its instance */
     struct output output;
+    struct logger logger;
 };
 
 #endif

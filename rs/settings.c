@@ -15,15 +15,16 @@ static bool failed(struct events *events, const char *path, const char *why) {
     return false;
 }
 
-static bool read_file(const char *path, struct text *text) {
+bool settings_read(const char *path, struct text *text, struct events *events) {
     FILE *file = fopen(path, "re");
-    if (!file) return false;
+    if (!file) return failed(events, path, strerror(errno));
     bool has_room = text_room(text, MOST);
     if (has_room) text->length = fread(text->bytes, 1, MOST, file);
     bool is_whole = has_room && feof(file);
     errno = !has_room ? ENOMEM : ferror(file) ? EIO : EFBIG;
+    int error = errno;
     fclose(file);
-    return is_whole;
+    return is_whole || failed(events, path, strerror(error));
 }
 
 /* Says what `dsctl settings` would say of the file in more words. */
@@ -51,16 +52,11 @@ static uint64_t new_incarnation(void) {
     return (uint64_t)now.tv_sec * 1000000000 + (uint64_t)now.tv_nsec;
 }
 
-bool settings_open(struct ds_handle *store, const char *path, uint32_t next, uint16_t slot, struct events *events) {
+bool settings_open(struct ds_handle *store, const char *path, const struct text *text, uint32_t next, uint16_t slot,
+                   struct events *events) {
     struct ds_settings_fault fault = {.service = UINT32_MAX};
-    struct text text = {0};
-    if (!read_file(path, &text)) {
-        text_free(&text);
-        return failed(events, path, strerror(errno));
-    }
     uint32_t refusal = ds_open(store, new_incarnation(), 0, RING);
-    if (!refusal) refusal = ds_rs_open(store, text.bytes, text.length, next, slot, &fault);
-    text_free(&text);
+    if (!refusal) refusal = ds_rs_open(store, text->bytes, text->length, next, slot, &fault);
     bool fine = refusal ? refused(events, path, refusal, &fault) : name_folders(store) || failed(events, path, "a label begins with a dot");
     if (!fine) ds_close(store);
     return fine;

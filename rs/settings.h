@@ -4,10 +4,16 @@
 
 #include "ds.h"
 #include "events.h"
+#include "text.h"
 #include <stdbool.h>
 
-/* Opens a store in a closed handle, with RS beside it for the settings of a file. Returns false, with the handle closed,
- * after an event that says why. */
-bool settings_open(struct ds_handle *store, const char *path, uint32_t next, uint16_t slot, struct events *events);
+/* These return false after an event that says why. */
+
+/* Puts the text of a file. */
+bool settings_read(const char *path, struct text *text, struct events *events);
+/* Opens a store in a closed handle, with RS beside it for the settings that a text has, read from the path. Returns false with
+ * the handle closed. */
+bool settings_open(struct ds_handle *store, const char *path, const struct text *text, uint32_t next, uint16_t slot,
+                   struct events *events);
 
 #endif

@@ -2,6 +2,7 @@
 #include "strays.h"
 #include "text.h"
 #include <dirent.h>
+#include <errno.h>
 #include <fcntl.h>
 #include <signal.h>
 #include <stdio.h>
@@ -12,7 +13,7 @@
 
 enum { PIECE = 1 << 12, ENVIRONMENT = 1 << 22 /* bytes that are read of one */ };
 
-struct seen { pid_t parent, session; char state; };
+struct seen { pid_t parent, group, session; char state; };
 
 /* Reads what the kernel says of a process. The name in it, in parentheses, may have any bytes. */
 static bool look_at(pid_t pid, struct seen *seen) {
@@ -25,12 +26,15 @@ static bool look_at(pid_t pid, struct seen *seen) {
     if (length <= 0) return false;
     line[length] = '\0';
     const char *rest = strrchr(line, ')');
-    return rest && sscanf(rest + 1, " %c %d %*d %d", &seen->state, &seen->parent, &seen->session) == 3;
+    return rest && sscanf(rest + 1, " %c %d %d %d", &seen->state, &seen->parent, &seen->group, &seen->session) == 4;
 }
 
-static bool is_of_an_instance(const struct instances *all, pid_t pid, pid_t session) {
+/* Whether it isn't a stray: it is of an instance, or a log program, or lives in the group of one. */
+static bool is_known(const struct instances *all, pid_t pid, const struct seen *seen) {
+    for (const struct logger *it = all->loggers; it; it = it->next)
+        if (it->pid == pid || (it->pid == seen->group && seen->state != 'Z')) return true;
     for (const struct instance *it = all->first; it; it = it->next)
-        if (it->pid == pid || it->pid == session) return true;
+        if (it->pid == pid || it->pid == seen->session) return true;
     return false;
 }
 
@@ -48,30 +52,32 @@ static bool read_whole(const char *path, struct text *text) {
     return length == 0 && text_put(text, "", 1);
 }
 
-/* Whether a stray began with the environment of an instance that is up. */
+/* Whether a stray is of an instance that is up: by the cgroup that it is in, or by the environment that it began with. */
 static bool has_a_living_instance(const struct instances *all, pid_t pid) {
     char path[32];
-    unsigned generation = 0, slot = 0;
+    unsigned generation, slot;
     struct text text = {0};
-    snprintf(path, sizeof path, "/proc/%d/environ", pid);
-    bool found = false;
-    if (read_whole(path, &text)) {
-        for (size_t at = 0; at < text.length && !found; at += strlen(text.bytes + at) + 1)
-            found = sscanf(text.bytes + at, "DS_ENDPOINT=%u/%u", &generation, &slot) == 2;
-    }
+    bool by_cgroup = all->cgroups.folder >= 0, found = false;
+    const char *format = by_cgroup ? "%u.%u" : "DS_ENDPOINT=%u/%u";
+    snprintf(path, sizeof path, "/proc/%d/%s", pid, by_cgroup ? "cgroup" : "environ");
+    size_t length = read_whole(path, &text) ? text.length : 0;
+    for (size_t i = 0; by_cgroup && i < length; i++)
+        if (text.bytes[i] == '/') text.bytes[i] = '\0';
+    for (size_t at = 0; at < length && !found; at += strlen(text.bytes + at) + 1)
+        found = sscanf(text.bytes + at, format, &generation, &slot) == 2 && instances_at(all, generation, (uint16_t)slot);
     text_free(&text);
-    return found && instances_at(all, generation, (uint16_t)slot);
+    return found;
 }
 
-/* A child of dsrs keeps its number until it is reaped here. */
+/* A child of dsrs keeps its number until it is reaped here. What can't be listed now is listed later. */
 bool strays_kill(const struct instances *all) {
     DIR *folder = opendir("/proc");
-    bool found = false;
+    bool found = !folder && errno != ENOENT;
     for (struct dirent *entry; folder && (entry = readdir(folder));) {
         pid_t pid = atoi(entry->d_name);
         struct seen seen;
         if (pid <= 0 || !look_at(pid, &seen) || seen.parent != getpid()) continue;
-        if (is_of_an_instance(all, pid, seen.session)) continue;
+        if (is_known(all, pid, &seen)) continue;
         if (seen.state != 'Z' && has_a_living_instance(all, pid)) continue;
         if (seen.state != 'Z') events_tell(all->events, LOG_WARN, "stray: pid %d is killed", pid);
         kill(pid, SIGKILL);

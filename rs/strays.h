@@ -6,7 +6,7 @@
 #include "instances.h"
 
 /* Kills and reaps the strays whose instance has ended, and reaps those that have ended themselves. Returns whether there
- * were any. A stray's instance is known by DS_ENDPOINT in the environment that it began with. */
+ * were any. A stray's instance is known by its cgroup, or where there are none by DS_ENDPOINT in the environment that it began with. */
 bool strays_kill(const struct instances *all);
 
 #endif

@@ -1,10 +1,11 @@
-/* A file server follows its disk driver by a map. Messages may come late, twice or from elsewhere, but the file server
- * never sends to an older driver than it knew.
+/* A file server follows its disk drivers by a map, and sends them requests by a driver table. Messages may come late, twice
+ * or from elsewhere, but the file server never sends to an older driver than it knew.
  *
- * It takes all that is held once, and then what came after its cursor. A message from before the driver's death changes
- * nothing when it arrives late.
+ * It takes all that is held once, and then what came after its cursor. A request that no driver answered yet waits, or is
+ * sent again once the driver runs again. A message or a reply from before the driver's death changes nothing when it
+ * arrives late.
  *
- *     fileserver [DISKS]       the number of disks, at most 1000; by default 1 */
+ *     fileserver [DISKS]       the number of disks, at most 1000; by default 1. The first 256 have a unit */
 #include "ds.h"
 #include <stdio.h>
 #include <stdlib.h>
@@ -16,13 +17,18 @@ enum {
     MOST_DISKS = 1000, /* slots end at 1023 */
     JOURNAL = 512,     /* items that the store's journal keeps */
     MOST = 256,        /* items of an answer to a since */
-    ROOM = 4096        /* bytes, and at least DS_MAX_PIECE */
+    ROOM = 4096,       /* bytes, and at least DS_MAX_PIECE */
+    MOST_UNITS = 256,  /* of the table */
+    ROUNDS = 2,        /* of requests, one for each unit */
+    SOME = 8           /* moves that are fetched at a time */
 };
 
 static struct ds_handle store = DS_CLOSED;
 static struct ds_map drivers = DS_CLOSED;
+static struct ds_table table = DS_CLOSED;
+static struct ds_move sent[ROUNDS * MOST_UNITS + 1]; /* where each request is, by its id */
 static struct ds_request next = {.command = DS_SNAPSHOT}; /* what the file server asks for when it looks again */
-static unsigned long disks = 1;
+static unsigned long disks = 1, units = 1;
 
 static void give_up(const char *why) {
     fprintf(stderr, "fileserver: %s\n", why);
@@ -122,24 +128,86 @@ static int take_next(void) {
     return !is_all && answer.pieces == MOST;
 }
 
-static void catch_up(void) {
-    while (take_next()) {
+static void carry_out_move(const struct ds_move *move) {
+    unsigned long id = (unsigned long)move->id;
+    switch (move->kind) {
+    case DS_MOVE_SEND:
+        printf("fs: request %lu goes to %u/%u\n", id, move->generation, move->slot);
+        sent[id] = *move;
+        break;
+    case DS_MOVE_HELD: printf("fs: request %lu waits for a driver\n", id); break;
+    case DS_MOVE_DONE: printf("fs: request %lu is done\n", id); break;
+    default: give_up("a disk has no such move");
     }
 }
 
-/* Sends to each disk's driver, at the endpoint that the map has. */
-static void send(void) {
-    for (unsigned long disk = 0; disk < disks; disk++) {
-        struct ds_request named = {0};
-        struct ds_answer where;
-        set_name(&named, disk);
-        ds_map_label(&drivers, named.name, named.name_length, &where);
-        if (where.word == DS_FOUND) {
-            printf("fs: i send to %u/%u\n", where.value, where.value_slot);
-        } else {
-            printf("fs: there is no %.*s\n", named.name_length, named.name);
+/* Carries out the moves of an answer of the table, in order. */
+static void carry_out(const struct ds_answer *answer) {
+    struct ds_move moves[SOME];
+    size_t given;
+    for (size_t first = 0; first < answer->count; first += given) {
+        if (ds_table_moves(&table, first, moves, SOME, &given) != 0) {
+            give_up("the table is closed");
+        }
+        for (size_t i = 0; i < given; i++) {
+            carry_out_move(&moves[i]);
         }
     }
+    if (answer->refusal != 0) {
+        give_up(ds_refusal_text(answer->refusal));
+    }
+}
+
+/* Takes all that is new, and lets the table follow: what waits is sent, and what a dead driver had is sent again. */
+static void catch_up(void) {
+    struct ds_answer answer;
+    while (take_next()) {
+    }
+    if (ds_table_follow(&table, &drivers, &answer) != 0) {
+        give_up("the table is closed");
+    }
+    carry_out(&answer);
+}
+
+static void assign_units(void) {
+    for (unsigned long unit = 0; unit < units; unit++) {
+        struct ds_request named = {0};
+        struct ds_answer answer;
+        set_name(&named, unit);
+        if (ds_table_assign(&table, (uint8_t)unit, DS_RS_BLOCK, named.name, named.name_length, &answer) != 0 ||
+            answer.word != DS_MOVED) {
+            give_up("a unit isn't assigned");
+        }
+    }
+}
+
+/* Submits a request to each unit. Ids rise, round by round. */
+static void submit(unsigned long round) {
+    for (unsigned long unit = 0; unit < units; unit++) {
+        struct ds_answer answer;
+        if (ds_table_submit(&table, &drivers, round * units + unit + 1, (uint8_t)unit, &answer) != 0) {
+            give_up("the table is closed");
+        }
+        carry_out(&answer);
+    }
+}
+
+/* Each driver replies to the request of a round that was sent to it. */
+static void reply(unsigned long round) {
+    for (unsigned long id = round * units + 1; id <= (round + 1) * units; id++) {
+        struct ds_answer answer;
+        if (ds_table_reply(&table, sent[id].generation, sent[id].slot, id, &answer) != 0) {
+            give_up("the table is closed");
+        }
+        carry_out(&answer);
+    }
+}
+
+/* The driver that died replied before its death. */
+static void reply_late(uint32_t generation) {
+    struct ds_answer answer;
+    ds_table_reply(&table, generation, FIRST_SLOT, units + 1, &answer);
+    printf("fs: a reply from %u/%d is refused: %s\n", generation, FIRST_SLOT, ds_refusal_text(answer.refusal));
 }
 
 /* Takes what another server passes on late. */
@@ -157,21 +225,25 @@ int main(int count, char **arguments) {
     if (disks > MOST_DISKS) {
         give_up("too many disks");
     }
-    if (ds_open(&store, 1, 0, JOURNAL) != 0 || ds_map_new(&drivers, DS_LABEL, "disk.*", 6) != 0) {
+    units = disks < MOST_UNITS ? disks : MOST_UNITS;
+    if (ds_open(&store, 1, 0, JOURNAL) != 0 || ds_map_new(&drivers, DS_LABEL, "disk.*", 6) != 0 ||
+        ds_table_new(&table, DS_TABLE_FILES) != 0) {
         give_up("out of memory");
     }
-    send();
+    assign_units();
+    submit(0);
 
     started(3);
     catch_up();
-    send();
+    reply(0);
+    submit(1);
 
     died(3);
     started(4);
     catch_up();
-    send();
 
     take_late();
-    send();
-    return ds_map_close(&drivers) != 0 || ds_close(&store) != 0;
+    reply_late(3);
+    reply(1);
+    return ds_table_close(&table) != 0 || ds_map_close(&drivers) != 0 || ds_close(&store) != 0;
 }

@@ -14,6 +14,8 @@ class Refused(Exception):
     """
 
     word = "refused"
+    line: Optional[int] = None  # of settings that aren't TOML
+    service: Optional[int] = None  # that is at fault in settings, counted from 0
 
     def __init__(self, version: Optional[Version] = None, done: int = 0, owed: FrozenSet[int] = frozenset()) -> None:
         super().__init__(f"{self.word}: {self.__doc__}")
@@ -52,7 +54,7 @@ class BadRing(Refused, ValueError): """A journal keeps 1 to 4096 items."""
 class BadFirst(Refused, ValueError): """The first position is at most 2^62."""
 class IsClosed(Refused, ValueError): """The store or the map is closed."""
 class IsOpen(Refused, ValueError): """The handle is open already."""
-# Those of RS, which no call of this package opens.
+# Those of an event of RS, and of its settings.
 class TickBack(Refused, ValueError): """The tick is below that of the last event that RS took."""
 class UnknownLabel(Refused, LookupError): """No service of RS has the label."""
 class BadCause(Refused, ValueError): """A cause of death is 1 to 6."""
@@ -68,6 +70,11 @@ class OutOfRange(Refused, ValueError): """A value of the settings is of another 
 class TwoLabels(Refused, ValueError): """Two services have one label."""
 class TwoUnits(Refused, ValueError): """Two services have one major number, or one port."""
 class SharedName(Refused, ValueError): """A name is published by two services, or twice by one."""
+# Those of a driver table.
+class Assigned(Refused): """The unit has a driver."""
+class TwoIds(Refused, ValueError): """The id isn't above that of every request that was accepted."""
+class NoDevice(Refused, LookupError): """The unit has no driver."""
+class NotPending(Refused, LookupError): """There is no unanswered request of this id."""
 
 
 NUMBERED = dict(enumerate(Refused.__subclasses__(), 1))

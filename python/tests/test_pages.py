@@ -21,6 +21,7 @@ import servers
 
 PACKAGE = support.ROOT / "python" / "pengtawis"
 PAGE = support.ROOT / "docs" / "guide" / "python.md"
+RS_PAGE = support.ROOT / "docs" / "guide" / "rs.md"
 BLOCK = re.compile(r"(?<=\n\n)(?:    .*\n)+")
 WATCH = support.ROOT / "examples" / "python" / "watch.py"
 PATIENCE = 30  # seconds
@@ -79,6 +80,12 @@ class Pages(unittest.TestCase):
                 test = doctest.DocTestParser().get_doctest(PAGE.read_text(), {}, PAGE.name, str(PAGE), 0)
                 self.assertGreater(len(test.examples), 15)
                 self.assertEqual(runner.run(test).failed, 0)
+
+    def test_the_session_of_the_page_of_rs(self):
+        text = RS_PAGE.read_text()
+        test = doctest.DocTestParser().get_doctest(text, dict(vars(pengtawis)), RS_PAGE.name, str(RS_PAGE), 0)
+        self.assertGreater(len(test.examples), 5)
+        self.assertEqual(doctest.DocTestRunner().run(test).failed, 0)
 
     def test_each_block_of_the_page_is_tried(self):
         """Runs each block that isn't a session of Python's in a shell at the root of the repository. It prints nothing."""

@@ -1,6 +1,7 @@
 """What bridges must do for their clients and as processes: sockets, descriptors, logs, `fleet/ask`. scenes.py lists these."""
 import contextlib
 import fcntl
+import json
 import os
 import re
 import resource
@@ -332,6 +333,19 @@ def what_a_log_line_is(fleet, draw):
     assert all(map(LOGGED.fullmatch, lines)), lines
     assert r'a \"quote\" and a \\ ?"' in bridge.said(), lines
     assert [it.split()[:2] for it in lines if "serves" in it] == [["INFO", "event=serves"]] and any(it.startswith("WARN event=unread") for it in lines)
+
+
+def what_a_log_line_is_in_json(fleet, draw):
+    """With --log-format json each line of the log is an object with the same level, event and text, whatever others sent."""
+    bridge = fleet.start("--log-format", "json")
+    fleet.ask("XADD", "ds:items", "*", "from", "x", "items", 'a "quote" and a \\ \x1b\n' + number("b", 1, 1))
+    shows(bridge, [number("b", 1, 1)])
+    fleet.kill_server()
+    until(lambda: '"away"' in bridge.said(), "the server's end is told")
+    lines = [json.loads(it) for it in bridge.said().splitlines()]
+    assert all(set(it) == {"level", "event", "text"} and it["level"] in ("INFO", "WARN", "ERROR") for it in lines), lines
+    assert [it["level"] for it in lines if it["event"] == "serves"] == ["INFO"], lines
+    assert any(it["event"] == "unread" and it["text"].endswith('a "quote" and a \\ ?') for it in lines), lines
 
 
 SAMPLE = re.compile(r'(dsfleet_[a-z_]+)(?:\{[a-z]+="([^"]*)"\})? (\S+)')

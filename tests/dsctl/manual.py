@@ -11,8 +11,9 @@ MADE = "made by tests/dsctl/manual from the program's help"
 HELP = "help"  # the command whose words are those of the others
 MANY = 16  # so many numbers aren't offered one by one
 EXAMPLES = ("Example session", "Two replicas", "A driver that dies")  # how the paragraphs begin that show something
+OF_LINES = "new over first later label u32 str mem file net block character up down refresh help quit exit".split()  # beside the first words
 SEE_ALSO = [
-    "\\fBrlwrap\\fR(1), which adds history and editing: \\fBrlwrap dsctl\\fR.",
+    "\\fBrlwrap\\fR(1), which adds history, editing and words at the Tab key: \\fBrlwrap dsctl\\fR.",
     ".PP",
     "In the documents of Pengtawis: docs/guide/, a page for each task; docs/reference/lines.md, all lines and answers;",
     "docs/reference/refusals.md, a session for each refusal; docs/reference/minix.md, MINIX 3's calls; examples/README.md, scripts and pictures.",
@@ -27,6 +28,7 @@ class Help:
     about: str  # before the usage
     usage: str
     commands: List[Tuple[str, str]]  # words, and what each does
+    arguments: List[Tuple[str, str]]  # as `[FILE]`, and what each is
     options: List[Tuple[str, str]]  # as `-h, --help`, and what each does
     rest: str  # behind the options
 
@@ -40,8 +42,9 @@ def read_help(text):
     """Takes a help apart."""
     about, usage, behind = re.fullmatch(r"(.*?)\n*^Usage: (.*?)$\n*(.*)", text, re.DOTALL | re.MULTILINE).groups()
     commands, behind = section("Commands", behind)
+    arguments, behind = section("Arguments", behind)
     options, behind = section("Options", behind)
-    return Help(about.strip("\n"), usage, commands, options, behind.strip("\n"))
+    return Help(about.strip("\n"), usage, commands, arguments, options, behind.strip("\n"))
 
 
 def section(title, text):
@@ -51,7 +54,7 @@ def section(title, text):
     rows, at = [], 1
     lines = text.split("\n")
     while at < len(lines) and (not lines[at] or lines[at].startswith("  ")):
-        row = re.fullmatch(r"  (?:    )?(-\S.*?|\w\S*)(?:  +(.*))?", lines[at])
+        row = re.fullmatch(r"  (?:    )?(-\S.*?|\w\S*|\[\w+\])(?:  +(.*))?", lines[at])
         if row:
             rows.append((row[1], row[2] or ""))
         elif lines[at].strip():
@@ -108,9 +111,9 @@ def manual(version, whole, parts):
         lines += [f"\\fB{shown(usage)}\\fR", ".br"]
     about, rest = blocks(help_.about), blocks(help_.rest)
     description, title, lines_of_scripts = about[""].partition("Lines of a script:\n")
-    lines += [".SH DESCRIPTION", *paragraphs(description.strip()), ".SH OPTIONS", *entries(help_.options), ".SH COMMANDS"]
+    lines += [".SH DESCRIPTION", *paragraphs(description.strip()), ".SH OPTIONS", *entries(help_.arguments + help_.options), ".SH COMMANDS"]
     for name, (it, _) in parts.items():
-        lines += [f".SS {name}", *paragraphs(it.about), *entries(it.options)]
+        lines += [f".SS {name}", *paragraphs(it.about), *entries(it.arguments + it.options)]
     lines += [f".SS {HELP}", shown(dict(help_.commands)[HELP])]
     limits = parts["replay"][0].rest.rpartition("\n\n")[2]
     lines += [".SH LINES", *paragraphs(title + lines_of_scripts), ".PP", *paragraphs(limits)]
@@ -193,19 +196,20 @@ def zsh(whole, parts):
         few = numbers.get(option)
         return quoted_for_zsh(f"{option}[{told}]" + (f":number:({' '.join(few)})" if few else ":number: " if value else ""))
 
-    def arguments(rows):
-        numbers = numbers_of(rows)
-        return " ".join(argument(word, told, numbers) for names, told in rows for word in names.split(", "))
+    def arguments(told):
+        numbers = numbers_of(told.options)
+        options = [argument(word, about, numbers) for names, about in told.options for word in names.split(", ")]
+        return " ".join(options + ["'1:file:_files'"] * bool(told.arguments))
 
     commands = " ".join(quoted_for_zsh(f"{name}:{told}") for name, told in whole["long"].commands)
-    cases = "".join(f"        {name}) _arguments {arguments(it.options)} ;;\n" for name, (it, _) in parts.items())
+    cases = "".join(f"        {name}) _arguments {arguments(it)} ;;\n" for name, (it, _) in parts.items())
     return f"""#compdef dsctl
 # Completions for zsh, {MADE}.
 _dsctl() {{
     local -a commands=({commands})
     if (( CURRENT == 2 )); then
         _describe command commands
-        _arguments {arguments(whole["long"].options)}
+        _arguments {arguments(whole["long"])}
         return
     fi
     shift words
@@ -239,10 +243,21 @@ def fish(whole, parts):
     lines = [f"# Completions for fish, {MADE}.", "complete -c dsctl -f"]
     lines += [f"complete -c dsctl -n __fish_use_subcommand -a {name} -d {quoted_for_fish(told)}" for name, told in whole["long"].commands]
     lines += options("__fish_use_subcommand", whole["long"].options)
+    reading = [name for name, (it, _) in parts.items() if it.arguments]
+    lines += [f"complete -c dsctl -n {it} -F" for it in ("__fish_use_subcommand", f"'__fish_seen_subcommand_from {' '.join(reading)}'")]
     for name, (it, _) in parts.items():
         lines += options(f"'__fish_seen_subcommand_from {name}'", it.options)
     lines.append(f"complete -c dsctl -n '__fish_seen_subcommand_from {HELP}' -a '{' '.join(parts)}'")
     return "\n".join(lines) + "\n"
+
+
+def words(whole):
+    """The words of a script's lines and of the prompt, for rlwrap."""
+    help_ = whole["long"]
+    lines = help_.about.partition("Lines of a script:\n")[2].partition("\n\n")[0]
+    commands = re.findall(r"^  (\w+)", lines, re.MULTILINE)
+    refusals = re.findall(r"^  (\w+) {2,}", help_.rest.partition("Words after `refused`")[2].partition("Exit status:")[0], re.MULTILINE)
+    return "".join(f"{it}\n" for it in sorted({*commands, *refusals, *OF_LINES}))
 
 
 def made(program):
@@ -257,4 +272,5 @@ def made(program):
         ROOT / "completions" / "dsctl.bash": bash(whole, parts),
         ROOT / "completions" / "_dsctl": zsh(whole, parts),
         ROOT / "completions" / "dsctl.fish": fish(whole, parts),
+        ROOT / "completions" / "dsctl.words": words(whole),
     }

@@ -4,25 +4,29 @@ import harness
 
 # A first line, the byte where its first part begins that can't be read, and how what is said of it begins.
 PARTS = [
-    (b"", 0, b"a command was expected, the line is empty: a script has no blank lines\n"),
-    (b"# a comment", 0, b"a command was expected, a comment was found: a script has none\n"),
-    (b" show", 0, b"a command was expected, a space was found\n"),
-    (b"\xef\xbb\xbfshow", 0, b"a command was expected, a byte order mark was found\n"),
-    (b"/show", 0, b"a command was expected: see --help\n"),
+    (b"", 0, b"a command was expected; the line is empty: `script 2` as the first line allows that\n"),
+    (b"# a comment", 0, b"a command was expected; a comment was found: `script 2` as the first line allows them\n"),
+    (b" show", 0, b"a command was expected; a space was found: see --help\n"),
+    (b"\xef\xbb\xbfshow", 0, b"a command was expected; a byte order mark was found: see --help\n"),
+    (b"/show", 0, b"a command was expected; `/show` was found: see --help\n"),
     (b"\x1b[Ashow", 0, b"the Up key was found"),
     (b"show\x1b[3~", 4, b"a key of the terminal was found"),
-    (b"offer", 5, b"a space was expected, and then NAME\n"),
-    (b"retrieve eth0", 13, b"a space was expected, and then KIND\n"),
-    (b"check 40", 8, b"a space was expected, and then MAX\n"),
-    (b"publish 3/17 new a u32 3.0", 26, b"a space was expected, and then `=` and a value\n"),
-    (b"offer a u32 o 3.0", 17, b"a space was expected, and then `=` and a value or `-` for a tombstone\n"),
-    (b"subscribe 4 \"a b\" 3", 19, b"a space was expected, and then `first` or `later`\n"),
-    (b"service up disk", 15, b"a space was expected, and then TICK\n"),
-    (b"assign", 6, b"a space was expected, and then `file` or `net`\n"),
-    (b"retrieve  eth0 u32", 9, b"one space was expected between parts, two were found\n"),
-    (b"retrieve eth0  u32", 14, b"one space was expected between parts, two were found\n"),
-    (b"publish 3/17 new a u32 3.0 =  1", 29, b"one space was expected between parts, two were found\n"),
-    (b"show ", 4, b"the end of the line was expected"),
+    (b"offer", 5, b"a space was expected, and then NAME; the end of the line was found\n"),
+    (b"retrieve eth0", 13, b"a space was expected, and then KIND; the end of the line was found\n"),
+    (b"check 40", 8, b"a space was expected, and then MAX; the end of the line was found\n"),
+    (b"publish 3/17 new a u32 3.0", 26, b"a space was expected, and then `=` and a value; the end of the line was found\n"),
+    (b"offer a u32 o 3.0", 17, b"a space was expected, and then `=` and a value or `-` for a tombstone; the end of the line was found\n"),
+    (b"subscribe 4 \"a b\" 3", 19, b"a space was expected, and then `first` or `later`; the end of the line was found\n"),
+    (b"service up disk", 15, b"a space was expected, and then TICK; the end of the line was found\n"),
+    (b"assign", 6, b"a space was expected, and then `file` or `net`; the end of the line was found\n"),
+    (b"retrieve  eth0 u32", 9, b"one space was expected between parts; two were found\n"),
+    (b"retrieve eth0  u32", 14, b"one space was expected between parts; two were found\n"),
+    (b"publish 3/17 new a u32 3.0 =  1", 29, b"one space was expected between parts; two were found\n"),
+    (b"show ", 4, b"the end of the line was expected; a space was found\n"),
+    (b"show\t", 4, b"the end of the line was expected; a tab was found\n"),
+    (b"show\r", 4, b"the end of the line was expected; a carriage return was found\n"),
+    (b"show\xc3\xa9", 4, b"the end of the line was expected; a byte 195 was found\n"),
+    (b"retrieve\teth0 label", 8, b"a space was expected, and then NAME; a tab was found\n"),
     (b"a" * 4097, 4096, b"a line has at most 4096 bytes"),
     (b"offer ?", 6, b"NAME was expected"),
     (b"page * a 1", 9, b"KIND was expected"),
@@ -55,7 +59,7 @@ PARTS = [
     (b"deliver x a *", 8, b"K was expected"),
     (b"deliver 0 m01 *", 10, b"HOLDER was expected"),
     (b"deliver 0 a 4294967296", 12, b"COUNT was expected"),
-    (b"settings", 8, b"a space was expected before the next part\n"),
+    (b"settings", 8, b"a space was expected before the next part; the end of the line was found\n"),
     (b"service stop disk 0", 8, b"`up`, `down`, `refresh` or `restart` was expected"),
     (b"service up ? 0", 11, b"LABEL was expected"),
     (b"assign net 0 ", 13, b"LABEL was expected"),
@@ -77,7 +81,7 @@ def says_which_part_was_expected(program):
     for line, place, words in PARTS:
         ran = harness.run([program], line + b"\n")
         behaviour.expect(ran, b"badline 1 %d\n" % place, 1)
-        told = b"line 1, byte %d: %s" % (place, words)
+        told = b"dsctl: line 1, byte %d: %s" % (place, words)
         assert ran.error.startswith(told), f"{line[:60]!r}: standard error is {ran.error!r}, wanted {told!r}"
 
 

@@ -6,7 +6,7 @@ from model import restarts, session
 
 LABELS = ("eth0", "disk", "tty", "at_wini", "e1000-1", "a" * 64)
 # Instead of a field's own value: of another type, or out of its range, or just within it.
-ODD = (0, 1, -1, 255, 256, 1000, 1001, 1000000, 1000001, 2**62, 2**63, 1.5, True, "", "rs", "eth 0", "a" * 65, [], ["mtu", "mtu"], [1], {})
+ODD = (0, 1, -1, 255, 256, 1000, 1001, 1000000, 1000001, 1000000000, 1000000001, 2**62, 2**63, 1.5, True, "", "rs", "eth 0", "a" * 65, [], ["mtu", "mtu"], [1], {})
 BYTES = b'0a="[]{}#\n,.-_ \\\xff'
 # What TOML 1.1 has and 1.0 hasn't, as far as one byte makes it: the program reads 1.1, and Python's reader, the model's, 1.0.
 OF_TOML_1_1 = re.compile(rb"\{[^{}]*\n[^{}]*\}|\\[ex]")
@@ -35,11 +35,14 @@ def service_by_chance(chance, unit):
     service = {"label": chance.choice(LABELS), "class": kind}
     if kind != "server":
         service["unit"] = unit if chance.random() < 0.9 else 0
-    for field, values in (("period", (0, 1, 1000000)), ("limit", (0, 3, 1000))):
+    for field, values in (("period", (0, 1, 1000000)), ("limit", (0, 3, 1000)), ("forget", (0, 60, 1000000000)), ("startup", (0, 5, 1000000))):
         if chance.random() < 0.6:
             service[field] = chance.choice(values)
     if chance.random() < 0.4:
         service["publishes"] = [f"{name}.{unit // 2}" for name in chance.sample(["mtu", "mac", "id"], 2)]
+    for field in ("complains", "connects"):
+        if chance.random() < 0.3:
+            service[field] = chance.choices(LABELS, k=chance.randrange(3))
     return service
 
 
@@ -62,4 +65,6 @@ def wanted(text):
 def line_of(service):
     unit = "-" if service["unit"] is None else service["unit"]
     fields = f"period {service['period']} limit {service['limit']} publishes {len(service['publishes'])}"
-    return f"service {service['label']} {service['class']} {unit} {fields}\n".encode()
+    lists = "".join(f" {field} {len(service[field])}" for field in ("complains", "connects") if service[field] is not None)
+    ticks = "".join(f" {field} {service[field]}" for field in ("forget", "startup") if service[field])
+    return f"service {service['label']} {service['class']} {unit} {fields}{lists}{ticks}\n".encode()

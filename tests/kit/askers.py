@@ -44,6 +44,10 @@ class Askers:
                 last = self.places[at]
                 yield self.names[at]
 
+    def is_within(self, stack, crate):
+        """Returns whether a call of a function of the crate hasn't ended."""
+        return bool(stack) and any(name.startswith(f"{crate}::") for name in self.callers(stack))
+
     def asker(self, stack):
         """Returns the innermost function that doesn't just take memory for others, without its types; a dash if there is none."""
         found = next((name for name in self.callers(stack) if not BELOW.search(name)), "-") if stack else "-"

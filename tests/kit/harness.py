@@ -17,7 +17,10 @@ SESSION = re.compile(r"(?<=\n\n)    > .*\n(?:    .*\n)*")  # within a document
 BAD_LINE = re.compile(rb"^badline (\d+) (\d+)$", re.MULTILINE)  # within answers
 BAD_SETTINGS = re.compile(rb"bad \w+( \d+)?\n")  # the whole output for settings with a fault
 BAD_TRACE = re.compile(rb"(?:illegal|badline) (\d+)\n")  # the whole output for a trace that isn't legal
-WRONG_LINE = rb"line %s(?:, byte \d+)?: "  # how the sentence about a trace begins; it names a byte if a part of the line is bad
+TOLD = b"dsctl: "  # how each sentence on standard error begins
+WRONG_LINE = rb"dsctl: line %s(?:, byte \d+)?: "  # how the sentence about a trace begins; it names a byte if a part of the line is bad
+WORD = re.compile(rb"(badline|illegal|already) (\d+)(?: (\d+))?\n")  # what standard error has first where the output is a trace
+FAILED = re.compile(rb"(?:noroom|readfault|writefault)\n")  # likewise at status 3
 SECONDS = 120  # the longest that one run may take, even on a busy machine
 
 
@@ -156,33 +159,50 @@ def fault(case, ran):
     if ran.status != case.status:
         return f"status {ran.status}, wanted {case.status}; standard error: {ran.error[-200:]!r}"
     if case.error is not None:
-        wrong = difference(ran.error, case.error)
-        return wrong and f"standard error: {wrong}"
+        return untold(ran.error, case.error)
     if case.status > 1:
         return None if ran.error else f"standard error is empty at status {ran.status}"
     return unexplained(ran.output, ran.error)
 
 
-def unexplained(output, error):
+def untold(error, wanted):
+    """Says how standard error differs from what is wanted, or returns None. Where that is a word with a line and perhaps a byte, a sentence
+    about that place follows it; where it is a word of status 3, one about the reason may."""
+    word = WORD.fullmatch(wanted)
+    if word:
+        line = b"1" if word[1] == b"already" else word[2]
+        byte = rb"\d+" if word[3] == b"0" else word[3]  # a line that can't come there is refused at 0; the sentence may name a part of it
+        place = WRONG_LINE % line if byte is None else b"dsctl: line %s, byte %s: " % (line, byte)
+        is_told = error.startswith(wanted) and re.fullmatch(place + rb".*\n", error[len(wanted) :])
+        return None if is_told else f"standard error is {error[:200]!r}, wanted {wanted!r} and a sentence"
+    if FAILED.fullmatch(wanted):
+        is_told = error.startswith(wanted) and re.fullmatch(rb"(dsctl: .*\n)?", error[len(wanted) :])
+        return None if is_told else f"standard error is {error[:200]!r}, wanted {wanted!r}"
+    wrong = difference(error, wanted)
+    return wrong and f"standard error: {wrong}"
+
+
+def unexplained(output, error, has_notes=False):
     """Says if standard error hasn't exactly a line for each bad line of the output, or one for bad settings or an illegal trace; or returns
-    None."""
+    None. In a script with notes the number of a line is that in the file, which the output doesn't have."""
     if BAD_SETTINGS.fullmatch(output):
-        is_one = error.count(b"\n") == 1 and error.endswith(b"\n")
-        return None if is_one else f"standard error is {error[:200]!r}, wanted one line"
+        are_told = error.endswith(b"\n") and all(it.startswith(TOLD) for it in error.splitlines())
+        return None if are_told else f"standard error is {error[:200]!r}, wanted lines that begin with {TOLD!r}"
     trace = BAD_TRACE.fullmatch(output)
-    wanted = [WRONG_LINE % trace[1]] if trace else [b"line %s, byte %s: " % it for it in BAD_LINE.findall(output)]
+    wanted = [WRONG_LINE % trace[1]] if trace else [b"dsctl: line %s, byte %s: " % (rb"\d+" if has_notes else line, place) for line, place in BAD_LINE.findall(output)]
     told = error.splitlines()
     if len(told) == len(wanted) and all(map(re.match, wanted, told)):
         return None
     return f"standard error is {error[:200]!r}, wanted a line for each of {wanted[:3]}"
 
 
-def named(ran, word):
-    """Returns whether a run ended with status 3 and the word, after what is said of bad lines."""
-    if ran.status != 3 or not ran.error.endswith(word):
+def named(ran, word, has_notes=False):
+    """Returns whether a run ended with status 3 and the word, after what is said of bad lines, and perhaps with a sentence on the reason."""
+    told = re.fullmatch(rb"(.*?)" + re.escape(word) + rb"(?:dsctl: the [^:]*: .*\n)?", ran.error, re.DOTALL)
+    if ran.status != 3 or not told:
         return False
-    is_before_any = BAD_SETTINGS.fullmatch(ran.output) and ran.error == word  # memory ran out before the settings were explained
-    return bool(is_before_any) or not unexplained(ran.output, ran.error[: -len(word)])
+    is_before_any = BAD_SETTINGS.fullmatch(ran.output) and not told[1]  # memory ran out before the settings were explained
+    return bool(is_before_any) or not unexplained(ran.output, told[1], has_notes)
 
 
 def session_fault(program, session):

@@ -20,6 +20,7 @@ HARMLESS = re.compile(r"^pthread_|^v?sn?printf$|^readlink$|^syscall$")
 DOES_WITHOUT = re.compile(
     r"^((strsim|regex_(class|syntax)|toml(_[a-z]+)?|ds_packed)::|ds_pattern::pattern::tree_of$|ds_world::replies::keep$|ds_held::guesses::)"
 )
+EXPLAINS = "ds_explain"  # whose sentences on standard error may be less exact
 # Memory may run out where a Since's pattern is matched; the cursor is judged all the same, since its refusals come before NoRoom.
 SEARCH = "regex_vm::pikevm::PikeVm::new"
 CURSOR_REFUSED = re.compile(rb"^refused (oldcursor|ahead|behind)$|: refused: the journal doesn't reach back to the cursor$", re.MULTILINE)
@@ -75,8 +76,9 @@ class Refuser:
     def unseen_fault(self, output=b""):
         """Says what is wrong if the last refused growth changed nothing of the output, or returns None."""
         with open(self.file("stack"), "rb") as words:
-            asker = self.askers.asker(words.read())
-        does_without = DOES_WITHOUT.search(asker) or asker == SEARCH and CURSOR_REFUSED.search(output)
+            stack = words.read()
+        asker = self.askers.asker(stack)
+        does_without = DOES_WITHOUT.search(asker) or asker == SEARCH and CURSOR_REFUSED.search(output) or self.askers.is_within(stack, EXPLAINS)
         return None if does_without else f"no answer tells of it, and {asker} asked for it"
 
     def names_passed_by(self):

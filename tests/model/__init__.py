@@ -5,13 +5,24 @@ from .store import Store
 from .world import World
 
 
-def replay(script, keep_going=False, wanting=(None, None)):
-    """Answers a script: what is written, and the status. A bad line ends it, unless it is to keep going.
+def left_of(script):
+    """What is left of a script: of one of format 2, without its first line, the lines that are neither comments nor empty."""
+    first, newline, rest = script.partition(b"\n")
+    if first != b"script 2":
+        return script
+    lines = rest.split(b"\n") if newline else []
+    return b"\n".join(it for at, it in enumerate(lines) if not it.startswith(b"#") and (it or at == len(lines) - 1))
+
+
+def replay(script, keep_going=False, wanting=(None, None), ends=False):
+    """Answers a script of either format: what is written, and the status. A bad line ends it, unless it is to keep going. An empty line
+    ends each answer, if that is asked for.
 
     `wanting` names a line, counted from 1, for which memory is wanting, and for how many steps of it there is some (see Session);
     None for the number of steps: the whole line asks for nothing.
     """
-    given = script.split(b"\n")
+    given = left_of(script).split(b"\n")
+    end = [b""] * ends
     if not given[-1]:
         given.pop()
     session, answers, status = Session(), [], 0
@@ -19,13 +30,13 @@ def replay(script, keep_going=False, wanting=(None, None)):
         try:
             command, taken = read(line, number == 1)
         except BadLine as bad:
-            answers.append(b"badline %d %d" % (number, bad.place))
+            answers += [b"badline %d %d" % (number, bad.place), *end]
             status = 1
             if keep_going:
                 continue
             break
         if (number, None) == wanting:
-            answers.append(NO_ROOM)
+            answers += [NO_ROOM, *end]
         else:
-            answers += session.answer(command, taken, wanting[1] if number == wanting[0] else None)
+            answers += [*session.answer(command, taken, wanting[1] if number == wanting[0] else None), *end]
     return b"".join(it + b"\n" for it in answers), status

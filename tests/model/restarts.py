@@ -3,7 +3,8 @@
 MOST_GENERATION = 2097151
 LAST_TICK = 2**62
 CLASSES = ("block", "character", "network", "server")
-FIELDS = ("label", "class", "unit", "period", "limit", "publishes")
+FIELDS = ("label", "class", "unit", "period", "limit", "publishes", "complains", "connects", "forget", "startup")
+OPTIONAL = {"unit": None, "period": 0, "limit": 0, "publishes": [], "complains": None, "connects": None, "forget": 0, "startup": 0}
 REFUSALS = ("tickback", "worn", "unknownlabel", "badcause", "alreadyup", "notup", "oldendpoint", "generationsspent", "noslot")
 
 
@@ -53,7 +54,7 @@ def judged(settings):
     repeated(services, "twolabels", lambda service: [service["label"]])
     repeated(services, "twounits", lambda it: [(it["class"] == "network", it["unit"])] if "unit" in it else [])
     repeated(services, "sharedname", lambda service: service.get("publishes", []))
-    return slots, [{"unit": None, "period": 0, "limit": 0, "publishes": [], **service} for service in services]
+    return slots, [{**OPTIONAL, **service} for service in services]
 
 
 def judge_service(index, service):
@@ -68,7 +69,9 @@ def judge_service(index, service):
         and is_unit_of(service)
         and is_number(service.get("period", 0), 0, 1000000)
         and is_number(service.get("limit", 0), 0, 1000)
-        and are_names(service.get("publishes", []))
+        and all(are_names(service.get(field, [])) for field in ("publishes", "complains", "connects"))
+        and is_number(service.get("forget", 0), 0, 1000000000)
+        and is_number(service.get("startup", 0), 0, 1000000)
     )
     if not fits:
         raise Bad("outofrange", index)
@@ -107,7 +110,7 @@ class Slots:
 
 class Rs:
     """What RS knows. The state of a service is ("down",), ("gaveup",), ("waiting", until, failures) or
-    ("up", endpoint, beat, ping, failures)."""
+    ("up", endpoint, beat, ping, failures, since)."""
 
     def __init__(self, settings, next, first=16):
         self.slots, services = judged(settings)
@@ -187,6 +190,23 @@ class Rs:
         place = self.instance(endpoint)
         return place is not None and name in list(self.services.values())[place]["publishes"]
 
+    def complains(self, endpoint, label):
+        """Whether the instance may complain of the service."""
+        return self.deals(endpoint, label, "complains", lambda one, other: one["class"] == "server" != other["class"])
+
+    def connects(self, endpoint, label):
+        """Whether the instance may connect to the service."""
+        return self.deals(endpoint, label, "connects", lambda one, other: True)
+
+    def deals(self, endpoint, label, field, otherwise):
+        """Whether the instance's settings list the label of a service, or what a rule says where they have no list."""
+        place = self.instance(endpoint)
+        if place is None or label not in self.services:
+            return False
+        service = list(self.services.values())[place]
+        listed = service[field]
+        return otherwise(service, self.services[label]) if listed is None else label in listed
+
     # What is done.
 
     def done(self, label, asked, tick):
@@ -200,24 +220,31 @@ class Rs:
         if asked == "resume":
             return self.start(label, state[2], tick)
         if asked == "replace":
-            return self.end(label, True, ("down",)) + self.start(label, state[4], tick)
+            failures = self.remembered(label, tick)
+            return self.end(label, True, ("down",)) + self.start(label, failures, tick)
         if asked == "stop":
             return self.end(label, True, ("down",))
         if asked.startswith("lose"):
-            failures = state[4] + 1
+            failures = self.remembered(label, tick) + 1
             waits = ("waiting", tick + min(2 ** (failures - 1), 32), failures)
             return self.end(label, asked == "lose and kill", waits if failures <= self.services[label]["limit"] else ("gaveup",))
         if asked == "forget":
             self.states[label] = ("down",)
             return []
-        up, endpoint, beat, ping, failures = state
-        self.states[label] = (up, endpoint, tick, ping, failures) if asked == "hear" else (up, endpoint, beat, tick, failures)
+        up, endpoint, beat, ping, *rest = state
+        self.states[label] = (up, endpoint, tick, ping, *rest) if asked == "hear" else (up, endpoint, beat, tick, *rest)
         return [f"ping {spelled(endpoint)}"] if asked == "ping" else []
+
+    def remembered(self, label, tick):
+        """The failures that count when its instance ends: none after an instance that was up for as long as `forget` says."""
+        _, _, _, _, failures, since = self.states[label]
+        forget = self.services[label]["forget"]
+        return 0 if forget and tick - since >= forget else failures
 
     def start(self, label, failures, tick):
         endpoint = (self.next, self.first + self.keys.take())
         self.next += 1
-        self.states[label] = ("up", endpoint, tick, tick, failures)
+        self.states[label] = ("up", endpoint, tick + self.services[label]["startup"], tick, failures, tick)
         return [f"start {label} {spelled(endpoint)}", f"offer {label} label rs {endpoint[0]}.0 = {spelled(endpoint)}"]
 
     def end(self, label, kill, after):
@@ -272,6 +299,8 @@ READINGS = {
     "instance": lambda rs, endpoint: f"instance {number(rs.instance(endpoint))}",
     "publishes": lambda rs, endpoint, name: "may publish" if rs.publishes(endpoint, name) else "may not publish",
     "labels": lambda rs, endpoint, name: "may not publish",
+    "complains": lambda rs, endpoint, label: "may complain" if rs.complains(endpoint, label) else "may not complain",
+    "connects": lambda rs, endpoint, label: "may connect" if rs.connects(endpoint, label) else "may not connect",
 }
 
 

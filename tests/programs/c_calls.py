@@ -15,7 +15,7 @@ REFUSALS = (
 ).split()
 WORDS = (
     "changed known swept found named subscribed checked journaled snapped paged merged stopped refused no_request shown bad_line "
-    "acted"
+    "acted moved"
 ).split()
 LISTED = {"checked": "checked", "journaled": "since", "snapped": "snapshot", "paged": "page"}
 

@@ -7,6 +7,7 @@ import stores
 MANY = 300  # more than one answer to a check or a since has, and more lines than fit into 4096 bytes
 TOO_MANY = 1000  # more than the journal of fileserver keeps
 MOST = 256  # items of one such answer
+UNITS = 256  # of a driver table
 WORDS = {"taken": "changed", "since": "journaled", "snapshot": "snapped"}  # by the word of a script, where they differ
 COUNTED = ("since", "snapshot")  # words of answers that have lines of items
 
@@ -74,7 +75,7 @@ def driver(networks):
 
 
 class FileServer:
-    """What examples/c/fileserver.c prints. Each item is news to its map, but for the late one."""
+    """What examples/c/fileserver.c prints. Each item is news to its map, except the late one."""
 
     def __init__(self, disks):
         self.store, self.printed = Store(ring=512), []
@@ -103,24 +104,37 @@ class FileServer:
         if word == "refused":
             self.take_all()
 
-    def send(self, generation):
-        for at, disk in enumerate(self.disks):
-            self.printed.append(f"fs: i send to {generation}/{16 + at}" if generation else f"fs: there is no {disk}")
+    def tell(self, round_, what):
+        """What becomes of a round of requests, one for each unit."""
+        units = min(len(self.disks), UNITS)
+        self.printed += [f"fs: request {round_ * units + unit + 1} {what(unit)}" for unit in range(units)]
+
+    def wait(self, round_):
+        self.tell(round_, lambda unit: "waits for a driver")
+
+    def send(self, round_, generation):
+        self.tell(round_, lambda unit: f"goes to {generation}/{16 + unit}")
+
+    def end(self, round_):
+        self.tell(round_, lambda unit: "is done")
 
 
 def fileserver(disks):
     server = FileServer(disks)
-    server.send(None)
+    server.wait(0)
     server.start(3)
     position = server.take_all()
-    server.send(3)
+    server.send(0, 3)
+    server.end(0)
+    server.send(1, 3)
     server.store.ask("sweep 0/2 disk 3")
     server.printed.append("rs: disk of generation 3 died")
     server.start(4)
     server.catch_up(position)
-    server.send(4)
+    server.send(1, 4)
     server.printed.append("fs: the first message, late: 1 items, 0 taken, 1 stale")
-    server.send(4)
+    server.printed.append("fs: a reply from 3/16 is refused: oldendpoint")
+    server.end(1)
     return "".join(line + "\n" for line in server.printed)
 
 

@@ -37,14 +37,14 @@ static void ask(const char *line) {
 }
 
 static void numbers(void) {
-    for (uint32_t number = 0; number <= DS_SHAREDNAME + 1; number++) {
+    for (uint32_t number = 0; number <= DS_NOTPENDING + 1; number++) {
         printf("%" PRIu32 " %s\n", number, ds_refusal_text(number));
     }
     printf("%" PRIu32 " %s\n", UINT32_MAX, ds_refusal_text(UINT32_MAX));
 }
 
 static void words(void) {
-    for (uint32_t number = 0; number <= DS_ACTED + 1; number++) {
+    for (uint32_t number = 0; number <= DS_MOVED + 1; number++) {
         printf("word %" PRIu32 " %s\n", number, ds_word_text(number));
     }
     printf("the library's version is %s\n", strcmp(ds_version(), DS_VERSION) ? "another one" : "the header's");

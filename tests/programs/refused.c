@@ -1,29 +1,10 @@
 /* Memory that runs out at each allocation in turn, alone or with all behind it. Every answer is that of a run with memory, or
  * says that there was none; no text is lost; and the handle goes on. Link with -Wl,--wrap=malloc,--wrap=realloc. */
 #include "ds.h"
+#include "growths.h"
 #include <stdio.h>
 #include <stdlib.h>
 #include <string.h>
-
-void *__real_malloc(size_t);
-void *__real_realloc(void *, size_t);
-static long left = -1, asked;
-static int once;
-
-static int fails(void) {
-    asked++;
-    if (left < 0) return 0;
-    if (left == 0) {
-        if (once) left = -1;
-        return 1;
-    }
-    left--;
-    return 0;
-}
-void *__wrap_malloc(size_t n);
-void *__wrap_realloc(void *p, size_t n);
-void *__wrap_malloc(size_t n) { return fails() ? NULL : __real_malloc(n); }
-void *__wrap_realloc(void *p, size_t n) { return fails() ? NULL : __real_realloc(p, n); }
 
 enum { CALLS = 40 };
 static struct ds_request ask[CALLS];

@@ -53,6 +53,13 @@ class Script(demos.Script):
             service["limit"] = drawn.choice([0, 1, 2, 3, 7, 8, 1000])
         if drawn.random() < 0.5:
             service["publishes"] = [f"name{n}.{k}" for k in range(drawn.randint(0, 3))]
+        for field in ("complains", "connects"):
+            if drawn.random() < 0.4:
+                service[field] = [f"service{drawn.randint(0, 7)}" for _ in range(drawn.randint(0, 4))]
+        if drawn.random() < 0.4:
+            service["forget"] = drawn.choice([0, 1, 2, 10, 40, 1000000000])
+        if drawn.random() < 0.4:
+            service["startup"] = drawn.choice([0, 1, 5, 30, 1000000])
         return service
 
     def draw(self):
@@ -79,6 +86,7 @@ class Script(demos.Script):
         self.ask(*drawn.choice([
             ("key",), ("next",), ("due",), ("due",), ("service", drawn.randint(0, 64)), ("instance", self.endpoint()),
             (drawn.choice(["publishes", "publishes", "labels"]), self.endpoint(), f"name{drawn.randint(0, 7)}.{drawn.randint(0, 2)}"),
+            (drawn.choice(["complains", "connects"]), self.endpoint(), self.label()),
         ]))
 
     def tick(self):
@@ -182,14 +190,15 @@ def spoil(drawn, settings):
     elif way == 2:
         one.pop(drawn.choice(["label", "class", "unit"]), None)
     elif way == 3:
-        field = drawn.choice(["unit", "period", "limit"])
-        one[field] = drawn.choice([0, 255, 256, 1000, 1001, 1000000, 1000001, -1, 2**63 - 1, "5", False, [1]])
+        field = drawn.choice(["unit", "period", "limit", "forget", "startup"])
+        one[field] = drawn.choice([0, 255, 256, 1000, 1001, 1000000, 1000001, 1000000000, 1000000001, -1, 2**63 - 1, "5", False, [1]])
     elif way == 4:
         one["label"] = drawn.choice(["rs", "", "a" * 64, "a" * 65, "a b", "RS", 7, "eth0"])
     elif way == 5:
         one["class"] = drawn.choice(["block", "Block", "disk", "server", 3])
     elif way == 6:
-        one["publishes"] = drawn.choice([["mtu"], ["mtu", "mac"], ["mtu", "mtu"], ["a" * 65], "mtu", [1], [f"n{k}" for k in range(65)]])
+        field = drawn.choice(["publishes", "publishes", "complains", "connects"])
+        one[field] = drawn.choice([["mtu"], ["mtu", "mac"], ["mtu", "mtu"], ["a" * 65], "mtu", [1], [f"n{k}" for k in range(65)]])
     elif way == 7 and "label" in other:
         one["label"] = other["label"]
     elif "unit" in other:

@@ -1,30 +1,11 @@
 /* RS beside a store: what a caller may get wrong, each action by its struct, and memory that runs out at each allocation in turn. Link with
  * -Wl,--wrap=malloc,--wrap=realloc. */
 #include "ds.h"
+#include "growths.h"
 #include <inttypes.h>
 #include <stdio.h>
 #include <stdlib.h>
 #include <string.h>
-
-void *__real_malloc(size_t);
-void *__real_realloc(void *, size_t);
-static long left = -1, asked;
-static int once;
-
-static int fails(void) {
-    asked++;
-    if (left < 0) return 0;
-    if (left == 0) {
-        if (once) left = -1;
-        return 1;
-    }
-    left--;
-    return 0;
-}
-void *__wrap_malloc(size_t n);
-void *__wrap_realloc(void *p, size_t n);
-void *__wrap_malloc(size_t n) { return fails() ? NULL : __real_malloc(n); }
-void *__wrap_realloc(void *p, size_t n) { return fails() ? NULL : __real_realloc(p, n); }
 
 static const char settings[] =
     "slots = 4\n"
@@ -98,6 +79,13 @@ static void may(const char *what, uint32_t generation, uint16_t slot, unsigned k
     printf("%s may publish: %s\n", what, ds_refusal_text(ds_rs_may_publish(&store, generation, slot, (uint8_t)kind, name, strlen(name))));
 }
 
+/* What the instance may do to the service with a label. */
+static void deals(const char *what, uint32_t generation, uint16_t slot, const char *label) {
+    printf("%s, %s: complain %s, connect %s\n", what, label,
+           ds_refusal_text(ds_rs_may_complain(&store, generation, slot, label, strlen(label))),
+           ds_refusal_text(ds_rs_may_connect(&store, generation, slot, label, strlen(label))));
+}
+
 static void rs_open(const char *what, const char *text, size_t length, uint32_t next, uint16_t slot) {
     memset(&fault, 0xee, sizeof fault);
     uint32_t call = ds_rs_open(&store, text, length, next, slot, &fault);
@@ -115,6 +103,7 @@ static void nothing(void) {
     show(0);
     due();
     may("an instance", 1, 16, DS_U32, "disk.size");
+    deals("an instance", 1, 16, "disk");
     printf("the places are untouched: %d\n", answer.word == 0xeeeeeeee && action.kind == 0xeeeeeeee && service.state == 0xeeeeeeee);
     if (ds_open(&store, 1, 0, 256)) exit(1);
     report("a tick before RS is open", it);
@@ -123,6 +112,7 @@ static void nothing(void) {
     show(0);
     due();
     may("an instance", 1, 16, DS_U32, "disk.size");
+    deals("an instance", 1, 16, "disk");
 }
 
 static void openings(void) {
@@ -229,6 +219,46 @@ static void lines(void) {
     printf("actions: %d\n", ds_rs_action(&store, 0, &action) == 0);
 }
 
+/* Who may complain of whom, and connect to whom: by class, and by lists. vfs has no lists, mfs and disk have. */
+static void dealings(void) {
+    static const char some[] =
+        "service = [{label = \"vfs\", class = \"server\"}, {label = \"disk\", class = \"block\", unit = 3, complains = [\"vfs\"], connects = []},"
+        " {label = \"mfs\", class = \"server\", complains = [], connects = [\"disk\", \"nobody\"]}, {label = \"tty\", class = \"character\", unit = 4}]";
+    static const char *const labels[] = {"vfs", "disk", "mfs", "tty", "nobody", "di sk", ""};
+    static const char *const up[] = {"vfs", "disk", "mfs", "tty"};
+    rs_open("RS with lists", some, sizeof some - 1, 1, 16);
+    deals("nobody is up", 1, 16, "disk");
+    for (size_t i = 0; i < 4; i++) {
+        struct ds_rs_event it = of_label(DS_RS_UP, up[i], 1);
+        if (ds_rs_event(&store, &it, &answer)) exit(1);
+    }
+    for (uint16_t i = 0; i < 4; i++)
+        for (size_t j = 0; j < sizeof labels / sizeof *labels; j++) deals(up[i], i + 1u, (uint16_t)(16 + i), labels[j]);
+    deals("slot 1024", 1, 1024, "disk");
+    report("vfs dies", of_instance(DS_RS_DEATH, 1, 16, DS_RS_EXIT, 2));
+    deals("the dead vfs", 1, 16, "disk");
+    deals("of the dead", 2, 17, "vfs");
+}
+
+/* `forget` and `startup` by C: an instance that was up for 10 ticks leaves no failures, and has 20 ticks to start. */
+static void forgetting(void) {
+    static const char one[] =
+        "service = [{label = \"disk\", class = \"block\", unit = 3, period = 5, limit = 1, forget = 10, startup = 20}]";
+    rs_open("RS that forgets", one, sizeof one - 1, 1, 16);
+    report("up", of_label(DS_RS_UP, "disk", 0));
+    report("a death after 9 ticks", of_instance(DS_RS_DEATH, 1, 16, DS_RS_EXIT, 9));
+    report("its wait is over", event(DS_RS_TICK, 10));
+    show(0);
+    report("a death after 10 ticks", of_instance(DS_RS_DEATH, 2, 16, DS_RS_EXIT, 20));
+    show(0);
+    report("its wait is over", event(DS_RS_TICK, 21));
+    report("a ping", event(DS_RS_TICK, 50));
+    report("not missed", event(DS_RS_TICK, 50));
+    due();
+    report("missed, after 30 ticks", event(DS_RS_TICK, 51));
+    show(0);
+}
+
 /* A history with memory for n allocations. What is refused for memory is reported again: nothing has changed. */
 static uint32_t again(uint32_t refusal) {
     if (refusal == DS_NOROOM) left = -1, waited++;
@@ -276,6 +306,12 @@ int main(void) {
     bad += ds_close(&store);
     if (ds_open(&store, 1, 0, 256)) return 1;
     lines();
+    bad += ds_close(&store);
+    if (ds_open(&store, 1, 0, 256)) return 1;
+    dealings();
+    bad += ds_close(&store);
+    if (ds_open(&store, 1, 0, 256)) return 1;
+    forgetting();
     bad += ds_close(&store);
     long before = asked;
     run(-1, wanted);

@@ -1,30 +1,11 @@
 /* MINIX's calls while memory runs out at each allocation in turn, alone or with all behind it: whoever checks is given every entry,
  * once and in order, though a call between may have been refused. Link with -Wl,--wrap=malloc,--wrap=realloc. */
 #include "minix_ds.h"
+#include "growths.h"
 #include <errno.h>
 #include <stdio.h>
 #include <stdlib.h>
 #include <string.h>
-
-void *__real_malloc(size_t);
-void *__real_realloc(void *, size_t);
-static long left = -1, asked;
-static int once;
-
-static int fails(void) {
-    asked++;
-    if (left < 0) return 0;
-    if (left == 0) {
-        if (once) left = -1;
-        return 1;
-    }
-    left--;
-    return 0;
-}
-void *__wrap_malloc(size_t n);
-void *__wrap_realloc(void *p, size_t n);
-void *__wrap_malloc(size_t n) { return fails() ? NULL : __real_malloc(n); }
-void *__wrap_realloc(void *p, size_t n) { return fails() ? NULL : __real_realloc(p, n); }
 
 enum { ENTRIES = 6, LISTED = 400 };
 static struct ds_server server = DS_SERVER_CLOSED;

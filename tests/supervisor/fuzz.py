@@ -4,7 +4,7 @@ import socket
 
 from supervisors import Gone, until
 
-WORDS = ("publish", "delete", "retrieve", "nameof", "subscribe", "check", "listen", "since", "snapshot", "page", "show", "all", "beat", "complain",
+WORDS = ("publish", "delete", "retrieve", "nameof", "subscribe", "check", "listen", "since", "snapshot", "page", "show", "all", "beat", "complain", "connect",
          "service", "status", "offer", "sweep", "death", "tick", "settings", "side", "map", "deliver", "")
 PARTS = ("0/2", "1/16", "2/17", "3/16", "9/20", "new", "over", "a", "b", "a.n", "b.n", "label", "u32", "str", "mem", "1.1", "2.7", "=", "5", "-", "x" * 70,
          '".*"', '"("', "15", "0", "8", "16", "120", "127", "128", "256", "first", "later", "up", "down", "refresh", "restart", "*", "4294967296")
@@ -35,7 +35,7 @@ def line(draw, is_user):
 
 
 def answers(it, count, rest):
-    """Reads this many answers, without notices and pings; returns the last one and the bytes after it."""
+    """Reads this many answers, without notices, peers and pings; returns the last one and the bytes after it."""
     last = ""
     while count:
         some = it.recv(1 << 16)
@@ -44,7 +44,7 @@ def answers(it, count, rest):
         *parts, rest = (rest + some).split(b"\n\n")
         for part in parts:
             text = part.decode("latin1")
-            if not text.startswith("notice ") and text != "ping":
+            if not text.startswith(("notice ", "peer ")) and text != "ping":
                 count -= 1
                 last = text
         assert count >= 0, "more answers than lines"

@@ -11,6 +11,7 @@
 #include <unistd.h>
 
 enum { DSRS = 3, LINES = 5000, WHATS = 14, LONGEST = 400 /* milliseconds */ };
+enum { CONNECTIONS = 20, SERVICES = 12, FIRST_SLOT = 16 };
 
 static const char *label, *endpoint;
 
@@ -32,6 +33,16 @@ static void publish(void) {
     char line[200];
     snprintf(line, sizeof line, "publish %s new %s.pid u32 %d.1 = %d\n", endpoint, label, atoi(endpoint), getpid());
     say(line);
+}
+
+/* Asks for connections to others, of which some are up. What comes is dropped. */
+static void connect_around(void) {
+    for (int i = 0; i < CONNECTIONS; i++) {
+        char line[64];
+        int generation = atoi(endpoint) - rand() % SERVICES, slot = FIRST_SLOT + rand() % SERVICES;
+        snprintf(line, sizeof line, "connect %d/%d\n", generation, slot);
+        say(line);
+    }
 }
 
 /* What it does at its start. A stray leaves the lock, and nothing else. */
@@ -82,6 +93,7 @@ int main(int count, char **words) {
     srand((unsigned)(atoi(words[1]) * 7919 + atoi(endpoint)));
     publish();
     int what = strcmp(words[1], "quiet") ? rand() % WHATS : WHATS, after = rand() % LONGEST;
+    connect_around();
     begin(what, lock);
     for (;;) {
         struct pollfd dsrs = {.fd = DSRS, .events = POLLIN};

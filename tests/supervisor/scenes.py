@@ -1,4 +1,5 @@
 """What a supervisor must do, a function each. A scene gets a Host, and starts its supervisor."""
+import json
 import os
 import pathlib
 import re
@@ -97,9 +98,19 @@ live()
 
 @scene
 def last_lines_are_answered(host):
-    """What an instance said before it died is carried out, however much it is."""
-    body = 'dsrs.sendall(b"show\\n" * 900 + b"complain 1/16\\n")\nos._exit(0)\n'
+    """What an instance said before it died is carried out, however much it is. It dies while the supervisor is stopped, so both are new at once."""
+    body = """
+note(f"pid {os.getpid()}")
+while not os.path.exists("../../go"): time.sleep(0.01)
+dsrs.sendall(b"show\\n" * 900 + b"complain 1/16\\n")
+os._exit(0)
+"""
     host.start({"d": ({"limit": 1}, LIVES), "f": ({"class": "server"}, body)})
+    pid = int(host.noted("f 2/17 pid").split()[-1])
+    host.process.send_signal(signal.SIGSTOP)
+    (host.home / "go").touch()
+    until(lambda: not lives(pid), "it ends")
+    host.process.send_signal(signal.SIGCONT)
     host.logged("complaint d 1/16 by f")
     host.logged("began d 3/")
     host.end()
@@ -613,7 +624,7 @@ def hangs_up_when_the_supervisor_ends(host):
 
 @scene
 def reads_its_settings_again(host):
-    """SIGHUP: settings with a fault change nothing; others replace all services, under higher generations."""
+    """SIGHUP: settings with a fault change nothing, and neither do the same ones; others replace all services, under higher generations."""
     host.start({"a": ({}, LIVES), "b": ({}, LIVES)})
     host.logged("began b 2/17")
     settings = host.home / "settings.toml"
@@ -621,6 +632,9 @@ def reads_its_settings_again(host):
     settings.write_text(good + "[[service]]\n")
     host.process.send_signal(signal.SIGHUP)
     host.logged("settings")
+    settings.write_text(good)
+    host.process.send_signal(signal.SIGHUP)
+    host.logged(f"settings {settings}: they are in use")
     assert not host.has_logged("kill"), host.log()
     settings.write_text(good.replace('label = "a"', 'label = "c"'))
     host.service("c", LIVES)
@@ -674,3 +688,19 @@ def labels_stand_before_lines(host):
     host.end()
     for line in ("a: one\n", "a: two\n", "a: three\n"):
         assert line in host.log(), host.log()[-500:]
+
+
+@scene
+def a_log_of_objects_of_json(host):
+    """With --log-format json every line of standard error is an object, that of a service too, whatever bytes it prints."""
+    body = r"""
+os.write(1, b"a \"quote\", a \\ and \x1b\xe9\n")
+live()
+"""
+    host.start({"a": ({}, body)}, options=("--log-format", "json"))
+    until(lambda: '"output"' in host.log(), "the line of the service is passed on")
+    host.end()
+    lines = [json.loads(it) for it in host.log().splitlines()]
+    assert {"level": "INFO", "event": "output", "service": "a", "text": 'a "quote", a \\ and \x1b\xe9'} in lines, host.log()
+    assert all({"level", "event"} <= set(it) for it in lines), host.log()
+    assert any(it["event"] == "began" and "a 1/16" in it["text"] for it in lines), host.log()

@@ -51,6 +51,10 @@ class Gone(Exception):
     """The supervisor ended, or hung up, before it answered."""
 
 
+class Skipped(Exception):
+    """Why a scene can't be played on this machine."""
+
+
 def until(so, what, seconds=PATIENCE):
     """Waits until it is so, and returns that; else it fails with what was waited for."""
     end = time.monotonic() + seconds
@@ -133,7 +137,7 @@ class Host:
         with open(self.home / "log", "a") as log:
             leaked = fcntl.fcntl(log, fcntl.F_DUPFD, 100)
             ignored = lambda: signal.signal(signal.SIGQUIT, signal.SIG_IGN)  # noqa: E731, as a shell's `&` does
-            self.process = subprocess.Popen(words, stdout=log, stderr=log, pass_fds=[leaked], env={**os.environ, "DS_TEST": str(self.home)}, preexec_fn=ignored)
+            self.process = subprocess.Popen(words, stdout=log, stderr=log, pass_fds=[leaked], env={**os.environ, "DS_TEST": str(self.home)}, preexec_fn=ignored, start_new_session=True)
             os.close(leaked)
 
     def kill(self):

@@ -43,10 +43,18 @@ class Unanswered(Exception):
     """Why there is nothing to draw."""
 
 
+def lines_of(script):
+    """Returns the lines of a script with their numbers: of one of format 2, without comments and empty lines."""
+    lines = list(enumerate(script.splitlines(), 1))
+    if lines[:1] != [(1, "script 2")]:
+        return lines
+    return [(number, line) for number, line in lines[1:] if line and not line.startswith("#")]
+
+
 def run(program, script):
     """Returns the rows of a script; an unreadable line is the last one."""
-    lines, asked, maps, side = script.splitlines(), [], [], "a"
-    for number, line in enumerate(lines):
+    lines, asked, maps, side = lines_of(script), [], [], "a"
+    for number, (_, line) in enumerate(lines):
         words = line.split(" ")
         side = words[1] if words[0] == "side" and words[1:] in (["a"], ["b"]) else side
         maps.append((maps[-1] if maps else 0) + (words[0] == "map"))
@@ -60,21 +68,21 @@ def run(program, script):
 def rows_of(lines, maps, said):
     """Returns the rows, from the program's output."""
     side, held = "a", {"a": [], "b": []}
-    for number, line in enumerate(lines):
+    for place, (number, line) in enumerate(lines):
         answer = [next(said)]
         bad = BAD_LINE.fullmatch(answer[0])
         if bad:
-            yield Row(number + 1, line, [f"badline {number + 1} {bad[1]}"], held, side)
+            yield Row(number, line, [f"badline {number} {bad[1]}"], held, side)
             return
         answer += iter(lambda: next(said), "side a")
         side = line.split(" ")[1] if answer[0] in ("side a", "side b") else side
         held = {"a": items(said), "b": next(said) and items(said)}
-        for at in range(maps[number]):
+        for at in range(maps[place]):
             found = items(said)
             if found is not None:
                 held[f"m{at}"] = found
         next(said)
-        yield Row(number + 1, line, answer, held, side)
+        yield Row(number, line, answer, held, side)
 
 
 def items(said):

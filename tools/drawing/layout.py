@@ -19,7 +19,7 @@ class Chip:
     """Something that is held, or a word about it."""
 
     text: str
-    tone: Optional[int] = None
+    tone: Optional[tuple] = None  # a driver and its generation
     is_floor: bool = False
     is_gone: bool = False
     is_new: bool = True
@@ -40,11 +40,11 @@ class Block:
 def chip_of(item, is_new):
     """Returns an item's chip: a floor is filled."""
     if item.startswith("! "):
-        return Chip(item, int(item.split(" ")[2]), is_floor=True, is_new=is_new)
-    name, _kind, _owner, version, rest = item.split(" ", 4)
+        return Chip(item, story.tone_of(item), is_floor=True, is_new=is_new)
+    name, _kind, _owner, _version, rest = item.split(" ", 4)
     value = rest[2:] if rest.startswith("= ") else "gone"
     text = f"{name} {value}" if len(value) <= 24 else f"{name} {value[:14]}.. ({len(value)})"
-    return Chip(text, int(version.split(".")[0]), is_gone=rest == "-", is_new=is_new)
+    return Chip(text, story.tone_of(item), is_gone=rest == "-", is_new=is_new)
 
 
 def chips_of(held, before):
@@ -176,7 +176,6 @@ class Layout:
             y += max(LEAST_ROW, 10 + 13 * len(self.texts[number]), 10 + STEP * (max(steps, default=0) + 1))
         y = self.fold(len(self.rows), y)
         self.bottom = max([y, *free.values()])
-        self.height = self.bottom + 74
 
     def fold(self, number, y):
         """Returns the room above a row, or below the last one, for the count of lines that aren't shown before it."""

@@ -1,16 +1,29 @@
-"""The tones of a picture, in light and in dark: one for each generation, and those of the rest."""
+"""The tones of a picture, in light and in dark: one for each driver, in a shade for each generation, and those of the rest."""
+import re
 
-LIGHT = ["#59616b", "#a85c00", "#006d77", "#7b1fa2", "#2e7d32", "#ad1457", "#5d4037", "#3949ab"]
-LIGHT_BANDS = ["#e4e7eb", "#ffe3b8", "#c4ecf0", "#ecd6f4", "#cfead1", "#f9d3e1", "#e6dad5", "#d9def6"]
-DARK = ["#aab4c0", "#ffb454", "#5fd3dd", "#d79bf0", "#84d68a", "#ff8fb8", "#d2b3a6", "#a8b5ff"]
-DARK_BANDS = ["#30363d", "#4a3616", "#123f44", "#40254d", "#1e4223", "#4d2033", "#402f29", "#2a3160"]
+LIGHT = ["#a85c00", "#006d77", "#7b1fa2", "#2e7d32", "#ad1457", "#3949ab", "#5d4037", "#59616b"]
+DARK = ["#ffb454", "#5fd3dd", "#d79bf0", "#84d68a", "#ff8fb8", "#a8b5ff", "#d2b3a6", "#aab4c0"]
+SHADES = "abc"  # of generations, by turns
+STRONG = (0.0, 0.3, 0.55)  # how much of the paper's opposite is in a shade
+PALE = (0.14, 0.3, 0.46)  # how much of the tone is in a band's shade
 TONES = len(LIGHT)
 
 
-def tones(strong, pale):
-    """Returns the looks of each generation: filled, drawn, and the band of a holder that takes it to be alive."""
-    rows = [f".f{it}{{fill:{one}}}.s{it}{{stroke:{one}}}" for it, one in enumerate(strong)]
-    return "".join(rows + [f".p{it}{{fill:{one}}}" for it, one in enumerate(pale)])
+def mixed(one, other, part):
+    """Mixes a part of one colour into another."""
+    pairs = [(int(one[it : it + 2], 16), int(other[it : it + 2], 16)) for it in (1, 3, 5)]
+    return "#" + "".join(f"{round(mine * (1 - part) + theirs * part):02x}" for mine, theirs in pairs)
+
+
+def tones(colours, paper, ink):
+    """Returns the looks of each driver's generations: filled, drawn, and the band of a holder that takes it to be alive."""
+    rows = []
+    for place, colour in enumerate(colours):
+        for shade, strong, pale in zip(SHADES, STRONG, PALE):
+            shown = mixed(colour, ink, strong)
+            rows += [f".f{place}{shade}{{fill:{shown}}}", f".s{place}{shade}{{stroke:{shown}}}"]
+            rows.append(f".p{place}{shade}{{fill:{mixed(paper, colour, pale)}}}")
+    return "".join(rows)
 
 
 def grounds(paper, ink, faint, rule, none, bad, plain, vain):
@@ -22,16 +35,28 @@ def grounds(paper, ink, faint, rule, none, bad, plain, vain):
     )
 
 
+def shade(place, generation):
+    """Returns the name of a driver's tone, by its place among the drivers, in the shade of a generation. Without a place: the last tone."""
+    return f"{TONES - 1 if place is None else place % (TONES - 1)}{SHADES[(generation - 1) % len(SHADES)]}"
+
+
+def style_of(parts):
+    """Returns the style of a picture with these parts: of the tones, those that it has."""
+    looks = {word for it in parts for found in re.findall(r'class="([^"]*)"', it) for word in found.split()}
+    rules = STYLE.split("}")
+    return "}".join(it for it in rules if not (tone := re.search(r"\.([fsp]\d[abc])\{", it)) or tone[1] in looks)
+
+
 STYLE = (
     "text{font-family:'DejaVu Sans',Verdana,sans-serif}.mono{font-family:'DejaVu Sans Mono',Menlo,Consolas,monospace}"
     ".strong{font-weight:bold}path{fill:none}.stroke{stroke-width:1.8}.rule{stroke-width:.6}.lane{stroke-width:1}"
-    ".cut{stroke-width:2}.bar{stroke-width:3}.break{stroke-width:2;stroke-dasharray:6 3}.cross{stroke-width:3}"
+    ".cut{stroke-width:2}.round{stroke-width:6}.trail{stroke-width:1}.bar{stroke-width:3}.break{stroke-width:2;stroke-dasharray:6 3}.cross{stroke-width:3}"
     ".chip{stroke-width:1.3}.old{stroke-width:.5}.dashed{stroke-dasharray:5 3}.hatched{fill:url(#hatch)}"
     ".hatch{stroke-width:2.4;stroke-opacity:.3}"
     + grounds("#ffffff", "#1f2328", "#59636e", "#d8dee4", "#f3f4f6", "#b00020", "#1a5fb4", "#8a929b")
-    + tones(LIGHT, LIGHT_BANDS)
+    + tones(LIGHT, "#ffffff", "#000000")
     + "@media (prefers-color-scheme:dark){"
     + grounds("#0d1117", "#e6edf3", "#9aa4af", "#262c34", "#1a1f26", "#ff7b72", "#79b8ff", "#7d8590")
-    + tones(DARK, DARK_BANDS)
+    + tones(DARK, "#0d1117", "#ffffff")
     + "}"
 )

@@ -3,22 +3,32 @@ from html import escape
 
 from . import story
 from .layout import TEXT, TOP, SIDE
-from .look import STYLE, TONES
+from .look import shade, style_of
 from .sizes import CHIP, LINE, MONO, SMALL, TINY, chip_width, sans_width
 
-LEGEND = [
-    ("Across a band there is a strip for each driver, in the tone of the generation that its holder takes for living;",
-     "hatched where RS knows better. A strip may lag behind, but never goes back to an older tone."),
-    ("Filled: a floor, which ends what its owner left. In a circle: the number of a message. Dashed: from the dead, or nothing new.",
-     "A bar at the end of an arrow: refused or stale. A triangle at a subscription: a notice is owed to it."),
-]
+# What a picture may have, and what that means, in the order of the words below it.
+LEGEND = {
+    "strips": "Across a band there is a strip for each driver, in the shade of the generation that its holder takes for living.",
+    "hatched": "A hatched strip lags: RS knows better. No strip goes back to an older generation.",
+    "floor": "Filled: a floor, which ends what its owner left.",
+    "gone": "A dashed frame: gone.",
+    "message": "In a circle: the number of a message.",
+    "trail": "A thin line leads from a message to where it is delivered.",
+    "elsewhere": "A short arrow: from another replica, or a caller without a lane.",
+    "dashed": "A dashed arrow: from the dead, or nothing new.",
+    "bar": "A bar at the end of an arrow: refused or stale.",
+    "notice": "A triangle at a subscription: a notice is owed to it.",
+}
+LEAST, HIGH = 790, 13  # the least width of the words below a picture, and the height of their rows
+BEND = 11  # how far an arrow goes round a driver's bar
 
 
 class Picture:
     """Draws what a layout has placed, from the ground up: arrows pass under bands."""
 
     def __init__(self, layout, name):
-        self.layout, self.out, self.name = layout, [], name
+        self.layout, self.out, self.name, self.has = layout, [], name, set()
+        self.made = self.places_of_messages()
 
     def svg(self):
         self.rules()
@@ -27,11 +37,10 @@ class Picture:
         self.lives()
         self.heads()
         self.lines()
-        self.legend()
-        wide, high = f"{self.layout.width:.0f}", f"{self.layout.height:.0f}"
+        wide, high = f"{self.layout.width:.0f}", f"{self.legend():.0f}"
         head = f'<svg xmlns="http://www.w3.org/2000/svg" width="{wide}" height="{high}" viewBox="0 0 {wide} {high}" role="img">'
         title = f"<title>{escape(self.name)}: what its lines did</title>"
-        return "\n".join([head, title, f"<style>{STYLE}</style>", HATCH, '<rect class="paper" width="100%" height="100%"/>', *self.out, "</svg>", ""])
+        return "\n".join([head, title, f"<style>{style_of(self.out)}</style>", HATCH, '<rect class="paper" width="100%" height="100%"/>', *self.out, "</svg>", ""])
 
     # ---- parts ----
 
@@ -58,17 +67,50 @@ class Picture:
             if lane in it.servers or lane.startswith("sub "):
                 self.path(f"M{it.middle[lane]:.1f} {TOP - 6} V{it.bottom:.1f}", "lane")
 
+    def places_of_messages(self):
+        """Returns where each message was made, as its circle shows: beside its store, or on the arrow of a check."""
+        it = self.layout
+        made = {number: (it.right(lane) + 11, it.y(row)) for number, (lane, row) in enumerate(it.story.makers)}
+        for stroke in it.story.strokes:
+            if stroke.message is not None and not stroke.is_delivery:
+                _, end, sign = self.ends(stroke)
+                made[stroke.message] = (end - sign * 20, it.y(stroke.row))
+        return made
+
     def ends(self, stroke):
-        """Returns a stroke's begin and end, and its side."""
+        """Returns a stroke's begin and end, and its side. A delivery begins below the message's circle."""
         it = self.layout
         there = it.middle[stroke.end]
+        if stroke.is_delivery:
+            begin = self.made[stroke.message][0]
+            sign = 1 if begin < there else -1
+            return begin, self.near(stroke.end, -sign), sign
         if stroke.begin is None:
             return self.near(stroke.end, -1) - 26, self.near(stroke.end, -1), 1
-        if stroke.begin == stroke.end:
-            return self.near(stroke.end, -1) - 40, self.near(stroke.end, -1), 1
         sign = 1 if it.middle[stroke.begin] < there else -1
         end = there - it.tag[stroke.end] / 2 if stroke.is_start else self.near(stroke.end, -sign)
         return self.near(stroke.begin, sign), end, sign
+
+    def crossed(self, stroke):
+        """Returns what a stroke goes round: from where to where there is a driver's bar, tag or cross, in the stroke's order."""
+        it, y = self.layout, self.layout.y(stroke.row, stroke.step)
+        begin, end, sign = self.ends(stroke)
+        found = []
+        for life in it.story.lives:
+            born = it.first_shown(life)
+            if born is None or life.lane in (stroke.begin, stroke.end):
+                continue
+            x, top, bottom = it.middle[life.lane], it.y(*born) - CHIP / 2, it.y(*life.died) + 6 if life.died else it.bottom
+            half = it.tag[life.lane] / 2 + 4 if abs(y - it.y(*born)) <= CHIP else 10
+            if top <= y <= bottom and min(begin, end) < x - half - 4 and x + half + 4 < max(begin, end):
+                found.append((x - half, x + half))
+        joined = []
+        for left, right in sorted(found):
+            if joined and left <= joined[-1][1] + 8:
+                joined[-1] = (joined[-1][0], max(right, joined[-1][1]))
+            else:
+                joined.append((left, right))
+        return joined if sign > 0 else [(right, left) for left, right in reversed(joined)]
 
     def near(self, lane, sign):
         """Returns the edge of a lane at one side."""
@@ -80,14 +122,25 @@ class Picture:
     def look_of(self, stroke):
         if stroke.is_vain:
             return "vain"
-        return "plain" if stroke.tone is None else f"s{stroke.tone % TONES}"
+        return "plain" if stroke.tone is None else f"s{self.tone(stroke.tone)}"
+
+    def tone(self, tone):
+        """Returns the name of a driver's tone in the shade of a generation; the last tone is for RS and those that aren't drawn."""
+        label, generation = tone
+        return shade(self.layout.labels.index(label) if label in self.layout.labels else None, generation)
 
     def strokes(self):
         for it in self.layout.story.strokes:
             begin, end, sign = self.ends(it)
             y = self.layout.y(it.row, it.step)
             dashed = " dashed" if it.is_late or it.is_vain else ""
-            self.path(f"M{begin:.1f} {y:.1f} H{end - sign * 4:.1f}", f"stroke {self.look_of(it)}{dashed}")
+            self.has |= {"dashed"} if dashed else set()
+            self.has |= {"elsewhere"} if it.begin is None else set()
+            if it.is_delivery:
+                self.has.add("trail")
+                self.path(f"M{begin:.1f} {self.made[it.message][1] + 8:.1f} V{y:.1f}", "trail plain")
+            bends = "".join(f" H{left - sign * 4:.1f} l{sign * 4} -{BEND} H{right:.1f} l{sign * 4} {BEND}" for left, right in self.crossed(it))
+            self.path(f"M{begin:.1f} {y:.1f}{bends} H{end - sign * 4:.1f}", f"stroke {self.look_of(it)}{dashed}")
 
     # ---- bands ----
 
@@ -123,11 +176,13 @@ class Picture:
             return ("none", False)
         life = next((one for one in it.story.lives if one.label == label and one.endpoint == known[4]), None)
         lives = life is not None and life.born[0] <= number and (life.died is None or life.died[0] > number)
-        return (f"p{int(known[2]) % TONES}", not lives)
+        return (f"p{self.tone((label, int(known[2])))}", not lives)
 
     def strip(self, x, wide, begin, end, state):
         tops = self.layout.tops + [self.layout.bottom]
         look, is_hatched = state
+        self.has |= {"strips"} if look != "none" else set()
+        self.has |= {"hatched"} if is_hatched else set()
         self.rect(x, tops[begin], wide, tops[end] - tops[begin], look)
         if is_hatched:
             self.rect(x, tops[begin], wide, tops[end] - tops[begin], "hatched")
@@ -140,7 +195,8 @@ class Picture:
             self.chip(x + chip.place[0], y + chip.place[1], chip)
 
     def chip(self, x, y, chip):
-        tone = None if chip.tone is None else chip.tone % TONES
+        tone = None if chip.tone is None else self.tone(chip.tone)
+        self.has |= {"floor"} if chip.is_floor else {"gone"} if chip.is_gone else set()
         if tone is None:
             self.text(x + 2, y + 11, chip.text, "bad" if chip.is_bad else "faint", TINY, is_mono=True)
             return
@@ -156,7 +212,7 @@ class Picture:
             born = it.first_shown(life)
             if born is None:
                 continue
-            x, tone = it.middle[life.lane], life.generation % TONES
+            x, tone = it.middle[life.lane], self.tone(life.tone)
             top, wide = it.y(*born) - CHIP / 2, it.tag[life.lane]
             bottom = it.y(*life.died) if life.died else it.bottom
             self.rect(x - 4, top, 8, max(bottom - top, CHIP), f"f{tone}")
@@ -167,17 +223,29 @@ class Picture:
 
     # ---- the ends of arrows, and words ----
 
+    def bends(self, stroke):
+        """Draws a stroke once more where it goes round drivers' bars, above these."""
+        _, _, sign = self.ends(stroke)
+        y = self.layout.y(stroke.row, stroke.step)
+        for left, right in self.crossed(stroke):
+            steps = f"M{left - sign * 4:.1f} {y:.1f} l{sign * 4} -{BEND} H{right:.1f} l{sign * 4} {BEND}"
+            self.path(steps, "round cut")
+            self.path(steps, f"stroke {self.look_of(stroke)}" + (" dashed" if stroke.is_late or stroke.is_vain else ""))
+
     def heads(self):
+        for it in self.layout.story.strokes:
+            self.bends(it)
         for it in self.layout.story.strokes:
             begin, end, sign = self.ends(it)
             y = self.layout.y(it.row, it.step)
-            tone = "fvain" if it.is_vain else "fplain" if it.tone is None else f"f{it.tone % TONES}"
+            tone = "fvain" if it.is_vain else "fplain" if it.tone is None else f"f{self.tone(it.tone)}"
             if it.is_stopped or it.is_vain:
+                self.has |= {"bar"} if it.is_stopped else {"dashed"}
                 self.path(f"M{end - sign * 3:.1f} {y - 6:.1f} v12", "bar" if it.is_stopped else "bar vain")
             else:
                 self.path(f"M{end:.1f} {y:.1f} l{-sign * 8} -4 v8 z", tone)
             if it.message is not None:
-                self.circle(end - sign * 20, y, it.message)
+                self.circle(begin if abs(end - begin) < 30 else end - sign * 20, y, it.message)
             elif it.word:
                 self.word(it, begin, end, sign, y)
         for number, (lane, row) in enumerate(self.layout.story.makers):
@@ -188,6 +256,7 @@ class Picture:
                 self.aside(note)
 
     def circle(self, x, y, number):
+        self.has.add("message")
         self.out.append(f'<circle class="paper plain" cx="{x:.1f}" cy="{y:.1f}" r="8"/>')
         self.text(x, y + 3.5, str(number), "ink", TINY, "middle")
 
@@ -206,6 +275,7 @@ class Picture:
         x = self.layout.middle[note.lane]
         y = self.layout.y(note.row, note.step)
         if note.lane.startswith("sub "):
+            self.has.add("notice")
             self.path(f"M{x + 7:.1f} {y - 4:.1f} l10 0 l-5 8 z", "fbad")
             return
         self.text(x + 6, y + 3.5, note.word, "bad" if note.is_bad else "ink", TINY)
@@ -229,11 +299,17 @@ class Picture:
             self.text(SIDE + TEXT - 10, y, row.last, "bad" if story.stops(row.last) or row.is_refused else "faint", SMALL, "end")
 
     def legend(self):
+        """Writes what the parts of this picture mean below it, and returns the picture's height."""
+        room, rows, row = max(self.layout.width, LEAST) - 2 * SIDE - 24, [], ""
+        for said in [LEGEND[it] for it in LEGEND if it in self.has]:
+            if row and sans_width(f"{row} {said}", SMALL) > room:
+                rows, row = [*rows, row], ""
+            row = f"{row} {said}".strip()
         y = self.layout.bottom + 20
-        for rows in LEGEND:
-            for row in rows:
-                self.text(SIDE + 24, y, row, "faint", SMALL)
-                y += 13
+        for it in [*rows, row] if row else []:
+            self.text(SIDE + 24, y, it, "faint", SMALL)
+            y += HIGH
+        return y + 2
 
 
 HATCH = (

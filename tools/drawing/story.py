@@ -6,8 +6,8 @@ from typing import List, Optional
 from . import asking
 
 LABEL = re.compile(r"(\S+) label rs (\d+)\.(\d+) (?:= (\S+)|-)$")  # a label's change as an item
-CHANGE = re.compile(r"\S+ \w+ (\S+) (\d+)\.\d+ [=-]")  # any change as an item
-ASKED = re.compile(r"(?:publish|delete) \S+ (?:new |over )?\S+ \w+ (\d+)\.\d+")
+CHANGE = re.compile(r"(\S+) (\w+) (\S+) (\d+)\.\d+ [=-]")  # any change as an item
+ASKED = re.compile(r"(?:publish|delete) (\S+) (?:new |over )?(\S+) (\w+) (\d+)\.\d+")
 SERVERS = {"file": "file server", "net": "network server"}
 MAKERS = ("check", "since", "snapshot", "page")
 ACTING = ("service", "tick", "death", "beat")  # lines to RS; each action is a step
@@ -28,6 +28,10 @@ class Life:
     def lane(self):
         return driver(self.label)
 
+    @property
+    def tone(self):
+        return self.label, self.generation
+
 
 @dataclass
 class Stroke:
@@ -37,13 +41,14 @@ class Stroke:
     step: int
     begin: Optional[str]  # a lane; None: a caller without one
     end: str
-    tone: Optional[int] = None  # the generation it is about
+    tone: Optional[tuple] = None  # the driver and the generation that it is about
     is_late: bool = False  # of a generation that is dead
     is_stopped: bool = False  # refused, or stale
     is_vain: bool = False  # nothing was new
     is_start: bool = False  # of a driver, whose endpoint is written at its end
     word: str = ""
     message: Optional[int] = None
+    is_delivery: bool = False  # of a message, which begins where that was made
 
 
 @dataclass
@@ -76,6 +81,15 @@ def driver(label):
 def subscriber(side, number):
     """Returns the lane of a subscription at a store."""
     return f"sub {side} {number}"
+
+
+def tone_of(item):
+    """Returns the driver and the generation that an item is about: a label's own, or the owner's."""
+    words = item.split(" ")
+    if words[0] == "!":
+        return words[1], int(words[2])
+    name, kind, owner, generation = CHANGE.match(item).groups()
+    return (name if kind == "label" else owner), int(generation)
 
 
 class Teller:
@@ -127,36 +141,41 @@ class Teller:
     def nothing(self, row):
         """Handles lines that send nothing."""
 
+    def asked_tone(self, row, life):
+        """Returns what a publication or a deletion is about: a label's driver, or the caller."""
+        _, name, kind, generation = ASKED.match(row.line).groups()
+        return (name if kind == "label" else life.label if life else RS), int(generation)
+
     def from_caller(self, row, life, tone):
         is_late = life is not None and life.died is not None and life.died < (self.at, 0)
         begin = RS if row.words[1] == "0/2" else life and life.lane
         self.stroke(begin, row.side, tone=tone, is_late=is_late, is_stopped=stops(row.last), is_vain=row.last == "known")
 
     def publish(self, row):
-        tone, life = int(ASKED.match(row.line)[1]), self.life_at(row.words[1])
-        self.from_caller(row, life, tone)
+        life = self.life_at(row.words[1])
+        self.from_caller(row, life, self.asked_tone(row, life))
         if row.words[1] == "0/2" and not stops(row.last):
             found = re.match(r"publish 0/2 \w+ (\S+) label (\d+)\.0 = (\S+)", row.line)
             if found:
                 self.begin(found[1], int(found[2]), found[3])
 
     def delete(self, row):
-        tone, life = int(ASKED.match(row.line)[1]), self.life_at(row.words[1])
-        self.from_caller(row, life, tone)
+        life = self.life_at(row.words[1])
+        self.from_caller(row, life, self.asked_tone(row, life))
         found = re.match(r"delete 0/2 (\S+) label (\d+)\.", row.line)
         if found and not stops(row.last):
             self.die(found[1], int(found[2]))
 
     def sweep(self, row):
-        self.from_caller(row, self.life_at(row.words[1]), int(row.words[3]))
+        self.from_caller(row, self.life_at(row.words[1]), (row.words[2], int(row.words[3])))
 
     def offer(self, row):
+        """Adds an item that came from elsewhere: RS's own, or one by way of another replica, and not the driver itself."""
         item = row.line[len("offer "):]
-        change = CHANGE.match(item)
-        owner, tone = (change[1], int(change[2])) if change else ("rs", int(item.split(" ")[2]))
-        life = self.life(owner, tone)
+        tone, change = tone_of(item), CHANGE.match(item)
+        life = self.life(*tone)
         is_late = life is not None and life.died is not None and life.died < (self.at, 0)
-        begin = RS if owner == "rs" else life and life.lane
+        begin = RS if change and change[3] == "rs" else None
         self.stroke(begin, row.side, tone=tone, is_late=is_late, is_stopped=stops(row.last), is_vain=row.last == "known")
         if row.last == "taken":
             self.change_lives(item)
@@ -188,7 +207,7 @@ class Teller:
         number, told = int(row.words[1]), row.last.split(" ")
         is_vain = told[0] == "merged" and told[2] == "0"
         maker, _ = self.story.makers[number]
-        self.stroke(maker, row.words[2], is_vain=is_vain, is_stopped=told[0] == "stopped", message=number)
+        self.stroke(maker, row.words[2], is_vain=is_vain, is_stopped=told[0] == "stopped", message=number, is_delivery=True)
         if is_vain:
             self.note(row.words[2], "nothing new")
         elif told[0] == "stopped":
@@ -226,7 +245,7 @@ class Teller:
     def death(self, row):
         life = self.life_at(row.words[1])
         if life:
-            self.stroke(life.lane, RS, tone=life.generation, is_stopped=row.is_refused, word="died")
+            self.stroke(life.lane, RS, tone=life.tone, is_stopped=row.is_refused, word="died")
         if life and not row.is_refused:
             self.die(life.label, life.generation)
         self.step += 1
@@ -235,7 +254,7 @@ class Teller:
     def beat(self, row):
         life = self.life_at(row.words[1])
         if life:
-            self.stroke(life.lane, RS, tone=life.generation, is_stopped=row.is_refused, word="beat")
+            self.stroke(life.lane, RS, tone=life.tone, is_stopped=row.is_refused, word="beat")
         self.step += 1
         self.act(row)
 
@@ -248,7 +267,7 @@ class Teller:
                 self.owe(line, row.side)
             elif words[0] == "start":
                 self.begin(words[1], int(words[2].split("/")[0]), words[2])
-                self.stroke(RS, driver(words[1]), tone=int(words[2].split("/")[0]), is_start=True)
+                self.stroke(RS, driver(words[1]), tone=(words[1], int(words[2].split("/")[0])), is_start=True)
             elif words[0] in ("kill", "ping"):
                 self.reach(words)
             elif words[0] in ("offer", "sweep"):
@@ -260,13 +279,13 @@ class Teller:
     def reach(self, words):
         life = self.life_at(words[1])
         if life:
-            self.stroke(RS, life.lane, tone=life.generation, word=words[0])
+            self.stroke(RS, life.lane, tone=life.tone, word=words[0])
         if life and words[0] == "kill":
             self.die(life.label, life.generation)
 
     def ask(self, row, line, answer):
         words = line.split(" ")
-        tone = int(words[2]) if words[0] == "sweep" else int(LABEL.match(line[len("offer "):])[2])
+        tone = (words[1], int(words[2])) if words[0] == "sweep" else tone_of(line[len("offer "):])
         self.stroke(RS, row.side, tone=tone, is_stopped=stops(answer))
         if words[0] == "offer":
             self.change_lives(line[len("offer "):])
@@ -292,7 +311,7 @@ class Teller:
                 life = self.life_at(words[2])
                 word = words[1] if words[0] == "send" else f"start {words[1]}"
                 if life:
-                    self.stroke(server, life.lane, tone=life.generation, word=word)
+                    self.stroke(server, life.lane, tone=life.tone, word=word)
             else:
                 self.note(server, f"{words[1]} {words[-1] if words[0] == 'answer' else 'held'}", words[0] == "answer")
             self.step += 1
@@ -310,7 +329,7 @@ class Teller:
     def reply(self, row):
         life, server = self.life_at(row.words[2]), SERVERS[row.words[1]]
         is_late = life is not None and life.died is not None
-        self.stroke(life.lane if life else None, server, tone=life and life.generation, is_late=is_late, is_stopped=row.is_refused, word=row.words[3])
+        self.stroke(life.lane if life else None, server, tone=life and life.tone, is_late=is_late, is_stopped=row.is_refused, word=row.words[3])
         if not row.is_refused:
             self.note(server, f"{row.words[3]} done")
 

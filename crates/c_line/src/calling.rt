@@ -9,11 +9,11 @@ use ds_names::NoRoom;
 use script_commands::ScriptCommand;
 use std::alloc::Global;
 
-/// Carries out the command of a line, as one store does.
+/// Carries out the command of a line, as a single store does.
 ///
-/// A command of the store is one step of its machine, and the answer is that of the reply. `show` and `all` are answered by the number of
-/// items shown. Any other command is answered as no request. An offer for which memory runs out is answered as a refusal. Then the store is
-/// unchanged.
+/// A command of the store is one step of its machine. `show` and `all` copy the held items. Any other command is answered as no
+/// request. If memory runs out for an offer's list, or for shown items, the answer is a refusal. In these cases, and for a show, the
+/// store is unchanged.
 pub fn carry_out(alloc: Global, session: &mut Session, command: ScriptCommand, answer: &mut Answer)
     ensures { CarriesOut command session.old answer.new session.new }
 {
@@ -23,7 +23,7 @@ pub fn carry_out(alloc: Global, session: &mut Session, command: ScriptCommand, a
     }
 }
 
-// Whether a command shows everything held, or only the puts. `None` if it shows nothing.
+// Returns whether a command shows everything held, or only the puts. `None` if it shows nothing.
 fn what_shows(command: &ScriptCommand) -> Option<bool>
     ensures { result ≡ what_shows command.now }
 {
@@ -34,7 +34,7 @@ fn what_shows(command: &ScriptCommand) -> Option<bool>
     }
 }
 
-// Sends the store the command of a line.
+// Sends the command of a line to the store, if it is one of the store's.
 fn ask_store(alloc: Global, session: &mut Session, command: ScriptCommand, answer: &mut Answer)
     ensures { LineAsks command session.old answer.new session.new }
 {

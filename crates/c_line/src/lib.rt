@@ -1,4 +1,4 @@
-//! A session that carries out lines of a script, and the text of its last answer, as a script prints it.
+//! Carries out the lines of a script in a session, and copies the text of the last answer as a script prints it.
 #![tactic(auto)]
 
 mod calling;

@@ -12,11 +12,11 @@ use line_io::{LONGEST_LINE, newline_place};
 use script_commands::{CommandFault, ScriptCommand, read_command, read_line};
 use std::alloc::Global;
 
-// The longest line that is copied to a small block, to append a newline. `read_command` clears a block for the longest line of all.
+// The longest line that is copied to a small block for its newline. `read_command` reads longer ones, and clears a larger block.
 const SHORT_LINE: usize = 255;
 
-/// Reads the command of a line, whose newline may be missing. If there is more after the newline, the line is bad at the byte where that
-/// begins.
+/// Reads the command of a line, whose newline may be missing. Refuses bytes after the newline as BadLine, at the first of them. Then
+/// refuses a line that isn't a command as BadLine, at its first bad part. Then reports NoRoom if memory runs out.
 pub fn read_bytes(alloc: Global, bytes: &[u8]) -> Result<ScriptCommand, CommandFault>
     ensures { ReadsBytes bytes.now result }
 {
@@ -57,7 +57,7 @@ fn end_line(line: &[u8], block: &mut [u8; SHORT_LINE + 1])
     block[line.len()] = b'\n';
 }
 
-// The fault of a line that is bad from a byte on.
+// Returns the fault of a line whose first bad part begins at a byte.
 fn bad_at(place: usize) -> CommandFault
     ensures { result ≡ BadLine place Limit }
 {

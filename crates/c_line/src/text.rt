@@ -12,16 +12,17 @@ use ds_names::NoRoom;
 use std::alloc::Global;
 use store_answers::write_reply;
 
-// Why copying stopped: the text ended, the buffer is full, or memory for the text ran out.
+// Why copying stopped: the text ended, the buffer is full, or memory ran out for the text.
 const WHOLE: u32 = 0;
 
 const FULL: u32 = 1;
 
 const NO_ROOM: u32 = 20;
 
-/// Copies the text of a session's last answer to a buffer, as a script prints it, from the byte at `first` on: as many bytes as fit.
-/// Returns how many these are, and how many the whole text has. A later call copies the rest, until the next request. The text takes memory while
-/// it is copied; if that runs out, nothing is copied, and nothing is lost.
+/// Copies the text of a session's last answer, as a script prints it, from the byte `first` on. Copies as many bytes as fit in the buffer.
+///
+/// Returns the number of these bytes, and the length of the whole text. Until the next request, a later call can copy the rest. The call
+/// takes memory for the text. If it runs out, nothing is copied, and a later call may succeed.
 pub fn give_text(alloc: Global, session: &Session, first: usize, room: &mut [u8]) -> Given
     ensures { GivesText (given_text session.now.last) first room.old result room.new }
 {
@@ -31,7 +32,7 @@ pub fn give_text(alloc: Global, session: &Session, first: usize, room: &mut [u8]
     }
 }
 
-/// Returns that nothing was copied, because memory for the text ran out.
+/// Returns the result of a copy for which memory ran out: no bytes.
 pub fn no_text() -> Given
     ensures { result ≡ record { count = 0; length = 0; stop = 20 } }
 {
@@ -41,7 +42,7 @@ pub fn no_text() -> Given
     }
 }
 
-/// Copies a text to a buffer, from the byte at `first` on: as many bytes as fit.
+/// Copies a text from the byte `first` on. Copies as many bytes as fit in the buffer.
 pub fn give_part(text: &[u8], first: usize, room: &mut [u8]) -> Given
     ensures { GivesPart text.now first room.old result room.new }
 {
@@ -64,7 +65,7 @@ pub fn give_part(text: &[u8], first: usize, room: &mut [u8]) -> Given
     }
 }
 
-// The text past the first bytes.
+// Returns the text after its first bytes.
 fn behind(text: &[u8], first: usize) -> &[u8]
     ensures { result.now ≡ drop first text.now }
 {
@@ -75,7 +76,7 @@ fn behind(text: &[u8], first: usize) -> &[u8]
     }
 }
 
-// The text of an answer.
+// Returns the text of an answer, as a script prints it. Fails only if memory runs out.
 fn write_text(alloc: Global, last: &Last) -> Result<Vec<u8>, NoRoom>
     ensures { IfOk result (λ text. text.items ≡ given_text last.now) }
 {
@@ -86,7 +87,7 @@ fn write_text(alloc: Global, last: &Last) -> Result<Vec<u8>, NoRoom>
     }
 }
 
-// The lines of shown items, and their number.
+// Returns the lines of shown items, and then the line with their number. Fails only if memory runs out.
 fn write_shown(alloc: Global, items: &Items) -> Result<Vec<u8>, NoRoom>
     ensures { IfOk result (λ text. text.items ≡ shown_text items.now) }
 {

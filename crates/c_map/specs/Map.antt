@@ -1,4 +1,4 @@
--- What the calls on a subscriber's map do to it, and their answers.
+-- The effects of the calls on a subscriber's map, and their answers.
 use Rattle.std.specs.Prelude.{◌≡◌, ◌⊎◌, ℕ, ◌<◌, ◌≤◌, ◌++◌, cond, IsFalse, List, length, Option, Some, None, Result, Ok, Err, IfOk, IfErr}
 use Rattle.ds_names.specs.Endpoint.{EndpointRecord}
 use Rattle.ds_entry.specs.declared.body.Value.TheVariants.{Label}
@@ -21,17 +21,18 @@ use Rattle.c_values.specs.Lines.{AreLines}
 use Rattle.c_values.specs.Request.{is_name}
 use Rattle.c_values.specs.declared.answer.Answer.{Answer}
 
--- the number is a sum of kinds
+-- Whether the number is a sum of kinds.
 abbrev pub IsKindSum : ℕ → Type 0
 IsKindSum kinds = (0 < kinds) × (kinds ≤ 15)
 
--- the map is empty, and its query is this pattern and these kinds
+-- Whether the map is empty, and its query has this pattern and these kinds.
 pub record IsMapOf (kinds : ℕ) (text : List ℕ) (map : SubMapRecord) : Type 0 where
   pub is_sum : IsKindSum kinds
   pub pattern : IsPattern text
   pub value : map ≡ empty_map (query_of text kinds)
 
--- why no map is made: first the kinds, then the length of the pattern, then the pattern, or out of memory
+-- Whether the refusal is the first that applies: to the kinds, then to the length of the pattern, then to the pattern. NoRoom may come
+-- in place of BadPattern, or after it.
 abbrev pub IsMapRefusal : Refusal → ℕ → List ℕ → Type 0
 IsMapRefusal refusals.BadKind kinds text = ¬ IsKindSum kinds
 IsMapRefusal refusals.TooLong kinds text = IsKindSum kinds × (128 < length text)
@@ -39,12 +40,12 @@ IsMapRefusal refusals.BadPattern kinds text = IsKindSum kinds × (length text �
 IsMapRefusal refusals.NoRoom kinds text = IsKindSum kinds × (length text ≤ 128)
 IsMapRefusal _ kinds text = ⊥
 
--- the reply of a Merge with the same result, that owes no notices
+-- The reply of a Merge with the same result that owes no notices.
 abbrev pub reply_of_take : Result Count Stop → Reply
 reply_of_take (Ok count) = Merged count.done count.taken count.stale 0
 reply_of_take (Err stop) = MergeStopped stop.done (refusal_of_join stop.fault) 0
 
--- the items are merged in order, all or those before the first that is refused, and the answer counts them
+-- Whether the items are merged in order, all or those before the first refused one, and the answer has their counts.
 pub record TakesItems (old : SubMapRecord) (items : List Item) (answer : Answer) (new : SubMapRecord) : Type 0 where
   pub taken : Result Count Stop
   pub joined : JoinsUnder old.query old.held (done_items taken items) new.held
@@ -54,27 +55,27 @@ pub record TakesItems (old : SubMapRecord) (items : List Item) (answer : Answer)
   pub query : new.query ≡ old.query
   pub told : answer ≡ answer_of (reply_of_take taken)
 
--- the text is the lines of items, which are merged
+-- Whether the text is the lines of items, and these are merged.
 pub record GivesItemsOf (old : SubMapRecord) (text : List ℕ) (answer : Answer) (new : SubMapRecord) : Type 0 where
   pub items : List Item
   pub lines : AreLines items text
   pub takes : TakesItems old items answer new
 
--- the map is unchanged, and this is the answer
+-- Whether the map is unchanged, and this is the answer.
 pub record StaysMap (old : SubMapRecord) (told answer : Answer) (new : SubMapRecord) : Type 0 where
   pub told_is : answer ≡ told
   pub map_is : new ≡ old
 
--- the items are merged; the text isn't the lines of items; or memory for them runs out
+-- Whether the items of the text are merged. If the text isn't the lines of items, or memory runs out for them, the map is unchanged.
 abbrev pub GivesItems : SubMapRecord → List ℕ → Answer → SubMapRecord → Type 0
 GivesItems old text answer new =
     GivesItemsOf old text answer new ⊎ ((((items : List Item) → ¬ AreLines items text) × StaysMap old no_request answer new) ⊎ StaysMap old told_no_room answer new)
 
--- the reply of a Retrieve of a label with this endpoint
+-- The reply of a Retrieve of a label with this endpoint, or NotFound without one.
 abbrev pub reply_of_label : Option EndpointRecord → Reply
 reply_of_label (Some endpoint) = Found (Label endpoint)
 reply_of_label None = Refused refusals.NotFound
 
--- the answer of a Retrieve of the label, if the bytes are a name
+-- The answer of a Retrieve of the label, or no request if the bytes aren't a name.
 abbrev pub told_label : Holding → List ℕ → Answer
 told_label held name = cond (is_name name) (answer_of (reply_of_label (endpoint_of_label held name))) no_request

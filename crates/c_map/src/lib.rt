@@ -1,4 +1,4 @@
-//! A subscriber's map for C: it takes the lines of items, and finds where a label is.
+//! A subscriber's map for C. It takes the lines of items, and finds the endpoint of a label.
 #![tactic(auto)]
 
 mod map;

@@ -11,8 +11,10 @@ use ds_pattern::{LONGEST_PATTERN, PatternFault, PatternText, Query};
 use ds_submap::SubMap;
 use std::alloc::Global;
 
-/// Makes an empty map of a pattern and a sum of kinds. Refusals in their order: BadKind, if the number isn't such a sum; TooLong;
-/// BadPattern. NoRoom may come at any time after TooLong.
+/// Makes an empty map with a query of a pattern and kinds.
+///
+/// Refuses a number that isn't a sum of kinds as BadKind, then a pattern of more than 128 bytes as TooLong, then bytes that aren't a
+/// pattern as BadPattern. NoRoom may come in place of BadPattern, or after it.
 pub fn new_map(alloc: Global, kinds: u8, pattern: &[u8]) -> Result<SubMap, Refusal>
     ensures made { IfOk result (IsMapOf kinds pattern.now) }
     ensures refused { IfErr result (λ refusal. IsMapRefusal refusal kinds pattern.now) }
@@ -34,7 +36,7 @@ pub fn new_map(alloc: Global, kinds: u8, pattern: &[u8]) -> Result<SubMap, Refus
     }
 }
 
-// Merges items into a map.
+// Merges items into a map, and returns the answer with their counts.
 fn take_items(alloc: Global, map: &mut SubMap, items: &Items) -> Answer
     ensures { TakesItems map.old items.now result map.new }
 {
@@ -54,8 +56,8 @@ fn take_items(alloc: Global, map: &mut SubMap, items: &Items) -> Answer
     answer_of(&reply)
 }
 
-/// Merges the items whose lines a text is into a map, in order, and returns the answer, as of a Merge. If the text isn't the lines of
-/// items, or memory for them runs out, the answer says so, and the map is unchanged.
+/// Merges items into a map, and returns the answer as for a Merge. The text has the lines of the items, in order. If the text isn't
+/// such lines, or memory runs out for the items, the answer says so, and the map is unchanged.
 pub fn take_lines(alloc: Global, map: &mut SubMap, text: &[u8]) -> Answer
     ensures { GivesItems map.old text.now result map.new }
 {
@@ -66,8 +68,8 @@ pub fn take_lines(alloc: Global, map: &mut SubMap, text: &[u8]) -> Answer
     }
 }
 
-/// Returns where the label of a name is, as a Retrieve answers: its endpoint, or NotFound if the map has no live one. Bytes that aren't a
-/// name are answered as no request.
+/// Returns the answer of a Retrieve of a label: its endpoint, or NotFound if the map has no live one. If the bytes aren't a name,
+/// the answer says that there is no request.
 pub fn label_in(map: &SubMap, name: &[u8]) -> Answer
     ensures { result ≡ told_label map.now.held name.now }
 {

@@ -4,7 +4,9 @@ use Rattle.ds_names.specs.Endpoint.{EndpointRecord}
 use Rattle.ds_names.specs.declared.key.Key.{Key}
 use Rattle.rs_core.specs.State.{RsRecord}
 use Rattle.rs_core.specs.Machine.{due}
-use Rattle.rs_core.specs.Reading.{declares_at, is_from, place_of_instance}
+use Rattle.rs_core.specs.Reading.{deals_at, declares_at, is_from, place_of_instance}
+use Rattle.rs_core.specs.Says.{place_of_label}
+use Rattle.rs_settings.specs.declared.service.Service.{Service}
 use Rattle.c_values.specs.Request.{endpoint_at, is_name, key_of_parts, kind_at}
 
 -- ---- the first tick that has actions
@@ -46,3 +48,16 @@ may_publish_if rs None key = false
 abbrev pub may_publish_in : Option RsRecord → ℕ → ℕ → ℕ → List ℕ → Bool
 may_publish_in None generation slot kind name = false
 may_publish_in (Some rs) generation slot kind name = may_publish_if rs (endpoint_at generation slot) (key_at kind name)
+
+-- ---- which service an instance may deal with
+
+-- whether the instance may deal with the service of the label, by a rule of the settings; if one of them is none, it may not
+abbrev pub may_deal_if : (Service → Service → Bool) → RsRecord → Option EndpointRecord → Option (List ℕ) → Bool
+may_deal_if may rs (Some instance) (Some label) = deals_at may rs (place_of_instance rs instance) (place_of_label rs label)
+may_deal_if may rs (Some instance) None = false
+may_deal_if may rs None label = false
+
+-- whether it may, by numbers and bytes, if RS is open
+abbrev pub may_deal_in : (Service → Service → Bool) → Option RsRecord → ℕ → ℕ → List ℕ → Bool
+may_deal_in may None generation slot label = false
+may_deal_in may (Some rs) generation slot label = may_deal_if may rs (endpoint_at generation slot) (name_of_bytes label)

@@ -2,7 +2,8 @@
 
 ghost use Rattle.std.specs.Prelude.{◌≡◌};
 ghost use Rattle.std.specs.Option.{option_map};
-ghost use Rattle.c_rs.specs.Reading.{IsDueTick, ReadsDue, key_at, may_publish_in, name_of_bytes};
+ghost use Rattle.rs_settings.specs.Dealing.{may_complain, may_connect};
+ghost use Rattle.c_rs.specs.Reading.{IsDueTick, ReadsDue, key_at, may_deal_in, may_publish_in, name_of_bytes};
 
 use crate::session::RsSession;
 use c_values::{endpoint, kind};
@@ -44,6 +45,40 @@ impl RsSession {
         };
         match key_at(kind, name) {
             Some(key) => rs.may_publish(instance, &key),
+            None => false,
+        }
+    }
+
+    /// Returns whether the instance with an endpoint may complain of the service with a label: these are ones, RS is open, the instance is
+    /// up, there is the service, and the settings let the one complain of the other.
+    pub fn may_complain(&self, generation: u32, slot: u16, label: &[u8]) -> bool
+        ensures { result ≡ may_deal_in may_complain self.now.services generation slot label.now }
+    {
+        let Some(rs) = &self.services else {
+            return false;
+        };
+        let Some(instance) = endpoint(generation, slot) else {
+            return false;
+        };
+        match name_of_bytes(label) {
+            Some(label) => rs.may_complain(instance, &label),
+            None => false,
+        }
+    }
+
+    /// Returns whether the instance with an endpoint may connect to the service with a label: these are ones, RS is open, the instance is
+    /// up, there is the service, and the settings let the one connect to the other.
+    pub fn may_connect(&self, generation: u32, slot: u16, label: &[u8]) -> bool
+        ensures { result ≡ may_deal_in may_connect self.now.services generation slot label.now }
+    {
+        let Some(rs) = &self.services else {
+            return false;
+        };
+        let Some(instance) = endpoint(generation, slot) else {
+            return false;
+        };
+        match name_of_bytes(label) {
+            Some(label) => rs.may_connect(instance, &label),
             None => false,
         }
     }

@@ -1,20 +1,23 @@
 -- How a request is answered, and what some requests stand for.
-use Rattle.std.proofs.Common.{◌≡◌, ℕ, true, false, List, inl, refl, sym, ap, ◌∙◌, subst, arith}
+use Rattle.std.proofs.Common.{◌≡◌, ℕ, Bool, true, false, cond, List, inl, refl, sym, ap, ◌∙◌, subst, arith}
 use Rattle.std.specs.Prelude.{Option, Some, None, IsTrue, Result, Ok, Err, IfOk, IsOk}
 use Rattle.std.specs.Option.{option_map}
-use Rattle.ds_names.specs.Endpoint.{EndpointRecord}
+use Rattle.ds_names.specs.Endpoint.{EndpointRecord, is_rs}
 use Rattle.ds_names.specs.declared.key.Key.{Key}
 use Rattle.ds_names.specs.declared.room.NoRoom as room
 use Rattle.ds_entry.specs.Change.{kind_of, IsInPlace}
 use Rattle.ds_entry.specs.declared.body.Value.{Value}
-use Rattle.ds_machine.specs.Machine.{live_at}
-use Rattle.ds_machine.specs.State.{State}
+use Rattle.ds_machine.specs.Asking.{name_of}
+use Rattle.ds_machine.specs.Machine.{live_at, found_or}
+use Rattle.ds_machine.specs.State.{State, held}
 use Rattle.ds_machine.specs.declared.command.Command.{Command}
 use Rattle.ds_machine.specs.declared.command.Command.TheVariants.{Retrieve, NameOf}
 use Rattle.ds_machine.specs.declared.reply.Reply.{Reply}
-use Rattle.ds_machine.specs.declared.reply.Reply.TheVariants.{Found}
+use Rattle.ds_machine.specs.declared.refusal.Refusal.TheVariants.{NotFound}
+use Rattle.ds_machine.specs.declared.reply.Reply.TheVariants.{Found, Named, Refused}
 use Rattle.ds_content.specs.Content.{ContentRecord}
 use Rattle.ds_content.specs.Stands.{ContentStands, InEachState}
+use Rattle.ds_store.specs.Finding.{label_name}
 use Rattle.ds_store.specs.Turns.{Turn}
 use Rattle.ds_store.proofs.FindLemmas.{retrieve_turn, copyless_turn}
 use Rattle.c_values.specs.declared.request.Request.{Request}
@@ -81,6 +84,24 @@ stands_for_name r text endpoint four e = inl (names r text four ∙ ap (option_m
 
 pub stands_for_no_name : (r : Request) (text : List ℕ) → r.command ≡ 4 → None ≡ caller_of r → StandsForNone r text
 stands_for_no_name r text four e = none_of_parts r text (λ ten. omega (arith, four, ten)) (names r text four ∙ ap (option_map NameOf) (sym e))
+
+-- ---- the turn of a NameOf of an endpoint without a label
+
+no_name : (rs : Bool) (o : Option (List ℕ)) → None ≡ cond rs None o → rs ≡ false → None ≡ o
+no_name true o e is = absurd (cc)
+no_name false o e is = e
+
+pub nameless_turn : (v : ContentRecord) (endpoint : EndpointRecord) → ((s : State) × ContentStands v s) → InEachState v (λ s. None ≡ label_name s endpoint) → is_rs endpoint ≡ false
+    → Turn v (NameOf endpoint) (Refused NotFound) v
+nameless_turn v endpoint stood is client = record {
+  stood = stood;
+  steps = λ s stands. (
+    s,
+    inl (inl (record { reply_is = ap (λ (o : Option (List ℕ)). found_or (option_map Named o)) (no_name (is_rs endpoint) (name_of (held s) endpoint) (is s stands) client); state_is = refl })),
+    stands,
+  );
+  last = λ s stands. tt;
+}
 
 -- ---- the turn of a Retrieve that copies the value
 

@@ -1,4 +1,4 @@
--- What a request, a command and a show do to a session.
+-- The effects of a request, of a command and of a show on a session.
 use Rattle.std.specs.Prelude.{◌≡◌, ◌⊎◌, ℕ, IsTrue, Bool, true, false, List, [], length, map, Option, None, Some}
 use Rattle.ds_entry.specs.Under.{entries_of}
 use Rattle.ds_entry.specs.declared.item.Item.{Item}
@@ -19,53 +19,54 @@ use Rattle.c_session.specs.declared.last.Last.{Last}
 use Rattle.c_session.specs.declared.last.Last.TheVariants.{Nothing, Reply as Replied, Shown}
 use Rattle.c_session.specs.declared.session.Session.{Session}
 
--- the store takes one turn for the command; the answer is that of its reply, which is kept with the wording
+-- Whether the store takes one step for the command, the answer is the reply's, and the reply is kept with the wording.
 pub record Tells (old : Session) (wording : Wording) (command : Command) (answer : Answer) (new : Session) : Type 0 where
   pub reply : Reply
   pub turn : Turn old.store command reply new.store
   pub told : answer ≡ answer_of reply
   pub kept : new.last ≡ Replied reply wording
 
--- the store is unchanged, this is the answer, and this is kept
+-- Whether the store is unchanged, `told` is the answer, and `last` is kept.
 pub record Rests (old : Session) (told : Answer) (last : Last) (answer : Answer) (new : Session) : Type 0 where
   pub told_is : answer ≡ told
   pub store_is : new.store ≡ old.store
   pub kept : new.last ≡ last
 
--- the request isn't a command
+-- Whether the answer says that the request isn't a command, and the store is unchanged.
 abbrev pub RestsForNone : Session → Answer → Session → Type 0
 RestsForNone old answer new = Rests old no_request Nothing answer new
 
--- memory runs out
+-- Whether the answer is out of memory, and the store is unchanged.
 abbrev pub RestsForRoom : Session → Answer → Session → Type 0
 RestsForRoom old answer new = Rests old told_no_room (Replied (Refused NoRoom) AsMerge) answer new
 
 -- ---- requests
 
--- the request is a command, which the store answers
+-- Whether the request is a command, which the store answers.
 pub record AnswersRequest (old : Session) (r : Request) (text : List ℕ) (answer : Answer) (new : Session) : Type 0 where
   pub command : Command
   pub stands : StandsFor r text command
   pub answered : Tells old AsMerge command answer new
 
--- a request with this text: the store answers its command; it isn't one; or it has a text, for which memory runs out
+-- The effect of a request with this text. The store answers its command. If the request isn't a command, the answer says so. If it has a
+-- text, memory may run out for it.
 abbrev pub CalledWith : Session → Request → List ℕ → Answer → Session → Type 0
 CalledWith old r text answer new =
     AnswersRequest old r text answer new ⊎ ((StandsForNone r text × RestsForNone old answer new) ⊎ (IsTrue (has_text r) × RestsForRoom old answer new))
 
--- a request whose text isn't within the texts isn't a command
+-- The effect of a request whose text is in the texts. If its text isn't within them, it isn't a command.
 abbrev pub Called : Session → Request → Option (List ℕ) → Answer → Session → Type 0
 Called old r None answer new = RestsForNone old answer new
 Called old r (Some text) answer new = CalledWith old r text answer new
 
 -- ---- what is held
 
--- all of some items, or only the puts
+-- The items, or only the puts among them.
 abbrev pub held_shown : Bool → List Item → List Item
 held_shown true items = items
 held_shown false items = entries_of items
 
--- everything held is shown, or only the puts; or memory for them runs out
+-- The effect of a show: everything held, or the puts of it, or out of memory.
 abbrev pub ShowsIfRoom : Session → Bool → Answer → Session → Type 0
 ShowsIfRoom old all answer new =
     let items = held_shown all old.store.held in
@@ -73,7 +74,7 @@ ShowsIfRoom old all answer new =
 
 -- ---- the text
 
--- the pieces of the last answer
+-- The pieces of text of the last answer.
 abbrev pub pieces_in : Last → List (List ℕ)
 pieces_in Nothing = []
 pieces_in (Replied reply wording) = pieces_of reply

@@ -1,4 +1,4 @@
--- What a session keeps of a reply.
+-- The memory that a session keeps with a reply.
 use Rattle.std.specs.Prelude.{Bool, true, false, Result, Ok, Err}
 use Rattle.ds_names.specs.declared.room.NoRoom as room
 use Rattle.ds_entry.specs.declared.body.Value.{Value}
@@ -10,7 +10,7 @@ use Rattle.ds_machine.specs.declared.refusal.Refusal.TheVariants.{NoRoom}
 use Rattle.c_session.specs.declared.last.Last.{Last}
 use Rattle.c_session.specs.declared.last.Last.TheVariants.{Nothing, Reply as Replied, Shown}
 
--- Whether a reply holds memory: for a string, for memory, or for items.
+-- Whether a reply holds allocated memory, for a text, a blob or items.
 abbrev pub reply_holds_memory : Reply → Bool
 reply_holds_memory (Found (Str text)) = true
 reply_holds_memory (Found (Mem bytes)) = true
@@ -29,7 +29,7 @@ reply_holds_memory (Merged done taken stale owed) = false
 reply_holds_memory (MergeStopped done fault owed) = false
 reply_holds_memory (Refused refusal) = false
 
--- Whether a last answer holds memory.
+-- Whether a last answer holds allocated memory.
 abbrev pub holds_memory : Last → Bool
 holds_memory Nothing = false
 holds_memory (Replied reply wording) = reply_holds_memory reply

@@ -10,8 +10,8 @@ use std::alloc::Global;
 use store_answers::Wording;
 
 impl Session {
-    /// Carries out a request, whose text is in `texts`, by one step of the store's machine, and writes the answer. If it isn't a command,
-    /// or memory for its text runs out, the store is unchanged.
+    /// Carries out a request, whose text is in `texts`, by one step of the store's machine, and writes the answer. If the request isn't a
+    /// command, or memory runs out for its text, the answer says so, and the store is unchanged.
     pub fn call(&mut self, alloc: Global, request: &Request, texts: &[u8], answer: &mut Answer)
         ensures { Called self.old request.now (request_text request.now texts.now) answer.new self.new }
     {
@@ -21,7 +21,7 @@ impl Session {
         }
     }
 
-    // The three most frequent commands have fast ways.
+    // Carries out a request with this text. The three most frequent commands have fast ways.
     fn call_with(&mut self, alloc: Global, request: &Request, text: &[u8], answer: &mut Answer)
         ensures { CalledWith self.old request.now text.now answer.new self.new }
     {

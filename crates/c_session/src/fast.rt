@@ -1,7 +1,7 @@
-//! Fast ways, for the requests that callers send most: a Publish, a Retrieve and a NameOf.
+//! Fast ways for the most frequent requests: Publish, Retrieve and NameOf.
 //!
-//! Each promises what `ask` promises, for the requests of one command. A Publish is read by itself. A Retrieve and a NameOf make
-//! no command: the store lends what it finds. docs/design/fast-ways.md says what that saves.
+//! Each has the contract of `ask`, for the requests of one command. A Publish is read by itself. A Retrieve and a NameOf build no
+//! command, and borrow what the store finds. docs/design/fast-ways.md says what that saves.
 
 ghost use Rattle.std.specs.Prelude.{◌≡◌, ℕ, List};
 ghost use Rattle.c_session.specs.Called.{CalledWith, Rests};
@@ -19,7 +19,7 @@ use std::alloc::Global;
 use store_answers::Wording;
 
 impl Session {
-    /// Answers a request of a Publish.
+    /// Answers a Publish.
     #[inline(never)]
     pub(crate) fn fast_publish(
         &mut self,
@@ -38,7 +38,7 @@ impl Session {
         }
     }
 
-    /// Answers a request of a Retrieve. A number is told as it is lent; any other value is copied first.
+    /// Answers a Retrieve. Writes a number without a copy, and copies any other value first.
     #[inline(never)]
     pub(crate) fn fast_retrieve(&mut self, alloc: Global, request: &Request, answer: &mut Answer)
         requires { request.now.command ≡ 3 }
@@ -61,7 +61,7 @@ impl Session {
         }
     }
 
-    // Tells the copy of a value, or that memory ran out for it. Not inlined: a number needs none of its locals.
+    // Answers with the copy of a value, or out of memory. Not inlined, because a number needs none of its locals.
     #[inline(never)]
     fn tell_copy(&mut self, copied: Result<Value, NoRoom>, answer: &mut Answer)
         ensures { Rests self.old (answer_of (copy_reply copied)) (Replied (copy_reply copied) AsMerge) answer.new self.new }
@@ -72,8 +72,7 @@ impl Session {
         }
     }
 
-    /// Answers a request of a NameOf. The name of a label is told as it is lent. RS and an endpoint without a label are left
-    /// to the general way.
+    /// Answers a NameOf. Writes the name of a label without a copy. RS goes the general way.
     #[inline(never)]
     pub(crate) fn fast_name_of(
         &mut self,
@@ -94,7 +93,8 @@ impl Session {
                 let named = Reply::Named(*name);
                 self.tell(Wording::AsMerge, named, answer);
             }
-            None => self.ask(alloc, request, text, answer),
+            None if endpoint.is_rs() => self.ask(alloc, request, text, answer),
+            None => self.tell(Wording::AsMerge, Reply::Refused(Refusal::NotFound), answer),
         }
     }
 }

@@ -25,7 +25,7 @@ pub enum Last {
     Shown(Items),
 }
 
-// Whether a reply holds memory.
+// Returns whether a reply holds allocated memory.
 #[inline(always)]
 fn reply_holds_memory(reply: &Reply) -> bool
     ensures { result ≡ reply_holds_memory reply.now }
@@ -45,7 +45,7 @@ fn reply_holds_memory(reply: &Reply) -> bool
 }
 
 impl Last {
-    // Whether it holds memory: items, a string or memory.
+    // Returns whether the last answer holds allocated memory, for items, a text or a blob.
     #[inline(always)]
     pub(crate) fn holds_memory(&self) -> bool
         ensures { result ≡ holds_memory self.now }
@@ -57,7 +57,7 @@ impl Last {
         }
     }
 
-    // Copies its pieces of text to a buffer, from the one at index `first` on.
+    // Copies the answer's pieces of text to a buffer, from the piece at index `first` on.
     pub(crate) fn give(&self, alloc: Global, first: usize, room: &mut [u8]) -> Given
         ensures { GivesPieces (drop first (pieces_in self.now)) room.old result room.new }
     {
@@ -69,7 +69,7 @@ impl Last {
     }
 }
 
-/// Returns everything held, or only the puts.
+/// Copies everything held, or only the puts. Fails only if memory runs out.
 pub(crate) fn held_shown(alloc: Global, held: &Held, all: bool) -> Result<Items, NoRoom>
     ensures { IfOk result (λ items. items ≡ held_shown all (held_items held.now)) }
 {

@@ -1,4 +1,4 @@
-//! A store, and its last answer, whose text is fetched in pieces.
+//! Sessions: a store with its last answer, whose text a caller fetches in pieces.
 #![tactic(auto)]
 
 mod calling;

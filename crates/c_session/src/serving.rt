@@ -9,8 +9,7 @@ use rs_store::{RsReply, serve};
 use std::alloc::Global;
 
 impl Session {
-    /// Gives RS an event at a tick, and passes the label changes and the sweeps of its actions to the session's store. The last answer
-    /// is unchanged.
+    /// Sends RS an event at a tick, and its actions, label changes and sweeps, to the session's store. The last answer is unchanged.
     pub fn serve(
         &mut self,
         alloc: Global,

@@ -1,4 +1,4 @@
-//! Sessions. An answer is written to the caller's place at once.
+//! Sessions. Each answer is written to the caller's variable.
 
 ghost use Rattle.std.specs.Prelude.{◌≡◌, ◌≤◌, drop, false, length, IfOk, IfErr, OnOk};
 ghost use Rattle.ds_feed.specs.Kept.{IsRing};
@@ -31,7 +31,7 @@ pub struct Session {
 }
 
 impl Session {
-    /// Opens a store of 128 subscriptions and 4096 keys. Refuses what `Store::open` refuses.
+    /// Opens a store with at most 128 subscriptions and 4096 keys. Refuses as `Store::open` does.
     pub fn open(alloc: Global, incarnation: u64, first: u64, ring: u32) -> Result<Session, Refusal>
         ensures opened { IfOk result (λ session. ContentStands session.store (opening incarnation first ring larger)) }
         ensures fits { OnOk result (IsRing ring × (first ≤ last_place)) }
@@ -52,7 +52,7 @@ impl Session {
         &self.last
     }
 
-    /// Carries out a command, writes the answer, and keeps the reply with its wording in a script.
+    /// Carries out a command, writes the answer, and keeps the reply with the wording that a script has for it.
     pub fn answer(&mut self, wording: Wording, command: Command, answer: &mut Answer)
         ensures { Tells self.old wording command answer.new self.new }
     {
@@ -71,7 +71,7 @@ impl Session {
         self.overwrite(Last::Reply { reply, wording });
     }
 
-    // Lets go of the last answer if it holds memory. The store is unchanged.
+    // Drops the last answer if it holds allocated memory. The store is unchanged.
     #[inline(always)]
     fn let_go(&mut self)
         ensures store { self.new.store ≡ self.old.store }
@@ -82,7 +82,7 @@ impl Session {
         }
     }
 
-    // Not inlined: most answers hold no memory, and then there is nothing to drop.
+    // Drops the last answer. Not inlined, because most answers hold no memory.
     #[inline(never)]
     fn drop_last(&mut self)
         ensures store { self.new.store ≡ self.old.store }
@@ -91,7 +91,7 @@ impl Session {
         self.last = Last::Nothing;
     }
 
-    // Writes the last answer over one that holds no memory, which needs no drop. The store is unchanged.
+    // Replaces the last answer, which holds no memory and needs no drop. The store is unchanged.
     #[inline(always)]
     fn overwrite(&mut self, last: Last)
         requires { holds_memory self.old.last ≡ false }
@@ -138,8 +138,8 @@ impl Session {
         self.last = Last::Shown(items);
     }
 
-    /// Copies the text of the last answer to a buffer, from the piece at index `first` on: as many whole pieces as fit. A later call copies
-    /// the rest, until the next request.
+    /// Copies the text of the last answer from the piece at index `first` on. Copies as many whole pieces as fit in the buffer. Until the
+    /// next request, a later call can copy the rest.
     pub fn give(&self, alloc: Global, first: usize, room: &mut [u8]) -> Given
         ensures { GivesPieces (drop first (pieces_in self.now.last)) room.old result room.new }
     {

@@ -9,12 +9,12 @@ use Rattle.c_values.specs.Asked.{StandsForNone, has_text, ReadsRequest}
 use Rattle.ds_machine.specs.declared.command.Command.{Command}
 use Rattle.ds_names.specs.declared.room.NoRoom.{NoRoom}
 
--- one that is no Merge, and no other command's
+-- a request that isn't a Merge, nor any other command
 pub none_of_parts : (r : Request) (text : List ℕ) → r.command ≢ 10 → command_of r text ≡ None → StandsForNone r text
 none_of_parts r text other none command (inl is) = cc
 none_of_parts r text other none command (inr merge) = other merge.number
 
--- the number of a Merge is no other command's
+-- the number of a Merge isn't any other command's
 merge_alone : (r : Request) (text : List ℕ) → r.command ≡ 10 → command_of r text ≡ None
 unfolding command_of
 merge_alone r text ten = rw ten refl
@@ -24,7 +24,7 @@ pub none_of_items : (r : Request) (text : List ℕ) → r.command ≡ 10 → ((i
 none_of_items r text ten none command (inl is) = let alone : command_of r text ≡ None = merge_alone r text ten in cc
 none_of_items r text ten none command (inr merge) = none merge.items merge.lines
 
--- what is read of one that is no Merge
+-- the result of reading a request that isn't a Merge
 pub of_parts : (r : Request) (text : List ℕ) (result : Result (Option Command) NoRoom) → r.command ≢ 10
     → IfOk result (λ (command : Option Command). command ≡ command_of r text) → OnErr result (IsTrue (has_text r)) → ReadsRequest r text result
 of_parts r text (Ok None) other read room = none_of_parts r text other (sym read)

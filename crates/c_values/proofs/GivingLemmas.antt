@@ -23,7 +23,7 @@ one_more items i x lt is =
     ap concat (take_more ps i [] below ∙ ap (λ p. take i ps ++ p ∷ []) (sym (next_line items i x lt is)))
     ∙ concat-append (take i ps) (item_spelling x ∷ []) ∙ ap (λ l. concat (take i ps) ++ l) (append-nil (item_spelling x))
 
--- what is put behind a front
+-- bytes that are put after a front
 pub put_behind : (front old room new p : List ℕ) (at : ℕ) → at ≡ length front → room ≡ front ++ drop at old
     → new ≡ take at room ++ (p ++ drop (at + length p) room) → new ≡ (front ++ p) ++ drop (at + length p) old
 put_behind front old room new p at is e put =
@@ -45,7 +45,7 @@ all_given items old room count taken all is e = record {
   full = λ (h : 0 ≡ 1). absurd (omega arith);
 }
 
--- what is given of the pieces behind the first ones
+-- the copies of the pieces after the first ones
 pub given_behind : (items : List Item) (first : ℕ) (old new : List ℕ) (given : Given) → GivesPieces (map item_spelling (take (length items - first) (drop first items))) old given new
     → GivesPieces (drop first (map item_spelling items)) old given new
 given_behind items first old new given gives =

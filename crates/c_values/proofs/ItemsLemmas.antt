@@ -1,4 +1,4 @@
--- Lines of items, one behind the other.
+-- Lines of items, in order.
 use Rattle.std.proofs.Common.{◌≡◌, ℕ, ◌<◌, List, [], ◌∷◌, ◌++◌, length, take, drop, sym, ap, ◌∙◌, append_assoc, append-nil, arith, length-append}
 use Rattle.std.specs.List.{All, flat_map}
 use Rattle.std.proofs.lemmas.List.{take-append-drop}
@@ -16,7 +16,7 @@ use Rattle.c_values.specs.Lines.{AreLines}
 pub item_some : (i : Item) → IsItem i → 0 < length (item_spelling i)
 item_some i is = let ends : EndsLine (item_spelling i) = item_ends i is in omega (arith, ap length ends.parts, length-append ends.front (10 ∷ []))
 
--- one more item stands before what is left
+-- one more item is in front of the rest
 pub lines_with : (text rest : List ℕ) (items : List Item) (i : Item) (n : ℕ) → text ≡ flat_map item_spelling items ++ rest
     → take n rest ≡ item_spelling i → text ≡ flat_map item_spelling (items ++ i ∷ []) ++ drop n rest
 lines_with text rest items i n e t =
@@ -24,7 +24,7 @@ lines_with text rest items i n e t =
     ∙ sym (append_assoc (flat_map item_spelling items) (item_spelling i) (drop n rest))
     ∙ ap (λ l. l ++ drop n rest) (sym (flat_map-append item_spelling items (i ∷ []) ∙ ap (λ l. flat_map item_spelling items ++ l) (append-nil (item_spelling i))))
 
--- what some items leave of the lines of others is the lines of the others behind them
+-- the rest of some items' lines, after the lines of the first of them, has the lines of the others
 left_of : (xs ys : List Item) (r : List ℕ) → All IsItem xs → All IsItem ys → flat_map item_spelling xs ++ r ≡ flat_map item_spelling ys
     → (zs : List Item) × All IsItem zs × (r ≡ flat_map item_spelling zs)
 left_of [] ys r xis yis e = (ys, yis, e)
@@ -38,7 +38,7 @@ none_at : (rest : List ℕ) (zs : List Item) → 0 < length rest → HasNoItem r
 none_at rest [] some none is e = omega (arith, ap length e)
 none_at rest (z ∷ zs) some none is e = none z (flat_map item_spelling zs) (All-head IsItem z zs is) e
 
--- where no item's line stands behind those of some items, the text is the lines of none
+-- if no item's line comes after the lines of some items, the text isn't the lines of any items
 pub none_behind : (text rest : List ℕ) (xs ys : List Item) → All IsItem xs → text ≡ flat_map item_spelling xs ++ rest → 0 < length rest → HasNoItem rest → ¬ AreLines ys text
 none_behind text rest xs ys xis e some none are =
     let left : (zs : List Item) × All IsItem zs × (rest ≡ flat_map item_spelling zs) = left_of xs ys rest xis are.each (sym e ∙ are.text_is) in

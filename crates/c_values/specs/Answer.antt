@@ -1,4 +1,4 @@
--- The answers of replies.
+-- The answers for replies.
 use Rattle.std.specs.Prelude.{ℕ, cond, length, replicate}
 use Rattle.std.specs.Int.{to_le_bytes, w128}
 use Rattle.ds_entry.specs.declared.body.Value.{Value}
@@ -13,7 +13,7 @@ use Rattle.c_values.specs.declared.answer.Answer.{Answer}
 use Rattle.c_values.specs.declared.answer.Word.{Word}
 use Rattle.c_values.specs.declared.answer.Word.TheVariants as words
 
--- the number of a refusal: its place in the order of judging, from 1; then those of opening
+-- The number of a refusal. Those of commands are numbered from 1, in the order in which a store judges, then come those of opening.
 abbrev pub refusal_number : Refusal → ℕ
 refusal_number refusals.BadSub = 1
 refusal_number refusals.TooMany = 2
@@ -38,7 +38,7 @@ refusal_number refusals.NoRoom = 20
 refusal_number refusals.BadRing = 21
 refusal_number refusals.BadFirst = 22
 
--- the number of a word: its index among the variants
+-- The number of a word, which is its index among the variants.
 abbrev pub word_number : Word → ℕ
 word_number words.Changed = 0
 word_number words.Known = 1
@@ -58,43 +58,43 @@ word_number words.Shown = 14
 word_number words.BadLine = 15
 word_number words.Acted = 16
 
--- a word, and zeros
+-- The answer with this word, and zeros.
 abbrev pub worded : Word → Answer
 worded word = record { count = 0; taken = 0; stale = 0; before = 0; after = 0; pieces = 0; word = word_number word; refusal = 0; epoch = 0; seq = 0; value = 0; value_slot = 0; kind = 0; last = 0; owed = replicate 16 0 }
 
--- the answer to a request that isn't a command
+-- The answer to a request that isn't a command.
 abbrev pub no_request : Answer
 no_request = worded words.NoRequest
 
--- the answer that shows `count` items, one piece of text each
+-- The answer of a show of `count` items, with one piece of text each.
 abbrev pub told_shown : ℕ → Answer
 told_shown count = record (worded words.Shown) { count = count; pieces = count }
 
--- the answer to a line that is bad from a byte on
+-- The answer to a line whose first bad part begins at a byte.
 abbrev pub told_bad_line : ℕ → Answer
 told_bad_line place = record (worded words.BadLine) { count = place }
 
--- the answer with items, with two stamps or a cursor
+-- The answer with items, with two stamps or a cursor.
 abbrev pub told_of_items : Word → ℕ → ℕ → Answer
 told_of_items word before after = record (worded word) { before = before; after = after }
 
--- a refusal; a clash has the version of both changes
+-- The answer of a refusal. A clash has the version of both changes.
 abbrev pub told_refusal : Word → Refusal → Answer
 told_refusal word (refusals.Clash version) = record (worded word) { refusal = 11; epoch = version.epoch; seq = version.seq }
 told_refusal word refusal = record (worded word) { refusal = refusal_number refusal }
 
--- the refusal because memory ran out
+-- The answer to a command for which memory ran out.
 abbrev pub told_no_room : Answer
 told_no_room = told_refusal words.Refused refusals.NoRoom
 
--- the value found: a label's endpoint, a number, or the kind of the text
+-- The answer with a value: a label's endpoint, a number, or the kind of the text.
 abbrev pub told_value : Value → Answer
 told_value (values.Label endpoint) = record (worded words.Found) { kind = 1; value = endpoint.generation; value_slot = endpoint.slot }
 told_value (values.U32 number) = record (worded words.Found) { kind = 2; value = number }
 told_value (values.Str text) = record (worded words.Found) { kind = 4 }
 told_value (values.Mem bytes) = record (worded words.Found) { kind = 8 }
 
--- the answer of a reply, without the number of pieces and the notices owed
+-- The answer for a reply, without the number of pieces and the notices owed.
 abbrev pub told_reply : Reply → Answer
 told_reply (Changed owed) = worded words.Changed
 told_reply Known = worded words.Known
@@ -110,6 +110,6 @@ told_reply (Merged done taken stale owed) = record (worded words.Merged) { count
 told_reply (MergeStopped done fault owed) = record (told_refusal words.MergeStopped fault) { count = done }
 told_reply (Refused refusal) = told_refusal words.Refused refusal
 
--- the answer of a reply. The notices owed to subscriptions 0 to 7 are in the first byte
+-- The answer for a reply. The first byte of `owed` has the notices of subscriptions 0 to 7.
 unfoldable pub answer_of : Reply → Answer
 answer_of reply = record (told_reply reply) { pieces = length (pieces_of reply); owed = to_le_bytes w128 (owed_by reply) }

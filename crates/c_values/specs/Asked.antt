@@ -8,34 +8,34 @@ use Rattle.c_values.specs.declared.request.Request.{Request}
 use Rattle.c_values.specs.Request.{command_of}
 use Rattle.c_values.specs.Lines.{AreLines}
 
--- `count` bytes of the texts from `at` on, if the texts have them
+-- The `count` bytes of the texts from `at` on, if the texts have them.
 unfoldable pub text_in : List ℕ → ℕ → ℕ → Option (List ℕ)
 text_in texts at count = cond (nat_le (at + count) (length texts)) (Some (take count (drop at texts))) None
 
--- the text of a request
+-- The text of a request, if the texts have it.
 abbrev pub request_text : Request → List ℕ → Option (List ℕ)
 request_text r texts = text_in texts r.text_at r.text_length
 
--- the request is a Merge of the items whose lines the text is
+-- Whether the request is a Merge of the items in the text, one line each.
 pub record IsMergeOf (r : Request) (text : List ℕ) (command : Command) : Type 0 where
   pub number : r.command ≡ 10
   pub items : List Item
   pub lines : AreLines items text
   pub command_is : command ≡ Merge items
 
--- the request with this text is the command: it has its parts, or it is a Merge of the items in the text
+-- Whether the request with this text is the command. It has the command's parts, or is a Merge of the items in the text.
 abbrev pub StandsFor : Request → List ℕ → Command → Type 0
 StandsFor r text command = (command_of r text ≡ Some command) ⊎ IsMergeOf r text command
 
--- the request isn't a command
+-- Whether the request isn't a command.
 abbrev pub StandsForNone : Request → List ℕ → Type 0
 StandsForNone r text = (command : Command) → ¬ StandsFor r text command
 
--- its command has a text, a pattern or items, which take memory
+-- Whether the request's command has a text, a pattern or items, which take memory.
 abbrev pub has_text : Request → Bool
 has_text r = r.command == 0 || (r.command == 5 || (r.command == 7 || (r.command == 8 || (r.command == 9 || r.command == 10))))
 
--- the result of reading a request: its command; None if it isn't one; NoRoom if memory for its text runs out
+-- The result of reading a request: its command, `None` if it isn't one, or NoRoom if memory runs out for its text.
 abbrev pub ReadsRequest : Request → List ℕ → Result (Option Command) NoRoom → Type 0
 ReadsRequest r text (Ok None) = StandsForNone r text
 ReadsRequest r text (Ok (Some command)) = StandsFor r text command

@@ -1,4 +1,4 @@
--- The parts of a request, each of which may be out of range, and the commands of them.
+-- The parts of a request, each of which may be out of range, and the commands with such parts.
 use Rattle.std.specs.Prelude.{ℕ, Bool, not, ◌&&◌, ◌==◌, nat_le, cond, List, length, take, Option, Some, None}
 use Rattle.std.specs.List.{list_all}
 use Rattle.std.specs.Option.{option_map, option_and_then}
@@ -20,45 +20,45 @@ use Rattle.ds_machine.specs.declared.command.Command.TheVariants.{Publish, Delet
 use Rattle.c_values.specs.declared.request.Request.{Request}
 use Rattle.c_values.specs.declared.texts.Publication.{Publication}
 
--- ---- parts of numbers and bytes
+-- ---- parts from numbers and bytes
 
--- the generation of a number, if it is in range
+-- The generation with this number, if it is in range.
 unfoldable pub generation_at : ℕ → Option ℕ
 generation_at n = cond (nat_le n 2097151) (Some n) None
 
--- the endpoint of these numbers, if they are in range
+-- The endpoint with these numbers, if they are in range.
 unfoldable pub endpoint_at : ℕ → ℕ → Option EndpointRecord
 endpoint_at g s = cond (nat_le g 2097151 && nat_le s 1023) (Some (endpoint_of g s)) None
 
--- the version of these numbers, if the epoch is in range
+-- The version with these numbers, if the epoch is in range.
 unfoldable pub version_at : ℕ → ℕ → Option Version
 version_at epoch seq = cond (nat_le epoch 2097151) (Some (record { epoch = epoch; seq = seq })) None
 
--- the kind with this number: 1 label, 2 number, 4 string, 8 memory
+-- The kind with this number: 1 label, 2 u32, 4 str, 8 mem.
 unfoldable pub kind_at : ℕ → Option Kind
 kind_at n = cond (n == 1) (Some kinds.Label) (cond (n == 2) (Some kinds.U32) (cond (n == 4) (Some kinds.Str) (cond (n == 8) (Some kinds.Mem) None)))
 
--- whether the bytes are a name
+-- Whether the bytes are a name.
 abbrev pub is_name : List ℕ → Bool
 is_name bytes = nat_le 1 (length bytes) && (nat_le (length bytes) 64 && list_all is_name_byte bytes)
 
--- the name in the first `count` bytes of a block
+-- The name in the first `count` bytes of a block, if they are one.
 unfoldable pub name_at : List ℕ → ℕ → Option (List ℕ)
 name_at block count = cond (nat_le count 64 && is_name (take count block)) (Some (take count block)) None
 
--- the key of a name and a kind
+-- The key with a name and a kind, if there are both.
 abbrev pub key_of_parts : Option (List ℕ) → Option Kind → Option Key
 key_of_parts name kind = option_and_then (λ n. option_map (λ k. record { name = n; kind = k }) kind) name
 
--- the query of a pattern and a sum of kinds
+-- The query with a pattern and a sum of kinds, if it is such a sum.
 unfoldable pub query_at : ℕ → List ℕ → Option Query
 query_at bits text = cond (not (bits == 0) && nat_le bits 15) (Some (query_of text bits)) None
 
--- whether the bytes are at most 256, and printable ASCII
+-- Whether the bytes are at most 256, each printable ASCII.
 abbrev pub is_text : List ℕ → Bool
 is_text bytes = nat_le (length bytes) 256 && list_all is_text_byte bytes
 
--- the value of a string, and of memory, if the bytes are one
+-- The text with these bytes, if they are one.
 unfoldable pub string_at : List ℕ → Option Value
 string_at bytes = cond (is_text bytes) (Some (values.Str bytes)) None
 
@@ -79,18 +79,18 @@ key_of r = key_of_parts (named_in r) (kind_at r.kinds)
 abbrev pub versioned : Request → Option Version
 versioned r = version_at r.epoch r.seq
 
--- the value of a kind: an endpoint or a number of the request, or its text
+-- The value of a kind in the request: an endpoint, a number, or the request's text.
 abbrev pub valued : Request → List ℕ → Kind → Option Value
 valued r text kinds.Label = option_map values.Label (endpoint_at r.value r.value_slot)
 valued r text kinds.U32 = Some (values.U32 r.value)
 valued r text kinds.Str = string_at text
 valued r text kinds.Mem = memory_at text
 
--- the scope: everything, or what is under the query
+-- The scope of the request: all keys, or those under its query.
 unfoldable pub scope_of : Request → List ℕ → Option Scope
 scope_of r text = cond (r.under == 0) (Some All) (option_map Under (query_at r.kinds text))
 
--- the key after which a page begins; an inner None for the first page
+-- The key after which a page begins, with an inner `None` for the first page.
 unfoldable pub behind_of : Request → Option (Option Key)
 behind_of r = cond (r.behind == 0) (Some None) (option_map Some (key_of_parts (named_in r) (kind_at r.behind)))
 
@@ -100,7 +100,7 @@ unfoldable pub publish_of : Request → List ℕ → Option Command
 publish_of r text =
     option_and_then (λ (key : Key). option_and_then (λ caller. option_and_then (λ version. option_map (λ value. Publish caller key version value (not (r.overwrite == 0))) (valued r text key.kind)) (versioned r)) (caller_of r)) (key_of r)
 
--- the command of a publication
+-- The Publish with these parts.
 abbrev pub publish_command : Publication → Command
 publish_command p = Publish p.caller p.key p.version p.value p.overwrite
 
@@ -119,7 +119,7 @@ since_of_request r text = option_map (λ scope. Since scope (record { incarnatio
 unfoldable pub page_of_request : Request → List ℕ → Option Command
 page_of_request r text = option_and_then (λ (after : Option Key). option_map (λ scope. Page scope after r.max) (scope_of r text)) (behind_of r)
 
--- the command of a request with this text, except a Merge, by its number
+-- The command of a request with this text, by its number. A Merge isn't among these.
 unfoldable pub command_of : Request → List ℕ → Option Command
 command_of r text =
     cond (r.command == 0) (publish_of r text) (cond (r.command == 1) (delete_of r) (cond (r.command == 2) (sweep_of r)

@@ -1,9 +1,9 @@
-//! Answers, as C has them.
+//! Answers for C.
 
 ghost use Rattle.std.specs.Prelude.{◌≡◌};
 ghost use Rattle.c_values.specs.Answer.{word_number, worded, no_request, told_shown, told_bad_line};
 
-/// The kind of an answer: those of `Reply` in their order, and then those of no reply.
+/// The word of an answer. First come the variants of `Reply` in their order, and then words of answers without a reply.
 #[derive(Clone, Copy)]
 pub enum Word {
     Changed,
@@ -25,46 +25,46 @@ pub enum Word {
     Shown,
     /// The line can't be read.
     BadLine,
-    /// RS took an event.
+    /// RS has taken an event.
     Acted,
 }
 
-/// An answer. Its text is fetched separately, in pieces.
+/// An answer without its text, which a caller fetches in pieces.
 #[repr(C)]
 #[derive(Clone, Copy)]
 pub struct Answer {
-    /// The number of puts that a Sweep dropped, of items that a Merge has done or that are shown, or of actions; or the byte at which a line
-    /// is bad.
+    /// A count: the puts that a Sweep dropped, the items that a Merge has done or that are shown, or RS's actions. For a bad line, the byte
+    /// at which it is bad.
     pub count: u64,
     /// The number of a Merge's items that took effect, and of those that were stale.
     pub taken: u64,
     pub stale: u64,
-    /// The stamps before and after, or a cursor: its incarnation and its position. A Subscribe has its stamp in `after`.
+    /// The stamps before and after a Check, or a cursor's incarnation and position. A Subscribe has its stamp in `after`.
     pub before: u64,
     pub after: u64,
-    /// The number of pieces of text: one for a name, a string or memory, and one for each item.
+    /// The number of pieces of text: one for a name, a text or a blob, and one for each item.
     pub pieces: u64,
-    /// The number of its `Word`.
+    /// The number of the answer's `Word`.
     pub word: u32,
-    /// The number of the refusal by which it was refused or stopped; 0 if it wasn't.
+    /// The number of the refusal that refused or stopped the request, or 0.
     pub refusal: u32,
     /// The version of a clash.
     pub epoch: u32,
     pub seq: u32,
-    /// The number found, or the generation of an endpoint.
+    /// The number that was found, or the generation of an endpoint.
     pub value: u32,
     /// The slot of an endpoint.
     pub value_slot: u16,
-    /// The kind of the value found, as in a request.
+    /// The kind of the value that was found, as in a request.
     pub kind: u8,
     /// 1 if a page is the last one.
     pub last: u8,
-    /// The subscriptions that are owed a notice: bit SUB % 8 of byte SUB / 8.
+    /// The subscriptions that are owed a notice. Subscription SUB is bit SUB % 8 of byte SUB / 8.
     pub owed: [u8; 16],
 }
 
 impl Word {
-    // The number of a word: its index among the variants.
+    // Returns the number of a word: its index among the variants.
     fn number(self) -> u32
         ensures { result ≡ word_number self }
     {
@@ -121,7 +121,7 @@ impl Answer {
         Answer::of(Word::NoRequest)
     }
 
-    /// Returns the answer that shows `count` items, one piece of text each.
+    /// Returns the answer of a show of `count` items, with one piece of text each.
     pub fn shown(count: usize) -> Answer
         ensures { result ≡ told_shown count }
     {
@@ -132,7 +132,7 @@ impl Answer {
         }
     }
 
-    /// Returns the answer to a line that is bad from the byte at `place` on.
+    /// Returns the answer to a line whose first bad part begins at the byte `place`.
     pub fn bad_line(place: usize) -> Answer
         ensures { result ≡ told_bad_line place }
     {

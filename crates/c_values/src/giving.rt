@@ -1,4 +1,4 @@
-//! The text of a reply, copied in pieces to a buffer of the caller's.
+//! Copies of a reply's text, in pieces, to a caller's buffer.
 
 ghost use Rattle.std.specs.Prelude.{◌≡◌, ◌+◌, ◌≤◌, ◌++◌, ◌∷◌, [], List, length, map, take, drop};
 ghost use Rattle.ds_line.specs.ItemSpelling.{item_spelling};
@@ -9,15 +9,15 @@ use ds_line::append_item;
 use ds_machine::Reply;
 use std::alloc::Global;
 
-// Why copying stopped: the text ended, the next piece doesn't fit, or memory for its line ran out.
+// Why copying stopped: the text ended, the next piece doesn't fit, or memory ran out for its line.
 const WHOLE: u32 = 0;
 
 const FULL: u32 = 1;
 
 const NO_ROOM: u32 = 20;
 
-/// What was copied to a buffer: the number of whole pieces, their bytes, and why it stopped: 0 the text ended, 1 the next piece doesn't
-/// fit, 20 memory for its line ran out.
+/// The result of a copy: the number of whole pieces, their bytes, and why copying stopped. That is 0 if the text ended, 1 if the next piece
+/// doesn't fit, and 20 if memory ran out for its line.
 #[repr(C)]
 #[derive(Clone, Copy)]
 pub struct Given {
@@ -26,7 +26,7 @@ pub struct Given {
     pub stop: u32,
 }
 
-/// Returns the number of pieces of a reply's text: one for a name, a string or memory, and one for each item.
+/// Returns the number of pieces of a reply's text: one for a name, a text or a blob, and one for each item.
 pub(crate) fn pieces(reply: &Reply) -> usize
     ensures { result ≡ length (pieces_of reply.now) }
 {
@@ -49,7 +49,7 @@ fn put(room: &mut [u8], at: usize, bytes: &[u8])
 }
 
 impl Given {
-    /// Returns that nothing was copied, because the text ended.
+    /// Returns the result of a copy that found the text at its end: no pieces.
     pub fn nothing() -> Given
         ensures { result ≡ record { count = 0; length = 0; stop = 0 } }
     {
@@ -61,7 +61,7 @@ impl Given {
     }
 }
 
-// Copies the only piece of a text, unless `first` is past it.
+// Copies a text of one piece, unless `first` is past it.
 fn give_text(text: &[u8], first: usize, room: &mut [u8]) -> Given
     ensures { GivesPieces (drop first (text.now ∷ [])) room.old result room.new }
 {
@@ -82,7 +82,7 @@ fn give_text(text: &[u8], first: usize, room: &mut [u8]) -> Given
     }
 }
 
-// Copies the lines of items.
+// Copies the lines of items to a buffer, as many whole ones as fit.
 fn give_lines(alloc: Global, items: &[Item], room: &mut [u8]) -> Given
     ensures { GivesPieces (map item_spelling items.now) room.old result room.new }
 {
@@ -115,7 +115,7 @@ fn give_lines(alloc: Global, items: &[Item], room: &mut [u8]) -> Given
     }
 }
 
-/// Copies the lines of items to a buffer, from the item at index `first` on.
+/// Copies the lines of items to a buffer, from the item at index `first` on, as many whole ones as fit.
 pub fn give_items(alloc: Global, items: &[Item], first: usize, room: &mut [u8]) -> Given
     ensures { GivesPieces (drop first (map item_spelling items.now)) room.old result room.new }
 {
@@ -125,7 +125,7 @@ pub fn give_items(alloc: Global, items: &[Item], first: usize, room: &mut [u8]) 
     give_lines(alloc, &items[first..], room)
 }
 
-/// Copies the text of a reply to a buffer, from the piece at index `first` on: as many whole pieces as fit. The rest of the buffer is
+/// Copies the text of a reply to a buffer, from the piece at index `first` on, as many whole pieces as fit. The rest of the buffer is
 /// unchanged. The line of an item takes memory while it is copied.
 pub fn give(alloc: Global, reply: &Reply, first: usize, room: &mut [u8]) -> Given
     ensures { GivesPieces (drop first (pieces_of reply.now)) room.old result room.new }

@@ -1,6 +1,6 @@
-//! Requests of C to commands, replies to answers, and texts to buffers of the caller's.
+//! Turns C's requests into commands, and replies into answers for C, and copies texts to a caller's buffers.
 //!
-//! The commands are those of MINIX 3's data store (DS) and of this project; the structs are of this project.
+//! The commands are those of MINIX 3's data store (DS) and of this project. The structs are this project's.
 #![tactic(auto)]
 
 mod answer;

@@ -1,4 +1,4 @@
-//! The items of a Merge, each on its line.
+//! The items of a Merge, one line each.
 
 ghost use Rattle.std.specs.Prelude.{List, MatchOption, IfOk};
 ghost use Rattle.ds_entry.specs.declared.item.Item.{Item};
@@ -9,7 +9,7 @@ use ds_line::{LineFault, read_item};
 use ds_names::NoRoom;
 use std::alloc::Global;
 
-/// Reads the items whose lines a whole text is. `None` if it isn't the lines of items; NoRoom if memory for them runs out.
+/// Reads a text of items, one line each. Returns `None` if the text isn't such lines, and fails only if memory runs out for the items.
 pub fn read_items(alloc: Global, text: &[u8]) -> Result<Option<Items>, NoRoom>
     ensures { IfOk result (λ items. MatchOption items ((is : List Item) → ¬ AreLines is text.now) (λ is. AreLines is text.now)) }
 {

@@ -15,7 +15,7 @@ pub(crate) fn generation(number: u32) -> Option<Generation>
     Generation::of(number)
 }
 
-/// Returns the endpoint of a generation and a slot. `None` if one of them is out of its range.
+/// Returns the endpoint of a generation and a slot, or `None` if one of them is out of its range.
 #[tactic(auto, unfolding(crate::specs::Request::endpoint_at))]
 pub fn endpoint(number: u32, slot: u16) -> Option<Endpoint>
     ensures { result ≡ endpoint_at number slot }
@@ -23,7 +23,7 @@ pub fn endpoint(number: u32, slot: u16) -> Option<Endpoint>
     Endpoint::of(Generation::of(number)?, slot)
 }
 
-/// Returns the endpoint of a request: its caller's, or that of a NameOf. `None` if it is out of range.
+/// Returns the endpoint of a request, which is its caller or the endpoint of a NameOf. `None` if it is out of range.
 pub fn caller_of(request: &Request) -> Option<Endpoint>
     ensures { result ≡ caller_of request.now }
 {
@@ -41,7 +41,7 @@ pub(crate) fn version(request: &Request) -> Option<Version>
     })
 }
 
-/// Returns the kind with this number in C: 1 label, 2 number, 4 string, 8 memory. `None` for another number.
+/// Returns the kind with this number in C: 1 label, 2 u32, 4 str, 8 mem. `None` for any other number.
 #[tactic(auto, unfolding(crate::specs::Request::kind_at))]
 pub fn kind(bit: u8) -> Option<Kind>
     ensures { result ≡ kind_at bit }
@@ -73,7 +73,7 @@ pub(crate) fn name(request: &Request) -> Option<Name>
     name_in(&request.name, request.name_length)
 }
 
-/// Returns the key of a request. `None` if its name or its kind isn't one.
+/// Returns the key of a request, or `None` if its name or its kind isn't one.
 #[tactic(auto, unfolding(crate::specs::Request::key_of))]
 pub fn key_of(request: &Request) -> Option<Key>
     ensures { result ≡ key_of request.now }
@@ -83,7 +83,7 @@ pub fn key_of(request: &Request) -> Option<Key>
     Some(Key { name, kind })
 }
 
-/// Returns the key after which a Page begins, and an inner `None` for the first page.
+/// Returns the key after which a Page begins, with an inner `None` for the first page. `None` if it isn't a key.
 #[tactic(auto, unfolding(crate::specs::Request::behind_of))]
 pub(crate) fn behind(request: &Request) -> Option<Option<Key>>
     ensures { result ≡ behind_of request.now }

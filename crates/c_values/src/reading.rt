@@ -28,7 +28,7 @@ fn name_of(request: &Request) -> Option<Command>
     Some(Command::NameOf { endpoint })
 }
 
-// The command of a request, except a Merge.
+// Returns the command of a request, except a Merge.
 #[tactic(auto, unfolding(crate::specs::Request::command_of))]
 fn command(alloc: Global, request: &Request, text: &[u8]) -> Result<Option<Command>, NoRoom>
     ensures read { IfOk result (λ command. command ≡ command_of request.now text.now) }
@@ -52,7 +52,7 @@ fn command(alloc: Global, request: &Request, text: &[u8]) -> Result<Option<Comma
     }
 }
 
-// The Merge of the items whose lines the text is.
+// Returns the Merge of the items in the text, one line each.
 fn merge(alloc: Global, request: &Request, text: &[u8]) -> Result<Option<Command>, NoRoom>
     requires { request.now.command ≡ 10 }
     ensures { ReadsRequest request.now text.now result }
@@ -64,7 +64,8 @@ fn merge(alloc: Global, request: &Request, text: &[u8]) -> Result<Option<Command
     }
 }
 
-/// Reads the command of a request with this text. `None` if no command has such parts; NoRoom if memory for its text runs out.
+/// Reads the command of a request with this text. Returns `None` if no command has such parts, and fails only if memory runs out for its
+/// text.
 pub fn read_request(
     alloc: Global,
     request: &Request,

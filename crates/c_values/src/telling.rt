@@ -1,4 +1,4 @@
-//! Replies to answers.
+//! Turns replies into answers.
 
 ghost use Rattle.std.specs.Prelude.{◌≡◌};
 ghost use Rattle.std.specs.Int.{to_le_bytes, w128};
@@ -11,7 +11,8 @@ use ds_feed::Cursor;
 use ds_machine::{Refusal, Reply};
 use ds_names::Version;
 
-/// Returns the number of a refusal: its place in the order in which the store judges, from 1, and after them those of opening.
+/// Returns the number of a refusal. The refusals of commands have numbers from 1, in the order in which a store judges, then come those of
+/// opening.
 pub fn refusal_number(refusal: Refusal) -> u32
     ensures { result ≡ refusal_number refusal }
 {
@@ -66,7 +67,7 @@ fn refused(word: Word, refusal: Refusal) -> Answer
     }
 }
 
-/// Returns the answer to a command that is refused because memory ran out.
+/// Returns the answer to a command for which memory ran out.
 pub fn no_room() -> Answer
     ensures { result ≡ told_no_room }
 {
@@ -154,7 +155,7 @@ fn told(reply: &Reply) -> Answer
     }
 }
 
-// A mask of owed notices as bytes. Most masks are 0.
+// Returns the bytes of a mask of owed notices. Is fast for 0, which most masks are.
 fn owed_bytes(owed: u128) -> [u8; 16]
     ensures { result ≡ to_le_bytes w128 owed }
 {
@@ -165,7 +166,7 @@ fn owed_bytes(owed: u128) -> [u8; 16]
     }
 }
 
-/// Returns the answer of a reply, with the number of its pieces of text.
+/// Returns the answer for a reply, with the number of its pieces of text.
 #[tactic(auto, unfolding(crate::specs::Answer::answer_of))]
 #[inline(always)]
 pub fn answer_of(reply: &Reply) -> Answer

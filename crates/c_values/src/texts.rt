@@ -16,7 +16,7 @@ use ds_names::{Endpoint, Key, Kind, Kinds, NoRoom, Version};
 use ds_pattern::{PatternText, Query};
 use std::alloc::Global;
 
-/// Returns the text of a request. `None` if it isn't within the texts.
+/// Returns the text of a request, or `None` if it isn't within the texts.
 #[tactic(auto, unfolding(crate::specs::Asked::text_in))]
 pub fn text_of<'a>(texts: &'a [u8], request: &Request) -> Option<&'a [u8]>
     ensures { let text = request_text request.now texts.now in MatchOption result (text ≡ None) (λ t. text ≡ Some t.now) }
@@ -76,7 +76,7 @@ pub struct Publication {
 }
 
 impl Publication {
-    /// Returns the command of these parts.
+    /// Returns the Publish with these parts.
     #[inline(always)]
     pub fn command(self) -> Command
         ensures { result ≡ publish_command self }
@@ -98,7 +98,8 @@ impl Publication {
     }
 }
 
-/// Reads the parts of a Publish from a request with this text.
+/// Reads the parts of a Publish from a request with this text. Returns `None` if they aren't those of a Publish, and fails only if memory
+/// runs out.
 #[inline(always)]
 #[tactic(auto, unfolding(crate::specs::Request::publish_of))]
 pub fn read_publication(

@@ -15,7 +15,7 @@ module _ {J : Type 0} (back : J → J → Type 0) where
   same_length zero (v ∷ vs) (w ∷ ws) all = ap suc (same_length zero vs ws all.1)
   same_length (suc n) (v ∷ vs) (w ∷ ws) all = ap suc (same_length n vs ws all.1)
 
-  -- where one more comes back behind the others
+  -- one more job comes back after the others
   last_back : (n : ℕ) (vs ws : List J) (v w : J) → n ≤ length vs → AreBack back n vs ws → back v w → AreBack back n (vs ++ v ∷ []) (ws ++ w ∷ [])
   last_back zero [] [] v w few none one = (one, refl)
   last_back (suc n) [] ws v w few none one = absurd (omega arith)

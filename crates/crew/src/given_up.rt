@@ -1,8 +1,8 @@
-//! A flag that tells jobs to end.
+//! A flag that makes jobs end early.
 
 use std::sync::atomic::{AtomicBool, Ordering};
 
-/// Whether a run was given up. Threads share it.
+/// A flag that says whether a run was given up. Threads share it.
 #[derive(Drop)]
 pub struct GivenUp {
     told: AtomicBool,
@@ -16,7 +16,7 @@ impl GivenUp {
         }
     }
 
-    /// Gives the run up: all jobs are to end.
+    /// Gives the run up. All jobs should end.
     pub(crate) fn tell(&self) {
         self.told.store(true, Ordering::SeqCst);
     }

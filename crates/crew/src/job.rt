@@ -1,12 +1,12 @@
 //! A thread's job.
 
-/// Work for a thread, with all that the work needs. It checks the run's `GivenUp` before each turn, and ends early if the run was
-/// given up.
+/// The work of one thread, with all that it needs. The work checks the run's `GivenUp` before each turn, and ends early once the run
+/// is given up.
 pub trait Job {
-    // What a job needs before it runs.
+    // The condition under which a job may run.
     ghost can_run: { Self → Type 0 };
 
-    // The second is the first later: its work is done or was given up.
+    // Whether the second job is the first one after its work, which is done or was given up.
     ghost comes_back: { Self → Self → Type 0 };
 
     /// Does the work, and hands the job back.

@@ -1,7 +1,7 @@
 //! Runs jobs, each in a thread of its own. All of them come back.
 //!
-//! A job may borrow, since it is joined before the call that started it returns. If a thread can't be made, the run is given up, and
-//! still all jobs come back. All of it is of this project.
+//! A job may borrow, since its thread is joined before the call returns. If a thread can't be made, the run is given up. All jobs come
+//! back then, too.
 #![tactic(auto)]
 
 mod given_up;

@@ -10,17 +10,17 @@ use std::sync::Wait;
 use std::thread;
 use std::thread::{Promise, Scope, Threads};
 
-/// The jobs of a run that was given up because no thread could be made for the job at `place`. Those before it weren't started, and
-/// are unchanged.
+/// The error of a run that was given up because no thread could be made for the job at `place`. The jobs before that place weren't
+/// started, and are unchanged.
 #[derive(Drop)]
 pub struct NoThread<J> {
     /// All jobs, each at its place.
     pub jobs: Vec<J>,
-    /// The place of the job that got no thread.
+    /// The index of the job that got no thread.
     pub place: usize,
 }
 
-// The promise that a job comes back.
+// The contract of a thread's closure: its job comes back.
 #[derive(Drop)]
 struct Back<J>(Snapshot<J>);
 
@@ -28,8 +28,8 @@ impl<J: Job> Promise<J> for Back<J> {
     ghost kept_by = { λ p j. J.comes_back p.0.value j };
 }
 
-/// Runs each job in a thread of its own, the last of the list first, and joins all of them. Each job comes back to its place. Only the
-/// threads themselves take memory. If a thread can't be made, no further job is started, and the running jobs are told to end.
+/// Runs each job in a thread of its own, the last of the list first, and joins all threads. Each job comes back to its place in the list.
+/// Only the threads themselves take memory. If a thread can't be made, no further job is started, and the running jobs end early.
 pub fn run_all<'e, R: Threads + Wait, J: Job + Send + Drop + 'e>(
     rt: &R,
     given_up: &GivenUp,
@@ -57,8 +57,8 @@ pub fn run_all<'e, R: Threads + Wait, J: Job + Send + Drop + 'e>(
     )
 }
 
-// Starts the last job in a thread, then the others, then joins it and puts it back at its place. Returns the place of the job for
-// which no thread could be made.
+// Starts the last job in a thread, then the others, then joins its thread and puts it back at its place. Returns the place of the job
+// for which no thread could be made, if any.
 fn start<'s, 'e: 's, R: Threads + Wait, J: Job + Send + Drop + 'e>(
     scope: &'s Scope<'s, &'e ()>,
     rt: &R,
@@ -86,7 +86,7 @@ fn start<'s, 'e: 's, R: Threads + Wait, J: Job + Send + Drop + 'e>(
             refused
         }
         Err(refused) => {
-            // The closure hands its job back, and does nothing else once the run is given up.
+            // The closure of a thread that can't be made hands its job back.
             given_up.tell();
             let job = (refused.value)();
             let place = jobs.len();

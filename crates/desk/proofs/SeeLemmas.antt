@@ -22,7 +22,7 @@ use Rattle.desk.proofs.CallLemmas.{turn_notices}
 use Rattle.desk.proofs.PassLemmas.{call_added, notice_added, own_notices_one, own_one}
 use Rattle.history.proofs.RunLemmas.{values_legal}
 
--- a seat that was told what the view n has seen, and then looked, has seen all of that
+-- a seat that learnt what the view n has seen, and then looked, has seen all of that
 pub told_seen : {M C R : Type 0} (steps : M → C → R → M → Type 0) (v u n w : View M C R) (found : ℕ) (holding : Bool) → u ≡ after_note v n
     → Looks steps u found holding w → IsPrefix n.seen w.seen × IsPrefix n.notices w.notices
 told_seen {M} {C} {R} steps v u n w found holding is l = (
@@ -70,7 +70,7 @@ module _ {M C R S : Type 0} {G : Ghosts (View M C R)} (stands : M → S → Type
     prefixes_agree (order_told_by n) (order p) (order q) h.1 s.notices.begins,
   )
 
-  -- the pass was told what a seat with the view n has seen, and then looked
+  -- the pass learnt what a seat with the view n has seen, and then looked
   pub sees_told : (p q : Pass M C R G) (u n : View M C R) (found : ℕ) (holding : Bool) → u ≡ after_note p.seat.me.0 n
       → Looks (Stepped stands steps) u found holding q.seat.me.0 → desk_of q ≡ desk_of p → length p.seat.me.0.passes ≡ 1 → Sees stands steps p q
   sees_told p q u n found holding is l table one = let v : View M C R = p.seat.me.0 in

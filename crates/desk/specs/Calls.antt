@@ -1,4 +1,4 @@
--- What a desk's calls say of a pass.
+-- What a desk's calls do to a pass.
 use Rattle.std.specs.Prelude.{◌≡◌, ℕ, ◌+◌, ◌^◌, ◌<◌, ◌≤◌, List, [], ◌∷◌, ◌++◌, length, Some}
 use Rattle.std.specs.List.{AllByRecursion}
 use Rattle.std.specs.Int.{bit_at}
@@ -17,7 +17,7 @@ use Rattle.desk.specs.Pass.{calls, desk_of, first_place, history, notes_learnt, 
 use Rattle.desk.specs.Pass.{Note, order_told_by, told_by}
 
 module _ {M C R : Type 0} {G : Ghosts (View M C R)} where
-  -- q is the pass p at another time.
+  -- Whether q is the pass p at another time.
   pub record IsSamePass (p q : Pass M C R G) : Type 0 where
     pub same_desk : desk_of q ≡ desk_of p
     pub same_number : number q ≡ number p
@@ -30,22 +30,22 @@ module _ {M C R : Type 0} {G : Ghosts (View M C R)} where
   abbrev pub SameNotices : Pass M C R G → Pass M C R G → Type 0
   SameNotices p q = notices q ≡ notices p
 
-  -- The pass knows the same, and called nothing.
+  -- Whether the pass has seen and called the same as before.
   pub record KnowsAsMuch (p q : Pass M C R G) : Type 0 where
     pub same : IsSamePass p q
     pub same_calls : calls q ≡ calls p
     pub same_history : history q ≡ history p
     pub same_order : order q ≡ order p
 
-  -- The pass has seen at least as much of the order of all notices; each of them found its word as the earlier ones
-  -- left it, and those of the pass are exactly its notices.
+  -- Whether the pass has now seen at least as much of the order of notices. Each notice found its word as those before it
+  -- left it, and the pass's own are exactly its notices.
   pub record SeesOrder (p q : Pass M C R G) : Type 0 where
     pub begins : IsPrefix (order p) (order q)
     pub found : IsOrder (order q)
     pub own : notices_by (number p) (order q) ≡ notices q
 
-  -- The pass may have seen more, and called nothing: the history that it has seen extends the earlier one, is legal,
-  -- and its entries of the pass are exactly the pass's calls.
+  -- Whether the pass called nothing, and may have seen more. The history that it has now seen is legal, extends the one
+  -- before, and its entries of the pass are exactly the pass's calls.
   pub record Sees {S : Type 0} (stands : M → S → Type 0) (steps : S → C → R → S → Type 0) (p q : Pass M C R G) : Type 0 where
     pub same : IsSamePass p q
     pub same_calls : calls q ≡ calls p
@@ -54,8 +54,8 @@ module _ {M C R : Type 0} {G : Ghosts (View M C R)} where
     pub own : calls_by (number p) (history q) ≡ calls q
     pub notices : SeesOrder p q
 
-  -- The pass made one call: the history that it has seen extends the earlier one, ends with the call, is legal, and its
-  -- entries of the pass are exactly the pass's calls, one more than before.
+  -- Whether the pass made one call. The history that it has now seen is legal, extends the one before, ends with the call,
+  -- and its entries of the pass are exactly the pass's calls, which are one more.
   pub record Calls {S : Type 0} (stands : M → S → Type 0) (steps : S → C → R → S → Type 0) (p q : Pass M C R G) (command : C) (reply : R)
       (place : ℕ) : Type 0 where
     pub same : IsSamePass p q
@@ -67,7 +67,7 @@ module _ {M C R : Type 0} {G : Ghosts (View M C R)} where
     pub own : calls_by (number p) (history q) ≡ calls q
     pub notices : SeesOrder p q
 
-  -- The new notices of the pass are posts of exactly the bits of the mask, each with this place.
+  -- Whether the pass's new notices are posts of exactly the bits of the mask, each with this place.
   pub record PostsOwed (p q : Pass M C R G) (place owed : ℕ) : Type 0 where
     pub new : List Notice
     pub grown : notices q ≡ notices p ++ new
@@ -75,8 +75,8 @@ module _ {M C R : Type 0} {G : Ghosts (View M C R)} where
     pub exact : (s b : ℕ) → s < 16 → total_of (posted_at s b) new ≡ bit_at (bits_for owed s) b
     pub no_others : (s b : ℕ) → 16 ≤ s → total_of (posted_at s b) new ≡ 0
 
-  -- The one new notice of the pass is a take, which returned all that was pending of the server after what the pass had
-  -- seen of the order and others' notices.
+  -- Whether the pass's one new notice is a take of `bits`, which are all that was pending for the server. The notices before
+  -- it include all that the pass had seen.
   pub record TakesPending (p q : Pass M C R G) (server bits : ℕ) : Type 0 where
     pub one_more : notices q ≡ notices p ++ notice (number p) server bits Take ∷ []
     pub between : List Notice
@@ -87,22 +87,22 @@ module _ {M C R : Type 0} {G : Ghosts (View M C R)} where
   abbrev pub next_place : Pass M C R G → ℕ
   next_place p = first_place p + length (history p)
 
-  -- A refusal as Worn: no place below 2 ^ 62 is left, the pass has seen that, and nothing was entered.
+  -- Whether the refusal is Worn: no place below 2 ^ 62 is left, the pass has seen that, and the history is unchanged.
   abbrev pub FindsNoPlace : {S : Type 0} → (M → S → Type 0) → (S → C → R → S → Type 0) → DeskFault → Pass M C R G → Pass M C R G → Type 0
   FindsNoPlace stands steps fault p q = (fault ≡ Worn) × Sees stands steps p q × SameNotices p q × (next_place q ≡ 2 ^ 62)
 
-  -- The note carries all that the pass has seen of the history and of the order of notices.
+  -- Whether the note carries all that the pass has seen of the history and of the order of notices.
   abbrev pub CarriesAll : Note M C R G → Pass M C R G → Type 0
   CarriesAll n p = (told_by n ≡ history p) × (order_told_by n ≡ order p)
 
-  -- The pass has seen all that the note carries.
+  -- Whether the pass has seen all that the note carries.
   abbrev pub HasSeenNote : Note M C R G → Pass M C R G → Type 0
   HasSeenNote n p = IsPrefix (told_by n) (history p) × IsPrefix (order_told_by n) (order p)
 
-  -- Of what two passes have seen, one is a prefix of the other: of the history, and of the order of all notices.
+  -- Whether the histories that two passes have seen agree, and so do their orders of notices: one is a prefix of the other.
   abbrev pub PassesAgree : Pass M C R G → Pass M C R G → Type 0
   PassesAgree p q = OneBegins (history p) (history q) × OneBegins (order p) (order q)
 
-  -- The same for a note and a pass.
+  -- Like `PassesAgree`, for a note and a pass.
   abbrev pub NoteAgrees : Note M C R G → Pass M C R G → Type 0
   NoteAgrees n p = OneBegins (told_by n) (history p) × OneBegins (order_told_by n) (order p)

@@ -1,4 +1,4 @@
--- What a closed desk leaves.
+-- The result of closing a desk.
 use Rattle.std.specs.Prelude.{◌≡◌, ◌≢◌, ℕ, ◌+◌, ◌*◌, ◌/◌, ◌%◌, ◌^◌, ◌<◌, ◌≤◌, List, [], ◌∷◌, ◌++◌, length, if◌then◌else◌, slice_index}
 use Rattle.std.specs.List.{AllByRecursion}
 use Rattle.std.specs.Int.{bit_at}
@@ -21,19 +21,19 @@ use Rattle.desk.specs.Calls.{PassesAgree}
 use Rattle.desk.specs.Pass.{calls, history as seen_by, notes_learnt, notes_made, notices, number, order as order_seen_by, Pass}
 use Rattle.desk.specs.Tally.{row_at}
 
--- Rows, each with another one added modulo 2^64.
+-- Whether each of the last rows is the sum of the two other ones at its index, modulo 2^64.
 abbrev pub Sums : List ℕ → List ℕ → List ℕ → Type 0
 Sums old rows new = (k : ℕ) → k < 128 → slice_index new k ≡ (slice_index old k + slice_index rows k) % 2 ^ 64
 
--- Each row is f of its server and bit, modulo 2^64.
+-- Whether each row is f of its server and bit, modulo 2^64.
 abbrev pub Wraps : List ℕ → (ℕ → ℕ → ℕ) → Type 0
 Wraps rows f = (s b : ℕ) → s < 16 → b < 8 → row_at rows s b ≡ f s b % 2 ^ 64
 
--- 1 for a pending bit.
+-- The number 1 if the row's bit is pending, else 0.
 abbrev pub pending_bit : Row → ℕ
 pending_bit r = if r.pending then 1 else 0
 
--- The row k is that of bit k % 8 of server k / 8.
+-- Whether row k has the raises, the takes and the pending bit k % 8 of server k / 8.
 abbrev pub IsRow : List ℕ → List ℕ → List ℕ → List Row → ℕ → Type 0
 IsRow words raises takes rows k =
     (r : Row) × (get_elem? rows k ≡ some r) × (r.raises ≡ slice_index raises k) × (r.takes ≡ slice_index takes k)
@@ -45,18 +45,18 @@ module _ {M C R : Type 0} {G : Ghosts (View M C R)} where
   gathered l [] = l
   gathered l (p ∷ ps) = gathered l ps ++ p.seat.me.0.passes
 
-  -- The history extends all that each of these passes has seen of it, and the order all that each has seen of that.
+  -- Whether the history extends what each of these passes has seen of it.
   abbrev pub HasAllSeen : List (Entry C R) → List (Pass M C R G) → Type 0
   HasAllSeen history passes = AllByRecursion (λ p. IsPrefix (seen_by p) history) passes
 
   abbrev pub HasAllNoticed : List Notice → List (Pass M C R G) → Type 0
   HasAllNoticed order passes = AllByRecursion (λ p. IsPrefix (order_seen_by p) order) passes
 
-  -- Of what any two of these passes have seen, one is a prefix of the other.
+  -- Whether any two of these passes agree on what they have seen.
   abbrev pub AllAgree : List (Pass M C R G) → Type 0
   AllAgree passes = AllByRecursion (λ p. AllByRecursion (PassesAgree p) passes) passes
 
-  -- The machine is that after one legal history, which extends all that each pass has seen, and whose entries are
+  -- Whether the machine is the one after a legal history, which extends what each pass has seen, and whose entries are
   -- exactly the passes' calls.
   pub record IsHistory {S : Type 0} (stands : M → S → Type 0) (steps : S → C → R → S → Type 0) (opened : M) (passes : List (Pass M C R G))
       (machine : M) (history : List (Entry C R)) : Type 0 where
@@ -65,9 +65,9 @@ module _ {M C R : Type 0} {G : Ghosts (View M C R)} where
     pub own : AllByRecursion (λ p. calls_by (number p) history ≡ calls p) passes
     pub no_others : (weigh : Entry C R → ℕ) → total_of weigh history ≡ total_of (λ p. total_of weigh (calls p)) passes
 
-  -- One order of all notices, which extends all that each pass has seen of it, and has exactly the passes' notices.
-  -- Each found its word as the earlier ones left it; each post is exactly what a call of its pass in the history owes;
-  -- what they left is pending in the rows.
+  -- Whether there is one order of all notices, which extends what each pass has seen, and has exactly the passes' notices.
+  -- Each notice found its word as those before it left it. Each post is exactly what a call of its pass in the history
+  -- owes. What the notices leave is pending in the rows.
   pub record IsOrderOf (owes : R → ℕ) (first : ℕ) (passes : List (Pass M C R G)) (rows : List Row) (history : List (Entry C R))
       (order : List Notice) : Type 0 where
     pub found : IsOrder order
@@ -78,13 +78,14 @@ module _ {M C R : Type 0} {G : Ghosts (View M C R)} where
     pub left : (s b : ℕ) → s < 16 → b < 8 →
         (r : Row) × (get_elem? rows (8 * s + b) ≡ some r) × (pending_bit r ≡ bit_at (pending_after order s) b)
 
-  -- One such history left the machine, and one such order the account.
+  -- Whether one such history led to the machine, and one such order to the account.
   abbrev pub LeavesHistory : {S : Type 0} → (M → S → Type 0) → (S → C → R → S → Type 0) → (R → ℕ) → M → ℕ → List (Pass M C R G)
       → Closed M → Type 0
   LeavesHistory stands steps owes opened first passes closed = (history : List (Entry C R)) × (order : List Notice)
       × IsHistory stands steps opened passes closed.machine history × IsOrderOf owes first passes closed.account history order
 
-  -- 128 rows, each with the sums of the passes' own posts and takes; in each row raises are takes plus what is pending.
+  -- Whether these are the 128 rows of the account. Each has the sums of the passes' raises and takes, and its raises are its
+  -- takes, plus one if its bit is pending.
   pub record IsAccount (passes : List (Pass M C R G)) (rows : List Row) : Type 0 where
     pub long : length rows ≡ 128
     pub each : (s b : ℕ) → s < 16 → b < 8 → (r : Row) × (get_elem? rows (8 * s + b) ≡ some r)
@@ -94,7 +95,7 @@ module _ {M C R : Type 0} {G : Ghosts (View M C R)} where
   abbrev pub AllLearnt : List (Pass M C R G) → Type 0
   AllLearnt passes = total_of notes_made passes ≡ total_of notes_learnt passes
 
-  -- Why these passes don't close a desk of `made` passes; each cause applies only if no earlier one does.
+  -- Whether the fault is the first that applies to these passes, if they are to close a desk of `made` passes.
   abbrev pub IsCloseFault : DeskFault → ℕ → List (Pass M C R G) → Type 0
   IsCloseFault PassesOut made passes = length passes < made
   IsCloseFault Noted made passes = (made ≤ length passes) × (total_of notes_made passes ≢ total_of notes_learnt passes)

@@ -8,7 +8,7 @@ use Rattle.desk.specs.declared.pass.Sight.{Ghosts}
 use Rattle.desk.specs.Pass.{calls, desk_of, first_place, history, notes_learnt, notes_made, notices, number, opening, order, Pass}
 
 module _ {M C R : Type 0} {G : Ghosts (View M C R)} where
-  -- A pass of this number that has seen, called, posted, taken and noted nothing.
+  -- Whether p is a pass of this number that has seen, called, posted, taken and noted nothing.
   pub record IsNewPass (id : TableId) (opened : Option M) (first n : ℕ) (p : Pass M C R G) : Type 0 where
     pub desk : desk_of p ≡ id
     pub opened_with : opening p ≡ opened
@@ -20,13 +20,13 @@ module _ {M C R : Type 0} {G : Ghosts (View M C R)} where
     pub no_order : order p ≡ []
     pub no_notes : (notes_made p ≡ 0) × (notes_learnt p ≡ 0)
 
-  -- New passes numbered from n - 1 down to 0, so that no two have the same number.
+  -- Whether these are n new passes, numbered from n - 1 down to 0. So no two have the same number.
   abbrev pub AreNewPasses : TableId → Option M → ℕ → ℕ → List (Pass M C R G) → Type 0
   AreNewPasses id opened first zero passes = passes ≡ []
   AreNewPasses id opened first (suc n) [] = ⊥
   AreNewPasses id opened first (suc n) (p ∷ others) = IsNewPass id opened first n p × AreNewPasses id opened first n others
 
--- Why a desk of `passes` passes isn't opened at this place; each cause applies only if no earlier one does.
+-- Whether the fault is the first that applies to a desk of `passes` passes and this first place.
 abbrev pub IsDeskFault : DeskFault → ℕ → ℕ → Type 0
 IsDeskFault BadCount passes first = (passes ≡ 0) ⊎ (64 < passes)
 IsDeskFault BadFirst passes first = (0 < passes) × (passes ≤ 64) × (2 ^ 62 < first)

@@ -1,4 +1,4 @@
--- Terms for passes and notes.
+-- The properties of passes and notes.
 use Rattle.std.specs.Prelude.{ℕ, List, Option}
 use Rattle.atomic_table.specs.Seated.{TableId}
 use Rattle.history.specs.declared.entry.Entry.{Entry}
@@ -17,7 +17,7 @@ abbrev pub Note : (M C R : Type 0) → Ghosts (View M C R) → Type 0
 Note M C R G = NoteOf (Option (Home M C R)) (View M C R) G
 
 module _ {M C R : Type 0} {G : Ghosts (View M C R)} where
-  -- The desk of a pass, and of a note, by its table.
+  -- The identity of a pass's desk.
   abbrev pub desk_of : Pass M C R G → TableId
   desk_of p = p.seat.table_id
 
@@ -27,36 +27,36 @@ module _ {M C R : Type 0} {G : Ghosts (View M C R)} where
   abbrev pub number : Pass M C R G → ℕ
   number p = number_of p.seat.me.0.passes
 
-  -- Its calls.
+  -- The pass's calls, in order.
   abbrev pub calls : Pass M C R G → List (Entry C R)
   calls p = calls_of p.seat.me.0.passes
 
   abbrev pub history : Pass M C R G → List (Entry C R)
   history p = p.seat.me.0.seen
 
-  -- Its posts and takes.
+  -- The pass's posts and takes, in order.
   abbrev pub notices : Pass M C R G → List Notice
   notices p = notices_of p.seat.me.0.passes
 
-  -- What it has seen of the order of all notices.
+  -- The notices that the pass has seen, in their order.
   abbrev pub order : Pass M C R G → List Notice
   order p = p.seat.me.0.notices
 
-  -- The history and the order of notices that the pass had seen when it made the note.
+  -- The history that the pass had seen when it made the note.
   abbrev pub told_by : Note M C R G → List (Entry C R)
   told_by n = n.seat.me.0.seen
 
   abbrev pub order_told_by : Note M C R G → List Notice
   order_told_by n = n.seat.me.0.notices
 
-  -- The machine that its desk was opened with, and the place of the first call.
+  -- The machine with which the pass's desk was opened.
   abbrev pub opening : Pass M C R G → Option M
   opening p = p.seat.me.0.opening
 
   abbrev pub first_place : Pass M C R G → ℕ
   first_place p = p.seat.me.0.first
 
-  -- The numbers of notes that it made and learnt.
+  -- The number of notes that the pass made.
   abbrev pub notes_made : Pass M C R G → ℕ
   notes_made p = p.made
 

@@ -9,23 +9,23 @@ use Rattle.desk_rule.specs.History.{count_calls, total_of}
 use Rattle.desk_rule.specs.Notices.{bits_for, IsOrder, IsPostAt, OwnNotices, posted_at, raised_by}
 use Rattle.desk_rule.specs.Passes.{calls_of, notices_of, number_of}
 
--- The row of a server's bit.
+-- The count of a server's bit.
 abbrev pub row_at : List ℕ → ℕ → ℕ → ℕ
 row_at rows s b = slice_index rows (8 * s + b)
 
--- Each row is f of its server and bit.
+-- Whether each row is f of its server and bit.
 abbrev pub Tallies : List ℕ → (ℕ → ℕ → ℕ) → Type 0
 Tallies rows f = (s b : ℕ) → s < 16 → b < 8 → row_at rows s b ≡ f s b
 
--- The rows after these bits of one server are counted.
+-- Whether the last rows are the first ones with 1 added for each of these bits of one server.
 abbrev pub Counts : List ℕ → ℕ → ℕ → List ℕ → Type 0
 Counts old server bits new = (s b : ℕ) → s < 16 → b < 8 → row_at new s b ≡ row_at old s b + (if s == server then bit_at bits b else 0)
 
--- The bits of the mask, and no others, were raised, once each.
+-- Whether exactly the bits of the mask were raised, once each.
 abbrev pub RaisesMask : (ℕ → ℕ → ℕ) → (ℕ → ℕ → ℕ) → ℕ → Type 0
 RaisesMask old new mask = (s b : ℕ) → s < 16 → b < 8 → new s b ≡ old s b + bit_at mask (8 * s + b)
 
--- The seat of one pass may post once to each server: no bit was raised as often as the pass called.
+-- Whether the seat of one pass may post once to each server, since it raised no bit as often as it called.
 pub record CanPost {M C R : Type 0} (v : View M C R) : Type 0 where
   pub opened : is_some v.opening ≡ true
   pub one_pass : length v.passes ≡ 1
@@ -34,7 +34,7 @@ pub record CanPost {M C R : Type 0} (v : View M C R) : Type 0 where
   pub found : IsOrder v.notices
   pub own : OwnNotices v.notices v.passes
 
--- w is v after it posted what its last call owes to the servers below `count`, and nothing else.
+-- Whether w is v after posts of what the last call owes to the servers below `count`, and of nothing else.
 pub record Posts {M C R : Type 0} (v w : View M C R) (count owed : ℕ) : Type 0 where
   pub opening : w.opening ≡ v.opening
   pub first : w.first ≡ v.first

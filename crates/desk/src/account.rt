@@ -1,4 +1,4 @@
-//! The account of notices of a closed desk.
+//! The account of a closed desk: how often each bit was raised and taken.
 
 ghost use Rattle.std.specs.Prelude.{◌≡◌, ◌≤◌, ◌<◌, ℕ, [], length, slice_get, vec_capacity};
 ghost use Rattle.std.specs.Option.{option_copied};
@@ -11,13 +11,13 @@ use std::marker::Model;
 pub struct Row {
     /// How often a post found the bit 0 and set it.
     pub raises: u64,
-    /// How often a take returned it.
+    /// How often a take returned the bit.
     pub takes: u64,
-    /// Whether it is still set.
+    /// Whether the bit is still set.
     pub pending: bool,
 }
 
-/// An account of 128 rows: the row of subscription k of server s has the index 8 s + k.
+/// An account of 128 rows. The row of subscription k of server s has the index 8 s + k.
 #[derive(Debug, Drop)]
 pub struct Account {
     pub(crate) rows: Vec<Row>,
@@ -40,7 +40,7 @@ impl Account {
         self.rows.len()
     }
 
-    /// Returns the row at an index from 0; `None` past the end.
+    /// Returns the row at an index from 0, or `None` past the end.
     pub fn get(&self, index: usize) -> Option<&Row>
         ensures { option_copied result ≡ slice_get self.now index }
     {

@@ -21,8 +21,10 @@ use std::sync::Wait;
 const MOST_NOTES: u64 = 1 << 62;
 
 impl<M: Machine> Desk<M> {
-    /// Waits for the turn, steps the machine once, ends the turn, and then posts what the reply owes. Only the machine
-    /// takes memory. Refuses Worn if no place below 2^62 is left; nothing is entered then, and the command is dropped.
+    /// Waits for the turn, steps the machine once, ends the turn, and then posts what the reply owes.
+    ///
+    /// Refuses as Worn if no place below 2^62 is left. The history is then unchanged, and the command is dropped. Only the
+    /// machine takes memory.
     pub fn call<W: Wait>(
         &self,
         rt: &W,
@@ -55,9 +57,11 @@ impl<M: Machine> Desk<M> {
         })
     }
 
-    /// Takes every pending bit of a server, and then reads how far the history goes: a call below `floor` owes each of
-    /// the bits. Pending are all bits that were posted to the server and not taken yet, in the one order of all
-    /// notices. It takes no memory and never waits. Refuses BadServer from 16 on.
+    /// Takes every pending bit of a server, and then reads how far the history goes. Each bit is owed by a call whose place
+    /// is below `floor`.
+    ///
+    /// A bit is pending if it was posted to the server and not taken yet, in the one order of all notices. Refuses a server
+    /// from 16 on as BadServer. Takes no memory and never waits.
     pub fn take(&self, pass: &mut Pass<M>, server: u32) -> Result<Taken, DeskFault>
         requires { desk_of pass.old ≡ identity self.now }
         ensures stays { desk_of pass.new ≡ desk_of pass.old }
@@ -81,7 +85,7 @@ impl<M: Machine> Desk<M> {
         })
     }
 
-    /// Returns how far the history goes: the first place that no call has entered. It takes no memory and never waits.
+    /// Returns how far the history goes: the first place without a call. Takes no memory and never waits.
     pub fn front(&self, pass: &mut Pass<M>) -> u64
         requires { desk_of pass.old ≡ identity self.now }
         ensures stays { desk_of pass.new ≡ desk_of pass.old }
@@ -92,8 +96,8 @@ impl<M: Machine> Desk<M> {
         look(&self.table.shared, &mut pass.seat) / 2
     }
 
-    /// Returns a note of how far the pass has seen the history and the notices, for another pass to learn. It never
-    /// waits. Refuses Worn after 2^62 notes.
+    /// Returns a note of what the pass has seen of the history and of the notices, for another pass to learn. Refuses as
+    /// Worn after 2^62 notes. Never waits.
     pub fn note(&self, pass: &mut Pass<M>) -> Result<Note<M>, DeskFault>
         requires { desk_of pass.old ≡ identity self.now }
         ensures stays { desk_of pass.new ≡ desk_of pass.old }
@@ -111,8 +115,8 @@ impl<M: Machine> Desk<M> {
         })
     }
 
-    /// Learns a note: from now on the pass has seen all that the note carries. Of the note's history and the pass's,
-    /// one was a prefix of the other. It never waits. Refuses Worn after 2^62 notes, and hands the note back.
+    /// Learns a note: from now on the pass has seen all that the note carries. The note's history was a prefix of the pass's,
+    /// or the other way round. Refuses as Worn after 2^62 notes, and hands the note back. Never waits.
     pub fn learn(&self, pass: &mut Pass<M>, note: Note<M>) -> Result<(), LearnStop<Note<M>>>
         requires pass { desk_of pass.old ≡ identity self.now }
         requires note { desk_of_note note ≡ identity self.now }

@@ -20,7 +20,7 @@ use crate::passes::{Passes, PassesOf};
 use desk_rule::{DeskSeat, DeskShared, Machine, close_table, join_pass, look};
 use std::alloc::Global;
 
-/// What a closed desk leaves.
+/// The result of closing a desk.
 #[derive(Drop)]
 pub struct Closed<M> {
     /// The machine after every call.
@@ -40,7 +40,7 @@ pub struct CloseStop<D, P> {
     pub passes: P,
 }
 
-// Returns how many notes the passes made, and how many they learnt.
+// Returns the number of notes that the passes made, and the number that they learnt.
 fn count_notes<M: Machine>(passes: &Vec<Pass<M>>) -> (u128, u128)
     ensures made { result.0 ≡ total_of notes_made passes.now.items }
     ensures learnt { result.1 ≡ total_of notes_learnt passes.now.items }
@@ -55,7 +55,7 @@ fn count_notes<M: Machine>(passes: &Vec<Pass<M>>) -> (u128, u128)
     (made, learnt)
 }
 
-// Returns room for the rows of the account, if these passes close a desk of `made` passes, or why the desk stays open.
+// Allocates the rows of the account, if these passes can close a desk of `made` passes. Otherwise returns why not.
 fn room_to_close<M: Machine>(
     alloc: Global,
     made: u32,
@@ -78,8 +78,7 @@ fn room_to_close<M: Machine>(
     }
 }
 
-// Gathers all passes at one seat, which sees all that the others have seen, and adds their rows to the rows of its own
-// pass.
+// Moves all passes to one seat, which learns what the others have seen, and adds up the rows of all passes.
 fn gather<M: Machine>(
     shared: &DeskShared<M>,
     seat: &mut DeskSeat<M>,
@@ -112,12 +111,13 @@ fn gather<M: Machine>(
 }
 
 impl<M: Machine> Desk<M> {
-    /// Closes the desk. Returns the machine after one legal history and the account of the notices. The history extends
-    /// all that each pass has seen, and its entries are exactly the passes' calls. The notices have one order: each
-    /// found what the earlier ones left, and what the last ones left is pending.
+    /// Closes the desk, and returns the machine after one legal history and the account of the notices.
     ///
-    /// Refusals in order: PassesOut unless all passes are back; Noted unless as many notes were learnt as were made;
-    /// NoRoom.
+    /// The history extends all that each pass has seen, and its entries are exactly the passes' calls. The notices have one
+    /// order. Each found its word as the notices before it left it, and what all of them leave is pending in the account.
+    ///
+    /// Refuses as PassesOut if a pass is missing, then as Noted if the passes didn't learn as many notes as they made. Then
+    /// reports NoRoom if memory runs out. A refusal hands the desk and the passes back.
     pub fn close(
         self,
         alloc: Global,

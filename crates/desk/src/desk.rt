@@ -6,7 +6,7 @@ use atomic_table::{Table, TableRule};
 use desk_rule::{DeskRule, DeskView, Opening, Slot};
 use std::alloc::Global;
 
-/// The number of passes that a table was made for.
+/// Types that have the number of passes of a table.
 pub trait Made {
     ghost passes: { Self → ℕ };
 }
@@ -36,7 +36,7 @@ pub struct Answer<R> {
     pub reply: R,
     /// The place of the call in the history, counted from the desk's first place.
     pub place: u64,
-    /// The mask that the reply owes: bit 8 s + k is subscription k of server s.
+    /// The mask that the reply owes. Bit 8 s + k is subscription k of server s.
     pub owed: u128,
     /// The bits of `owed` that weren't pending.
     pub raised: u128,
@@ -45,8 +45,8 @@ pub struct Answer<R> {
 /// The result of a take.
 #[derive(Clone, Copy, Debug, PartialEq, Eq)]
 pub struct Taken {
-    /// The bits that were pending; bit k is the server's subscription k.
+    /// The bits that were pending. Bit k is the server's subscription k.
     pub bits: u8,
-    /// The first place that no call had entered when word 0 was loaded, after the bits were taken.
+    /// The first place without a call when word 0 was loaded, which was after the bits were taken.
     pub floor: u64,
 }

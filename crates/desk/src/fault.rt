@@ -1,4 +1,4 @@
-//! Why a desk refuses.
+//! The refusals of a desk.
 
 use thiserror::Error;
 
@@ -14,13 +14,13 @@ pub enum DeskFault {
     /// The server isn't below 16.
     #[error("no such server")]
     BadServer,
-    /// No place below 2^62 is left, or the pass made or learnt 2^62 notes.
+    /// No place below 2^62 is left, or the pass has made or learnt 2^62 notes.
     #[error("worn out")]
     Worn,
     /// Not all passes were handed over.
     #[error("a pass is out")]
     PassesOut,
-    /// Over all passes, the numbers of notes made and learnt differ.
+    /// The passes made and learnt different numbers of notes in all.
     #[error("a note is out")]
     Noted,
     /// Out of memory.
@@ -28,7 +28,7 @@ pub enum DeskFault {
     NoRoom,
 }
 
-/// A note that wasn't learnt, and is handed back.
+/// The error for a note that wasn't learnt. It hands the note back.
 #[derive(Drop)]
 pub struct LearnStop<N> {
     /// The cause.

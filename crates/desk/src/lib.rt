@@ -1,10 +1,10 @@
 //! A desk: one machine that many threads call in turns, with one history, and notices for subscribers that wait for a
 //! change.
 //!
-//! The holder of the turn has the machine to itself, as under a lock. Each thread's pass keeps what the thread knows of
-//! the history; a note carries that to another pass. A call that changes something for a subscriber sets a bit of that
-//! server's pending word, after its turn. A take of the word gets every bit at once, and repeats coalesce, as with
-//! MINIX 3's notifications. The desk, its refusals and its account are of this project.
+//! The thread that holds the turn has the machine to itself, as under a lock. Each thread's pass keeps what the thread
+//! knows of the history. A note carries that to another pass. After the turn of a call that changes something for a
+//! subscriber, a bit of that server's pending word is set. A take of the word returns all of its bits and clears them.
+//! Two posts of one bit become one, as with MINIX 3's notifications. Desks are this project's.
 #![tactic(auto)]
 
 mod account;

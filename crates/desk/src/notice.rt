@@ -1,4 +1,4 @@
-//! Posts, and the counting of bits.
+//! Posts, and counts of bits.
 
 ghost use Rattle.std.specs.Prelude.{◌≡◌, ℕ, ◌*◌, ◌^◌, ◌<◌};
 ghost use Rattle.desk_rule.specs.Kinds.{LastOwes};
@@ -8,7 +8,7 @@ ghost use Rattle.desk.specs.Tally.{CanPost, Counts, Posts, RaisesMask, Tallies, 
 
 use desk_rule::{DeskSeat, DeskShared, Machine, post};
 
-/// Counts these bits of a server.
+/// Adds 1 to the row of each of these bits of a server.
 pub(crate) fn tally(rows: &mut [u64; 128], server: u32, bits: u64)
     requires server { server < 16 }
     requires room { (b : ℕ) → b < 8 → row_at rows.old server b < 2 ^ 63 }
@@ -19,7 +19,7 @@ pub(crate) fn tally(rows: &mut [u64; 128], server: u32, bits: u64)
     }
 }
 
-/// Posts to each server what the last call owes it. Returns the mask of the bits that weren't pending.
+/// Posts to each server the bits that the last call owes it. Returns the mask of the bits that weren't pending before.
 pub(crate) fn post_owed<M: Machine>(
     shared: &DeskShared<M>,
     seat: &mut DeskSeat<M>,

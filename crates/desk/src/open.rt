@@ -18,7 +18,7 @@ use desk_rule::{DeskSeat, DeskShared, Machine, new_table, split_pass};
 use std::alloc::Global;
 use std::snapshot::Snapshot;
 
-/// Why a desk wasn't opened. The machine is handed back.
+/// The error for a desk that wasn't opened. It hands the machine back.
 #[derive(Drop)]
 pub struct OpenStop<M> {
     /// The cause.
@@ -43,7 +43,7 @@ fn new_pass<M: Machine>(seat: DeskSeat<M>) -> Pass<M>
     }
 }
 
-// Deals a pass for each pass at the seat. The list has room for them.
+// Splits the seat's passes into one seat each, and appends these to the list, which has the capacity for them.
 fn deal<M: Machine>(
     shared: &DeskShared<M>,
     mut seat: DeskSeat<M>,
@@ -66,7 +66,7 @@ fn deal<M: Machine>(
     passes.push_reserved(new_pass(seat));
 }
 
-// Returns room for `passes` passes, or why a desk of that many passes can't be opened at the place `first`.
+// Allocates a list for `passes` passes, or returns why a desk with this number and the place `first` can't be opened.
 fn room_for<M: Machine>(alloc: Global, passes: u32, first: u64) -> Result<Vec<Pass<M>>, DeskFault>
     ensures room { IfOk result (λ dealt. (dealt.items ≡ []) × (passes ≤ vec_capacity dealt)) }
     ensures accepted { OnOk result ((0 < passes) × (passes ≤ 64) × (first ≤ 2 ^ 62)) }
@@ -85,10 +85,11 @@ fn room_for<M: Machine>(alloc: Global, passes: u32, first: u64) -> Result<Vec<Pa
 }
 
 impl<M: Machine> Desk<M> {
-    /// Opens a desk over the machine. Its first call gets the place `first`. Returns it with 1 to 64 passes to call it
-    /// with, whose numbers differ.
+    /// Opens a desk over the machine, and returns it with 1 to 64 passes to call it with. The passes have different numbers.
+    /// The first call gets the place `first`.
     ///
-    /// Refusals in order: BadCount; BadFirst above 2^62; NoRoom.
+    /// Refuses 0 passes or more than 64 as BadCount, then a `first` above 2^62 as BadFirst. Then reports NoRoom if memory
+    /// runs out. A refusal hands the machine back.
     pub fn open(
         alloc: Global,
         machine: M,

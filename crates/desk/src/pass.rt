@@ -1,6 +1,6 @@
-//! Passes, with which a thread calls a desk, and notes, with which it informs another.
+//! Passes, with which a thread calls a desk, and notes, with which it tells another one what it has seen.
 //!
-//! The structs have plain type parameters, so that they are found to be `Send` for every machine.
+//! The structs have plain type parameters, so that the compiler finds them to be `Send` for every machine.
 
 ghost use Rattle.std.specs.Prelude.{◌≡◌, ◌≤◌, ◌^◌, ℕ, Bool, true, length};
 ghost use Rattle.desk.specs.Tally.{Tallies};
@@ -8,15 +8,15 @@ ghost use Rattle.desk.specs.Tally.{Tallies};
 use atomic_table::Seat;
 use desk_rule::{DeskView, Slot, View};
 
-/// What the structs of passes and notes need of a view.
+/// The properties of a view that passes and notes use.
 pub trait Sight {
-    // Whether the view is that of one pass without a turn.
+    // Whether the view is of a seat with one pass, which doesn't hold the turn.
     ghost rests: { Self → Bool };
 
-    // Whether the view is that of a note.
+    // Whether the view is a note's.
     ghost listens: { Self → Bool };
 
-    // How often it raised each server's bit, and how often it took it.
+    // How often the passes of the view raised a bit of a server.
     ghost raised: { Self → ℕ → ℕ → ℕ };
 
     ghost taken: { Self → ℕ → ℕ → ℕ };
@@ -34,14 +34,14 @@ impl<M, C, R> Sight for View<M, C, R> {
     ghost taken = { taken_of };
 }
 
-/// A seat that one thread calls from, with its counts.
+/// A pass: a seat from which one thread calls, with counts.
 #[derive(Drop)]
 pub struct PassOf<S, V: Sight> {
     pub(crate) seat: Seat<S, V>,
-    // The numbers of notes that it made and learnt.
+    // The numbers of notes that the pass made and learnt.
     pub(crate) made: u64,
     pub(crate) learnt: u64,
-    // For each bit, eight to a server: how often the pass raised it, and how often it took it.
+    // For each bit, eight to a server, how often the pass raised it.
     pub(crate) raises: [u64; 128],
     pub(crate) takes: [u64; 128],
     ghost few_notes: { (made ≤ 2 ^ 62) × (learnt ≤ 2 ^ 62) },
@@ -51,7 +51,7 @@ pub struct PassOf<S, V: Sight> {
     ghost resting: { V.rests seat.me.0 ≡ true },
 }
 
-/// A seat that no thread calls from.
+/// A note: a seat from which no thread calls.
 #[derive(Drop)]
 pub struct NoteOf<S, V: Sight> {
     pub(crate) seat: Seat<S, V>,
@@ -59,8 +59,8 @@ pub struct NoteOf<S, V: Sight> {
     ghost listening: { V.listens seat.me.0 ≡ true },
 }
 
-/// The right to call a desk. It knows how far it has seen the history, and which entries are its own.
+/// The right to call a desk. A pass knows how much of the history it has seen, and which entries are its own.
 pub type Pass<M> = PassOf<Slot<M>, DeskView<M>>;
 
-/// What one pass had seen of the history and of the order of notices, for another pass to learn.
+/// A note of what a pass has seen of the history and of the order of notices, for another pass to learn.
 pub type Note<M> = NoteOf<Slot<M>, DeskView<M>>;

@@ -24,7 +24,7 @@ impl<P> Model for PassesOf<P> {
 pub type Passes<M> = PassesOf<Pass<M>>;
 
 impl<P> PassesOf<P> {
-    /// Returns an empty list. It takes no memory.
+    /// Returns an empty list. Takes no memory.
     pub fn new(alloc: Global) -> PassesOf<P>
         ensures { result ≡ [] }
     {
@@ -33,14 +33,14 @@ impl<P> PassesOf<P> {
         }
     }
 
-    /// Takes over the passes of a `Vec`. It takes no memory.
+    /// Returns the list of the passes in a `Vec`. Takes no memory.
     pub fn of(passes: Vec<P>) -> PassesOf<P>
         ensures { result ≡ passes.items }
     {
         PassesOf { passes }
     }
 
-    /// Returns the `Vec`. It takes no memory.
+    /// Returns the passes as a `Vec`. Takes no memory.
     pub fn into_vec(self) -> Vec<P>
         ensures { result.items ≡ self }
     {
@@ -56,7 +56,7 @@ impl<P> PassesOf<P> {
         self.passes.push(pass)
     }
 
-    /// Removes and returns the last pass; `None` if there is none.
+    /// Removes the last pass and returns it, or `None` if there is none.
     pub fn pop(&mut self) -> Option<P>
         ensures taken { IfSome result (λ pass. self.old ≡ self.new ++ pass ∷ []) }
         ensures none { IfNone result ((self.old ≡ []) × (self.new ≡ [])) }

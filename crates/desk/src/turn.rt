@@ -14,10 +14,10 @@ use std::snapshot::Snapshot;
 use std::sync::Wait;
 use std::thread;
 
-// Word 0 once no place is left.
+// The value of word 0 if no place is left.
 const WORN: u64 = 1 << 63;
 
-/// Waits until the turn is free, and takes it. Returns its place; `None` if no place is left.
+/// Waits until the turn is free, and takes it. Returns the place of the call, or `None` if no place is left.
 pub(crate) fn wait_turn<M: Machine, W: Wait>(
     rt: &W,
     shared: &DeskShared<M>,

@@ -1,4 +1,4 @@
--- The kinds of step: what each returns, and the view after it.
+-- The kinds of step: the number that each returns, and the view after it.
 use Rattle.std.specs.Prelude.{◌≡◌, ◌≢◌, ℕ, ◌+◌, ◌-◌, ◌*◌, ◌/◌, ◌%◌, ◌^◌, ◌<◌, ◌≤◌, Bool, true, false}
 use Rattle.std.specs.Prelude.{List, [], ◌∷◌, ◌++◌, length, drop, slice_index, Option, Some}
 use Rattle.std.specs.Prelude as std
@@ -19,12 +19,12 @@ use Rattle.desk_rule.specs.Notices.{IsOrder, notice, OwedIn, OwnNotices, pending
 use Rattle.desk_rule.specs.Passes.{add_call, add_notice, number_of}
 use Rattle.desk_rule.specs.Rule.{RuleHolds}
 
--- A seat's view, and the slots that are out with it.
+-- The state of a seat: its view, and the slots that only this seat may use now, with their contents.
 abbrev pub AtSeat : Type 0 → Type 0 → Type 0 → Type 0
 AtSeat M C R = Me (Option (Home M C R)) (View M C R)
 
 module _ {M C R : Type 0} where
-  -- The view that has seen this much of the history and of the order of notices, which include all that reached it by notes.
+  -- The view with these entries and these notices as seen. They include all that the seat learnt from notes.
   abbrev pub after_look : View M C R → Bool → List (Entry C R) → List Notice → View M C R
   after_look v holding es ns = record {
     opening = v.opening;
@@ -37,7 +37,7 @@ module _ {M C R : Type 0} where
     passes = v.passes;
   }
 
-  -- The view that has seen this much of the history.
+  -- The view with these entries as seen.
   abbrev pub with_seen : View M C R → List (Entry C R) → View M C R
   with_seen v es = record {
     opening = v.opening;
@@ -50,7 +50,7 @@ module _ {M C R : Type 0} where
     passes = v.passes;
   }
 
-  -- The view with one more entry, of its first pass.
+  -- The view after a turn: with one more entry, of its first pass.
   abbrev pub after_turn : View M C R → C → R → View M C R
   after_turn v c r = let e = entry (number_of v.passes) c r in
       record {
@@ -64,7 +64,7 @@ module _ {M C R : Type 0} where
         passes = add_call v.passes e;
       }
 
-  -- The view with one more notice, of its first pass, after these.
+  -- The view with these notices as seen, and one more, of its first pass.
   abbrev pub with_notice : View M C R → List Notice → Notice → View M C R
   with_notice v before n = record {
     opening = v.opening;
@@ -77,14 +77,14 @@ module _ {M C R : Type 0} where
     passes = add_notice v.passes n;
   }
 
-  -- A post for the last call that it has seen, and a take.
+  -- The notice of a post for the last call that the seat has seen.
   abbrev pub post_of : View M C R → ℕ → ℕ → ℕ → Notice
   post_of v server bits found = notice (number_of v.passes) server found (Post bits ((v.first + length v.seen) - 1))
 
   abbrev pub take_of : View M C R → ℕ → ℕ → Notice
   take_of v server found = notice (number_of v.passes) server found Take
 
-  -- The view without passes, of what was seen.
+  -- The view of a note: what the seat has seen, without passes.
   abbrev pub note_view : View M C R → View M C R
   note_view v = record {
     opening = v.opening;
@@ -97,7 +97,7 @@ module _ {M C R : Type 0} where
     passes = [];
   }
 
-  -- The view after a note, with what the note has seen.
+  -- The view after the seat learnt what a note has seen.
   abbrev pub after_note : View M C R → View M C R → View M C R
   after_note v w = record {
     opening = v.opening;
@@ -110,7 +110,7 @@ module _ {M C R : Type 0} where
     passes = v.passes;
   }
 
-  -- The view of the first pass alone, and that of the others.
+  -- The view of a seat that has only the first pass.
   abbrev pub one_pass : View M C R → View M C R
   one_pass v = record {
     opening = v.opening;
@@ -135,7 +135,7 @@ module _ {M C R : Type 0} where
     passes = drop 1 v.passes;
   }
 
-  -- The view after it takes over the passes of another seat, with what that one has seen.
+  -- The view after another seat's passes moved to this seat.
   abbrev pub after_pass : View M C R → View M C R → View M C R
   after_pass v w = record {
     opening = v.opening;
@@ -148,8 +148,8 @@ module _ {M C R : Type 0} where
     passes = v.passes ++ w.passes;
   }
 
--- w is v after a load of word 0 that found this: the history that it has seen extends all that v saw itself or by notes, is
--- legal, and has exactly the own entries of each pass; the same holds of the order of notices.
+-- Whether w is v after a load of word 0 that returned `found`. The history in w is legal, extends all that v saw or learnt,
+-- and has exactly the own entries of each pass. The order of notices in w does likewise.
 pub record Looks {M C R : Type 0} (steps : M → C → R → M → Type 0) (v : View M C R) (found : ℕ) (holding : Bool)
     (w : View M C R) : Type 0 where
   pub is : w ≡ after_look v holding w.seen w.notices
@@ -165,8 +165,8 @@ pub record Looks {M C R : Type 0} (steps : M → C → R → M → Type 0) (v : 
   pub order : IsOrder w.notices
   pub own_notices : OwnNotices w.notices w.passes
 
--- w is v after a notice, which comes after all that v saw of the order itself or by notes, and found its word as the earlier
--- ones left it.
+-- Whether w is v after the notice n. It comes after all notices that v saw or learnt, and found its word as the notices
+-- before it left it.
 pub record MakesNotice {M C R : Type 0} (v : View M C R) (n : Notice) (w : View M C R) : Type 0 where
   pub before : List Notice
   pub is : w ≡ with_notice v before n
@@ -176,7 +176,7 @@ pub record MakesNotice {M C R : Type 0} (v : View M C R) (n : Notice) (w : View 
   pub order : IsOrder w.notices
   pub own : OwnNotices w.notices w.passes
 
--- w is v after it took a pending word that was `found`: for each bit, the history then has an entry that owes it.
+-- Whether w is v after a take of a pending word that was `found`. The history in w has an entry that owes each of its bits.
 pub record TakesBits {M C R : Type 0} (owes : R → ℕ) (v : View M C R) (server found : ℕ) (w : View M C R) : Type 0 where
   pub es : List (Entry C R)
   pub seen : IsPrefix v.seen es
@@ -186,13 +186,13 @@ pub record TakesBits {M C R : Type 0} (owes : R → ℕ) (v : View M C R) (serve
   pub few : (b : ℕ) → taken_by w.passes server b ≤ 2 ^ 62
   pub owed : (b : ℕ) → bit_at found b ≡ 1 → OwedIn owes server b es
 
--- The last call that was seen is the first pass's, and owes this.
+-- Whether the last entry that the seat has seen is its first pass's, and owes this mask.
 abbrev pub LastOwes : {M C R : Type 0} → (R → ℕ) → View M C R → ℕ → Type 0
 LastOwes {M} {C} {R} owes v owed =
     (es : List (Entry C R)) × (e : Entry C R) × (v.seen ≡ es ++ e ∷ []) × (e.pass ≡ number_of v.passes) × (owed ≡ owes e.reply)
 
--- What word 0 says of the turn to a seat with the view v: the table was in a state that keeps the rule, in which some
--- seat held the turn if the low bit was 1, and none if it was 0.
+-- The meaning of word 0 for the turn, at a seat with the view v. The table was in a state that keeps the rule. In it some
+-- seat held the turn if the low bit was 1, and no seat if it was 0.
 pub record TellsTurn {M C R : Type 0} (steps : M → C → R → M → Type 0) (owes : R → ℕ) (v : View M C R) (found : ℕ) : Type 0 where
   pub opening : M
   pub first : ℕ
@@ -208,34 +208,35 @@ pub record TellsTurn {M C R : Type 0} (steps : M → C → R → M → Type 0) (
   pub own : v.holding ≡ true → found % 2 ≡ 1
 
 module _ {M C R : Type 0} (steps : M → C → R → M → Type 0) where
-  -- Word 0 was loaded, and nothing else happened.
+  -- The step in which word 0 was loaded, and nothing else happened.
   abbrev pub LooksAlone : AtSeat M C R → ℕ → AtSeat M C R → Type 0
   LooksAlone m r m' = Looks steps m.0 r m.0.holding m'.0 × (m'.1 ≡ m.1)
 
-  -- The number is at most 2 ^ 63, which means that no place is left; its low bit says whether the turn is held.
+  -- The step of `look`. The number is at most 2 ^ 63, which means that no place is left. Its low bit says whether the turn
+  -- is held.
   abbrev pub look : (R → ℕ) → Step (Option (Home M C R)) → AtSeat M C R → ℕ → AtSeat M C R → Type 0
   look owes st m r m' = LooksAlone m r m' × (r ≤ 2 ^ 63) × TellsTurn steps owes m.0 r
 
-  -- The machine leaves the slot, as it is after the history.
+  -- Whether the seat got the slot, which has the machine after the history.
   abbrev pub GetsMachine : View M C R → List (ℕ × Option (Home M C R)) → View M C R → List (ℕ × Option (Home M C R)) → Type 0
   GetsMachine v c w c' = (h : Home M C R) × (c' ≡ (0, Some h) ∷ c) × ((m : M) → v.opening ≡ Some m → Run steps m w.seen h.machine)
 
-  -- The turn is taken.
+  -- The step in which the seat takes the turn.
   abbrev pub TakesTurn : AtSeat M C R → ℕ → AtSeat M C R → Type 0
   TakesTurn m r m' = Looks steps m.0 r true m'.0 × GetsMachine m.0 m.1 m'.0 m'.1
 
-  -- The turn is taken if the word was as expected; otherwise the word was only loaded. Either way its low bit says
-  -- whether the turn was held.
+  -- The step of `hold`. If word 0 was the expected word, the seat takes the turn. Otherwise word 0 was only loaded. In both
+  -- cases the low bit says whether the turn was held.
   abbrev pub hold : (R → ℕ) → Step (Option (Home M C R)) → AtSeat M C R → ℕ → AtSeat M C R → Type 0
   hold owes st m r m' = (r ≡ st.first → TakesTurn m r m') × (r ≢ st.first → LooksAlone m r m') × (r ≤ 2 ^ 63) × TellsTurn steps owes m.0 r
 
 module _ {M C R : Type 0} where
-  -- The slot's last call becomes the last entry of the history.
+  -- The step of `end_turn`: the last call in the slot becomes the last entry of the history.
   abbrev pub end_of_turn : Step (Option (Home M C R)) → AtSeat M C R → ℕ → AtSeat M C R → Type 0
   end_of_turn st m r m' = (h : Home M C R) (l : LastCall C R) (c : List (ℕ × Option (Home M C R))) → m.1 ≡ (0, Some h) ∷ c → h.last ≡ Some l
       → (m' ≡ (after_turn m.0 l.command.value l.reply.value, c)) × OwnCalls m'.0.seen m'.0.passes
 
-  -- The same, if nothing else is out with the seat.
+  -- Like `end_of_turn`, for a seat that has no other slot.
   abbrev pub EntersCall : AtSeat M C R → AtSeat M C R → Type 0
   EntersCall m m' = (h : Home M C R) (l : LastCall C R) → m.1 ≡ (0, Some h) ∷ [] → h.last ≡ Some l
       → (m' ≡ (after_turn m.0 l.command.value l.reply.value, [])) × OwnCalls m'.0.seen m'.0.passes

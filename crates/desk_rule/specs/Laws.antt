@@ -1,4 +1,4 @@
--- The consequences of the rule.
+-- Laws of the rule.
 use Rattle.std.specs.Prelude.{◌≡◌, ℕ, ◌+◌, ◌<◌, true, List, ◌∷◌, ◌++◌, slice_index, Option}
 use Rattle.std.specs.List.{AllByRecursion}
 use Rattle.std.specs.Int.{bit_at}
@@ -17,54 +17,55 @@ module _ {M C R : Type 0} (steps : M → C → R → M → Type 0) (owes : R →
   abbrev TableState : Type 0
   TableState = State (Option (Home M C R)) (View M C R)
 
-  -- Of what two seats have seen, one is a prefix of the other, and each is legal.
+  -- A law: the entries that two seats have seen are legal, and one list is a prefix of the other.
   abbrev pub HistoriesAgree : Type 0
   HistoriesAgree =
       (opening : M) (first passes : ℕ) (s : TableState) → RuleHolds steps owes opening first passes s → (i j : ℕ) (v w : View M C R) →
       get_elem? s.views i ≡ some v → get_elem? s.views j ≡ some w
       → OneBegins v.seen w.seen × IsLegal steps opening v.seen × IsLegal steps opening w.seen
 
-  -- The same for the notices that they have seen, each of which found its word as the earlier ones left it.
+  -- A law: the notices that two seats have seen each found their word as those before them left it, and one list is a prefix
+  -- of the other.
   abbrev pub NoticesAgree : Type 0
   NoticesAgree =
       (opening : M) (first passes : ℕ) (s : TableState) → RuleHolds steps owes opening first passes s → (i j : ℕ) (v w : View M C R) →
       get_elem? s.views i ≡ some v → get_elem? s.views j ≡ some w
       → OneBegins v.notices w.notices × IsOrder v.notices × IsOrder w.notices
 
-  -- Two seats that hold the turn are the same.
+  -- A law: two seats that hold the turn are the same.
   abbrev pub OneSeatHolds : Type 0
   OneSeatHolds =
       (opening : M) (first passes : ℕ) (s : TableState) → RuleHolds steps owes opening first passes s → (i j : ℕ) (v w : View M C R) →
       get_elem? s.views i ≡ some v → get_elem? s.views j ≡ some w
       → v.holding ≡ true → w.holding ≡ true → i ≡ j
 
-  -- The pending words are what the notices left, in their one order.
+  -- A law: the pending words are those that all notices, in their one order, leave.
   abbrev pub WordsFollow : Type 0
   WordsFollow =
       (opening : M) (first passes : ℕ) (s : TableState) → (r : RuleHolds steps owes opening first passes s) →
       IsOrder r.order × ((server : ℕ) → server < 16 → slice_index s.words (server + 1) ≡ pending_after r.order server)
 
-  -- The raises of each bit are its takes, plus one if it is pending.
+  -- A law: the raises of each bit are as many as its takes, plus one if the bit is pending.
   abbrev pub NoticesBalance : Type 0
   NoticesBalance =
       (opening : M) (first passes : ℕ) (s : TableState) → RuleHolds steps owes opening first passes s → (server bit : ℕ) → server < 16
       → total_of (λ (v : View M C R). raised_by v.passes server bit) s.views ≡
       total_of (λ (v : View M C R). taken_by v.passes server bit) s.views + bit_at (slice_index s.words (server + 1)) bit
 
-  -- An entry of the history owes each pending bit.
+  -- A law: each pending bit is owed by some entry of the history.
   abbrev pub BitsAreOwed : Type 0
   BitsAreOwed =
       (opening : M) (first passes : ℕ) (s : TableState) → (r : RuleHolds steps owes opening first passes s) → (server bit : ℕ) →
       server < 16 → bit_at (slice_index s.words (server + 1)) bit ≡ 1
       → OwedIn owes server bit r.history
 
-  -- Each post is of a call of its pass; the call is in the history and owes exactly the post's bits.
+  -- A law: each post belongs to a call of its pass. The call is in the history and owes exactly the post's bits.
   abbrev pub PostsAreOwed : Type 0
   PostsAreOwed =
       (opening : M) (first passes : ℕ) (s : TableState) → (r : RuleHolds steps owes opening first passes s) →
       AllByRecursion (IsOwed owes first r.history) r.order
 
--- A bit that a notice set stays pending until a later notice takes its server's word.
+-- A law: a bit that a notice set stays pending until a later notice takes its server's word.
 abbrev pub PostedBitsStay : Type 0
 PostedBitsStay =
     (before : List Notice) (n : Notice) (after : List Notice) (bit : ℕ) → IsOrder (before ++ n ∷ after) → bit_at (set_by n.act) bit ≡ 1 →

@@ -9,12 +9,12 @@ module _ {C R : Type 0} where
   abbrev pub pass_log : ℕ → List (Entry C R) → List Notice → PassLog C R
   pass_log n calls notices = record { pass = n; calls = calls; notices = notices }
 
-  -- n passes that have done nothing, numbered from n - 1 down to 0.
+  -- The records of n passes that have done nothing, numbered from n - 1 down to 0.
   abbrev pub fresh : ℕ → List (PassLog C R)
   fresh zero = []
   fresh (suc n) = pass_log n [] [] ∷ fresh n
 
-  -- The number, the calls and the notices of the first pass.
+  -- The number of the first pass.
   abbrev pub number_of : List (PassLog C R) → ℕ
   number_of [] = 0
   number_of (p ∷ others) = p.pass
@@ -27,12 +27,12 @@ module _ {C R : Type 0} where
   notices_of [] = []
   notices_of (p ∷ others) = p.notices
 
-  -- No two of them have the same number.
+  -- Whether no two passes have the same number.
   abbrev pub AreDifferent : List (PassLog C R) → Type 0
   AreDifferent [] = Unit {0}
   AreDifferent (p ∷ others) = AllByRecursion (λ (q : PassLog C R). q.pass ≢ p.pass) others × AreDifferent others
 
-  -- The first pass with one more call, and with one more notice.
+  -- The records with one more call of the first pass.
   abbrev pub add_call : List (PassLog C R) → Entry C R → List (PassLog C R)
   add_call [] e = []
   add_call (p ∷ others) e = pass_log p.pass (p.calls ++ e ∷ []) p.notices ∷ others

@@ -1,4 +1,4 @@
-//! The laws of the rule, over definitions only.
+//! Laws of the rule, over definitions alone.
 
 ghost use Rattle.history.specs.History.{Stepped};
 ghost use Rattle.desk_rule.specs.Laws.{BitsAreOwed, HistoriesAgree, NoticesAgree, NoticesBalance};
@@ -6,18 +6,18 @@ ghost use Rattle.desk_rule.specs.Laws.{OneSeatHolds, PostedBitsStay, PostsAreOwe
 
 use history::Machine;
 
-/// A law: there is one history. Of what any two seats have seen, one is a prefix of the other, and each is legal.
+/// A law: there is one history. The entries that any two seats have seen are legal, and one list is a prefix of the other.
 pub fn histories_agree<M: Machine>()
     ensures { HistoriesAgree (Stepped M.stands M.steps) M.owes }
 {}
 
-/// A law: all notices have one order. Of what any two seats have seen of it, one is a prefix of the other, and each
-/// notice found its word as the earlier ones left it.
+/// A law: all notices have one order. The notices that any two seats have seen are in this order, so one list is a prefix
+/// of the other. Each notice found its server's word as the notices before it left it.
 pub fn notices_agree<M: Machine>()
     ensures { NoticesAgree (Stepped M.stands M.steps) M.owes }
 {}
 
-/// A law: the pending words are what the notices left.
+/// A law: the pending words are those that all notices, in their order, leave.
 pub fn words_follow<M: Machine>()
     ensures { WordsFollow (Stepped M.stands M.steps) M.owes }
 {}
@@ -32,17 +32,17 @@ pub fn one_seat_holds<M: Machine>()
     ensures { OneSeatHolds (Stepped M.stands M.steps) M.owes }
 {}
 
-/// A law: the raises of each bit of each server are its takes, plus one if it is pending.
+/// A law: the raises of each server's bit are as many as its takes, plus one if the bit is pending.
 pub fn notices_balance<M: Machine>()
     ensures { NoticesBalance (Stepped M.stands M.steps) M.owes }
 {}
 
-/// A law: an entry of the history owes each pending bit.
+/// A law: each pending bit is owed by some entry of the history.
 pub fn bits_are_owed<M: Machine>()
     ensures { BitsAreOwed (Stepped M.stands M.steps) M.owes }
 {}
 
-/// A law: each post is of a call of its pass; the call is in the history and owes exactly the post's bits.
+/// A law: each post belongs to a call of its pass. The call is in the history and owes exactly the post's bits.
 pub fn posts_are_owed<M: Machine>()
     ensures { PostsAreOwed (Stepped M.stands M.steps) M.owes }
 {}

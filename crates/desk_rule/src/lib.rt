@@ -1,10 +1,10 @@
 //! The rule of a desk: what threads that share one machine may rely on between any two of their steps.
 //!
-//! A desk keeps a machine in the one slot of a table of atomic words. Word 0 says whose turn it is, like the sequence
-//! number of a sequence lock. Each of 16 servers has a word of pending notices, as MINIX 3 keeps pending notifications
-//! in a bitmap of the receiver. The rule relates the words, the slot and what each thread knows. Each kind of step is a
-//! function; its contract says what the step returns, and that it keeps the rule. The rule and its kinds of step are of
-//! this project.
+//! A desk is a table of atomic words with one slot, which has the machine. Word 0 has the place of the next call, and one
+//! bit that says whether a thread holds the turn, like the sequence number of a sequence lock. Each of 16 servers has a
+//! word of pending notices, as MINIX 3 has a bitmap of pending notifications for each receiver. The rule relates the
+//! words, the slot and what each thread knows. Each kind of step is a function. Its contract says what the step returns,
+//! and that the step keeps the rule. The rule and its steps are this project's.
 #![tactic(auto)]
 
 mod law;

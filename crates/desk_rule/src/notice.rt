@@ -1,15 +1,15 @@
-//! Notices: the steps at the pending words. These types have no values at run time; proofs speak of them.
+//! Notices: the steps at the pending words. These types are for proofs, and have no values at run time.
 
 /// The effect of a step at a server's pending word.
 pub enum Act {
-    /// Bits were set.
+    /// Sets bits.
     Post {
-        /// The bits; bit k is the server's subscription k.
+        /// The bits. Bit k is the server's subscription k.
         bits: u64,
-        /// The place of the call that owed them.
+        /// The place of the call that owes them.
         place: u64,
     },
-    /// The word was swapped for 0, which takes all of its bits.
+    /// Swaps the word for 0, which takes all of its bits.
     Take,
 }
 

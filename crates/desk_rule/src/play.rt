@@ -1,4 +1,4 @@
-//! The kinds of step of the table: what each returns, and the views after it. These types have no values at run time.
+//! The kinds of step at the table, one type each. These types are for proofs, and have no values at run time.
 
 ghost use Rattle.history.specs.History.{Stepped};
 ghost use Rattle.desk_rule.specs.Kinds.{after_note, after_pass, end_of_turn, hold, look, note_view, one_pass, other_passes, post, take};
@@ -43,7 +43,7 @@ impl<M: Machine> Play<Slot<M>, DeskView<M>> for TakeBits {
     ghost then = { take M.owes };
 }
 
-/// A new seat for a pass that has called nothing.
+/// A new seat with a pass that has called nothing.
 pub struct SplitPass;
 
 impl<M: Machine> Split<DeskView<M>> for SplitPass {
@@ -52,7 +52,7 @@ impl<M: Machine> Split<DeskView<M>> for SplitPass {
     ghost right = { one_pass };
 }
 
-/// A new seat that knows what was seen, without a pass.
+/// A new seat without a pass, which knows what this seat has seen.
 pub struct SplitNote;
 
 impl<M: Machine> Split<DeskView<M>> for SplitNote {
@@ -61,7 +61,7 @@ impl<M: Machine> Split<DeskView<M>> for SplitNote {
     ghost right = { note_view };
 }
 
-/// A seat that learns what a note knows.
+/// The learning of a note.
 pub struct JoinNote;
 
 impl<M: Machine> Join<DeskView<M>> for JoinNote {
@@ -70,7 +70,7 @@ impl<M: Machine> Join<DeskView<M>> for JoinNote {
     ghost spent = { spent_view };
 }
 
-/// A seat that takes over another seat's passes.
+/// The move of another seat's passes to this seat.
 pub struct JoinPass;
 
 impl<M: Machine> Join<DeskView<M>> for JoinPass {

@@ -9,7 +9,7 @@ use crate::play::{JoinNote, JoinPass, SplitNote, SplitPass};
 use crate::table::{DeskSeat, DeskShared};
 use history::Machine;
 
-/// Splits off a seat for one of the passes at this seat, none of which has called anything. At least one stays.
+/// Splits off a seat for one of the passes at this seat. None of them has called anything, and at least one stays.
 pub fn split_pass<M: Machine>(shared: &DeskShared<M>, seat: &mut DeskSeat<M>) -> DeskSeat<M>
     requires at { IsAtTable shared.now.table_id seat.old }
     requires fresh { (n : ℕ) × (seat.old.me.0.passes ≡ fresh (n + 2)) }
@@ -21,7 +21,7 @@ pub fn split_pass<M: Machine>(shared: &DeskShared<M>, seat: &mut DeskSeat<M>) ->
     shared.split_seat::<SplitPass>(seat)
 }
 
-/// Splits off a seat that knows what this one has seen, without a pass.
+/// Splits off a seat without a pass, which knows what this seat has seen.
 pub fn split_note<M: Machine>(shared: &DeskShared<M>, seat: &mut DeskSeat<M>) -> DeskSeat<M>
     requires { IsAtTable shared.now.table_id seat.old }
     ensures same { SameSeat seat.old seat.new × (seat.new.me ≡ seat.old.me) }
@@ -30,7 +30,7 @@ pub fn split_note<M: Machine>(shared: &DeskShared<M>, seat: &mut DeskSeat<M>) ->
     shared.split_seat::<SplitNote>(seat)
 }
 
-/// Teaches the seat what a note has seen, and spends the note's view.
+/// Lets the seat learn what a note has seen. The note is spent.
 pub fn join_note<M: Machine>(shared: &DeskShared<M>, seat: &mut DeskSeat<M>, note: DeskSeat<M>)
     requires at { IsAtTable shared.now.table_id seat.old }
     requires note { IsAtTable shared.now.table_id note × (note.me.1 ≡ []) }
@@ -41,8 +41,8 @@ pub fn join_note<M: Machine>(shared: &DeskShared<M>, seat: &mut DeskSeat<M>, not
     shared.join_seat::<JoinNote>(seat, note);
 }
 
-/// Moves the other seat's passes to this seat, with all that they did. This seat learns what the other has seen, whose
-/// view is spent.
+/// Moves the other seat's passes to this seat, with their records. This seat learns what the other one has seen. The other
+/// one is spent.
 pub fn join_pass<M: Machine>(shared: &DeskShared<M>, seat: &mut DeskSeat<M>, other: DeskSeat<M>)
     requires at { IsAtTable shared.now.table_id seat.old }
     requires other { IsAtTable shared.now.table_id other × (other.me.1 ≡ []) }

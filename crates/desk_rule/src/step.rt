@@ -1,4 +1,4 @@
-//! The steps on the words that a seat may make at any time.
+//! The steps that a seat may make at any time, with or without the turn.
 
 ghost use Rattle.std.specs.Prelude.{◌≡◌, ℕ, ◌^◌, ◌<◌, ◌≤◌, true, length, is_some};
 ghost use Rattle.history.specs.History.{Stepped};
@@ -11,8 +11,8 @@ use crate::play::{Look, PostBits, TakeBits};
 use crate::table::{DeskSeat, DeskShared};
 use history::Machine;
 
-/// Loads word 0: twice the place of the next call, plus 1 while this or another seat holds a turn. The seat has then
-/// seen the whole history.
+/// Loads word 0, which is twice the place of the next call, plus 1 while a seat holds the turn. The seat has then seen all
+/// entries up to that place.
 pub fn look<M: Machine>(shared: &DeskShared<M>, seat: &mut DeskSeat<M>) -> u64
     requires { IsAtTable shared.now.table_id seat.old }
     ensures same { SameSeat seat.old seat.new × (seat.new.me.1 ≡ seat.old.me.1) }
@@ -23,8 +23,8 @@ pub fn look<M: Machine>(shared: &DeskShared<M>, seat: &mut DeskSeat<M>) -> u64
     shared.load::<Look>(seat, 0)
 }
 
-/// Sets bits of a server's pending word; the last call that the seat has seen must owe them. Returns the word before,
-/// which is what the earlier notices left.
+/// Sets bits of a server's pending word, and returns the word before. The last call that the seat has seen must be its own
+/// and owe the bits. The word before is the one that the earlier notices left.
 pub fn post<M: Machine>(
     shared: &DeskShared<M>,
     seat: &mut DeskSeat<M>,
@@ -43,8 +43,8 @@ pub fn post<M: Machine>(
     shared.fetch_or::<PostBits>(seat, server + 1, bits)
 }
 
-/// Swaps a server's pending word for 0. Returns the word before, which is what the earlier notices left. For each of
-/// its bits the seat has then seen a call that owes it.
+/// Swaps a server's pending word for 0, and returns the word before, which is the one that the earlier notices left. The
+/// seat has then seen a call that owes each of its bits.
 pub fn take<M: Machine>(shared: &DeskShared<M>, seat: &mut DeskSeat<M>, server: usize) -> u64
     requires at { IsAtTable shared.now.table_id seat.old }
     requires server { server < 16 }

@@ -14,7 +14,7 @@ use std::alloc::{AllocFailed, Global};
 use std::marker::PhantomData;
 use std::snapshot::Snapshot;
 
-/// The call that the turn was held for. It has no bytes: it hands the call to the step that ends the turn.
+/// The call of the turn. It carries the call to the step that ends the turn, and has no bytes.
 #[derive(Drop)]
 pub struct LastCall<C, R> {
     /// The command.
@@ -23,33 +23,33 @@ pub struct LastCall<C, R> {
     pub reply: Snapshot<R>,
 }
 
-/// The contents of the slot while no turn is held.
+/// The contents of the slot while no seat holds the turn.
 #[derive(Drop)]
 pub struct Home<M, C, R> {
-    /// The machine after every call so far.
+    /// The machine after all calls so far.
     pub machine: M,
     /// The last call, if there was one.
     pub last: Option<LastCall<C, R>>,
 }
 
-/// The parameters with which a table is made.
+/// The parameters of a new table.
 #[derive(Drop)]
 pub struct Opening<M> {
     /// The place of the first call.
     pub first: u64,
     /// The number of passes.
     pub passes: u32,
-    /// The machine at that time.
+    /// The machine before the first call.
     pub machine: Snapshot<M>,
 }
 
-/// The slot: `None` while a turn is held.
+/// The type of the slot, which is `None` while a seat holds the turn.
 pub type Slot<M> = Option<Home<M, <M as Machine>::Command, <M as Machine>::Reply>>;
 
 /// What a seat at a desk's table knows.
 pub type DeskView<M> = View<M, <M as Machine>::Command, <M as Machine>::Reply>;
 
-/// The rule of the table: what holds between any two steps.
+/// The rule of the table, which holds between any two steps.
 pub struct DeskRule<M> {
     marker: PhantomData<M>,
 }
@@ -72,8 +72,8 @@ pub type DeskShared<M> = Shared<Slot<M>, DeskView<M>, Opening<M>, DeskRule<M>>;
 /// A seat at the table. It has no bytes.
 pub type DeskSeat<M> = Seat<Slot<M>, DeskView<M>>;
 
-/// Returns a table with the machine in its slot and no pending notice, and the one seat, at which all passes sit. If
-/// memory runs out, hands the machine back.
+/// Returns a table with the machine in its slot and no pending notice, and a seat that has all passes. If memory runs out,
+/// the error hands the machine back.
 pub fn new_table<M: Machine>(
     alloc: Global,
     machine: M,
@@ -132,8 +132,8 @@ fn pending_words<S>(closed: &Closed<S, Global>) -> [u64; 16]
     pending
 }
 
-/// Closes the table with the seat at which all passes sit. Returns the machine after the history, and the pending words
-/// after all notices.
+/// Closes the table with a seat that has all passes. Returns the machine after the history, and the pending words after
+/// all notices.
 pub fn close_table<M: Machine>(table: DeskTable<M>, seat: DeskSeat<M>) -> (M, [u64; 16])
     requires at { IsAtTable table.shared.table_id seat }
     requires resting { seat.me.0.holding ≡ false }

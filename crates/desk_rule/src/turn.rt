@@ -1,4 +1,4 @@
-//! A turn: it is taken, the machine leaves the slot and returns to it, and the turn ends.
+//! The steps of a turn: a seat takes the turn, takes the machine out of the slot, puts it back, and ends the turn.
 
 ghost use Rattle.std.specs.Prelude.{◌≡◌, ◌≢◌, ℕ, ◌+◌, ◌*◌, ◌^◌, ◌<◌, ◌≤◌, [], ◌∷◌, length, is_some, Some, None, true};
 ghost use Rattle.history.specs.History.{Run, Stepped};
@@ -9,9 +9,8 @@ use crate::play::{EndTurn, Hold};
 use crate::table::{DeskSeat, DeskShared, Home};
 use history::Machine;
 
-/// Takes the turn if word 0 is still `word`, a word that says the turn is free. Returns the word before, which tells
-/// what `look` tells: how far the history goes, and whether the turn was held. If it was another word, nothing else
-/// happened.
+/// Takes the turn if word 0 is `word`, which must be a word of a free turn. Returns the word before. If that is another
+/// word, the step was only a `look`.
 pub fn hold<M: Machine>(shared: &DeskShared<M>, seat: &mut DeskSeat<M>, word: u64) -> u64
     requires at { IsAtTable shared.now.table_id seat.old }
     requires some_pass { 0 < length seat.old.me.0.passes }
@@ -25,7 +24,7 @@ pub fn hold<M: Machine>(shared: &DeskShared<M>, seat: &mut DeskSeat<M>, word: u6
     shared.compare_exchange::<Hold>(seat, 0, word, word + 1)
 }
 
-/// Takes the slot's contents: the machine, as the history that the seat has seen left it, and the last call.
+/// Takes the contents out of the slot: the last call, and the machine after all entries that the seat has seen.
 pub fn machine_out<M: Machine>(
     shared: &DeskShared<M>,
     seat: &mut DeskSeat<M>,
@@ -43,7 +42,7 @@ pub fn machine_out<M: Machine>(
     }
 }
 
-/// Puts the machine back, with the call that it answered.
+/// Puts the machine back into the slot, with the call that it answered.
 pub fn machine_back<M: Machine>(
     shared: &DeskShared<M>,
     seat: &mut DeskSeat<M>,
@@ -60,7 +59,7 @@ pub fn machine_back<M: Machine>(
     }
 }
 
-/// Ends the turn: the call joins the history and the calls of its pass.
+/// Ends the turn. The call becomes the last entry of the history and of its pass's calls.
 pub fn end_turn<M: Machine>(shared: &DeskShared<M>, seat: &mut DeskSeat<M>)
     requires at { IsAtTable shared.now.table_id seat.old }
     requires ends { EndsTurn (Stepped M.stands M.steps) seat.old }

@@ -1,4 +1,4 @@
-//! What a seat at the table knows. These types have no values at run time; proofs speak of them.
+//! What a seat at the table knows. These types are for proofs, and have no values at run time.
 
 use crate::notice::Notice;
 use history::Entry;
@@ -8,27 +8,27 @@ use std::collections::LinkedList;
 pub struct PassLog<C, R> {
     /// The number of the pass.
     pub pass: u64,
-    /// Its calls, in order.
+    /// The pass's calls, in order.
     pub calls: LinkedList<Entry<C, R>>,
-    /// Its posts and takes, in order.
+    /// The pass's posts and takes, in order.
     pub notices: LinkedList<Notice>,
 }
 
-/// What one seat knows, and what its passes did.
+/// A view: what one seat knows, and what its passes did.
 pub struct View<M, C, R> {
-    /// The machine that the table was made with; `None` in a spent view.
+    /// The machine before the first call. `None` in a spent view.
     pub opening: Option<M>,
     /// The place of the first call.
     pub first: u64,
     /// Whether this seat holds the turn.
     pub holding: bool,
-    /// The prefix of the history that it has seen.
+    /// The prefix of the history that the seat has seen.
     pub seen: LinkedList<Entry<C, R>>,
-    /// A prefix of the history that a note told it of, and that it hasn't looked up yet.
+    /// A prefix of the history that the seat learnt from a note, and hasn't seen itself yet.
     pub told: LinkedList<Entry<C, R>>,
-    /// The prefix of the order of notices that it has seen.
+    /// The prefix of the order of notices that the seat has seen.
     pub notices: LinkedList<Notice>,
-    /// A prefix of that order that a note told it of.
+    /// A prefix of that order that the seat learnt from a note.
     pub told_notices: LinkedList<Notice>,
     /// The passes at this seat, each with its record.
     pub passes: LinkedList<PassLog<C, R>>,

@@ -1,4 +1,4 @@
--- Assigning a unit leaves a table that stands.
+-- Assigning a unit leaves a valid table.
 use Rattle.std.proofs.Common.{◌≡◌, ℕ, ◌==◌, Bool, false, cond, List, [], ◌∷◌, ◌++◌, map, Some, None, is_some, Ok, Err, sym, ap, ◌∙◌}
 use Rattle.std.specs.List.{AllByRecursion}
 use Rattle.std.specs.Map.{lookup}

@@ -1,4 +1,4 @@
--- A new state of a label leaves a table that stands.
+-- A new state of a label leaves a valid table.
 use Rattle.std.proofs.Common.{◌≡◌, ℕ, ◌==◌, nat_lt, ◌&&◌, Bool, true, false, not, cond, List, [], ◌∷◌, ◌++◌, map, Option, Some, None, Result, Ok, Err, refl, sym, ap, ◌∙◌, subst, arith, append-nil, inl, inr}
 use Rattle.std.specs.Option.{option_map, option_map_or}
 use Rattle.std.specs.List.{retain_mut, filter_map, flat_map, find, cons_option, AllByRecursion}

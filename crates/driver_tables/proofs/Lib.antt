@@ -9,4 +9,5 @@ pub mod SubmitLemmas
 pub mod ReplyLemmas
 pub mod ChangeLemmas
 pub mod RunLemmas
+pub mod CallLemmas
 pub mod LawLemmas

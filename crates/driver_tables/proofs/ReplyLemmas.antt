@@ -1,4 +1,4 @@
--- A reply leaves a table that stands.
+-- A reply leaves a valid table.
 use Rattle.std.proofs.Common.{◌≡◌, ℕ, ◌==◌, ◌||◌, Bool, true, false, not, cond, List, [], ◌∷◌, ◌++◌, filter, Option, Some, None, Result, Ok, Err, refl, sym, ap, ◌∙◌, append-nil, inr}
 use Rattle.std.specs.Option.{option_map}
 use Rattle.std.specs.List.{retain_mut, find, AllByRecursion}

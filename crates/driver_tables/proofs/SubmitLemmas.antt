@@ -1,4 +1,4 @@
--- A submitted request leaves a table that stands.
+-- A submitted request leaves a valid table.
 use Rattle.std.proofs.Common.{◌≡◌, ℕ, ◌==◌, nat_lt, ◌||◌, ◌&&◌, Bool, true, false, not, cond, List, [], ◌∷◌, ◌++◌, map, filter, Option, Some, None, Result, Ok, Err, refl, sym, ap, ◌∙◌, subst, append-nil, inr}
 use Rattle.std.specs.Option.{option_map}
 use Rattle.std.specs.List.{retain_mut, last_or, AllByRecursion, IsDistinct}

@@ -40,7 +40,7 @@ settled_of label state id d = if is_same_name label d.label then settled d.class
 abbrev pub settle : List (ℕ × Driver) → List ℕ → Option EndpointRecord → Request → Option Move
 settle units label state r = option_map_or (settled_of label state r.id) (driver_of units r.unit) None
 
--- First the starts, in order of assignment, then the moves of the pending requests, in order of submission.
+-- The moves for a change: first the starts, in order of assignment, then those of the pending requests, in order of submission.
 abbrev pub all_moves : DriverTable → List ℕ → Option EndpointRecord → List Move
 all_moves t label state = filter_map (start label state) t.units ++ filter_map (settle t.units label state) (pending t)
 

@@ -19,7 +19,7 @@ ListsTell = (entries : List Entry) (t : DriverTable) → TableRun empty_table en
     (t.requests ≡ requests_in entries) × (t.sends ≡ flat_map sends_of (all_moves_in entries)) ×
     (t.answers ≡ flat_map answered_by (all_moves_in entries))
 
--- Each id is answered at most once.
+-- A law: each id is answered at most once.
 abbrev pub AnswersOnce : Type 0
 AnswersOnce = (entries : List Entry) (t : DriverTable) → TableRun empty_table entries t → (id : ℕ) → length (values_of id t.answers) ≤ 1
 
@@ -28,7 +28,7 @@ abbrev pub is_done : ℕ → Move → Bool
 is_done id (Answer i Done) = i == id
 is_done id _ = false
 
--- Only a reply of the endpoint that the request was last sent to answers Done.
+-- A law: only a reply from the endpoint to which the request was last sent answers Done.
 abbrev pub DoneByItsDriver : Type 0
 DoneByItsDriver =
     (entries : List Entry) (t u : DriverTable) (call : Call) (moves : List Move) (id : ℕ) → TableRun empty_table entries t →
@@ -67,7 +67,7 @@ IsRequestKept t r d =
     ((values_of r.id t.answers ≡ []) ×
     ((endpoint : EndpointRecord) → endpoint_now t.states d.label ≡ Some endpoint → last_sent t.sends r.id ≡ Some endpoint))
 
--- No request to a block driver is lost.
+-- A law: no request to a block driver is lost.
 abbrev pub BlockRequestsAreKept : Type 0
 BlockRequestsAreKept =
     (entries : List Entry) (t : DriverTable) → TableRun empty_table entries t →

@@ -55,7 +55,7 @@ abbrev pub moves_in : Result (List Move) TableFault → List Move
 moves_in (Ok moves) = moves
 moves_in (Err fault) = []
 
--- All moves of a run, in order.
+-- The moves of a run, in order.
 abbrev pub all_moves_in : List Entry → List Move
 all_moves_in entries = flat_map (λ (e : Entry). moves_in e.answer) entries
 

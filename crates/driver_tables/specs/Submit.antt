@@ -13,8 +13,8 @@ use Rattle.driver_tables.specs.Label.{endpoint_now}
 use Rattle.driver_tables.specs.DriverTable.{DriverTable, Request, is_above}
 use Rattle.driver_tables.specs.Doing.{does}
 
--- The move of a request: it is sent if there is an endpoint; otherwise a block driver's is held and another driver's
--- fails.
+-- The move of a request. With an endpoint it is sent. Without one, a request to a block driver is held, and a request to
+-- any other driver fails.
 abbrev pub submitted : Class → ℕ → Option EndpointRecord → Move
 submitted class id (Some e) = Send id e
 submitted Block id None = Held id

@@ -70,13 +70,14 @@ impl FileTable {
         self.table.assign(major, class, label)
     }
 
-    /// Records a label's new state: its driver's endpoint now, or `None` if it has no driver. Returns the moves that
-    /// follow, in order of submission: a pending request to a block device is sent to the new endpoint, or waits if
-    /// there is none; one to a character device is answered Fault.
+    /// Records a label's new state, which is its driver's endpoint, or `None` if it has no driver. Returns the moves of the
+    /// pending requests, in order of submission.
     ///
-    /// There are no moves for a label without a device, nor for the state that the label has already. Refuses
-    /// OldEndpoint if the generation is below the label's greatest, or is the greatest and the endpoint isn't the one
-    /// now. NoRoom comes last, and only if there are moves.
+    /// A request to a block device is sent to the new endpoint, or held if there is none. A request to a character device is
+    /// answered Fault. A label without a device has no moves, nor has the state that the label has already.
+    ///
+    /// Refuses as OldEndpoint a generation below the label's greatest one, or the greatest one with another endpoint. Then
+    /// reports NoRoom if memory runs out, which only moves take.
     pub fn changed(&mut self, label: &Name, state: Option<Endpoint>) -> Result<Moves, TableFault>
         ensures answer { AnswersAs self.old (λ t. changing t label.now state) result }
         ensures room { (t : DriverTable) → TableStands self.old t → LacksOnlyWhere (StateTakesMemory t label.now state) result }
@@ -97,8 +98,8 @@ impl FileTable {
     /// Accepts a request to a major device. It is sent if there is a driver. Otherwise a block device's request is
     /// held, and a character device's is answered Fault, which uses its id.
     ///
-    /// Refusals in order: TwoIds unless the id is above all accepted ones; NoDevice, which uses no id; NoRoom, only for
-    /// a request that is sent or held.
+    /// Refuses as TwoIds an id that isn't above all accepted ones, then as NoDevice a number without a device, which uses no
+    /// id. Then reports NoRoom if memory runs out, which only a request takes that is sent or held.
     pub fn submit(&mut self, id: u64, major: u8) -> Result<Move, TableFault>
         ensures answer { AnswersAs self.old (λ t. submitting t id major) result }
         ensures room { (t : DriverTable) → TableStands self.old t → LacksOnlyWhere (RequestTakesMemory t id major) result }
@@ -108,9 +109,10 @@ impl FileTable {
         self.table.submit(id, major)
     }
 
-    /// Accepts a driver's reply to a request, and returns the move that answers it Done. It takes no memory.
+    /// Accepts a driver's reply to a request, and returns the move that answers the request Done. Takes no memory.
     ///
-    /// Refuses NotPending, then OldEndpoint if the request was last sent to another endpoint.
+    /// Refuses as NotPending an id without a pending request, then as OldEndpoint an endpoint other than the one to which
+    /// the request was last sent.
     pub fn reply(&mut self, endpoint: Endpoint, id: u64) -> Result<Move, TableFault>
         ensures answer { (t : DriverTable) → TableStands self.old t → result ≡ (replying t endpoint id).0 }
         ensures after { LeavesAs self.old (λ t. replying t endpoint id) result self.new }

@@ -57,13 +57,14 @@ impl NetTable {
         self.table.assign(port, Class::Network, label)
     }
 
-    /// Records a label's new state: its driver's endpoint now, or `None` if it has no driver. Returns the moves that
-    /// follow: each port of the label starts at a new endpoint, in order of assignment; then the label's pending
-    /// requests are answered Fault, in order of submission.
+    /// Records a label's new state, which is its driver's endpoint, or `None` if it has no driver. Returns the moves.
     ///
-    /// There are no moves for a label without a port, nor for the state that the label has already. Refuses OldEndpoint
-    /// if the generation is below the label's greatest, or is the greatest and the endpoint isn't the one now. NoRoom
-    /// comes last, and only if there are moves.
+    /// First each port of the label starts at a new endpoint, in order of assignment. Then the label's pending requests are
+    /// answered Fault, in order of submission. A label without a port has no moves, nor has the state that the label has
+    /// already.
+    ///
+    /// Refuses as OldEndpoint a generation below the label's greatest one, or the greatest one with another endpoint. Then
+    /// reports NoRoom if memory runs out, which only moves take.
     pub fn changed(&mut self, label: &Name, state: Option<Endpoint>) -> Result<Moves, TableFault>
         ensures answer { AnswersAs self.old (λ t. changing t label.now state) result }
         ensures room { (t : DriverTable) → TableStands self.old t → LacksOnlyWhere (StateTakesMemory t label.now state) result }
@@ -83,8 +84,8 @@ impl NetTable {
 
     /// Accepts a request to a port. It is sent if there is a driver, and otherwise answered Fault, which uses its id.
     ///
-    /// Refusals in order: TwoIds unless the id is above all accepted ones; NoDevice, which uses no id; NoRoom, only for
-    /// a request that is sent.
+    /// Refuses as TwoIds an id that isn't above all accepted ones, then as NoDevice a number without a port, which uses no
+    /// id. Then reports NoRoom if memory runs out, which only a request takes that is sent.
     pub fn submit(&mut self, id: u64, port: u8) -> Result<Move, TableFault>
         ensures answer { AnswersAs self.old (λ t. submitting t id port) result }
         ensures room { (t : DriverTable) → TableStands self.old t → LacksOnlyWhere (RequestTakesMemory t id port) result }
@@ -94,9 +95,10 @@ impl NetTable {
         self.table.submit(id, port)
     }
 
-    /// Accepts a driver's reply to a request, and returns the move that answers it Done. It takes no memory.
+    /// Accepts a driver's reply to a request, and returns the move that answers the request Done. Takes no memory.
     ///
-    /// Refuses NotPending, then OldEndpoint if the request was last sent to another endpoint.
+    /// Refuses as NotPending an id without a pending request, then as OldEndpoint an endpoint other than the one to which
+    /// the request was last sent.
     pub fn reply(&mut self, endpoint: Endpoint, id: u64) -> Result<Move, TableFault>
         ensures answer { (t : DriverTable) → TableStands self.old t → result ≡ (replying t endpoint id).0 }
         ensures after { LeavesAs self.old (λ t. replying t endpoint id) result self.new }

@@ -1,8 +1,8 @@
 -- What the walks of handles share. Assumes `Logic`.
---     word                  a handle's machine value: a struct of one pointer
---     handle_out, map_out   a handle by value is what it holds, and its machine value
---     handle_in, map_in     and back
---     held                  what a handle holds: nothing at null, or a box, whose pointer may be compared with null
+--     word                             a handle's machine value: a struct of one pointer
+--     handle_out, map_out, table_out   a handle by value is what it holds, and its machine value
+--     handle_in, map_in, table_in      and back
+--     held                             what a handle holds: nothing at null, or a box, whose pointer may be compared with null
 use Rattle.std.proofs.Common.{◌≡◌, ℕ, List, [], ◌∷◌, ◌++◌, refl, ap, ◌∙◌}
 use seplogic.Ra.Ura.{Ura}
 use mir.Raw.{raw as bare}
@@ -27,9 +27,11 @@ use Rattle.std.proofs.GlobalToken.{dealloc_token-Testable}
 use Rattle.std_alloc.specs.Box.Ownership.{box_owns}
 pub use Rattle.c_rs.specs.contracts.session.RsSession.{the_row as Session}
 pub use Rattle.ds_submap.specs.contracts.map.SubMap.{the_row as Map}
-use Rattle.ds_c.specs.Held.{chunk, box_or_null, holds, holds_map}
+pub use Rattle.c_table.specs.contracts.server_table.ServerTable.{the_row as Table}
+use Rattle.ds_c.specs.Held.{chunk, box_or_null, holds, holds_map, holds_table}
 use Rattle.ds_c.specs.contracts.handle.Handle as handle
 use Rattle.ds_c.specs.contracts.map_handle.MapHandle as map_handle
+use Rattle.ds_c.specs.contracts.table_handle.TableHandle as table_handle
 
 abbrev pub word : Val → Val
 word v = vstruct (vcons v vnil)
@@ -39,6 +41,9 @@ Handle = handle.the_row
 
 abbrev pub MapHandle : RattleType
 MapHandle = map_handle.the_row
+
+abbrev pub TableHandle : RattleType
+TableHandle = table_handle.the_row
 
 module _ {M : Type 1} {𝓤 : Ura M} (𝓛 : Logic 𝓤) (R : RattleType) (a : Global) where
   -- a box of the heap may be compared with null
@@ -61,6 +66,14 @@ module _ {M : Type 1} {𝓤 : Ura M} {𝓛 : Logic 𝓤} {K : Type 0} {Γ : List
   map_in t p x = step (λ s. let v : Val = word (ptr_val p) in
       nothing t $ feq_i t (List Val) (ptr_val p ∷ []) (ptr_val p ∷ []) refl $ fjoin t $ feq_i t (List Val) (v ∷ []) (v ∷ []) refl $ fjoin t $
       fpack t (Valss (RawPtr ∷ [])) (within (shape map_handle.the_type) (p, tt) (v ∷ [])) (ptr_val p ∷ [], tt) $ fjoin t $ s)
+
+  pub table_out : K → (d : TableHandle.Denot) (vs : List Val) → (vs ≡ word (ptr_val d.at) ∷ [] → Seq K 𝓛 (‵ (holds_table d.at d.value) ∷ Γ) G) → Seq K 𝓛 (‵ (TableHandle.own_val d vs) ∷ Γ) G
+  table_out t d vs k = fsplit t $ fpick t (λ vss. fsplit t $ feq_l t (λ ev. fsplit t $ feq_l t (λ ep. drop t $ k (ev ∙ ap (λ (ps : List Val). vstruct (of_list (ps ++ [])) ∷ []) ep))))
+
+  pub table_in : K → (p : Ptr) (x : Option Table.Denot) → Step K 𝓛 (‵ (TableHandle.own_val (record { at = p; value = x }) (word (ptr_val p) ∷ [])) ∷ Γ) G (‵ (holds_table p x) ∷ Γ) G
+  table_in t p x = step (λ s. let v : Val = word (ptr_val p) in
+      nothing t $ feq_i t (List Val) (ptr_val p ∷ []) (ptr_val p ∷ []) refl $ fjoin t $ feq_i t (List Val) (v ∷ []) (v ∷ []) refl $ fjoin t $
+      fpack t (Valss (RawPtr ∷ [])) (within (shape table_handle.the_type) (p, tt) (v ∷ [])) (ptr_val p ∷ [], tt) $ fjoin t $ s)
 
   pub held : K → (R : RattleType) → Global → (p : Ptr) (x : Option R.Denot) → (p ≡ null_ptr → x ≡ None → Seq K 𝓛 Γ G)
       → ((b o : ℕ) (y : R.Denot) → p ≡ block_ptr b o → x ≡ Some y → Testable (block_ptr b o) → Seq K 𝓛 (‵ (box_owns chunk R (block_ptr b o) y) ∷ Γ) G) → Seq K 𝓛 (‵ (box_or_null R p x) ∷ Γ) G

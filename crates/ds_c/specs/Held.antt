@@ -10,6 +10,7 @@ use Rattle.std.specs.declared.alloc.Global.{Global}
 use Rattle.std.specs.contracts.impls.GlobalAllocator.TheImpl.{ghosts}
 use Rattle.c_rs.specs.contracts.session.RsSession as session
 use Rattle.ds_submap.specs.contracts.map.SubMap as map
+use Rattle.c_table.specs.contracts.server_table.ServerTable as table
 
 -- the token by which the heap knows a block; it doesn't depend on the handle to the heap
 abbrev pub any_heap : Global
@@ -23,9 +24,12 @@ abbrev pub box_or_null : (R : RattleType) → Ptr → Option R.Denot → Fml
 box_or_null R at None = feq Ptr at null_ptr
 box_or_null R at (Some x) = box_owns chunk R at x
 
--- what a handle of a store holds, and one of a map
+-- what a handle of a store holds, one of a map, and one of a table
 abbrev pub holds : Ptr → Option session.the_row.Denot → Fml
 holds = box_or_null session.the_row
 
 abbrev pub holds_map : Ptr → Option map.the_row.Denot → Fml
 holds_map = box_or_null map.the_row
+
+abbrev pub holds_table : Ptr → Option table.the_row.Denot → Fml
+holds_table = box_or_null table.the_row

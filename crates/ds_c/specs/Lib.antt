@@ -2,3 +2,4 @@ pub mod Held
 pub mod Calls
 pub mod Maps
 pub mod Services
+pub mod Tables

@@ -2,6 +2,7 @@
 use Rattle.std.specs.Prelude.{◌≡◌, ℕ, cond, List, Option, None, Some}
 use Rattle.std.specs.Option.{option_map}
 use Rattle.c_values.specs.declared.answer.Answer.{Answer}
+use Rattle.rs_settings.specs.Dealing.{may_complain, may_connect}
 use Rattle.c_rs.specs.declared.action.RsAction.{RsAction}
 use Rattle.c_rs.specs.declared.event.RsEvent.{RsEvent}
 use Rattle.c_rs.specs.declared.fault.SettingsRefusal.{SettingsRefusal}
@@ -10,7 +11,7 @@ use Rattle.c_rs.specs.declared.session.RsSession.{RsSession}
 use Rattle.c_rs.specs.Action.{action_in}
 use Rattle.c_rs.specs.Event.{ServesEvent}
 use Rattle.c_rs.specs.Opening.{OpensRs}
-use Rattle.c_rs.specs.Reading.{ReadsDue, may_publish_in}
+use Rattle.c_rs.specs.Reading.{ReadsDue, may_deal_in, may_publish_in}
 use Rattle.c_rs.specs.Service.{service_row}
 use Rattle.ds_c.specs.Calls.{done, is_closed}
 
@@ -70,3 +71,13 @@ ReadsDueTick (Some s) before word tick = (part : Option ℕ) × ReadsDue s.servi
 abbrev pub FindsPublisher : Option RsSession → ℕ → ℕ → ℕ → List ℕ → ℕ → Type 0
 FindsPublisher None generation slot kind name word = word ≡ is_closed
 FindsPublisher (Some s) generation slot kind name word = word ≡ cond (may_publish_in s.services generation slot kind name) done not_allowed
+
+-- a call that judges whether an instance may complain of a service
+abbrev pub FindsComplainer : Option RsSession → ℕ → ℕ → List ℕ → ℕ → Type 0
+FindsComplainer None generation slot label word = word ≡ is_closed
+FindsComplainer (Some s) generation slot label word = word ≡ cond (may_deal_in may_complain s.services generation slot label) done not_allowed
+
+-- a call that judges whether an instance may connect to a service
+abbrev pub FindsConnector : Option RsSession → ℕ → ℕ → List ℕ → ℕ → Type 0
+FindsConnector None generation slot label word = word ≡ is_closed
+FindsConnector (Some s) generation slot label word = word ≡ cond (may_deal_in may_connect s.services generation slot label) done not_allowed

@@ -1,4 +1,4 @@
-//! The data store for C, which `ds.h` declares: a store with RS beside it behind a handle, and a subscriber's map behind another.
+//! The data store for C, which `ds.h` declares: handles of stores with RS beside them, of subscribers' maps, and of servers' driver tables.
 #![tactic(auto)]
 
 mod handle;
@@ -8,6 +8,8 @@ mod map_handle;
 mod maps;
 mod runs;
 mod services;
+mod table_handle;
+mod tables;
 mod words;
 
 ghost use Rattle.std.specs.Prelude.{◌≡◌};
@@ -23,9 +25,15 @@ pub use map_handle::MapHandle;
 pub use maps::{ds_map_close, ds_map_label, ds_map_new, ds_map_take};
 pub use runs::ds_run;
 pub use services::{
-    ds_rs_action, ds_rs_due, ds_rs_event, ds_rs_may_publish, ds_rs_next, ds_rs_open, ds_rs_service,
+    ds_rs_action, ds_rs_due, ds_rs_event, ds_rs_may_complain, ds_rs_may_connect, ds_rs_may_publish,
+    ds_rs_next, ds_rs_open, ds_rs_service,
 };
 use std::alloc::Global;
+pub use table_handle::TableHandle;
+pub use tables::{
+    ds_table_assign, ds_table_close, ds_table_follow, ds_table_moves, ds_table_new, ds_table_reply,
+    ds_table_submit,
+};
 use words::{DONE, IS_CLOSED, IS_OPEN};
 
 /// Opens a store of this incarnation in a closed handle. Its first item gets the position `first`, and its journal keeps `ring` items, 1 to

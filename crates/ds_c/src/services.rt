@@ -1,7 +1,8 @@
 //! The calls on RS beside a store.
 
-ghost use Rattle.std.specs.Prelude.{◌≡◌};
-ghost use Rattle.ds_c.specs.Services.{EventsReach, FindsPublisher, OpensServices, ReadsAction, ReadsDueTick, ReadsNext, ReadsService, ReadsPart};
+ghost use Rattle.std.specs.Prelude.{◌≡◌, cond};
+ghost use Rattle.ds_c.specs.Services.{EventsReach, FindsComplainer, FindsConnector, FindsPublisher, OpensServices, ReadsAction, ReadsDueTick, ReadsNext, ReadsService, ReadsPart, not_allowed};
+ghost use Rattle.ds_c.specs.Calls.{done};
 
 use crate::handle::Handle;
 use crate::words::{DONE, IS_CLOSED, NOT_ALLOWED, NOT_FOUND};
@@ -144,9 +145,60 @@ pub extern "C" fn ds_rs_may_publish(
         Some(session) => {
             let may = session.may_publish(generation, slot, kind, name);
             handle.put(alloc, session);
-            if may { DONE } else { NOT_ALLOWED }
+            judgement(may)
         }
     }
+}
+
+/// Judges whether the instance with an endpoint may complain of the service with a label. Returns 0 or NotAllowed.
+#[unsafe(no_mangle)]
+pub extern "C" fn ds_rs_may_complain(
+    alloc: Global,
+    handle: &mut Handle,
+    generation: u32,
+    slot: u16,
+    label: &[u8],
+) -> u32
+    ensures judged { FindsComplainer handle.old.value generation slot label.now result }
+    ensures handle { handle.new.value ≡ handle.old.value }
+{
+    match handle.take(alloc) {
+        None => IS_CLOSED,
+        Some(session) => {
+            let may = session.may_complain(generation, slot, label);
+            handle.put(alloc, session);
+            judgement(may)
+        }
+    }
+}
+
+/// Judges whether the instance with an endpoint may connect to the service with a label. Returns 0 or NotAllowed.
+#[unsafe(no_mangle)]
+pub extern "C" fn ds_rs_may_connect(
+    alloc: Global,
+    handle: &mut Handle,
+    generation: u32,
+    slot: u16,
+    label: &[u8],
+) -> u32
+    ensures judged { FindsConnector handle.old.value generation slot label.now result }
+    ensures handle { handle.new.value ≡ handle.old.value }
+{
+    match handle.take(alloc) {
+        None => IS_CLOSED,
+        Some(session) => {
+            let may = session.may_connect(generation, slot, label);
+            handle.put(alloc, session);
+            judgement(may)
+        }
+    }
+}
+
+// The number of a judgement.
+fn judgement(may: bool) -> u32
+    ensures { result ≡ cond may done not_allowed }
+{
+    if may { DONE } else { NOT_ALLOWED }
 }
 
 // Writes a part, if there is one.

@@ -11,6 +11,7 @@ use Rattle.ds_held.specs.Held.{Holding, held_items, held_changes, held_floors, h
 use Rattle.ds_held.specs.Kept.{floored}
 use Rattle.ds_held.specs.Limits.{LimitsRecord, IsLimits}
 use Rattle.ds_held.proofs.HeldLemmas.{is_held, count_is}
+use Rattle.ds_marked.proofs.MarkLemmas.{few_keys}
 use Rattle.ds_marked.specs.Marked.{MarkedHolding, mark_for, floor_mark_for, HasMarks}
 use Rattle.ds_pattern.specs.declared.query.Query.{Query}
 use Rattle.ds_pattern.specs.Under.{is_under}
@@ -122,10 +123,6 @@ pub same_item : (o : Option Item) (i j : Item) → o ≡ Some i → Some j ≡ o
 same_item o i j e f = same_Some j i (f ∙ e)
 
 -- ---- how many items are held
-
-few_keys : (l : LimitsRecord) → IsLimits l → l.keys ≤ 4096
-few_keys l (inl e) = subst (λ (x : LimitsRecord). x.keys ≤ 4096) (sym e) (omega arith)
-few_keys l (inr e) = subst (λ (x : LimitsRecord). x.keys ≤ 4096) (sym e) (omega arith)
 
 pub few_items : (h : Holding) (l : LimitsRecord) (count floors : ℕ) → l ≡ h.limits → IsLimits l → count ≡ held_count h → count ≤ h.limits.keys → floors ≡ floor_count h → floors ≤ 64 → length (held_items h) ≤ 4160
 few_items h l count floors e is c low f few =

@@ -2,7 +2,7 @@
 use Rattle.std.proofs.Common.{◌≡◌, ℕ, zero, suc, ◌+◌, ◌-◌, ◌<◌, ◌≤◌, ◌==◌, nat_le, Bool, true, false, not, cond, List, [], ◌∷◌, ◌++◌, map, filter, take, drop, length, Option, Some, None, is_none, refl, ap, ap₂, sym, ◌∙◌, arith, append_assoc, append-nil, length-append, eqb-true}
 use Rattle.std.proofs.lemmas.Bool.{eqb-false, le-leb, lt-leb}
 use Rattle.std.proofs.lemmas.Option.{same_Some}
-use Rattle.std.proofs.lemmas.List.{map-append, take-append-drop}
+use Rattle.std.proofs.lemmas.List.{map-append, take-append-drop, length-drop}
 use Rattle.std.proofs.lemmas.List.Elements.{filter-append}
 use Rattle.std.specs.Prelude.{slice_get}
 use Rattle.ds_names.specs.declared.key.Key.{Key}
@@ -37,6 +37,16 @@ split (suc i) (d ∷ cs) c e =
       ap (λ m. take m (d ∷ cs)) next ∙ ap (λ (l : List ChangeRecord). d ∷ l) more.0,
       more.1 ∙ ap (λ (l : List ChangeRecord). c ∷ l) (ap (λ m. drop m (d ∷ cs)) (sym next)),
     )
+
+-- the changes from an index on
+pub from_there : (first index : ℕ) (cs : List ChangeRecord) → first ≤ index → slice_get (drop first cs) (index - first) ≡ slice_get cs index
+from_there zero index cs low = ap (slice_get cs) (omega arith)
+from_there (suc first) index [] low = refl
+from_there (suc first) zero (c ∷ cs) low = absurd (omega (arith, low))
+from_there (suc first) (suc index) (c ∷ cs) low = ap (slice_get (drop first cs)) (omega arith) ∙ from_there first index cs (omega (arith, low))
+
+pub past_all : (first index : ℕ) (cs : List ChangeRecord) → first ≤ index → slice_get cs index ≡ None → length (drop first cs) ≤ index - first
+past_all first index cs low none = let past = past_end cs index none in let long = length-drop first cs in omega (arith, past, long, low)
 
 -- if no more fit, none is added
 none_given : (b : Bool) (left : ℕ) (c : ChangeRecord) → None ≡ more_after b left → given_change b left c ≡ []

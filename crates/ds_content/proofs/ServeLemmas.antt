@@ -58,12 +58,11 @@ any_same f g (x ∷ hs) e =
 pub first_are : (h : MarkedHolding Masks) (sub max : ℕ) (items : List Item) (passed : ℕ) → AreFirst h sub max items passed → items ≡ take max (filter (is_to_show h sub) (held_items h.held))
 first_are h sub max items passed first = by_end first.enough
   where
-    by_end : (length items ≡ max) ⊎ (length (held_items h.held) ≤ passed) → items ≡ take max (filter (is_to_show h sub) (held_items h.held))
+    by_end : (length items ≡ max) ⊎ (items ≡ filter (is_to_show h sub) (held_items h.held)) → items ≡ take max (filter (is_to_show h sub) (held_items h.held))
     by_end (inl full) =
         let long : length (filter (is_to_show h sub) (take passed (held_items h.held))) ≡ max = ap (λ (l : List Item). length l) (sym first.shown) ∙ full in
         first.shown ∙ sym (taken_first (is_to_show h sub) passed (held_items h.held)) ∙ ap (λ n. take n (filter (is_to_show h sub) (held_items h.held))) long
-    by_end (inr all) =
-        let whole : items ≡ filter (is_to_show h sub) (held_items h.held) = first.shown ∙ all_taken (is_to_show h sub) passed (held_items h.held) all in
+    by_end (inr whole) =
         whole ∙ sym (few_taken max (filter (is_to_show h sub) (held_items h.held)) (subst (λ (l : List Item). length l ≤ max) whole first.few))
 
 -- ---- the place of a subscription

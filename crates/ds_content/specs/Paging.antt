@@ -1,5 +1,5 @@
 -- What a page has of what is held.
-use Rattle.std.specs.Prelude.{◌≡◌, ℕ, ◌+◌, ◌-◌, ◌==◌, Bool, not, ◌&&◌, cond, List, [], ◌∷◌, ◌++◌, map, filter, take, length, Option, Some, None}
+use Rattle.std.specs.Prelude.{◌≡◌, ℕ, ◌+◌, ◌-◌, ◌==◌, Bool, not, ◌&&◌, cond, List, [], ◌∷◌, ◌++◌, drop, map, filter, take, length, Option, Some, None}
 use Rattle.ds_names.specs.declared.key.Key.{Key}
 use Rattle.ds_entry.specs.Change.{ChangeRecord}
 use Rattle.ds_entry.specs.declared.item.Item.{Item}
@@ -9,6 +9,10 @@ use Rattle.ds_join.specs.Reading.{comes_after}
 -- The changes under the scope.
 abbrev pub admitted : (Key → Bool) → List ChangeRecord → List ChangeRecord
 admitted keep changes = filter (λ (c : ChangeRecord). keep c.key) changes
+
+-- The first `max` changes that a scope keeps, of those at the index and after it, as items.
+abbrev pub items_from : (Key → Bool) → ℕ → ℕ → List ChangeRecord → List Item
+items_from keep first max changes = map change_item (take max (admitted keep (drop first changes)))
 
 -- The changes under the scope that come after the key.
 abbrev pub to_come : (Key → Bool) → Option Key → List ChangeRecord → List ChangeRecord

@@ -42,7 +42,7 @@ is_to_show h sub i = slice_index_or (unseen_at h i) sub false
 pub record AreFirst (h : MarkedHolding Masks) (sub max : ℕ) (items : List Item) (passed : ℕ) : Type 0 where
   pub shown : items ≡ filter (is_to_show h sub) (take passed (held_items h.held))
   pub few : length items ≤ max
-  pub enough : (length items ≡ max) ⊎ (length (held_items h.held) ≤ passed)
+  pub enough : (length items ≡ max) ⊎ (items ≡ filter (is_to_show h sub) (held_items h.held))
 
 -- The held item at the index is still to be shown to the subscription.
 abbrev pub IsToShowAt : MarkedHolding Masks → ℕ → ℕ → Type 0

@@ -1,4 +1,4 @@
--- What a holder knows after it takes items.
+-- The knowledge of a holder after it takes items.
 use Rattle.std.proofs.Common.{◌≡◌, Bool, true, List, [], ◌++◌, subst, inl, inr, ◌⊎◌}
 use Rattle.std.specs.List.{Contains}
 use Rattle.std.proofs.lemmas.List.Elements.{Contains-append_left, Contains-append_right, Contains-append_cases}

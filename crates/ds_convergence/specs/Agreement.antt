@@ -1,4 +1,4 @@
--- When two holders hold equal entries.
+-- Holders that hold equal entries.
 use Rattle.std.specs.Prelude.{◌≡◌, Bool, List, ◌++◌}
 use Rattle.ds_names.specs.declared.key.Key.{Key}
 use Rattle.ds_entry.specs.ItemCovers.{AreSingleNumbered}
@@ -12,8 +12,8 @@ pub record KnowSame (query : Key → Bool) (known other : List Item) : Type 0 wh
   pub there : IsPartOf (under query known) (under query other)
   pub here : IsPartOf (under query other) (under query known)
 
--- A law: holders that know the same items under a query hold the same under it, tombstones, versions and floors
--- included, and so equal entries.
+-- A law: holders that know the same items under a query hold the same items under it, with tombstones, versions and
+-- floors. So their entries are equal.
 abbrev pub HoldersAgree : Type 0
 HoldersAgree =
     (query : Key → Bool) (known other held too : List Item) → IsTop held known → IsTop too other → AreSingleNumbered (under query known) →
@@ -24,12 +24,12 @@ HoldersAgree =
 abbrev pub TopUnderQuery : Type 0
 TopUnderQuery = (query : Key → Bool) (known held : List Item) → IsTop held known → IsTop (under query held) (under query known)
 
--- A law: the join of what two hold is the top of everything that either knows.
+-- A law: the join of two holdings is the top of everything that either holder knows.
 abbrev pub JoinOfHolders : Type 0
 JoinOfHolders =
     (known other held too joined : List Item) → IsTop held known → IsTop too other → IsJoin joined held too → IsTop joined (known ++ other)
 
--- A law: the join under a query is the join of what each holds under it.
+-- A law: the join of two holdings, under a query, is the join of what each has under it.
 abbrev pub JoinUnderQuery : Type 0
 JoinUnderQuery =
     (query : Key → Bool) (held too joined : List Item) → IsJoin joined held too →

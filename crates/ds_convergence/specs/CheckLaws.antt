@@ -10,8 +10,8 @@ use Rattle.ds_convergence.specs.Whole.{IsWhole}
 use Rattle.ds_convergence.specs.Accepting.{AreNew}
 use Rattle.ds_convergence.specs.Checked.{CheckTurn, AreChecks, check_items}
 
--- A law: the items of all checks of a subscription, to which nothing counted as shown at first, are whole up to the
--- last check if that one returned fewer than it was asked for and what the store accepted meanwhile was new.
+-- A law: the items of all checks of a subscription are whole up to the last check. Nothing counted as shown at first, the
+-- last check returned fewer items than it may, and the items that the store accepted meanwhile were new.
 abbrev pub ChecksAreWhole : Type 0
 ChecksAreWhole =
     (early f : Feed) (query : Key → Bool) (since : List Item) (turns : List CheckTurn) (last : CheckTurn) →
@@ -19,8 +19,8 @@ ChecksAreWhole =
     AreChecks early f query [] (turns ++ last ∷ []) → length last.items < last.max →
     IsWhole f query (check_items (turns ++ last ∷ [])) (position last.feed)
 
--- A law: if what had taken effect by then counted as shown, they are whole together with items that were whole up to
--- then.
+-- A law: if some of the items that took effect before the first check counted as shown, the items of all checks are whole
+-- together with items that were whole up to that time.
 abbrev pub ChecksGoOn : Type 0
 ChecksGoOn =
     (early begun f : Feed) (query : Key → Bool) (since shown : List Item) (items : List Sent) (turns : List CheckTurn) (last : CheckTurn) →

@@ -1,4 +1,4 @@
--- A holder that follows a store from a snapshot, or from pages, holds what the store holds.
+-- Laws of holders that follow a store from a snapshot or from pages.
 use Rattle.std.specs.Prelude.{◌≡◌, ◌≤◌, Bool, List, ◌∷◌, ◌++◌, None, Contains}
 use Rattle.ds_names.specs.declared.key.Key.{Key}
 use Rattle.ds_entry.specs.Item.{passes}
@@ -15,16 +15,16 @@ use Rattle.ds_convergence.specs.Paged.{PageTurn, ArePages, page_items}
 use Rattle.ds_convergence.specs.CatchUp.{MapHolds}
 use Rattle.ds_entry.specs.Under.{under}
 
--- A map that took at least these items, in any order and with any repeats, and nothing that isn't covered by what the
--- store holds.
+-- Whether the map took at least these items, in any order and with any repeats, the store's items cover all that the map
+-- learnt, and nothing that it learnt contradicts itself.
 pub record HasTaken (query : Key → Bool) (stored held : List Item) (items taken : List Sent) : Type 0 where
   pub all : (s : Sent) → Contains items s → Contains taken s
   pub map : MapHolds query taken held
   pub nothing_else : CoversAll stored (under query (learnt query taken))
   pub numbers : AreSingleNumbered (under query (learnt query taken))
 
--- A law: a map that took an earlier snapshot, and what the journal returned from there up to the store's position,
--- holds exactly what the store holds under the query.
+-- A law: a map holds exactly what the store holds under the query, if the map took an earlier snapshot, and what the
+-- journal returned from there up to the store's position.
 abbrev pub FollowsFromSnapshot : Type 0
 FollowsFromSnapshot =
     (f early : Feed) (known top stored held : List Item) (scope other query : Key → Bool) (turns : List SinceTurn) (taken : List Sent) →
@@ -34,8 +34,8 @@ FollowsFromSnapshot =
     HasTaken query stored held (given known (snapshot_of (passes scope) top (end_of early)).items ++ since_items turns) taken →
     held ≡ under query stored
 
--- A law: so does a map that took all pages, and what the journal returned from the first page's cursor up to the
--- store's position.
+-- A law: a map holds exactly what the store holds under the query, if the map took all pages, and what the journal
+-- returned from the first page's cursor up to the store's position.
 abbrev pub FollowsFromPages : Type 0
 FollowsFromPages =
     (f : Feed) (stored held : List Item) (scope other query : Key → Bool) (first : PageTurn) (pages : List PageTurn)

@@ -1,4 +1,4 @@
--- The laws of catching up, of agreement and of labels are false without any one of their premises.
+-- The premises of the laws of catching up, of agreement and of labels. Without any one of them, a law is false.
 use Rattle.std.specs.Prelude.{◌≡◌, ℕ, Bool, true, List, Contains}
 use Rattle.ds_names.specs.declared.key.Key.{Key}
 use Rattle.ds_entry.specs.Change.{ChangeRecord}
@@ -16,9 +16,9 @@ use Rattle.ds_convergence.specs.Labels.{HoldsNoOlder, label_in, IsNewest}
 use Rattle.ds_names.specs.Key.{label_key}
 use Rattle.ds_entry.specs.Under.{under}
 
--- The premises of catching up. What the map took is whole, teaches it nothing else, and doesn't contradict itself.
--- Each of its items is the top of what it stands for. The map holds the top of what it learnt, and the store that of
--- what it accepted.
+-- The premises of catching up. The map's items are whole, the store's items cover what the map learnt, and nothing that
+-- the map learnt contradicts itself. Each item is the top of what it stands for. The map holds the top of what it learnt,
+-- and the store the top of what it accepted.
 pub record CatchUpNeeds : Type 0 where
   pub whole : ¬ ((f : Feed) (query : Key → Bool) (items : List Sent) (stored held : List Item) → IsTop stored f.accepted →
       MapHolds query items held →
@@ -42,15 +42,15 @@ pub record CatchUpNeeds : Type 0 where
       IsWhole f query items (position f) → CoversAll stored (under query (learnt query items)) →
       AreSingleNumbered (under query (learnt query items)) → held ≡ under query stored)
 
--- The premises of agreement: both holders know the same, and it doesn't contradict itself.
+-- The premises of agreement: both holders know the same items, and these don't contradict each other.
 pub record AgreementNeeds : Type 0 where
   pub numbers : ¬ ((query : Key → Bool) (known other held too : List Item) → IsTop held known → IsTop too other →
       KnowSame query known other → under query held ≡ under query too)
   pub same : ¬ ((query : Key → Bool) (known other held too : List Item) → IsTop held known → IsTop too other →
       AreSingleNumbered (under query known) → under query held ≡ under query too)
 
--- The premises of labels. A floor may leave nothing of a change that isn't a label's. A label's rule ties its
--- endpoint to its epoch. A query that doesn't include a label returns nothing about it.
+-- The premises of labels. The change is a label's, since a floor may void any other one. The known items keep the rules of
+-- labels, which tie an endpoint to its epoch. The query includes the label.
 pub record LabelsNeed : Type 0 where
   pub label : ¬ ((known held : List Item) (c : ChangeRecord) → IsTop held known → Contains known (Changed c) → HoldsNoOlder held c)
   pub items : ¬ ((query : Key → Bool) (known held : List Item) (name : List ℕ) → IsTop held known → query (label_key name) ≡ true →

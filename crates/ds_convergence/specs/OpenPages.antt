@@ -1,12 +1,12 @@
--- The pages of a store so far, before the last one.
+-- The pages that a store returned so far, before the last one.
 use Rattle.std.specs.Prelude.{◌≡◌, ℕ, ◌≤◌, Bool, false, List, [], ◌∷◌, Option, Some, None}
 use Rattle.ds_names.specs.declared.key.Key.{Key}
 use Rattle.ds_feed.specs.declared.cursor.Cursor.{Cursor}
 use Rattle.ds_feed.specs.Feed.{Feed}
 use Rattle.ds_convergence.specs.Paged.{PageTurn, IsPageTurn, last_key}
 
--- Whether each page was requested after the last key returned, no earlier than the one before, and none was the last
--- page.
+-- Whether these are pages in order before the last one: each comes after the last key returned, at the same time as the one
+-- before it or later, and isn't the last page.
 abbrev pub AreOpenPages : Feed → (Key → Bool) → Option Key → ℕ → List PageTurn → Type 0
 AreOpenPages f scope after p [] = Unit {0}
 AreOpenPages f scope after p (t ∷ ts) =

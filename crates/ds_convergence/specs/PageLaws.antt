@@ -1,4 +1,4 @@
--- The law of pages.
+-- A law of pages.
 use Rattle.std.specs.Prelude.{◌≤◌, Bool, List, ◌∷◌, ◌++◌, None}
 use Rattle.ds_names.specs.declared.key.Key.{Key}
 use Rattle.ds_feed.specs.Feed.{Feed}
@@ -7,11 +7,10 @@ use Rattle.ds_convergence.specs.Whole.{IsWhole}
 use Rattle.ds_convergence.specs.Journaled.{SinceTurn, AreSince, since_items, cursor_after}
 use Rattle.ds_convergence.specs.Paged.{PageTurn, ArePages, page_items, last_cursor}
 
--- A law: the items of all pages, together with what the journal returns from the first page's cursor on, are whole up
--- to the journal's last cursor, whatever took effect between the pages, if that cursor isn't before the last page's.
+-- A law: the items of all pages, with those that the journal returns from the first page's cursor on, are whole up to the
+-- last returned cursor, if that isn't before the last page's. Anything may take effect between the pages.
 --
--- Pages and journal may be requested under two scopes that both keep all of the query, at any times of the
--- incarnation.
+-- Pages and journal may have two scopes, if both include the query, and may be read at any times of the incarnation.
 abbrev pub PagesAreWhole : Type 0
 PagesAreWhole =
     (f : Feed) (scope other query : Key → Bool) (first : PageTurn) (pages : List PageTurn) (turns : List SinceTurn) →

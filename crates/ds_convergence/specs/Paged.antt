@@ -1,4 +1,4 @@
--- What a store returned page by page.
+-- The pages that a store returned.
 use Rattle.std.specs.Prelude.{◌≡◌, ℕ, ◌≤◌, Bool, List, [], ◌∷◌, ◌++◌, Option, Some, MatchBool}
 use Rattle.ds_names.specs.declared.key.Key.{Key}
 use Rattle.ds_entry.specs.Item.{passes}
@@ -12,7 +12,7 @@ use Rattle.ds_feed.specs.Page.{page_of}
 use Rattle.ds_convergence.specs.Sent.{Sent, given}
 use Rattle.ds_convergence.specs.Front.{IsFront, end_of}
 
--- A page: the store at that time, what it knew and held, and the most changes asked for.
+-- A page: the store at that time, what it knew and held, the most changes that it may return, and the page.
 pub record PageTurn : Type 0 where
   pub feed : Feed
   pub known : List Item
@@ -20,7 +20,7 @@ pub record PageTurn : Type 0 where
   pub max : ℕ
   pub page : Page
 
--- Whether the page was requested after this key, of the store that is `f` now.
+-- Whether this is the page after this key, at the store that is `f` now.
 pub record IsPageTurn (f : Feed) (scope : Key → Bool) (after : Option Key) (t : PageTurn) : Type 0 where
   pub front : IsFront t.feed f
   pub knows : IsPartOf t.feed.accepted t.known
@@ -33,7 +33,8 @@ last_key after [] = after
 last_key after (Changed c ∷ items) = last_key (Some c.key) items
 last_key after (Floored f ∷ items) = last_key after items
 
--- Whether each page was requested after the last key returned, no earlier than the one before, up to the last page.
+-- Whether these are all pages in order: each comes after the last key returned, at the same time as the one before it or
+-- later.
 abbrev pub ArePages : Feed → (Key → Bool) → Option Key → ℕ → List PageTurn → Type 0
 ArePages f scope after p [] = ⊥
 ArePages f scope after p (t ∷ ts) =

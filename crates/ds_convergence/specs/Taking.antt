@@ -1,4 +1,4 @@
--- What a holder knows after it takes items.
+-- The knowledge of a holder after it takes items.
 use Rattle.std.specs.Prelude.{Bool, List, [], ◌++◌, map, filter, Contains}
 use Rattle.ds_names.specs.declared.key.Key.{Key}
 use Rattle.ds_entry.specs.Item.{passes}
@@ -15,7 +15,7 @@ items_of sent = map (λ s. s.item) sent
 abbrev pub sent_under : (Key → Bool) → List Sent → List Sent
 sent_under query sent = filter (λ s. passes query s.item) sent
 
--- A law: a holder that merges items then holds the top of everything that it knew and that they stand for.
+-- A law: a holder that merges items holds the top of everything that it knew and that the items stand for.
 abbrev pub HolderTakes : Type 0
 HolderTakes =
     (known held new : List Item) (more : List Sent) → ((s : Sent) → Contains more s → IsSent s) → IsTop held known →
@@ -25,7 +25,7 @@ HolderTakes =
 abbrev pub NewMapIsMap : Type 0
 NewMapIsMap = (query : Key → Bool) → MapHolds query [] []
 
--- A law: a map that merges those of the items that are under its query has taken all of them.
+-- A law: a map that merges the items under its query has taken all of the items.
 abbrev pub MapsTake : Type 0
 MapsTake =
     (query : Key → Bool) (items more : List Sent) (held new : List Item) → ((s : Sent) → Contains more s → IsSent s) →

@@ -1,5 +1,5 @@
--- How the calls of a reader grow: they remain valid for the store as it is later, and one more can be added at the
--- end; what they returned was accepted; and a store that returns it may know more than at that time.
+-- The growth of a reader's calls. They stay valid when the store accepts more, and can be extended by one. The store has
+-- accepted all items that they returned. A store that knows more may return the same items.
 use Rattle.std.specs.Prelude.{◌≡◌, ℕ, ◌<◌, ◌≤◌, Bool, true, false, List, [], ◌∷◌, ◌++◌, length, map, Option, None, Some}
 use Rattle.std.specs.Option.{unwrap_or}
 use Rattle.ds_names.specs.declared.key.Key.{Key}
@@ -20,7 +20,7 @@ use Rattle.ds_convergence.specs.Paged.{PageTurn, IsPageTurn, last_key, ArePages,
 use Rattle.ds_convergence.specs.OpenPages.{AreOpenPages, key_after, position_after, first_cursor}
 use Rattle.ds_convergence.specs.Gathered.{checked, journaled, paged}
 
--- The calls of a store that knows all of this.
+-- The call at a store that knows all of `known`.
 abbrev pub check_knowing : List Item → CheckTurn → CheckTurn
 check_knowing known t = record t { known = known }
 
@@ -85,14 +85,13 @@ pub record PagesGrow : Type 0 where
       ArePages f scope after p (map (page_knowing known) turns)
   pub items_known : (known : List Item) (turns : List PageTurn) → page_items (map (page_knowing known) turns) ≡ given known (paged turns)
 
--- A law: a reply of the journal with fewer items than were asked for reaches the store's position.
+-- A law: a reply of the journal with fewer items than `max` reaches the store's position.
 abbrev pub FewerReachTheEnd : Type 0
 FewerReachTheEnd =
     (f : Feed) (test : Item → Bool) (at : Cursor) (max : ℕ) (since : Since) → IsGiven f test at max since → length since.items < max →
     since.cursor.position ≡ position f
 
--- A law: the items of all checks, returned by a store that knows what it accepted since, are whole up to the last
--- check if that one returned fewer than it was asked for.
+-- A law: like `ChecksAreWhole`, for a store that knows everything that it accepted up to now.
 abbrev pub CheckedIsWhole : Type 0
 CheckedIsWhole =
     (early f : Feed) (query : Key → Bool) (since : List Item) (turns : List CheckTurn) (last : CheckTurn) →
@@ -100,7 +99,7 @@ CheckedIsWhole =
     AreChecks early f query [] turns → IsCheckTurn early f query (checked turns) last → length last.items < last.max →
     IsWhole f query (given f.accepted (checked turns ++ last.items)) (position last.feed)
 
--- A law: so are the items of the pages so far, of the last page, and of the journal from the first page's cursor on.
+-- A law: like the law of pages, for a store that knows everything that it accepted up to now.
 abbrev pub PagedIsWhole : Type 0
 PagedIsWhole =
     (f : Feed) (scope other query : Key → Bool) (pages : List PageTurn) (last : PageTurn) (turns : List SinceTurn) →

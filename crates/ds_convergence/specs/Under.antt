@@ -1,4 +1,4 @@
--- The items under a query, and when a scope keeps all of it.
+-- Scopes that include a query.
 use Rattle.std.specs.Prelude.{◌≡◌, Bool, true}
 use Rattle.ds_names.specs.declared.key.Key.{Key}
 

@@ -15,22 +15,22 @@ use Rattle.ds_convergence.specs.Front.{IsFront, end_of}
 use Rattle.ds_convergence.specs.Whole.{IsWhole}
 use Rattle.ds_convergence.specs.Journaled.{SinceTurn, AreSince, since_items, cursor_after}
 
--- A law: a snapshot's items, under a scope that keeps all of the query, are whole up to its cursor.
+-- A law: the items of a snapshot are whole up to its cursor, if its scope includes the query.
 abbrev pub SnapshotIsWhole : Type 0
 SnapshotIsWhole =
     (f : Feed) (known held : List Item) (scope query : Key → Bool) → IsTop held f.accepted → IsPartOf f.accepted known →
     KeepsQuery scope query → let taken = snapshot_of (passes scope) held (end_of f) in
     IsWhole f query (given known taken.items) taken.cursor.position
 
--- A law: items that are whole up to a cursor, together with those that the journal returns from there under such a
--- scope, are whole up to the returned cursor.
+-- A law: items that are whole up to a cursor, with those that the journal returns from there, are whole up to the returned
+-- cursor, if the journal's scope includes the query.
 abbrev pub SinceExtends : Type 0
 SinceExtends =
     (f : Feed) (known : List Item) (scope query : Key → Bool) (items : List Sent) (at : Cursor) (max : ℕ) (since : Since) →
     IsPartOf f.accepted known → KeepsQuery scope query → IsGiven f (passes scope) at max since →
     IsWhole f query items at.position → IsWhole f query (items ++ given known since.items) since.cursor.position
 
--- A law: the same for any number of such replies, whatever took effect between them.
+-- A law: like `SinceExtends`, for any number of replies. Anything may take effect between them.
 abbrev pub SincesExtend : Type 0
 SincesExtend =
     (f : Feed) (scope query : Key → Bool) (items : List Sent) (at : Cursor) (turns : List SinceTurn) → KeepsQuery scope query →
@@ -41,29 +41,29 @@ SincesExtend =
 abbrev pub NothingIsWhole : Type 0
 NothingIsWhole = (f : Feed) (query : Key → Bool) (items : List Sent) (r : ℕ) → r ≤ f.first → IsWhole f query items r
 
--- A law: items stay whole with more items, in any order and with any repeats.
+-- A law: items stay whole if more are added, in any order and with any repeats.
 abbrev pub MoreIsWhole : Type 0
 MoreIsWhole =
     (f : Feed) (query : Key → Bool) (items more : List Sent) (r : ℕ) → ((s : Sent) → Contains items s → Contains more s) →
     IsWhole f query items r → IsWhole f query more r
 
--- A law: what is whole up to a position is so up to each earlier one.
+-- A law: items that are whole up to a position are whole up to each earlier one.
 abbrev pub EarlierIsWhole : Type 0
 EarlierIsWhole = (f : Feed) (query : Key → Bool) (items : List Sent) (p r : ℕ) → p ≤ r → IsWhole f query items r → IsWhole f query items p
 
--- A law: what is whole for a query is so for each narrower one.
+-- A law: items that are whole for a query are whole for each narrower one.
 abbrev pub NarrowerIsWhole : Type 0
 NarrowerIsWhole =
     (f : Feed) (query narrow : Key → Bool) (items : List Sent) (r : ℕ) → KeepsQuery query narrow → IsWhole f query items r →
     IsWhole f narrow items r
 
--- A law: what is whole stays whole, whatever takes effect later.
+-- A law: whole items stay whole, whatever takes effect later.
 abbrev pub WholeStays : Type 0
 WholeStays =
     (f late : Feed) (query : Key → Bool) (items : List Sent) (r : ℕ) → IsFront f late → r ≤ position f → IsWhole f query items r →
     IsWhole late query items r
 
--- A law: a feed with one more item is that feed at a later time. This relation is reflexive and transitive.
+-- A law: a feed with one more item is the feed at a later time. This relation is reflexive and transitive.
 pub record FeedsGrow : Type 0 where
   pub one_more : (f : Feed) (i : Item) → IsFront f (accepts f i)
   pub same : (f : Feed) → IsFront f f

@@ -1,4 +1,4 @@
--- The laws of wholeness need all of their premises: without any one of them, a law is false.
+-- The premises of the laws of wholeness. Without any one of them, a law is false.
 use Rattle.std.specs.Prelude.{ℕ, ◌≤◌, Bool, List, ◌++◌}
 use Rattle.ds_names.specs.declared.key.Key.{Key}
 use Rattle.ds_entry.specs.Item.{passes}
@@ -14,8 +14,8 @@ use Rattle.ds_convergence.specs.Sent.{Sent, given}
 use Rattle.ds_convergence.specs.Front.{IsFront, end_of}
 use Rattle.ds_convergence.specs.Whole.{IsWhole}
 
--- The premises of a snapshot: it is of the top of what was accepted, of a store that knows all of that, under a scope
--- that keeps the query.
+-- The premises of a snapshot. It shows the top of what was accepted, the store knows all of that, and the scope includes
+-- the query.
 pub record SnapshotNeeds : Type 0 where
   pub top : ¬ ((f : Feed) (known held : List Item) (scope query : Key → Bool) → IsPartOf f.accepted known → KeepsQuery scope query →
       IsWhole f query (given known (snapshot_of (passes scope) held (end_of f)).items) (position f))
@@ -24,8 +24,8 @@ pub record SnapshotNeeds : Type 0 where
   pub scope : ¬ ((f : Feed) (known held : List Item) (scope query : Key → Bool) → IsTop held f.accepted → IsPartOf f.accepted known →
       IsWhole f query (given known (snapshot_of (passes scope) held (end_of f)).items) (position f))
 
--- The premises of a reply of the journal: it is of a store that knows what it accepted, under such a scope, from a
--- cursor up to which the items before are whole, and no later one.
+-- The premises of a reply of the journal. The store knows what it accepted, the scope includes the query, and the items
+-- before are whole up to the cursor of the request.
 pub record SinceNeeds : Type 0 where
   pub knows : ¬ ((f : Feed) (known : List Item) (scope query : Key → Bool) (items : List Sent) (at : Cursor) (max : ℕ) (since : Since) →
       KeepsQuery scope query → IsGiven f (passes scope) at max since →
@@ -37,7 +37,7 @@ pub record SinceNeeds : Type 0 where
       IsPartOf f.accepted known → KeepsQuery scope query → IsGiven f (passes scope) at max since →
       IsWhole f query (items ++ given known since.items) since.cursor.position)
 
--- The limits of wholeness: it is of this incarnation, up to this position and no further, and for no wider query.
+-- The limits of wholeness. It doesn't extend to other items, later positions, wider queries or other incarnations.
 pub record WholeNeeds : Type 0 where
   pub first : ¬ ((f : Feed) (query : Key → Bool) (items : List Sent) (r : ℕ) → IsWhole f query items r)
   pub more : ¬ ((f : Feed) (query : Key → Bool) (items more : List Sent) (r : ℕ) → IsWhole f query items r → IsWhole f query more r)

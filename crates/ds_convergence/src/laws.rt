@@ -1,4 +1,4 @@
-//! The laws of items that stand for all that a store accepted, and of the holders of their tops.
+//! The laws of items that leave out nothing that a store accepted, and of the holders that take them.
 
 ghost use Rattle.ds_convergence.specs.WholeLaws.{SnapshotIsWhole, SinceExtends, SincesExtend, NothingIsWhole, MoreIsWhole};
 ghost use Rattle.ds_convergence.specs.WholeLaws.{EarlierIsWhole, NarrowerIsWhole, WholeStays, FeedsGrow};
@@ -13,11 +13,11 @@ ghost use Rattle.ds_convergence.specs.Accepting.{OneByOneIsNew};
 ghost use Rattle.ds_convergence.specs.CheckLaws.{ChecksAreWhole, ChecksGoOn};
 ghost use Rattle.ds_convergence.specs.TurnLaws.{ChecksGrow, SincesGrow, PagesGrow, FewerReachTheEnd, CheckedIsWhole, PagedIsWhole};
 
-/// The laws of wholeness.
+/// Laws of wholeness.
 ///
-/// A snapshot is whole up to its cursor, and, together with what the journal returns from there, up to the journal's
-/// cursor. Items stay whole with more items, for an earlier position, for a narrower query, and whatever takes effect
-/// later.
+/// A snapshot is whole up to its cursor. With the items that the journal returns from there, it is whole up to the
+/// returned cursor. Whole items stay whole if more are added, for an earlier position, for a narrower query, and when more
+/// takes effect.
 pub fn whole_laws()
     ensures snapshot { SnapshotIsWhole }
     ensures since { SinceExtends }
@@ -30,28 +30,28 @@ pub fn whole_laws()
     ensures feeds { FeedsGrow }
 {}
 
-/// The law of pages.
+/// A law of pages.
 ///
-/// All pages, together with what the journal returns from the first page's cursor on, are whole up to the journal's
-/// cursor, whatever took effect between the pages.
+/// All pages, with the items that the journal returns from the first page's cursor on, are whole up to the returned
+/// cursor. Changes and floors may take effect between the pages.
 pub fn page_laws()
     ensures pages { PagesAreWhole }
 {}
 
-/// The laws of taking items.
+/// Laws of taking items.
 ///
-/// A holder that merges items knows from then on all that they stand for. A map knows what those under its query
-/// stand for.
+/// A holder that merges items knows from then on everything that they stand for. A map knows what the items under its
+/// query stand for.
 pub fn taking_laws()
     ensures holder { HolderTakes }
     ensures new_map { NewMapIsMap }
     ensures map { MapsTake }
 {}
 
-/// The laws of catching up.
+/// Laws of catching up.
 ///
-/// A map that took everything that a store accepted, and nothing that isn't covered by what the store holds, holds
-/// exactly what the store holds under its query. If it took more, it holds at least that.
+/// A map takes items that are whole up to a store's position. If the store's items cover all that the map learnt, the map
+/// holds exactly what the store holds under the map's query. Otherwise it holds at least that.
 pub fn catch_up_laws()
     ensures exact { HoldsTheStores }
     ensures alike { HoldsAlike }
@@ -64,10 +64,10 @@ pub fn catch_up_laws()
     ensures pages { FollowsFromPages }
 {}
 
-/// The laws of agreement.
+/// Laws of agreement.
 ///
-/// Holders that know the same under a query hold the same under it. The join of what two hold is the top of
-/// everything that either knows.
+/// Holders that know the same under a query hold the same under it. The join of two holdings is the top of everything
+/// that either holder knows.
 pub fn agreement_laws()
     ensures equal { HoldersAgree }
     ensures query { TopUnderQuery }
@@ -76,33 +76,33 @@ pub fn agreement_laws()
     ensures more { MoreIsHeld }
 {}
 
-/// The laws of no older generation.
+/// Laws of generations.
 ///
-/// For a known change that isn't void, nothing older is held. Labels are never void. The held label has the endpoint
-/// of the greatest known generation, or none if that one is gone.
+/// If a known change isn't void, no older change of its key is held. Labels are never void. The held label has the
+/// endpoint of the greatest known generation, or none if that one is gone.
 pub fn label_laws()
     ensures older { NothingOlderIsHeld }
     ensures older_label { NoOlderLabelIsHeld }
     ensures newest { LabelsAreNewest }
 {}
 
-/// The laws of checks.
+/// Laws of checks.
 ///
-/// If nothing counted as shown at first, the items of a subscription's checks are whole up to a check that returned
-/// fewer than it was asked for. If what had taken effect counted as shown, they are so together with items that were
-/// whole by then. Both need that each item, when it took effect meanwhile, was covered by nothing before it.
+/// The checks of a subscription end with one that returns fewer items than it may. If nothing counted as shown at first,
+/// their items are whole up to that last check. If some items counted as shown, the checks' items are whole together with
+/// items that were whole when the subscription began. Both laws need that no item that took effect meanwhile was covered
+/// by one before it.
 pub fn check_laws()
     ensures checks { ChecksAreWhole }
     ensures later { ChecksGoOn }
     ensures accepted { OneByOneIsNew }
 {}
 
-/// The laws of a reader that continues check by check, reply by reply or page by page.
+/// Laws of a reader that continues check by check, reply by reply or page by page.
 ///
-/// Its calls remain valid for the store as it is later, and one more can be added at the end. What they returned was
-/// accepted, and may be returned by a store that knows more. A reply of the journal with fewer items than were asked
-/// for reaches the store's position. So everything that they returned is whole where the laws of checks and of pages
-/// say so.
+/// A list of calls stays valid when the store accepts more, and can be extended by one call. The store has accepted all
+/// items that the calls returned. The laws of checks and of pages hold for these items, even if the store is taken to
+/// know more than it did at each call. A reply of the journal with fewer items than `max` reaches the store's position.
 pub fn turn_laws()
     ensures checks { ChecksGrow }
     ensures sinces { SincesGrow }

@@ -1,8 +1,8 @@
-//! Items that leave out nothing that a store accepted, and what follows for the holders of their tops: the laws of
-//! wholeness, of pages, of catching up and of agreement, over lists of items alone. `ds_replica` uses them.
+//! Laws of wholeness, of pages, of catching up and of agreement, over lists of items alone.
 //!
-//! In MINIX 3 a subscriber that missed something asks again. Snapshots, pages, a journal and the promise that they
-//! leave out nothing are of this project.
+//! Items are whole if they leave out nothing that a store accepted. The laws say how a reader gets whole items, and what
+//! a holder of them holds. `ds_replica` uses them. In MINIX 3 a subscriber that missed something asks again. Snapshots,
+//! pages, the journal and the promise that they leave out nothing are this project's.
 #![tactic(auto)]
 
 mod laws;

@@ -1,23 +1,23 @@
-//! The premises of the laws are needed: without any one of them, a law is false.
+//! Proofs that the laws need their premises: without any one of them, a law is false.
 
 ghost use Rattle.ds_convergence.specs.WholePremises.{SnapshotNeeds, SinceNeeds, WholeNeeds};
 ghost use Rattle.ds_convergence.specs.PagePremises.{PagesNeed};
 ghost use Rattle.ds_convergence.specs.HolderPremises.{CatchUpNeeds, AgreementNeeds, LabelsNeed};
 ghost use Rattle.ds_convergence.specs.CheckPremises.{ChecksNeed};
 
-/// The laws of wholeness are false without any one of their premises, as stores that accepted one item show.
+/// A law: without any one of their premises, the laws of wholeness are false. Stores that accepted one item show it.
 pub fn whole_premises()
     ensures snapshot { SnapshotNeeds }
     ensures since { SinceNeeds }
     ensures whole { WholeNeeds }
 {}
 
-/// The law of pages is false without any one of its premises.
+/// A law: without any one of its premises, the law of pages is false.
 pub fn page_premises()
     ensures { PagesNeed }
 {}
 
-/// The laws of catching up, of agreement, of labels and of checks are false without any one of their premises.
+/// A law: without any one of their premises, the laws of catching up, agreement, labels and checks are false.
 pub fn holder_premises()
     ensures catch_up { CatchUpNeeds }
     ensures agreement { AgreementNeeds }

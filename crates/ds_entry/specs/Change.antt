@@ -1,4 +1,4 @@
--- Changes, and when four parts are one.
+-- Changes, and the conditions under which four parts are one.
 use Rattle.std.specs.Prelude.{◌≡◌, ◌≢◌, ℕ, ◌<◌, ◌≤◌, ◌^◌, ◌==◌, Bool, true, false, ◌&&◌, List}
 use Rattle.ds_names.specs.Name.{IsName, rs_name}
 use Rattle.ds_names.specs.Endpoint.{IsEndpoint}
@@ -20,7 +20,7 @@ pub record ChangeRecord : Type 0 where
   pub version : Version
   pub body : Body
 
--- The record of these parts.
+-- The change with these parts.
 abbrev pub change_of : Key → List ℕ → Version → Body → ChangeRecord
 change_of key owner version body = record { key = key; owner = owner; version = version; body = body }
 
@@ -41,19 +41,19 @@ abbrev pub is_of_kind : Kind → Body → Bool
 is_of_kind kind (Put value) = kind_place (kind_of value) == kind_place kind
 is_of_kind kind Gone = true
 
--- Whether the value is one that its reader accepts.
+-- Whether the value is in the range of its kind.
 abbrev pub IsValue : Value → Type 0
 IsValue (values.Label e) = IsEndpoint e
 IsValue (values.U32 n) = n < 2 ^ 32
 IsValue (values.Str t) = IsText t
 IsValue (values.Mem b) = IsBlob b
 
--- Whether the value of a put is one that its reader accepts.
+-- Whether the value of a put is in the range of its kind.
 abbrev pub IsBody : Body → Type 0
 IsBody (Put value) = IsValue value
 IsBody Gone = Unit {0}
 
--- Whether the value is kept in place, so that a copy allocates nothing.
+-- Whether the value is kept in place, so that a copy takes no memory.
 abbrev pub IsInPlace : Value → Type 0
 IsInPlace (values.Label e) = Unit {0}
 IsInPlace (values.U32 n) = Unit {0}
@@ -65,7 +65,7 @@ abbrev pub IsBodyInPlace : Body → Type 0
 IsBodyInPlace (Put value) = IsInPlace value
 IsBodyInPlace Gone = Unit {0}
 
--- The rule of a label's body: a put has number 0 and its endpoint's generation, a tombstone has number 1.
+-- The rule of a label's body: a put has number 0 and its endpoint's generation as its epoch, a tombstone has number 1.
 abbrev pub IsLabelBody : Version → Body → Type 0
 IsLabelBody version (Put (values.Label e)) = (version.seq ≡ 0) × (version.epoch ≡ e.generation)
 IsLabelBody version (Put (values.U32 n)) = ⊥
@@ -79,19 +79,19 @@ is_label_body version (Put (values.Label e)) = version.seq == 0 && version.epoch
 is_label_body version (Put _) = false
 is_label_body version Gone = version.seq == 1
 
--- The rule of labels: only RS publishes them, never its own, and from generation 1 on.
+-- The rules of labels: RS is the owner, the label isn't RS's own, and the epoch is above 0.
 pub record IsLabelChange (c : ChangeRecord) : Type 0 where
   pub owner : c.owner ≡ rs_name
   pub name : c.key.name ≢ rs_name
   pub epoch : 0 < c.version.epoch
   pub body : IsLabelBody c.version c.body
 
--- The rule of other kinds: a put leaves the last sequence number to the tombstones of sweeps.
+-- The rule of other kinds: no put has the greatest sequence number, which is for the tombstones of sweeps.
 abbrev pub IsBelowSweeps : Version → Body → Type 0
 IsBelowSweeps version (Put value) = version.seq < 4294967295
 IsBelowSweeps version Gone = Unit {0}
 
--- The rule of the key's kind.
+-- Whether the change keeps the rules of its key's kind.
 abbrev pub KeepsRule : Kind → ChangeRecord → Type 0
 KeepsRule Label c = IsLabelChange c
 KeepsRule U32 c = IsBelowSweeps c.version c.body

@@ -1,4 +1,4 @@
--- Why parts aren't a change: the first cause that applies.
+-- The causes for which parts aren't a change. The first one that applies is reported.
 use Rattle.std.specs.Prelude.{◌≡◌, ◌≢◌}
 use Rattle.ds_names.specs.declared.kind.Kind.TheVariants.{Label}
 use Rattle.ds_entry.specs.declared.change.EntryFault.{EntryFault}

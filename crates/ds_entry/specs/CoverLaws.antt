@@ -1,4 +1,4 @@
--- The laws of covering, on which all statements about what replicas hold rest.
+-- The laws of covering. All statements about what replicas hold rest on them.
 use Rattle.std.specs.Prelude.{◌≡◌, Bool, true, List, Contains}
 use Rattle.std.specs.List.Sorted.{IsStrictlySortedBy}
 use Rattle.ds_names.specs.declared.key.Key.{Key}
@@ -14,7 +14,7 @@ CoversIsReflexive = (i : Item) → covers i i ≡ true
 abbrev pub CoversIsTransitive : Type 0
 CoversIsTransitive = (k j i : Item) → covers k j ≡ true → covers j i ≡ true → covers k i ≡ true
 
--- A law: what covers an item under a query is under it too.
+-- A law: an item that covers one under a query is under the query too.
 abbrev pub CoversKeepsQueries : Type 0
 CoversKeepsQueries = (query : Key → Bool) (j i : Item) → covers j i ≡ true → passes query i ≡ true → passes query j ≡ true
 
@@ -24,7 +24,7 @@ CoversIsExact =
     (items : List Item) → AreSingleNumbered items → (i j : Item) → Contains items i → Contains items j → covers j i ≡ true →
     covers i j ≡ true → i ≡ j
 
--- A law: of items in order, none of them void, none covers another.
+-- A law: no item of a sorted list without void ones covers another one of the list.
 abbrev pub CoversNoneHeld : Type 0
 CoversNoneHeld =
     (held : List Item) → IsStrictlySortedBy item_cmp held → NoneVoid held → (i j : Item) → Contains held i → Contains held j →

@@ -3,7 +3,7 @@ use Rattle.std.specs.Prelude.{ℕ, ◌≤◌, List}
 use Rattle.ds_names.specs.Name.{IsName}
 use Rattle.ds_entry.specs.declared.floor.Floor.{Floor}
 
--- The floor of these parts.
+-- The floor with these parts.
 abbrev pub floor_of : List ℕ → ℕ → Floor
 floor_of owner generation = record { owner = owner; generation = generation }
 

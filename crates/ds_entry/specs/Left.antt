@@ -9,7 +9,7 @@ use Rattle.ds_entry.specs.declared.body.Body.TheVariants.{Put, Gone}
 use Rattle.ds_entry.specs.declared.item.Item.{Item}
 use Rattle.ds_entry.specs.declared.item.Item.TheVariants.{Change as Changed, Floor as Floored}
 
--- The value that a put leaves; a tombstone leaves none.
+-- The value that a put leaves. A tombstone leaves none.
 abbrev pub value_in : Body → Option Value
 value_in (Put value) = Some value
 value_in Gone = None

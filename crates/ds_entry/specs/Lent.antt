@@ -4,7 +4,7 @@ use Rattle.ds_entry.specs.declared.item.Item.TheVariants.{Change as Changed, Flo
 use Rattle.ds_entry.specs.declared.item.ItemRef.{ItemRef}
 use Rattle.ds_entry.specs.declared.item.ItemRef.TheVariants as lent
 
--- The item that is borrowed.
+-- The item that the reference borrows.
 abbrev pub item_lent : ItemRef → Item
 item_lent (lent.Change c) = Changed c.now
 item_lent (lent.Floor f) = Floored f.now

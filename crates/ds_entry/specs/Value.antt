@@ -6,12 +6,12 @@ use Rattle.std.specs.List.{list_all}
 abbrev pub is_text_byte : ℕ → Bool
 is_text_byte b = nat_le 32 b && nat_le b 126
 
--- Whether the bytes are at most 256, each printable ASCII.
+-- Whether the list has at most 256 elements, each printable ASCII.
 pub record IsText (bytes : List ℕ) : Type 0 where
   pub limit : length bytes ≤ 256
   pub printable : IsTrue (list_all is_text_byte bytes)
 
--- Whether the numbers are at most 1024, each of them a byte.
+-- Whether the list has at most 1024 elements, each a byte.
 pub record IsBlob (bytes : List ℕ) : Type 0 where
   pub limit : length bytes ≤ 1024
   pub each : (i : ℕ) → slice_index bytes i < 256

@@ -13,7 +13,7 @@ use std::alloc::Global;
 use std::marker::Model;
 use thiserror::Error;
 
-/// Why bytes aren't a blob. Causes are judged in this order.
+/// Why bytes aren't a blob. The causes are judged in this order.
 #[derive(Clone, Copy, Debug, PartialEq, Eq, Error)]
 pub enum BlobFault {
     /// There are more than 1024 bytes.
@@ -24,7 +24,7 @@ pub enum BlobFault {
     NoRoom,
 }
 
-/// Memory of MINIX 3's data store: 0 to 1024 bytes of any value (the limit is this project's).
+/// A value of the kind mem, as in MINIX 3's data store: 0 to 1024 bytes of any value. The limit is this project's.
 #[derive(Debug, Drop)]
 pub struct Blob {
     bytes: Vec<u8>,
@@ -42,7 +42,7 @@ impl Model for Blob {
 }
 
 impl Blob {
-    /// Copies the bytes into a blob.
+    /// Copies the bytes into a blob. Refuses more than 1024 as TooLong, then reports NoRoom if memory runs out.
     pub fn read(alloc: Global, bytes: &[u8]) -> Result<Blob, BlobFault>
         ensures found { IfOk result (λ blob. blob ≡ bytes.now) }
         ensures valid { IfOk result IsBlob }
@@ -57,7 +57,7 @@ impl Blob {
         }
     }
 
-    /// Returns its bytes, 0 to 1024 of them.
+    /// Returns the blob's bytes, 0 to 1024.
     pub fn bytes(&self) -> &[u8]
         ensures value { result.now ≡ self.now }
         ensures valid { IsBlob self.now }
@@ -65,7 +65,7 @@ impl Blob {
         &self.bytes
     }
 
-    /// Copies the blob.
+    /// Copies the blob. Fails only if memory runs out.
     pub fn copy(&self, alloc: Global) -> Result<Blob, NoRoom>
         ensures { IfOk result (λ blob. blob ≡ self.now) }
     {

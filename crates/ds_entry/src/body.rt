@@ -21,7 +21,7 @@ pub enum Value {
     Mem(Blob),
 }
 
-/// What a change leaves under its key: a value, or the tombstone of a delete (of this project).
+/// What a change leaves under its key: a value, or the tombstone of a delete. Tombstones are this project's.
 #[derive(Debug, PartialEq, Eq, Drop)]
 pub enum Body {
     Put(Value),
@@ -54,7 +54,7 @@ impl Value {
         }
     }
 
-    /// Copies the value. The copy of a label or a number allocates nothing.
+    /// Copies the value. Fails only if memory runs out; the copy of a label or a number takes none.
     #[inline(always)]
     pub fn copy(&self, alloc: Global) -> Result<Value, NoRoom>
         ensures same { IfOk result (λ value. value ≡ self.now) }
@@ -70,7 +70,7 @@ impl Value {
 }
 
 impl Body {
-    /// Returns the value of a put; a tombstone has none.
+    /// Returns the value of a put, and `None` for a tombstone.
     pub fn value(&self) -> Option<&Value>
         ensures { option_copied result ≡ value_in self.now }
     {
@@ -80,7 +80,7 @@ impl Body {
         }
     }
 
-    /// Whether a key of the kind may have it: a put's value must be of that kind.
+    /// Returns whether a key of the kind may have this body: a put's value must be of that kind.
     pub fn is_of_kind(&self, kind: Kind) -> bool
         ensures value { result ≡ is_of_kind kind self.now }
         ensures kind { IsTrue result ↔ IsOfKind kind self.now }
@@ -92,8 +92,8 @@ impl Body {
         }
     }
 
-    /// Whether a label may have it at the version. A label is put with number 0, in its endpoint's generation, and
-    /// ends with number 1.
+    /// Returns whether a label may have this body at the version. A label is put with sequence number 0, in the epoch of
+    /// its endpoint's generation, and ends with number 1.
     pub fn fits_label(&self, version: &Version) -> bool
         ensures value { result ≡ is_label_body version.now self.now }
         ensures rule { IsTrue result ↔ IsLabelBody version.now self.now }
@@ -109,7 +109,7 @@ impl Body {
         }
     }
 
-    /// Copies the body. The copy of a tombstone, or of a put of a label or a number, allocates nothing.
+    /// Copies the body. Fails only if memory runs out; the copy of a tombstone, a label or a number takes none.
     #[inline(always)]
     pub fn copy(&self, alloc: Global) -> Result<Body, NoRoom>
         ensures same { IfOk result (λ body. body ≡ self.now) }

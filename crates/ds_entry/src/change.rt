@@ -15,23 +15,22 @@ use std::alloc::Global;
 use std::marker::Model;
 use thiserror::Error;
 
-/// Why four parts aren't a change. Causes are judged in this order.
+/// Why four parts aren't a change. The causes are judged in this order.
 #[derive(Clone, Copy, Debug, PartialEq, Eq, Error)]
 pub enum EntryFault {
     /// The value is of another kind than the key.
     #[error("the value is of another kind than the key")]
     BadKind,
-    /// The key's kind is label, and the owner isn't `rs`, or the name is `rs`, or the epoch is 0; or it is a put
-    /// whose sequence number isn't 0 or whose epoch isn't its endpoint's generation; or a tombstone whose number
-    /// isn't 1.
+    /// The key is a label's, and a rule of labels is broken. The owner must be `rs`, the name another one, and the epoch
+    /// above 0. A put must have sequence number 0 and its endpoint's generation as its epoch, a tombstone number 1.
     #[error("no change of a label")]
     BadLabel,
-    /// A put of another kind with the sequence number 4294967295, which only tombstones of sweeps have.
+    /// A put that isn't a label's has the sequence number 4294967295, which only tombstones of sweeps have.
     #[error("the sequence number is left to sweeps")]
     BadVersion,
 }
 
-/// One change of the entry under a key: its owner, its version, and what it leaves there.
+/// One change of the entry under a key: the key, the owner, the version, and what the change leaves there.
 #[derive(Debug, PartialEq, Eq, Drop)]
 pub struct Change {
     key: Key,
@@ -53,7 +52,7 @@ impl Model for Change {
 }
 
 impl Change {
-    /// Builds the change of four parts that fit together. It checks nothing and allocates nothing.
+    /// Builds a change from four parts that fit together. Checks nothing, and takes no memory.
     pub fn from_parts(key: Key, owner: Name, version: Version, body: Body) -> Change
         requires parts { IsChange (change_of key owner version body) }
         ensures made { result ≡ change_of key owner version body }
@@ -67,10 +66,9 @@ impl Change {
         }
     }
 
-    /// Stores the change of four parts that fit together in `slot`, as an item.
+    /// Stores a change of four parts that fit together in `slot`, as an item.
     ///
-    /// The key and the owner are lent, so each name is copied once, to where it is kept. A key that is copied whole
-    /// would go through a third place, together with the owner.
+    /// The key and the owner are borrowed, so each name is copied only once, to its place in the item.
     #[inline(always)]
     pub fn put_into(slot: &mut Option<Item>, key: &Key, owner: &Name, version: Version, body: Body)
         requires parts { IsChange (change_of key.now owner.now version body) }
@@ -87,7 +85,7 @@ impl Change {
         }));
     }
 
-    /// Builds the change of four parts, or returns their first fault. It allocates nothing.
+    /// Builds a change from four parts, or returns their first fault. Takes no memory.
     #[inline(always)]
     pub fn make(key: Key, owner: Name, version: Version, body: Body) -> Result<Change, EntryFault>
         ensures made { IfOk result (λ change. change ≡ change_of key owner version body) }
@@ -100,7 +98,7 @@ impl Change {
         }
     }
 
-    /// Copies the change. The copy allocates only for the value of a put.
+    /// Copies the change. Fails only if memory runs out; only the copy of a text or a blob takes memory.
     #[inline(always)]
     pub fn copy(&self, alloc: Global) -> Result<Change, NoRoom>
         ensures same { IfOk result (λ change. change ≡ self.now) }
@@ -116,7 +114,7 @@ impl Change {
         })
     }
 
-    /// Returns the key whose entry it changes.
+    /// Returns the key whose entry the change is of.
     pub fn key(&self) -> &Key
         ensures value { result.now ≡ self.now.key }
         ensures change { IsChange self.now }
@@ -124,7 +122,7 @@ impl Change {
         &self.key
     }
 
-    /// Returns the label of the process that published it.
+    /// Returns the owner: the label of the process that published the change.
     pub fn owner(&self) -> &Name
         ensures value { result.now ≡ self.now.owner }
         ensures change { IsChange self.now }
@@ -132,7 +130,7 @@ impl Change {
         &self.owner
     }
 
-    /// Returns its version. Of two changes of one key, the greater version wins.
+    /// Returns the version. Of two changes of one key, the one with the greater version wins.
     pub fn version(&self) -> Version
         ensures value { result ≡ self.now.version }
         ensures change { IsChange self.now }
@@ -140,7 +138,7 @@ impl Change {
         self.version
     }
 
-    /// Returns what it leaves under its key.
+    /// Returns what the change leaves under its key.
     pub fn body(&self) -> &Body
         ensures value { result.now ≡ self.now.body }
         ensures change { IsChange self.now }
@@ -149,7 +147,7 @@ impl Change {
     }
 }
 
-// Returns the first cause for which the parts aren't a change.
+// Returns why the parts aren't a change: the first cause that applies, or `None` if they are one.
 fn fault_of(key: &Key, owner: &Name, version: &Version, body: &Body) -> Option<EntryFault>
     ensures none { IfNone result (IsChange (change_of key.now owner.now version.now body.now)) }
     ensures fault { IfSome result (λ fault. IsEntryFault fault (change_of key.now owner.now version.now body.now)) }
@@ -167,7 +165,7 @@ fn fault_of(key: &Key, owner: &Name, version: &Version, body: &Body) -> Option<E
     }
 }
 
-// Whether the parts keep the rule of labels.
+// Returns whether the parts keep the rules of labels.
 fn is_label_change(key: &Key, owner: &Name, version: &Version, body: &Body) -> bool
     ensures rule { IsTrue result ↔ IsLabelChange (change_of key.now owner.now version.now body.now) }
     ensures name { IsName key.now.name }
@@ -182,7 +180,7 @@ fn is_label_change(key: &Key, owner: &Name, version: &Version, body: &Body) -> b
     is_owned && !is_rs && epoch != 0 && fits
 }
 
-// Whether an entry that isn't a label may have the version.
+// Returns whether a change that isn't a label's may have the version.
 fn is_below_sweeps(version: &Version, body: &Body) -> bool
     ensures { IsTrue result ↔ IsBelowSweeps version.now body.now }
 {

@@ -10,10 +10,10 @@ use crate::change::Change;
 use ds_names::{Generation, Name};
 use std::cmp::Ordering;
 
-/// A floor under an owner's entries (of this project): it voids what the owner published in generations up to this
-/// one, labels aside.
+/// A floor of an owner: it voids what the owner published in generations up to this one, except labels.
 ///
 /// In MINIX 3 the entries of a dead driver stay in the data store. A floor ends them, even those that arrive late.
+/// Floors are this project's.
 #[derive(Clone, Copy, Debug, PartialEq, Eq)]
 pub struct Floor {
     /// The owner of the entries.
@@ -23,7 +23,7 @@ pub struct Floor {
 }
 
 impl Floor {
-    /// Whether it voids a change: one of its owner, not a label, with an epoch up to its generation.
+    /// Returns whether the floor voids a change: one of its owner, not a label, with an epoch up to its generation.
     pub fn voids(&self, change: &Change) -> bool
         ensures { result ≡ voids self.now change.now }
     {
@@ -45,7 +45,7 @@ impl Floor {
     }
 }
 
-// Whether two names are equal.
+// Returns whether two names are equal.
 pub(crate) fn is_same_name(name: &Name, other: &Name) -> bool
     ensures { result ≡ eq_by_cmp name_cmp name.now other.now }
 {

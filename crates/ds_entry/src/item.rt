@@ -15,7 +15,7 @@ use ds_names::{Key, NoRoom};
 use std::alloc::Global;
 use std::cmp::Ordering;
 
-/// What replicas send each other (of this project): a change of one entry, or a floor under all entries of an owner.
+/// What replicas send each other: a change of one entry, or a floor under all entries of an owner.
 #[derive(Debug, PartialEq, Eq, Drop)]
 pub enum Item {
     Change(Change),
@@ -30,7 +30,7 @@ pub enum ItemRef<'a> {
 }
 
 impl ItemRef<'_> {
-    /// Copies the item. The copy allocates only for a put of a text or a blob.
+    /// Copies the item. Fails only if memory runs out; only the copy of a text or a blob takes memory.
     pub fn copy(self, alloc: Global) -> Result<Item, NoRoom>
         ensures same { IfOk result (λ item. item ≡ item_lent self.entry) }
         ensures in_place { IsItemInPlace (item_lent self.entry) → IsOk result }
@@ -43,7 +43,7 @@ impl ItemRef<'_> {
 }
 
 impl Item {
-    /// Whether it makes the other item needless.
+    /// Returns whether the item covers the other one, which is then needless.
     ///
     /// A change covers the changes of its key and owner up to its version. A floor covers the changes that it voids,
     /// and its owner's floors up to its generation. A change covers no floor.
@@ -61,7 +61,7 @@ impl Item {
         }
     }
 
-    /// Whether it is a put. A tombstone isn't one, nor is a floor.
+    /// Returns whether the item is a put. Tombstones and floors aren't.
     pub fn is_put(&self) -> bool
         ensures { result ≡ is_put self.now }
     {
@@ -71,7 +71,7 @@ impl Item {
         }
     }
 
-    /// Compares two items: floors come before all changes, in the order of their owners' names; changes are in the
+    /// Compares two items. Floors come before changes. Floors are in the order of their owners' names, and changes in the
     /// order of their keys.
     pub fn compare(&self, other: &Item) -> Ordering
         ensures { result ≡ item_cmp self.now other.now }
@@ -84,7 +84,7 @@ impl Item {
         }
     }
 
-    /// Copies the item. The copy allocates only for a put of a text or a blob.
+    /// Copies the item. Fails only if memory runs out; only the copy of a text or a blob takes memory.
     #[inline(always)]
     pub fn copy(&self, alloc: Global) -> Result<Item, NoRoom>
         ensures same { IfOk result (λ item. item ≡ self.now) }
@@ -98,14 +98,14 @@ impl Item {
     }
 }
 
-// Whether two keys are equal.
+// Returns whether two keys are equal.
 fn is_same_key(key: &Key, other: &Key) -> bool
     ensures { result ≡ eq_by_cmp key_cmp key.now other.now }
 {
     matches!(key.compare(other), Ordering::Equal)
 }
 
-// Whether the change has the other's key and owner, and at least its version.
+// Returns whether the change has the other's key and owner, and a version at least as great.
 fn is_newer(change: &Change, other: &Change) -> bool
     ensures { result ≡ change_covers change.now other.now }
 {

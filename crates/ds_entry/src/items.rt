@@ -9,7 +9,7 @@ use ds_names::NoRoom;
 use std::alloc::{AllocFailed, Global};
 use std::marker::Model;
 
-/// A list of items in order: what holders and stores return, and what messages carry. Its representation is private.
+/// A list of items. Holders and stores return such lists, and messages carry them.
 #[derive(Debug, Drop)]
 pub struct Items {
     items: Vec<Item>,
@@ -25,7 +25,7 @@ impl Model for Items {
 }
 
 impl Items {
-    /// Returns an empty list. It allocates nothing.
+    /// Returns an empty list. Takes no memory.
     pub fn new(alloc: Global) -> Items
         ensures { result ≡ [] }
     {
@@ -34,7 +34,7 @@ impl Items {
         }
     }
 
-    /// Copies the items, in order.
+    /// Returns a list of copies of the items. Fails only if memory runs out.
     pub fn copies(alloc: Global, items: &[Item]) -> Result<Items, NoRoom>
         ensures { IfOk result (λ copies. copies ≡ items.now) }
     {
@@ -52,7 +52,7 @@ impl Items {
         self.items.push(item)
     }
 
-    /// Splits the list: it keeps the items before the index, and returns the rest. If memory runs out, it is
+    /// Splits the list at the index: keeps the items before it, and returns the rest. If memory runs out, the list is
     /// unchanged.
     pub fn split_off(&mut self, at: usize) -> Result<Items, NoRoom>
         requires { at ≤ length self.old }
@@ -64,14 +64,14 @@ impl Items {
         Ok(Items { items })
     }
 
-    /// Returns how many items it has.
+    /// Returns the number of items.
     pub fn len(&self) -> usize
         ensures { result ≡ length self.now }
     {
         self.items.len()
     }
 
-    /// Returns the item at an index from 0; `None` past the end.
+    /// Returns the item at an index from 0, or `None` past the end.
     pub fn get(&self, index: usize) -> Option<&Item>
         ensures { option_copied result ≡ slice_get self.now index }
     {
@@ -85,7 +85,7 @@ impl Items {
         self.items.as_slice()
     }
 
-    /// Appends copies of other items, in order. If memory runs out, the list is unchanged. No items need no memory.
+    /// Appends copies of other items. If memory runs out, the list is unchanged. An empty `more` takes no memory.
     pub fn append_copies(&mut self, alloc: Global, more: &Items) -> Result<(), NoRoom>
         ensures added { OnOk result (self.new ≡ self.old ++ more.now) }
         ensures unchanged { OnErr result (self.new ≡ self.old) }
@@ -99,14 +99,14 @@ impl Items {
         copied
     }
 
-    /// Removes all items but the puts.
+    /// Removes every item that isn't a put.
     pub fn retain_puts(&mut self)
         ensures { self.new ≡ entries_of self.old }
     {
         self.items.retain(|item| item.is_put());
     }
 
-    /// Copies the list.
+    /// Copies the list. Fails only if memory runs out.
     pub fn copy(&self, alloc: Global) -> Result<Items, NoRoom>
         ensures { IfOk result (λ copy. copy ≡ self.now) }
     {
@@ -114,7 +114,7 @@ impl Items {
     }
 }
 
-// Appends copies of the items. If memory runs out, a part of them may have been added.
+// Appends copies of the items. If memory runs out, some of them may have been added.
 fn push_copies(alloc: Global, items: &mut Vec<Item>, more: &[Item]) -> Result<(), NoRoom>
     ensures added { OnOk result (items.new.items ≡ items.old.items ++ more.now) }
     ensures kept { OnErr result (take (length items.old.items) items.new.items ≡ items.old.items) }

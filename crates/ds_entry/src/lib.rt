@@ -1,8 +1,8 @@
 //! Changes, floors and lists of them: what replicas of the data store send each other.
 //!
 //! In MINIX 3's data store an entry has an owner, the label of the process that published it. Only the reincarnation
-//! server (RS) publishes labels (Herder and others, DSN 2007). Versions of changes and the tombstones of deletes are
-//! of this project.
+//! server (RS) publishes labels (Herder and others, DSN 2007). Versions of changes, tombstones of deletes and floors are
+//! this project's.
 #![tactic(auto)]
 
 mod blob;

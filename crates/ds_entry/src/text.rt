@@ -14,7 +14,7 @@ use std::alloc::Global;
 use std::marker::Model;
 use thiserror::Error;
 
-/// Why bytes aren't a text. Causes are judged in this order.
+/// Why bytes aren't a text. The causes are judged in this order.
 #[derive(Clone, Copy, Debug, PartialEq, Eq, Error)]
 pub enum TextFault {
     /// There are more than 256 bytes.
@@ -28,21 +28,21 @@ pub enum TextFault {
     NoRoom,
 }
 
-// Whether the byte is printable ASCII.
+// Returns whether the byte is printable ASCII.
 fn is_text_byte(b: u8) -> bool
     ensures { result ≡ is_text_byte b }
 {
     0x20 <= b && b <= 0x7e
 }
 
-// Whether all bytes are printable ASCII.
+// Returns whether all bytes are printable ASCII.
 fn is_printable(bytes: &[u8]) -> bool
     ensures { result ≡ list_all is_text_byte bytes.now }
 {
     bytes.iter().all(|b| is_text_byte(*b))
 }
 
-/// A string of MINIX 3's data store: 0 to 256 bytes of printable ASCII (the limits are this project's).
+/// A value of the kind str, as in MINIX 3's data store: 0 to 256 bytes of printable ASCII. The limits are this project's.
 #[derive(Debug, Drop)]
 pub struct Text {
     bytes: Vec<u8>,
@@ -60,7 +60,8 @@ impl Model for Text {
 }
 
 impl Text {
-    /// Checks the bytes, and copies them into a text.
+    /// Copies the bytes into a text. Refuses more than 256 as TooLong, then others than printable ASCII as BadText. Then
+    /// reports NoRoom if memory runs out.
     pub fn read(alloc: Global, bytes: &[u8]) -> Result<Text, TextFault>
         ensures found { IfOk result (λ text. text ≡ bytes.now) }
         ensures valid { IfOk result IsText }
@@ -78,7 +79,7 @@ impl Text {
         }
     }
 
-    /// Returns its bytes, 0 to 256 of printable ASCII.
+    /// Returns the text's bytes, 0 to 256 of printable ASCII.
     pub fn bytes(&self) -> &[u8]
         ensures value { result.now ≡ self.now }
         ensures valid { IsText self.now }
@@ -86,7 +87,7 @@ impl Text {
         &self.bytes
     }
 
-    /// Copies the text.
+    /// Copies the text. Fails only if memory runs out.
     pub fn copy(&self, alloc: Global) -> Result<Text, NoRoom>
         ensures { IfOk result (λ text. text ≡ self.now) }
     {

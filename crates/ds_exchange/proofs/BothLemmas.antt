@@ -75,7 +75,7 @@ module _ (p m q : PassRecord) (own more : List (Entry Command Reply)) (a : Made 
       b.seen ∙ ap (λ (l : List (Entry Command Reply)). m.history ++ l)
       (append_cancel_left own b.between more (ap (λ (l : List (Entry Command Reply)). l ++ b.between) (sym first_is) ∙ between_is))
 
--- ---- all was told by pages
+-- ---- all items were read by pages
 told_by_pages : PagedSays → (own : List (Entry Command Reply)) (x : Exchanged) (s t : State) → IsReached s → AsksInTurn None own → EndsTelling None own x.cursor x.more → Run Answered s own t → TellsStore s own t
 told_by_pages says own x s t r asks ends run =
     let all = ends.front ++ ends.last ∷ [] in

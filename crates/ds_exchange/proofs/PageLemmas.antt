@@ -1,4 +1,4 @@
--- How a store is asked, and what it tells is given: by one question, or page by page.
+-- The questions to a store, by one call or page by page, and the merging of their items.
 use Rattle.std.proofs.Common.{◌≡◌, ℕ, ◌+◌, ◌^◌, ◌<◌, ◌≤◌, true, false, List, [], ◌∷◌, ◌++◌, length, nat_le, Option, Some, None, refl, ap, sym, ◌∙◌, subst, inl, inr, arith, append-nil, append_assoc, length-append}
 use Rattle.std.specs.Option.{unwrap_or}
 use Rattle.std.proofs.lemmas.List.Concat.{flat_map-append}
@@ -32,7 +32,7 @@ use Rattle.ds_exchange.specs.Giving.{GivesAll, GivesOnly}
 use Rattle.ds_exchange.specs.Telling.{AsksInTurn, AsksPages, IsOpenPage, all_told, cursor_told, first_told, items_told, page_asked, since_asked}
 use Rattle.ds_exchange.proofs.GivingLemmas.{gives_both, gives_none, leaves_behind, only_all, only_behind, only_none}
 
--- ---- what was told
+-- ---- the items of replies
 pub told_both : (own more : List (Entry Command Reply)) → all_told (own ++ more) ≡ all_told own ++ all_told more
 told_both own more = flat_map-append (λ (e : Entry Command Reply). items_told e.reply) own more
 
@@ -54,7 +54,7 @@ asked_once : (p q : PassRecord) (command : Command) (fault : CallFault) → Fail
 asked_once p q command fault (inl t) = record { own = []; made = t.1.made; once = tt }
 asked_once p q command fault (inr t) = record { own = entry p.origin.number command (replies.Refused t.0) ∷ []; made = t.2.made; once = (refl, refl) }
 
--- after what was told was given
+-- after the items of the replies were merged
 module _ (p q next r s : PassRecord) (own : List (Entry Command Reply)) (taken : ℕ) (made : Made p q own) (gives : GivesAll r s (all_told own) taken) where
   pub asking_fails : (command : Command) (fault : CallFault) → FailsAsking q next command fault → IsExchangeFault p next r s (Call fault)
   asking_fails command fault (inl t) =
@@ -76,7 +76,7 @@ module _ (p q next r s : PassRecord) (own : List (Entry Command Reply)) (taken :
         (fails_later p q next own (calls.Refused t.0) made (fails_by q next command (calls.Refused t.0) (inr (t.0, t.1, t.2, inr (other.0, refl)))))
   ]
 
--- ---- what was told couldn't be given
+-- ---- the items of the replies couldn't be merged
 module _ (p next r s new : PassRecord) (own : List (Entry Command Reply)) (made : Made p next own) (before items : List Item) (taken : ℕ)
     (gives : GivesAll r s before taken) (told : all_told own ≡ before ++ items) where
   pub giving_fails : (fault : ExchangeFault) → IsGivingFault s new items fault → IsExchangeFault p next r new fault
@@ -208,7 +208,7 @@ module _ (p q r s next : PassRecord) (after : Option Key) (first : Option Cursor
     pub page_stops : (fault : ExchangeFault) → IsGivingFault s new page.items fault → IsExchangeFault p next r new fault
     page_stops fault by = giving_fails p next r s new (k.own ++ asked_page ∷ []) made_page (all_told k.own) page.items taken k.gives page_told fault by
 
-    -- as many pages as a desk has places for are told fewer items than 2^127
+    -- a desk has places for so few pages that they have fewer items than 2^127
     pub told_few : place_behind next ≤ 2 ^ 62 → length page.items < 2 ^ 64 → done + length page.items < 2 ^ 127
     told_few at few =
         omega (arith, k.bound, at, few, made_above p next (k.own ++ asked_page ∷ []) made_page, length-append k.own (asked_page ∷ []))

@@ -65,7 +65,7 @@ split_pages after (x ∷ front) last a = elim a.1 [
     no_rest [] e = cc
     no_rest (y ∷ es) e = cc
 
--- they tell all that the store knows, and nothing else, and leave it as it was
+-- they return all that the store knows, and nothing else, and leave it unchanged
 pub record TellsStore (s : State) (own : List (Entry Command Reply)) (t : State) : Type 0 where
   pub same : t ≡ s
   pub covers_all : CoversAll (all_told own) s.feed.accepted

@@ -1,4 +1,4 @@
--- Pages that are asked for in order.
+-- Pages in order, as an exchange reads them.
 use Rattle.std.specs.Prelude.{◌≡◌, ℕ, ◌*◌, ◌^◌, ◌≤◌, List, [], ◌∷◌, length, Option, None}
 use Rattle.history.specs.declared.entry.Entry.{Entry}
 use Rattle.ds_names.specs.declared.key.Key.{Key}
@@ -12,13 +12,14 @@ use Rattle.ds_pass.specs.Record.{PassRecord}
 use Rattle.ds_exchange.specs.Giving.{GivesAll}
 use Rattle.ds_exchange.specs.Telling.{IsOpenPage, all_told, first_told, page_asked}
 
--- Pages of which none is the last: the first is after this key, each other one after the last key that was told, and so is the next one.
+-- Whether these calls read pages in order, none of which is the last. The first page comes after this key, and each other one after the
+-- last key of the page before it. The next page comes after `next`.
 abbrev pub AsksOpenPages : Option Key → List (Entry Command Reply) → Option Key → Type 0
 AsksOpenPages after [] next = next ≡ after
 AsksOpenPages after (e ∷ es) next =
     (e.command ≡ page_asked after) × ((page : Leaf) × IsOpenPage e page × AsksOpenPages (last_key after page.items) es next)
 
--- The pages so far were told, given and counted.
+-- Whether the pages so far were read, merged and counted.
 pub record GoesByPages (p q r s : PassRecord) (after : Option Key) (first : Option Cursor) (done taken : ℕ) : Type 0 where
   pub own : List (Entry Command Reply)
   pub made : Made p q own

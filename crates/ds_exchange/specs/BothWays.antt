@@ -1,4 +1,4 @@
--- Two stores that gave each other all that they hold.
+-- Two stores that sent each other all that they hold.
 use Rattle.std.specs.Prelude.{◌≡◌, List, ◌++◌, None}
 use Rattle.history.specs.declared.entry.Entry.{Entry}
 use Rattle.ds_machine.specs.Reached.{AreExact}
@@ -9,21 +9,21 @@ use Rattle.ds_pass.specs.Record.{AfterEach, PassRecord}
 use Rattle.ds_exchange.specs.declared.exchange.Exchanged.{Exchanged}
 use Rattle.ds_exchange.specs.Exchange.{Exchanges}
 
--- From p to q all calls at the desk were the pass's.
+-- Whether all calls at the desk from p to q were the pass's.
 pub record CalledAlone (p q : PassRecord) : Type 0 where
   pub own : List (Entry Command Reply)
   pub calls_are : q.calls ≡ p.calls ++ own
   pub history_is : q.history ≡ p.history ++ own
 
--- Of the passes p and q of one desk, and r and s of the other: the first store gave the second all that it holds, and then the second
--- the first. No other pass called meanwhile.
+-- Whether the first store sent the second all that it holds, and then the second store the first, and no other pass called meanwhile. p
+-- to q is the pass at the first desk, and r to s the pass at the second.
 pub record ExchangesBothWays (p p' q r r' s : PassRecord) (x y : Exchanged) : Type 0 where
   pub there : Exchanges p p' r r' None x
   pub back : Exchanges r' s p' q None y
   pub alone_here : CalledAlone p q
   pub alone_there : CalledAlone r s
 
--- If all that took effect in the two is exact, they then hold the same: no two changes of one key, owner and version have two bodies.
+-- A law: if the items that took effect in both stores are exact, both then hold the same.
 abbrev pub ExchangedAlike : Type 0
 ExchangedAlike =
     (p p' q r r' s : PassRecord) (x y : Exchanged) → ExchangesBothWays p p' q r r' s x y →

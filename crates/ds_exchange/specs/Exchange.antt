@@ -1,4 +1,4 @@
--- What an exchange does: from p to q is the pass that asks, from r to s the one that merges.
+-- The effects of an exchange. p to q is the pass at the first desk, which reads, and r to s the one at the second, which merges.
 use Rattle.std.specs.Prelude.{◌≡◌, List, length, Option}
 use Rattle.history.specs.declared.entry.Entry.{Entry}
 use Rattle.ds_feed.specs.declared.cursor.Cursor.{Cursor}
@@ -11,18 +11,18 @@ use Rattle.ds_exchange.specs.declared.exchange.Exchanged.{Exchanged}
 use Rattle.ds_exchange.specs.Telling.{AsksInTurn, EndsTelling, all_told}
 use Rattle.ds_exchange.specs.Giving.{GivesAll, GivesOnly}
 
--- Only these questions were asked, and only what was told was merged.
+-- Whether only the questions of an exchange were called, and only the items of their replies were merged.
 pub record ExchangesOnly (p q r s : PassRecord) (from : Option Cursor) : Type 0 where
   pub own : List (Entry Command Reply)
   pub made : Made p q own
   pub asks : AsksInTurn from own
   pub gives : GivesOnly r s (all_told own)
 
--- The same of the two seats.
+-- Like `ExchangesOnly`, for two seats.
 abbrev pub SeatsExchangeOnly : SeatRecord → SeatRecord → SeatRecord → SeatRecord → Option Cursor → Type 0
 SeatsExchangeOnly a b c d from = IsSameSeat a b × IsSameSeat c d × ExchangesOnly a.pass b.pass c.pass d.pass from
 
--- All was told, and all that was told is merged and counted.
+-- Whether all questions were answered, and all items of their replies were merged and counted.
 pub record Exchanges (p q r s : PassRecord) (from : Option Cursor) (x : Exchanged) : Type 0 where
   pub own : List (Entry Command Reply)
   pub made : Made p q own

@@ -1,4 +1,4 @@
--- The faults of an exchange, and when each comes: from p to q is the pass that asks, from r to s the one that merges.
+-- The faults of an exchange, and the condition of each. p to q is the pass that reads, and r to s the one that merges.
 use Rattle.std.specs.Prelude.{◌≡◌, ◌⊎◌, ℕ, ◌+◌, ◌<◌, List, [], ◌∷◌, ◌++◌, length}
 use Rattle.std.specs.List.{AllByRecursion}
 use Rattle.history.specs.declared.entry.Entry.{Entry}
@@ -21,12 +21,12 @@ use Rattle.ds_exchange.specs.declared.fault.ExchangeFault.TheVariants.{Call, Sto
 use Rattle.ds_exchange.specs.Giving.{GivesAll, IsWholeMerge, all_given}
 use Rattle.ds_exchange.specs.Telling.{all_told}
 
--- The fault of an exchange that reports a Merge's.
+-- The fault of an exchange for the fault of a Merge.
 abbrev pub merge_fault : MergeFault → ExchangeFault
 merge_fault (merges.Desk fault) = Call (calls.Desk fault)
 merge_fault (merges.Stopped done fault) = Stopped done fault
 
--- The store stopped the last call of these after `done` items, or refused it as a whole.
+-- Whether the store stopped the pass's last call after `done` items, or refused it as a whole.
 pub record WasStopped (r s : PassRecord) (done : ℕ) (fault : Refusal) : Type 0 where
   pub front : List (Entry Command Reply)
   pub last : Entry Command Reply
@@ -35,14 +35,14 @@ pub record WasStopped (r s : PassRecord) (done : ℕ) (fault : Refusal) : Type 0
 
 -- ---- out of memory
 
--- Merges did all their items, and more items are left than one Merge may have, so that a part has to be split off.
+-- Whether the Merges so far did all of their items, and more than 256 items are left, so that a part has to be split off.
 pub record LeavesSome (r s : PassRecord) (items : List Item) : Type 0 where
   pub own : List (Entry Command Reply)
   pub made : Made r s own
   pub merges : AllByRecursion IsWholeMerge own
   pub left : length (all_given own) + most_items < length items
 
--- The last question was refused with NoRoom, after all that was told before it was given.
+-- Whether the last question was refused with NoRoom, after the items of all replies before it were merged.
 pub record AskedNoRoom (p q r s : PassRecord) : Type 0 where
   pub before : List (Entry Command Reply)
   pub last : Entry Command Reply
@@ -51,27 +51,27 @@ pub record AskedNoRoom (p q r s : PassRecord) : Type 0 where
   pub taken : ℕ
   pub gives : GivesAll r s (all_told before) taken
 
--- More of what was told is left than one Merge may have.
+-- Whether more than 256 items of the replies are left to merge.
 pub record ToldMore (p q r s : PassRecord) : Type 0 where
   pub own : List (Entry Command Reply)
   pub made : Made p q own
   pub leaves : LeavesSome r s (all_told own)
 
--- The store that was asked is out of memory, or the caller is while it splits off a part. No Merge was stopped.
+-- Whether the first store is out of memory, or the caller is when it splits off a part. No Merge was stopped.
 abbrev pub LacksRoom : PassRecord → PassRecord → PassRecord → PassRecord → Type 0
 LacksRoom p q r s = AskedNoRoom p q r s ⊎ ToldMore p q r s
 
 -- ---- each fault
 
--- The fault of the pass that merges these items.
+-- Whether the fault is that of the pass that merges these items.
 abbrev pub IsGivingFault : PassRecord → PassRecord → List Item → ExchangeFault → Type 0
 IsGivingFault r s items (Call (calls.Desk fault)) = FailsBy r s (calls.Desk fault)
 IsGivingFault r s items (Call (calls.Refused refusal)) = ⊥
 IsGivingFault r s items (Call calls.NoRoom) = LeavesSome r s items
 IsGivingFault r s items (Stopped done fault) = WasStopped r s done fault
 
--- The fault of an exchange: no place is left at one of the desks, the store that gives refused the last question, memory ran out, or
--- the other store stopped the last Merge.
+-- Whether the fault is that of an exchange: no place is left at one of the desks, the first store refused the last question, memory ran
+-- out, or the second store stopped the last Merge.
 abbrev pub IsExchangeFault : PassRecord → PassRecord → PassRecord → PassRecord → ExchangeFault → Type 0
 IsExchangeFault p q r s (Call (calls.Desk fault)) = FailsBy p q (calls.Desk fault) ⊎ FailsBy r s (calls.Desk fault)
 IsExchangeFault p q r s (Call (calls.Refused refusal)) = FailsBy p q (calls.Refused refusal)

@@ -13,25 +13,25 @@ use ds_pass::Seat;
 use ds_reader::go_behind;
 use std::sync::Wait;
 
-/// What an exchange did.
+/// The result of an exchange.
 #[derive(Clone, Copy, Debug, PartialEq, Eq)]
 pub struct Exchanged {
-    /// The cursor from which the next exchange asks.
+    /// The cursor for the next exchange.
     pub cursor: Cursor,
-    /// How many items were given.
+    /// How many items were merged into the second store.
     pub done: u128,
     /// How many of them took effect.
     pub taken: u128,
-    /// Whether there may be more after the cursor.
+    /// Whether the first store may have more items after the cursor.
     pub more: bool,
 }
 
-/// Gives what the store at seat `a` has to the store at seat `b`, while others call both. It may wait.
+/// Sends items from the store at seat `a` to the store at seat `b`, while others call both. May wait.
 ///
-/// With a cursor it gives what took effect from there on, up to 256 items; there may be more if there are 256. Without one it gives
-/// all that is held, by pages of 256, and the cursor is the first page's. The items go to `b` in Merges of at most 256; from then on
-/// `b` holds each, or an item that covers it. `Refused(Behind)` if the journal of `a` doesn't reach back to the cursor: begin again
-/// without one.
+/// With a cursor, sends at most 256 items of the journal of `a` from there on, and `more` says whether there were 256. Without one, sends
+/// all that `a` holds, by pages of 256, and the next cursor is the first page's. The items go to `b` in Merges of at most 256. From then
+/// on `b` holds each of them, or an item that covers it. Fails with `Refused(Behind)` if the journal of `a` doesn't reach back to the
+/// cursor; the caller should then begin again without one.
 pub fn exchange_once<W: Wait>(
     a: &mut Seat<'_, W>,
     b: &mut Seat<'_, W>,
@@ -47,7 +47,7 @@ pub fn exchange_once<W: Wait>(
     }
 }
 
-// Gives what took effect from the cursor on.
+// Sends what took effect from the cursor on.
 fn exchange_since<W: Wait>(
     a: &mut Seat<'_, W>,
     b: &mut Seat<'_, W>,
@@ -68,7 +68,7 @@ fn exchange_since<W: Wait>(
     })
 }
 
-// Gives all that is held, page by page.
+// Sends all that is held, page by page.
 fn exchange_pages<W: Wait>(
     a: &mut Seat<'_, W>,
     b: &mut Seat<'_, W>,

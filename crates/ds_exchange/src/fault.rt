@@ -8,15 +8,15 @@ use thiserror::Error;
 /// Why an exchange between two desks failed.
 #[derive(Clone, Copy, Debug, PartialEq, Eq, Error)]
 pub enum ExchangeFault {
-    /// A question to the store that gives failed, a desk refused a call, or the caller is out of memory.
+    /// A desk refused a call, the first store refused a question, or the caller is out of memory.
     #[error("{0}")]
     Call(CallFault),
-    /// The other store did the first `done` items of a Merge, and refused the next one.
+    /// The second store did the first `done` items of a Merge, and refused the next one.
     #[error("stopped after {done} items: {fault}")]
     Stopped {
         /// How many items were done.
         done: usize,
-        /// Why the next one wasn't.
+        /// Why the next item was refused.
         fault: Refusal,
     },
 }

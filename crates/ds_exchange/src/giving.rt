@@ -1,4 +1,4 @@
-//! Gives items to a store.
+//! Merges of many items into a store.
 
 ghost use Rattle.std.specs.Prelude.{◌≡◌, ◌≤◌, length, take, drop, IfOk, IfErr, OnOk};
 ghost use Rattle.ds_exchange.specs.Faults.{IsGivingFault};
@@ -12,7 +12,7 @@ use ds_pass::Seat;
 use std::mem;
 use std::sync::Wait;
 
-/// Merges the items in their order, at most 256 at a time. Returns how many took effect.
+/// Merges the items in order, at most 256 at a time. Returns how many of them took effect.
 pub(crate) fn give<W: Wait>(seat: &mut Seat<'_, W>, items: Items) -> Result<usize, ExchangeFault>
     ensures only { SeatGivesOnly seat.old seat.new items }
     ensures given { IfOk result (GivesAll seat.old.pass seat.new.pass items) }
@@ -33,7 +33,7 @@ pub(crate) fn give<W: Wait>(seat: &mut Seat<'_, W>, items: Items) -> Result<usiz
     Ok(taken + count)
 }
 
-// Takes the first 256 items off the list.
+// Removes the first 256 items from the list, which has at least as many, and returns them. Fails only if memory runs out.
 fn first_part(items: &mut Items) -> Result<Items, NoRoom>
     requires { 256 ≤ length items.old }
     ensures part { IfOk result (λ part. part ≡ take 256 items.old) }

@@ -1,11 +1,12 @@
-//! A law of two stores that gave each other all that they hold.
+//! A law of two stores that sent each other all that they hold.
 
 ghost use Rattle.ds_exchange.specs.BothWays.{ExchangedAlike};
 
 use ds_machine::answers_say;
 
-/// A law: two stores that gave each other all that they hold, with no other call between, then hold the same, floors and tombstones
-/// included, if all that took effect in the two is exact: no two changes of one key, owner and version have different bodies.
+/// A law: two stores that sent each other all that they hold, with no other call between, then hold the same items.
+///
+/// The law needs that the items of both stores are exact: no two changes of one key, owner and version have different bodies.
 pub fn exchanged_alike()
     ensures { ExchangedAlike }
 {

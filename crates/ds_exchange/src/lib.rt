@@ -1,6 +1,6 @@
-//! Gives what the store at one desk holds to the store at another, while other threads call both.
+//! Sends what the store at one desk holds to the store at another, while other threads call both.
 //!
-//! Two replicas of MINIX 3's data store (DS), and their exchange, are of this project.
+//! MINIX 3's data store (DS) is one. Two replicas and their exchange are this project's.
 #![tactic(auto)]
 
 mod exchange;

@@ -1,43 +1,12 @@
 //! Explains a line that can't be read: which part was expected.
 
 use crate::bad_part::BadPart;
+use crate::found::Found;
+use crate::kind::TextKind;
 use ds_line::{Expected, word_at};
 use ds_script::BadLine;
 use std::rt::Runtime;
-use typed_words::{IfNear, Plain, nearest};
-
-/// The words that lines begin with.
-pub(crate) const COMMANDS: [&str; 29] = [
-    "publish",
-    "delete",
-    "sweep",
-    "retrieve",
-    "nameof",
-    "subscribe",
-    "check",
-    "map",
-    "entries",
-    "offer",
-    "show",
-    "all",
-    "since",
-    "snapshot",
-    "page",
-    "side",
-    "deliver",
-    "clear",
-    "restart",
-    "ring",
-    "settings",
-    "service",
-    "death",
-    "beat",
-    "tick",
-    "assign",
-    "follow",
-    "submit",
-    "reply",
-];
+use typed_words::{COMMANDS, Meant, Plain, nearest};
 
 /// How many bytes of a line are shown before the place, and from it on.
 const BEFORE: usize = 48;
@@ -71,10 +40,22 @@ pub fn explain(rt: &(impl Runtime + AllocGlobal), audience: Audience, bad: &BadL
     };
     match part.stray() {
         Some(stray) => part.say(rt, stray),
-        None if bad.expected == Expected::Command => {
-            explain_word(rt, audience, bad.number, part.rest());
-        }
+        None if bad.expected == Expected::Command => explain_first_word(rt, audience, bad),
         None => part.explain(rt),
+    }
+}
+
+// Explains a line without a command; the first one of a text may show that the text is of another kind.
+fn explain_first_word(rt: &impl Runtime, audience: Audience, bad: &BadLine<'_>) {
+    let kind = match (bad.number, audience) {
+        (1, Audience::File | Audience::Terminal) => TextKind::of(bad.text),
+        _ => None,
+    };
+    match kind {
+        Some(kind) if kind != TextKind::Script => {
+            let _ = eprintln!(rt; "dsctl: line 1, byte 0: a command was expected; {kind}");
+        }
+        _ => explain_word(rt, audience, bad.number, bad.text),
     }
 }
 
@@ -97,7 +78,16 @@ fn explain_word(rt: &impl Runtime, audience: Audience, number: u64, text: &[u8])
     };
     let (word, _) = word_at(text);
     if word.is_empty() {
-        let _ = eprintln!(rt; "line {number}, byte 0: a command was expected: see {help}");
+        let found = Found(text);
+        let _ = eprintln!(rt;
+            "dsctl: line {number}, byte 0: a command was expected; {found} was found: see {help}"
+        );
+        return;
+    }
+    if word == b"script".as_slice() {
+        let _ = eprintln!(rt;
+            "dsctl: line {number}, byte 0: only `script 2` is allowed, as the first line"
+        );
         return;
     }
     match nearest(word, &COMMANDS) {
@@ -108,12 +98,22 @@ fn explain_word(rt: &impl Runtime, audience: Audience, number: u64, text: &[u8])
 
 // Explains a command that is allowed on the first line only.
 fn explain_first(rt: &impl Runtime, number: u64, command: &str) {
-    let _ = eprintln!(rt; "line {number}, byte 0: `{command}` is allowed on the first line only");
+    let _ = eprintln!(rt;
+        "dsctl: line {number}, byte 0: `{command}` is allowed on the first line only"
+    );
 }
 
-// Explains a word that isn't a command, with the nearest one.
-fn explain_unknown(rt: &impl Runtime, number: u64, word: &[u8], near: Option<&str>, help: &str) {
+// Explains a word that isn't a command, with what it may mean.
+fn explain_unknown(
+    rt: &impl Runtime,
+    number: u64,
+    word: &[u8],
+    near: Option<&'static str>,
+    help: &str,
+) {
     let shown = Plain(&word[..word.len().min(FROM)]);
-    let near = IfNear(near);
-    let _ = eprintln!(rt; "line {number}, byte 0: `{shown}` isn't a command{near}: see {help}");
+    let meant = Meant::of(word, near);
+    let _ = eprintln!(rt;
+        "dsctl: line {number}, byte 0: `{shown}` isn't a command{meant}: see {help}"
+    );
 }

@@ -1,5 +1,6 @@
 //! Explains the first bad part of a command, wherever in a line the command begins.
 
+use crate::found::Found;
 use crate::stray::stray_at;
 use crate::wanted::{part, wanted};
 use ds_line::Expected;
@@ -11,8 +12,6 @@ use std::rt::Runtime;
 
 /// The most bytes of a name.
 const LONGEST_NAME: usize = 64;
-
-const CARRIAGE_RETURN: &str = "the end of the line was expected, a carriage return was found";
 
 /// The first bad part of a command's text.
 #[derive(Clone, Copy)]
@@ -65,9 +64,14 @@ impl<'a> BadPart<'a> {
         match self.expected {
             Expected::Name | Expected::Owner | Expected::Label => self.explain_name(rt),
             Expected::Space => self.explain_space(rt),
-            Expected::End => self.say(rt, end_wanted(self.rest())),
-            other => self.say(rt, wanted(other)),
+            Expected::Limit => self.say(rt, wanted(Expected::Limit)),
+            other => self.say_found(rt, wanted(other)),
         }
+    }
+
+    // Writes this sentence about what was expected, and what was found.
+    fn say_found(&self, rt: &impl Runtime, wanted: &str) {
+        say_found_at(rt, self.number, self.place_in_line(), wanted, self.rest());
     }
 
     // Names the missing space, and the part that comes after it.
@@ -77,11 +81,12 @@ impl<'a> BadPart<'a> {
                 let number = self.number;
                 let place = self.place_in_line();
                 let part = part(expected);
+                let found = Found(self.rest());
                 let _ = eprintln!(rt;
-                    "line {number}, byte {place}: a space was expected, and then {part}"
+                    "dsctl: line {number}, byte {place}: a space was expected, and then {part}; {found} was found"
                 );
             }
-            None => self.say(rt, wanted(Expected::Space)),
+            None => self.say_found(rt, wanted(Expected::Space)),
         }
     }
 
@@ -99,31 +104,31 @@ impl<'a> BadPart<'a> {
         expected_of(&read_line(alloc, line))
     }
 
-    // Names a name, owner or label that is empty or too long.
+    // Names a name, owner or label, and how long it is if that is too long.
     fn explain_name(&self, rt: &impl Runtime) {
         let wanted = wanted(self.expected);
         let count = name_bytes(self.rest());
-        if count == 0 || count > LONGEST_NAME {
+        if count > LONGEST_NAME {
             let number = self.number;
             let place = self.place_in_line();
-            let _ = eprintln!(rt; "line {number}, byte {place}: {wanted}; {count} were found");
+            let _ = eprintln!(rt;
+                "dsctl: line {number}, byte {place}: {wanted}; {count} were found"
+            );
         } else {
-            self.say(rt, wanted);
+            self.say_found(rt, wanted);
         }
     }
 }
 
 /// Writes this sentence about a byte of a line.
 pub(crate) fn say_at(rt: &impl Runtime, number: u64, place: usize, said: &str) {
-    let _ = eprintln!(rt; "line {number}, byte {place}: {said}");
+    let _ = eprintln!(rt; "dsctl: line {number}, byte {place}: {said}");
 }
 
-/// Returns the sentence for a line that continues past its end.
-pub(crate) fn end_wanted(rest: &[u8]) -> &'static str {
-    match read_byte(rest, b'\r') {
-        Some(_) => CARRIAGE_RETURN,
-        None => wanted(Expected::End),
-    }
+/// Writes this sentence about a byte of a line, and what was found there.
+pub(crate) fn say_found_at(rt: &impl Runtime, number: u64, place: usize, said: &str, rest: &[u8]) {
+    let found = Found(rest);
+    let _ = eprintln!(rt; "dsctl: line {number}, byte {place}: {said}; {found} was found");
 }
 
 fn expected_of(read: &Result<ScriptCommand, CommandFault>) -> Option<Expected> {

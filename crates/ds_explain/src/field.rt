@@ -1,14 +1,31 @@
-//! Finds the field of settings that a fault is about.
+//! The fields of settings: which there are, what they may have, and whether a table has that.
 
+use crate::given::text_in;
 use ds_names::Name;
-use rs_settings::{SettingsCause, SettingsFault};
-use toml::Table;
+use toml::{Table, Value};
 
 /// The fields at the top.
-const AT_TOP: [&str; 2] = ["slots", "service"];
+pub(crate) const AT_TOP: [&str; 2] = ["slots", "service"];
 
 /// The fields of a service, in the order in which they are judged.
-const OF_SERVICE: [&str; 6] = ["label", "class", "unit", "period", "limit", "publishes"];
+pub(crate) const OF_SERVICE: [&str; 10] = [
+    "label",
+    "class",
+    "unit",
+    "period",
+    "limit",
+    "publishes",
+    "complains",
+    "connects",
+    "forget",
+    "startup",
+];
+
+/// The classes of services.
+pub(crate) const CLASSES: [&str; 4] = ["block", "character", "network", "server"];
+
+/// The most services, and the most names in a field of one.
+pub(crate) const MOST: usize = 64;
 
 /// Returns the fields that exist: a service's if a service is named, else those at the top.
 pub(crate) fn fields_known(service: Option<usize>) -> &'static [&'static str] {
@@ -18,94 +35,99 @@ pub(crate) fn fields_known(service: Option<usize>) -> &'static [&'static str] {
     }
 }
 
-/// Returns the field that a fault is about, among these.
-pub(crate) fn field_of<'a>(fields: &'a Table, fault: SettingsFault) -> &'a str {
-    match fault.cause {
-        SettingsCause::UnknownField => unknown(fields, fields_known(fault.index)),
-        SettingsCause::Missing => missing(fields),
-        SettingsCause::TwoLabels => "label",
-        SettingsCause::TwoUnits => "unit",
-        SettingsCause::SharedName => "publishes",
-        _ => match fault.index {
-            Some(_) => out_of_range(fields),
-            None if has_number(fields, "slots", 1, 1008) => "service",
-            None => "slots",
-        },
+/// Returns what a field may have.
+pub(crate) fn wanted_in(field: &str) -> &'static str {
+    match field {
+        "slots" => "a number from 1 to 1008",
+        "service" => "an array of at most 64 tables",
+        "label" => "1 to 64 letters, digits, `.`, `_` and `-`, and not `rs`,",
+        "class" => "\"block\", \"character\", \"network\" or \"server\"",
+        "unit" => "a number from 0 to 255",
+        "period" | "startup" => "a number from 0 to 1000000",
+        "limit" => "a number from 0 to 1000",
+        "forget" => "a number from 0 to 1000000000",
+        _ => "an array of at most 64 names",
     }
 }
 
-// Returns the first unknown field.
-fn unknown<'a>(fields: &'a Table, known: &[&'static str]) -> &'a str {
-    for key in fields.keys() {
-        let key = key.as_str();
-        if !known.iter().any(|it| *it == key) {
-            return key;
-        }
-    }
-    ""
-}
-
-// Returns the first missing field of those that a service must have.
-fn missing(fields: &Table) -> &'static str {
-    if fields.get("label").is_none() {
-        "label"
-    } else if fields.get("class").is_none() {
-        "class"
-    } else {
-        "unit"
+/// Whether a service must have a field: a server needs no unit.
+pub(crate) fn is_needed(fields: &Table, field: &str) -> bool {
+    match field {
+        "label" | "class" => true,
+        "unit" => !is_server(fields),
+        _ => false,
     }
 }
 
-// Returns the first field of a service whose value is out of range.
-fn out_of_range(fields: &Table) -> &'static str {
-    if !has_label(fields) {
-        "label"
-    } else if !has_class(fields) {
-        "class"
-    } else if text_in(fields, "class") == Some("server") && fields.get("unit").is_some() {
-        "unit"
-    } else if !has_number(fields, "unit", 0, 255) {
-        "unit"
-    } else if !has_number(fields, "period", 0, 1000000) {
-        "period"
-    } else if !has_number(fields, "limit", 0, 1000) {
-        "limit"
-    } else {
-        "publishes"
+/// Whether a field of a service, or of the top, is missing or has what it may have.
+pub(crate) fn is_valid(fields: &Table, field: &str) -> bool {
+    let Some(value) = fields.get(field) else {
+        return true;
+    };
+    match field {
+        "slots" => is_number(value, 1, 1008),
+        "service" => is_short_array(value),
+        "label" => is_label(value),
+        "class" => is_class(value),
+        "unit" => !is_server(fields) && is_number(value, 0, 255),
+        "period" | "startup" => is_number(value, 0, 1000000),
+        "limit" => is_number(value, 0, 1000),
+        "forget" => is_number(value, 0, 1000000000),
+        _ => are_names(value),
     }
 }
 
-// Returns the text in a field.
-fn text_in<'a>(fields: &'a Table, field: &str) -> Option<&'a str> {
-    match fields.get(field) {
-        Some(value) => value.as_str(),
-        None => None,
+/// Whether the class is that of a server.
+pub(crate) fn is_server(fields: &Table) -> bool {
+    text_in(fields, "class") == Some("server")
+}
+
+/// Whether the class is that of a network service, whose units are ports.
+pub(crate) fn is_network(fields: &Table) -> bool {
+    text_in(fields, "class") == Some("network")
+}
+
+// Whether a value is a number from `low` to `high`.
+fn is_number(value: &Value, low: i64, high: i64) -> bool {
+    match value.as_integer() {
+        Some(number) => low <= number && number <= high,
+        None => false,
     }
 }
 
-// Whether the label is valid for a service.
-fn has_label(fields: &Table) -> bool {
-    match text_in(fields, "label") {
+fn is_short_array(value: &Value) -> bool {
+    match value.as_array() {
+        Some(items) => items.len() <= MOST,
+        None => false,
+    }
+}
+
+// Whether a value is a label for a service.
+fn is_label(value: &Value) -> bool {
+    match value.as_str() {
         Some(label) => label != "rs" && Name::read(label.as_bytes()).is_ok(),
         None => false,
     }
 }
 
-// Whether the class is one of the four.
-fn has_class(fields: &Table) -> bool {
-    matches!(
-        text_in(fields, "class"),
-        Some("block" | "character" | "network" | "server")
-    )
+fn is_class(value: &Value) -> bool {
+    match value.as_str() {
+        Some(class) => CLASSES.iter().any(|it| *it == class),
+        None => false,
+    }
 }
 
-// Whether a field is a number from `low` to `high`, or is missing.
-fn has_number(fields: &Table, field: &str, low: i64, high: i64) -> bool {
-    match fields.get(field) {
-        Some(value) => match value.as_integer() {
-            Some(number) => low <= number && number <= high,
-            None => false,
-        },
-        None => true,
+// Whether a value is an array of few enough names.
+fn are_names(value: &Value) -> bool {
+    match value.as_array() {
+        Some(items) => items.len() <= MOST && items.iter().all(is_name),
+        None => false,
+    }
+}
+
+fn is_name(value: &Value) -> bool {
+    match value.as_str() {
+        Some(name) => Name::read(name.as_bytes()).is_ok(),
+        None => false,
     }
 }

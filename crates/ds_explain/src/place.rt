@@ -33,11 +33,19 @@ pub(crate) fn service_line(text: &[u8], service: Option<usize>) -> Option<usize>
     Some(line_at(text, place))
 }
 
-// Returns the place of a service's header, `[[service]]`.
+// Returns the place of a service's header, `[[service]]`; without headers, that of its inline table.
 fn service_place(text: &[u8], index: usize) -> Option<usize> {
+    match place_of(text, b"[[service]]", 0) {
+        Some(_) => place_of(text, b"[[service]]", index),
+        None => place_of(text, b"{", index),
+    }
+}
+
+// Returns the place of the part number `index` of a text that is this.
+fn place_of(text: &[u8], part: &[u8], index: usize) -> Option<usize> {
     let mut seen = 0usize;
     for place in 0..text.len() {
-        if text[place..].starts_with(b"[[service]]") {
+        if text[place..].starts_with(part) {
             if seen == index {
                 return Some(place);
             }

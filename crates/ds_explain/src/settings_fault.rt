@@ -1,30 +1,41 @@
-//! Explains a fault of a settings text: the field, its service, and its line.
+//! Explains the faults of a settings text: each with its line, its service by its label, its field, what is there, and
+//! what was expected.
 
-use crate::field::{field_of, fields_known};
+use crate::field::{OF_SERVICE, fields_known, is_needed, is_valid, wanted_in};
+use crate::given::{Given, service_at, service_count, text_in};
+use crate::kind::TextKind;
 use crate::place::{field_line, line_at, service_line};
+use crate::shared::explain_shared;
 use ds_names::NoRoom;
-use rs_settings::{SettingsCause, SettingsFault};
 use std::fmt;
 use std::rt::Runtime;
 use toml::Table;
 use typed_words::{IfNear, Plain, nearest};
 
-/// Writes to standard error, in one line, which field the first fault of a settings text is about, of which service
-/// (counted from 0), and in which line (from 1), where it is found there. A failed write is ignored.
+/// A settings text, and the document that it is.
+#[derive(Clone, Copy)]
+pub(crate) struct Document<'a> {
+    pub text: &'a [u8],
+    pub table: &'a Table,
+}
+
+/// Writes to standard error each fault of a settings text in a line of its own, in the order in which they are judged:
+/// the line of the text, the service by its label, the field, what is there, and what was expected. A failed write is
+/// ignored.
 ///
 /// NoRoom: out of memory to parse the text again.
-pub fn explain_settings(
-    rt: &(impl Runtime + AllocGlobal),
-    text: &[u8],
-    fault: SettingsFault,
-) -> Result<(), NoRoom> {
+pub fn explain_settings(rt: &(impl Runtime + AllocGlobal), text: &[u8]) -> Result<(), NoRoom> {
     let Ok(document) = std::str::from_utf8(text) else {
-        let _ = eprintln!(rt; "the text isn't UTF-8");
+        let _ = eprintln!(rt; "dsctl: the text isn't UTF-8");
         return Ok(());
     };
     match toml::table_from_str(rt.alloc(), document) {
         Ok(table) => {
-            explain_field(rt, text, &table, fault);
+            let document = Document {
+                text,
+                table: &table,
+            };
+            explain_document(rt, document);
             Ok(())
         }
         Err(error) => explain_text(rt, text, &error),
@@ -38,88 +49,149 @@ fn explain_text(rt: &impl Runtime, text: &[u8], error: &toml::de::Error) -> Resu
     };
     let line = line_at(text, span.start);
     let message = error.message();
-    let _ = eprintln!(rt; "line {line}: {message}");
+    match TextKind::of(text) {
+        Some(kind) if line == 1 && kind != TextKind::Settings => {
+            let _ = eprintln!(rt; "dsctl: line 1: a TOML document was expected; {kind}");
+        }
+        _ => {
+            let _ = eprintln!(rt; "dsctl: line {line}: {message}");
+        }
+    }
     Ok(())
 }
 
-// Explains a fault of a field.
-fn explain_field(rt: &impl Runtime, text: &[u8], table: &Table, fault: SettingsFault) {
-    let field = field_meant(table, fault);
-    let place = Place {
-        service: fault.index,
-        line: line_of(text, field, fault),
-    };
-    let near = match fault.cause {
-        SettingsCause::UnknownField => nearest(field.as_bytes(), fields_known(fault.index)),
-        _ => None,
-    };
-    say(rt, place, field, wrong(fault.cause), near);
+// Explains each fault of a document.
+fn explain_document(rt: &impl Runtime, document: Document<'_>) {
+    explain_unknown(rt, document, None, document.table);
+    for field in fields_known(None) {
+        explain_value(rt, document, None, document.table, field);
+    }
+    for index in 0..service_count(document.table) {
+        explain_service(rt, document, index);
+    }
+    explain_shared(rt, document);
 }
 
-// Returns the field that a fault is about.
-fn field_meant(table: &Table, fault: SettingsFault) -> &str {
-    let fields = match fault.index {
-        Some(index) => service_at(table, index),
-        None => Some(table),
+// Explains each fault of a service of its own.
+fn explain_service(rt: &impl Runtime, document: Document<'_>, index: usize) {
+    let Some(fields) = service_at(document.table, index) else {
+        let place = document.place(Some(index), "service");
+        let _ = eprintln!(rt; "dsctl: {place}a table was expected");
+        return;
     };
-    match fields {
-        Some(fields) => field_of(fields, fault),
-        None => "service",
+    explain_unknown(rt, document, Some(index), fields);
+    for field in OF_SERVICE {
+        if is_needed(fields, field) && fields.get(field).is_none() {
+            let place = document.header(index);
+            let wanted = wanted_in(field);
+            let _ = eprintln!(rt; "dsctl: {place}`{field}` is missing; {wanted} was expected");
+        }
+    }
+    for field in OF_SERVICE {
+        explain_value(rt, document, Some(index), fields, field);
     }
 }
 
-// Returns the line of the field, or of its service if the field is missing.
-fn line_of(text: &[u8], field: &str, fault: SettingsFault) -> Option<usize> {
-    match fault.cause {
-        SettingsCause::Missing => service_line(text, fault.index),
-        _ => field_line(text, fault.index, field.as_bytes()),
-    }
-}
-
-// Writes what is wrong with a field, and the nearest field that exists.
-fn say(rt: &impl Runtime, place: Place, field: &str, wrong: &str, near: Option<&str>) {
-    let shown = Plain(field.as_bytes());
-    let near = IfNear(near);
-    let _ = eprintln!(rt; "{place}: `{shown}` {wrong}{near}");
-}
-
-// Returns the fields of a service.
-fn service_at(table: &Table, index: usize) -> Option<&Table> {
-    let services = match table.get("service") {
-        Some(value) => value.as_array()?,
-        None => return None,
-    };
-    match services.get(index) {
-        Some(service) => service.as_table(),
-        None => None,
-    }
-}
-
-// Returns what is wrong with a field, by the cause.
-fn wrong(cause: SettingsCause) -> &'static str {
-    match cause {
-        SettingsCause::UnknownField => "isn't a field",
-        SettingsCause::Missing => "is missing",
-        SettingsCause::TwoLabels | SettingsCause::TwoUnits => "is another service's, too",
-        SettingsCause::SharedName => "has a name that is published twice",
-        _ => "has the wrong type, or is out of range",
-    }
-}
-
-// The service and the line of a fault.
-#[derive(Clone, Copy)]
-struct Place {
+// Explains each field with a name that no field has.
+fn explain_unknown(
+    rt: &impl Runtime,
+    document: Document<'_>,
     service: Option<usize>,
-    line: Option<usize>,
+    fields: &Table,
+) {
+    let known = fields_known(service);
+    for key in fields.keys() {
+        let key = key.as_str();
+        if known.iter().any(|it| *it == key) {
+            continue;
+        }
+        let place = document.place(service, key);
+        let shown = Plain(key.as_bytes());
+        let near = IfNear(nearest(key.as_bytes(), known));
+        let _ = eprintln!(rt; "dsctl: {place}`{shown}` isn't a field{near}");
+    }
 }
 
-impl fmt::Display for Place {
+// Explains a field that has what it may not have.
+fn explain_value(
+    rt: &impl Runtime,
+    document: Document<'_>,
+    service: Option<usize>,
+    fields: &Table,
+    field: &str,
+) {
+    if is_valid(fields, field) {
+        return;
+    }
+    let Some(value) = fields.get(field) else {
+        return;
+    };
+    let place = document.place(service, field);
+    let given = Given(value);
+    if field == "unit" && text_in(fields, "class") == Some("server") {
+        let _ = eprintln!(rt; "dsctl: {place}`unit` is {given}; a server has none");
+        return;
+    }
+    let wanted = wanted_in(field);
+    let near = IfNear(match (field, value.as_str()) {
+        ("class", Some(class)) => nearest(class.as_bytes(), &crate::field::CLASSES),
+        _ => None,
+    });
+    let _ = eprintln!(rt; "dsctl: {place}`{field}` is {given}; {wanted} was expected{near}");
+}
+
+impl<'a> Document<'a> {
+    /// Returns the place of a field, in a service or at the top.
+    pub(crate) fn place(self, service: Option<usize>, field: &str) -> Place<'a> {
+        Place {
+            line: field_line(self.text, service, field.as_bytes()),
+            service,
+            label: self.label(service),
+        }
+    }
+
+    // Returns the place of a service.
+    fn header(self, index: usize) -> Place<'a> {
+        Place {
+            line: service_line(self.text, Some(index)),
+            service: Some(index),
+            label: self.label(Some(index)),
+        }
+    }
+
+    // Returns the label of a service, if it has one.
+    fn label(self, service: Option<usize>) -> Option<&'a str> {
+        match service_at(self.table, service?) {
+            Some(fields) => text_in(fields, "label"),
+            None => None,
+        }
+    }
+}
+
+/// The line and the service of a fault, as the front of a sentence.
+#[derive(Clone, Copy)]
+pub(crate) struct Place<'a> {
+    pub line: Option<usize>,
+    service: Option<usize>,
+    label: Option<&'a str>,
+}
+
+impl fmt::Display for Place<'_> {
     fn fmt<W: fmt::Write>(&self, f: &mut fmt::Formatter<W>) -> fmt::Result {
-        match (self.service, self.line) {
-            (Some(service), Some(line)) => write!(f, "service {service}, line {line}"),
-            (Some(service), None) => write!(f, "service {service}"),
-            (None, Some(line)) => write!(f, "line {line}"),
-            (None, None) => f.write_str("at the top"),
+        if let Some(line) = self.line {
+            write!(f, "line {line}")?;
+            if self.service.is_some() {
+                f.write_str(", ")?;
+            }
+        }
+        match (self.label, self.service) {
+            (Some(label), _) => {
+                let label = Plain(label.as_bytes());
+                write!(f, "service `{label}`: ")
+            }
+            (None, Some(service)) => write!(f, "service {service}: "),
+            (None, None) if self.line.is_some() => f.write_str(": "),
+            (None, None) => Ok(()),
         }
     }
 }

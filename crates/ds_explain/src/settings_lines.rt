@@ -28,10 +28,33 @@ fn write_service<W: Write>(writer: &mut W, service: &Service) -> io::Result<()> 
     let period = service.period;
     let limit = service.limit;
     let publishes = service.publishes.len();
-    writeln!(
+    write!(
         writer,
         " period {period} limit {limit} publishes {publishes}"
-    )
+    )?;
+    write_extensions(writer, service)?;
+    writer.write_all(b"\n")
+}
+
+// Writes the fields that extend RS, without those that are missing or 0.
+fn write_extensions<W: Write>(writer: &mut W, service: &Service) -> io::Result<()> {
+    if let Some(labels) = &service.complains {
+        let count = labels.len();
+        write!(writer, " complains {count}")?;
+    }
+    if let Some(labels) = &service.connects {
+        let count = labels.len();
+        write!(writer, " connects {count}")?;
+    }
+    if service.forget > 0 {
+        let forget = service.forget;
+        write!(writer, " forget {forget}")?;
+    }
+    if service.startup > 0 {
+        let startup = service.startup;
+        write!(writer, " startup {startup}")?;
+    }
+    Ok(())
 }
 
 fn class_word(class: Class) -> &'static str {

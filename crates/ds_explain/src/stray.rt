@@ -15,20 +15,20 @@ pub(crate) fn stray_at(text: &[u8], place: usize, rest: &[u8]) -> Option<&'stati
     }
     let before = text.get(place - 1).copied();
     if before == Some(b' ') && rest.first().copied() == Some(b' ') {
-        return Some("one space was expected between parts, two were found");
+        return Some("one space was expected between parts; two were found");
     }
     None
 }
 
 // Returns a sentence about what is there instead of a command.
 fn stray_first(rest: &[u8]) -> Option<&'static str> {
-    if rest.starts_with(BYTE_ORDER_MARK) {
-        return Some("a command was expected, a byte order mark was found");
-    }
     match rest.first().copied() {
-        None => Some("a command was expected, the line is empty: a script has no blank lines"),
-        Some(b'#') => Some("a command was expected, a comment was found: a script has none"),
-        Some(b' ') => Some("a command was expected, a space was found"),
+        None => Some(
+            "a command was expected; the line is empty: `script 2` as the first line allows that",
+        ),
+        Some(b'#') => Some(
+            "a command was expected; a comment was found: `script 2` as the first line allows them",
+        ),
         _ => None,
     }
 }

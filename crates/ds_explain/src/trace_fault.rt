@@ -1,5 +1,6 @@
 //! Explains a trace that isn't legal, by its first wrong line.
 
+use crate::kind::TextKind;
 use crate::stray::BYTE_ORDER_MARK;
 use crate::trace_line::{explain_marked, without_newline};
 use std::fmt;
@@ -16,7 +17,7 @@ pub fn explain_trace(rt: &(impl Runtime + AllocGlobal), wrong: &WrongLine<'_>) {
     let number = wrong.number;
     let wanted = WantedThere(*wrong);
     let stood = StoodThere(*wrong);
-    let _ = eprintln!(rt; "line {number}: {wanted}{stood}");
+    let _ = eprintln!(rt; "dsctl: line {number}: {wanted}{stood}");
 }
 
 // What was expected.
@@ -26,42 +27,58 @@ struct WantedThere<'a>(WrongLine<'a>);
 impl fmt::Display for WantedThere<'_> {
     fn fmt<W: fmt::Write>(&self, f: &mut fmt::Formatter<W>) -> fmt::Result {
         let asked = Plain(command_of(self.0.asked));
+        let is_known = !self.0.asked.is_empty();
         match (self.0.wanted, self.0.reply) {
-            (Wanted::Header, _) => f.write_str(header_wanted(self.0.stands)),
+            (Wanted::Header, _) => write_header(f, self.0.stands),
             (Wanted::Entry, _) => f.write_str(ENTRY),
-            (Wanted::Item, _) => write!(
+            (Wanted::Item, _) if is_known => write!(
                 f,
                 "an item of {asked} was expected, `+ CHANGE` or `+ FLOOR`"
             ),
+            (Wanted::Item, _) => f.write_str(ITEM),
             (Wanted::Reply, Some(reply)) => {
                 let reply = Plain(without_newline(reply));
                 write!(f, "the reply to {asked} is \"{reply}\"")
             }
-            (Wanted::Reply, None) => write!(f, "the reply to {asked} was expected"),
+            (Wanted::Reply, None) if is_known => write!(f, "the reply to {asked} was expected"),
+            (Wanted::Reply, None) => f.write_str(REPLY),
         }
     }
 }
 
 const HEADER: &str = "a header was expected, `trace 2 INCARNATION FIRST RING SUBS KEYS`";
 
-const HEADER_MARKED: &str = "a header was expected, a byte order mark was found";
-
-const HEADER_RETURNED: &str =
-    "a header was expected, a carriage return was found at the end of the line";
-
 const ENTRY: &str = "an entry was expected, `> PASS COMMAND`";
 
-// Returns the sentence about a missing header.
-fn header_wanted(stands: Stands<'_>) -> &'static str {
-    let Stands::Line(line) = stands else {
-        return HEADER;
+const ITEM: &str = "an item was expected, `+ CHANGE` or `+ FLOOR`";
+
+const REPLY: &str = "the store's reply was expected, which `dsctl verify` names";
+
+// Writes what a missing header's line has.
+fn write_header<W: fmt::Write>(f: &mut fmt::Formatter<W>, stands: Stands<'_>) -> fmt::Result {
+    let line = match stands {
+        Stands::Line(line) => line,
+        Stands::Nothing => &[],
+        Stands::Long => return write!(f, "{HEADER}, not a line above 4096 bytes"),
     };
+    if line.is_empty() {
+        return write!(f, "{HEADER}, and the trace is empty");
+    }
+    let line = without_newline(line);
     if line.starts_with(BYTE_ORDER_MARK) {
-        HEADER_MARKED
-    } else if without_newline(line).ends_with(b"\r") {
-        HEADER_RETURNED
-    } else {
-        HEADER
+        return f.write_str("a header was expected; a byte order mark was found");
+    }
+    if line.ends_with(b"\r") {
+        return f.write_str(
+            "a header was expected; a carriage return was found at the end of the line",
+        );
+    }
+    match TextKind::of(line) {
+        Some(kind) if kind != TextKind::Trace => write!(f, "a header was expected; {kind}"),
+        _ => {
+            let line = Plain(line);
+            write!(f, "{HEADER}, not \"{line}\"")
+        }
     }
 }
 

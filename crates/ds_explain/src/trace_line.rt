@@ -1,15 +1,15 @@
 //! Explains a trace's line that has the mark of an entry or of an item, but is bad.
 
-use crate::bad_line::COMMANDS;
-use crate::bad_part::{BadPart, end_wanted, say_at};
-use ds_line::word_at;
+use crate::bad_part::{BadPart, say_at, say_found_at};
+use crate::wanted::wanted;
+use ds_line::{Expected, word_at};
 use ds_names::limits::MOST_ITEMS;
 use ds_names::{read_byte, read_decimal};
 use line_io::{LONGEST_LINE, split_line};
 use script_commands::{CommandFault, ScriptCommand, read_line};
 use std::rt::Runtime;
 use trace_check::{Stands, Wanted, WrongLine};
-use typed_words::{IfNear, Plain, nearest};
+use typed_words::{COMMANDS, IfNear, Plain, nearest};
 
 /// The commands of a store.
 const ASKED: [&str; 12] = [
@@ -46,7 +46,7 @@ const COUNT_WANTED: &str = "N was expected, 0 to 256 with no leading zero";
 
 const SPACE_WANTED: &str = "a space was expected, and then N";
 
-const SPACE_TOO_MANY: &str = "a command was expected, a space was found";
+const SPACE_TOO_MANY: &str = "a command was expected; a space was found";
 
 const FLOOR: &str = "a floor was found, and a trace of format 1 has none";
 
@@ -65,21 +65,21 @@ fn explain_entry(rt: &(impl Runtime + AllocGlobal), number: u64, line: &[u8]) ->
         return false;
     };
     let Some((_, rest)) = read_decimal(marked, LAST_PASS) else {
-        say_at(rt, number, 2, PASS_WANTED);
+        say_found_at(rt, number, 2, PASS_WANTED, marked);
         return true;
     };
     let before = line.len().saturating_sub(rest.len());
     match read_byte(rest, b' ') {
         Some(text) => explain_asked(rt, number, text, before.saturating_add(1)),
         None => {
-            say_at(rt, number, before, COMMAND_WANTED);
+            say_found_at(rt, number, before, COMMAND_WANTED, rest);
             true
         }
     }
 }
 
-// Explains an entry's command, after `before` bytes of the line.
-fn explain_asked(
+/// Explains an entry's command, after `before` bytes of the line. Returns whether a part of it is bad.
+pub(crate) fn explain_asked(
     rt: &(impl Runtime + AllocGlobal),
     number: u64,
     text: &[u8],
@@ -96,7 +96,7 @@ fn explain_asked(
     if read_byte(text, b' ').is_some() {
         say_at(rt, number, before, SPACE_TOO_MANY);
     } else {
-        explain_word(rt, number, word, before);
+        explain_word(rt, number, word, text, before);
     }
     true
 }
@@ -104,28 +104,32 @@ fn explain_asked(
 // Explains what comes after the word `merge`.
 fn explain_merge(rt: &impl Runtime, number: u64, rest: &[u8], before: usize) {
     let Some(count) = read_byte(rest, b' ') else {
-        return say_at(rt, number, before, SPACE_WANTED);
+        return say_found_at(rt, number, before, SPACE_WANTED, rest);
     };
     let before = before.saturating_add(1);
     match read_decimal(count, MOST_ITEMS as u64) {
-        None => say_at(rt, number, before, COUNT_WANTED),
+        None => say_found_at(rt, number, before, COUNT_WANTED, count),
         Some((_, end)) => {
             let place = before.saturating_add(count.len().saturating_sub(end.len()));
-            say_at(rt, number, place, end_wanted(end));
+            say_found_at(rt, number, place, wanted(Expected::End), end);
         }
     }
 }
 
 // Explains a word that isn't a command of a store, at a byte of the line.
-fn explain_word(rt: &impl Runtime, number: u64, word: &[u8], place: usize) {
+fn explain_word(rt: &impl Runtime, number: u64, word: &[u8], text: &[u8], place: usize) {
     let shown = Plain(&word[..word.len().min(SHOWN)]);
     if word.is_empty() {
-        say_at(rt, number, place, "a command was expected");
+        say_found_at(rt, number, place, "a command was expected", text);
     } else if is_among(word, &COMMANDS) {
-        let _ = eprintln!(rt; "line {number}, byte {place}: `{shown}` isn't a store's command");
+        let _ = eprintln!(rt;
+            "dsctl: line {number}, byte {place}: `{shown}` isn't a store's command"
+        );
     } else {
         let near = IfNear(nearest(word, &ASKED));
-        let _ = eprintln!(rt; "line {number}, byte {place}: `{shown}` isn't a command{near}");
+        let _ = eprintln!(rt;
+            "dsctl: line {number}, byte {place}: `{shown}` isn't a command{near}"
+        );
     }
 }
 
@@ -133,8 +137,8 @@ fn is_among(word: &[u8], words: &[&str]) -> bool {
     words.iter().any(|it| it.as_bytes() == word)
 }
 
-// Explains an item's line: the item, read as a script's offer.
-fn explain_item(rt: &(impl Runtime + AllocGlobal), number: u64, line: &[u8]) -> bool {
+/// Explains an item's line: the item, read as a script's offer. Returns whether it did.
+pub(crate) fn explain_item(rt: &(impl Runtime + AllocGlobal), number: u64, line: &[u8]) -> bool {
     let Some(item) = line.strip_prefix(b"+ ") else {
         return false;
     };
@@ -148,9 +152,9 @@ fn explain_item(rt: &(impl Runtime + AllocGlobal), number: u64, line: &[u8]) -> 
     explain_command(rt, number, &block, 2, OFFER.len())
 }
 
-// Explains a command with its newline, after `before` bytes of the line, where `added` bytes at its front aren't in the
-// line. If it can be read, its item is one that the trace's format doesn't have.
-fn explain_command(
+/// Explains a command with its newline, after `before` bytes of the line, where `added` bytes at its front aren't in the
+/// line. If it can be read, its item is one that the trace's format doesn't have. Returns whether it did.
+pub(crate) fn explain_command(
     rt: &(impl Runtime + AllocGlobal),
     number: u64,
     text: &[u8],

@@ -17,7 +17,7 @@ pub record Feed : Type 0 where
 abbrev pub opening_feed : ℕ → ℕ → ℕ → Feed
 opening_feed incarnation first ring = record { accepted = []; first = first; ring = ring; incarnation = incarnation }
 
--- The same store after a restart, in another incarnation.
+-- The feed after a restart of its store, in another incarnation.
 abbrev pub restarted : Feed → ℕ → Feed
 restarted f incarnation = opening_feed incarnation f.first f.ring
 

@@ -8,7 +8,7 @@ use Rattle.ds_feed.specs.Feed.{Feed, position, from}
 use Rattle.ds_feed.specs.Since.{fault_at}
 use Rattle.ds_names.specs.Limits.{last_place}
 
--- A journal, as contracts see it.
+-- The contents of a journal.
 pub record Kept : Type 0 where
   -- The last items that took effect, oldest first.
   pub items : List Item
@@ -22,7 +22,7 @@ pub record Kept : Type 0 where
 abbrev pub last_items : ℕ → List Item → List Item
 last_items n items = drop (length items - n) items
 
--- Whether the journal is that of this feed.
+-- Whether the journal has the last items of this feed, at the right position.
 pub record Keeps (j : Kept) (f : Feed) : Type 0 where
   pub items : j.items ≡ last_items f.ring f.accepted
   pub first : j.first ≡ f.first
@@ -30,7 +30,7 @@ pub record Keeps (j : Kept) (f : Feed) : Type 0 where
   pub ring : j.ring ≡ f.ring
   pub incarnation : j.incarnation ≡ f.incarnation
 
--- Whether a ring is allowed: it keeps 1 to 4096 items.
+-- Whether a ring of this size is allowed, 1 to 4096 items.
 pub record IsRing (ring : ℕ) : Type 0 where
   pub some : 0 < ring
   pub limit : ring ≤ 4096
@@ -41,17 +41,17 @@ pub record IsJournal (j : Kept) : Type 0 where
   pub ring : IsRing j.ring
   pub limit : j.position ≤ last_place
 
--- The cursor past all items.
+-- The cursor after the last item.
 abbrev pub cursor_of : Kept → Cursor
 cursor_of j = record { incarnation = j.incarnation; position = j.position }
 
--- Why no journal is opened: the ring is judged first, then the first position; memory can run out only if both are
--- right.
+-- Whether the fault is the first that applies: the ring is judged, then the first position. Memory runs out only if both
+-- are right.
 abbrev pub IsJournalFault : OpenFault → ℕ → ℕ → Type 0
 IsJournalFault BadRing first ring = ¬ IsRing ring
 IsJournalFault BadFirst first ring = IsRing ring × (last_place < first)
 IsJournalFault NoRoom first ring = IsRing ring × (first ≤ last_place)
 
--- Whether the cursor has no fault, and the items from it on are those kept from this index on.
+-- Whether the cursor isn't refused, and the feed's items after it are those in the journal from this index on.
 abbrev pub IsStart : Kept → Feed → Cursor → ℕ → Type 0
 IsStart j f at i = (fault_at f at ≡ None) × (drop i j.items ≡ from f at.position)

@@ -10,23 +10,23 @@ use Rattle.ds_feed.specs.declared.cursor.Cursor.{Cursor}
 use Rattle.ds_feed.specs.Since.{prefix}
 use Rattle.ds_feed.specs.Page.{still_to_come, changes_of, page_of}
 
--- Whether the part is the prefix that ends with the max-th item that passes the test, or all items.
+-- Whether the part is the prefix of the items that ends with the `max`-th that passes the test, or all items.
 pub record IsShortest (test : Item → Bool) (max : ℕ) (items part : List Item) : Type 0 where
   pub front : part ≡ take (length part) items
   pub full_or_all : (length (filter test part) ≡ max) ⊎ (part ≡ items)
   pub shortest : (n : ℕ) → n < length part → length (filter test (take n items)) < max
 
--- A law: `prefix` is the shortest one.
+-- A law: `prefix` is the shortest prefix with `max` items that pass the test, or all items.
 abbrev pub PrefixIsShortest : Type 0
 PrefixIsShortest = (test : Item → Bool) (max : ℕ) (items : List Item) → IsShortest test max items (prefix test max items)
 
--- A law: a request for `m` items, then for `n` after them, returns what one request for all of them returns.
+-- A law: a request for `m` items, and one for `n` after those, together return what one request for `m + n` returns.
 abbrev pub PrefixesJoin : Type 0
 PrefixesJoin =
     (test : Item → Bool) (m n : ℕ) (items : List Item) →
     prefix test (m + n) items ≡ prefix test m items ++ prefix test n (drop (length (prefix test m items)) items)
 
--- A law: after the last change of a page, the pages that follow have exactly what that page left. Nothing is missing
+-- A law: the pages after the last change of a page have exactly the items that the page left out. Nothing is missing
 -- between two pages, and nothing is returned twice.
 abbrev pub PagesGoOn : Type 0
 PagesGoOn =

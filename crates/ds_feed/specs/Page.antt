@@ -1,4 +1,4 @@
--- What is returned of what is held: everything, or a page.
+-- Snapshots and pages of what is held.
 use Rattle.std.specs.Prelude.{ℕ, Bool, true, false, not, nat_le, List, ◌++◌, length, take, filter, Option, Some, None}
 use Rattle.std.specs.Ordering.{is_lt}
 use Rattle.ds_names.specs.declared.key.Key.{Key}
@@ -13,8 +13,8 @@ abbrev pub is_floor : Item → Bool
 is_floor (Changed c) = false
 is_floor (Floored f) = true
 
--- Whether the item belongs on a page after this key: a change with a greater key. Floors come before all keys, so
--- they belong only on the first page, which is after no key.
+-- Whether the item belongs after this key. A change does if its key is greater. A floor belongs only on the first page,
+-- which comes after no key.
 abbrev pub is_behind_key : Option Key → Item → Bool
 is_behind_key None i = true
 is_behind_key (Some after) (Changed c) = is_lt (key_cmp after c.key)
@@ -24,7 +24,7 @@ is_behind_key (Some after) (Floored f) = false
 abbrev pub snapshot_of : (Item → Bool) → List Item → Cursor → Snapshot
 snapshot_of test held cursor = record { items = filter test held; cursor = cursor }
 
--- The items that a page after the key and all further ones are to return.
+-- The items that the page after the key and all later pages return.
 abbrev pub still_to_come : (Item → Bool) → Option Key → List Item → List Item
 still_to_come test after held = filter (is_behind_key after) (filter test held)
 
@@ -34,7 +34,7 @@ floors_of items = filter is_floor items
 abbrev pub changes_of : List Item → List Item
 changes_of items = filter (λ i. not (is_floor i)) items
 
--- A page: the floors to come, then the first `max` changes. It is the last one if no more changes are to come.
+-- The page after a key: its floors, if any, then the first `max` changes. It is the last page if no change is left.
 abbrev pub page_of : (Item → Bool) → Option Key → ℕ → List Item → Cursor → Page
 page_of test after max held cursor = record {
   items = floors_of (still_to_come test after held) ++ take max (changes_of (still_to_come test after held));

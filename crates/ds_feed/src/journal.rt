@@ -18,7 +18,7 @@ use std::alloc::Global;
 use std::marker::Model;
 use thiserror::Error;
 
-/// Why no journal is opened. Causes are judged in this order.
+/// Why a journal can't be opened. The causes are judged in this order.
 #[derive(Clone, Copy, Debug, PartialEq, Eq, Error)]
 pub enum OpenFault {
     /// The ring isn't 1 to 4096.
@@ -32,7 +32,7 @@ pub enum OpenFault {
     NoRoom,
 }
 
-/// Why a cursor isn't answered. Causes are judged in this order.
+/// Why a cursor is refused. The causes are judged in this order.
 #[derive(Clone, Copy, Debug, PartialEq, Eq, Error)]
 pub enum SinceFault {
     /// The cursor is of another incarnation.
@@ -62,8 +62,8 @@ impl From<NoRoom> for SinceFault {
 
 /// The last items that took effect in a store, and the position of the next one.
 ///
-/// Positions begin at `first` and rise by one with each item. The ring is allocated once, so adding an item allocates
-/// nothing.
+/// The first item has position `first`, and each item's position is one above that of the item before it. The ring is
+/// allocated once, so appending an item takes no memory.
 #[derive(Drop)]
 pub struct Journal {
     incarnation: u64,
@@ -84,8 +84,10 @@ impl Model for Journal {
 }
 
 impl Journal {
-    /// Opens an empty journal of this incarnation that keeps the last `ring` items; the first item will have position
-    /// `first`. BadRing unless the ring is 1 to 4096, then BadFirst if `first` is above 2^62.
+    /// Opens an empty journal that keeps the last `ring` items, and whose first item gets position `first`.
+    ///
+    /// Refuses a ring of 0 or above 4096 as BadRing, then a `first` above 2^62 as BadFirst. Then reports NoRoom if memory
+    /// runs out.
     pub fn new(alloc: Global, incarnation: u64, first: u64, ring: u32) -> Result<Journal, OpenFault>
         ensures opened { IfOk result (λ journal. Keeps journal (opening_feed incarnation first ring)) }
         ensures fits { OnOk result (IsRing ring × (first ≤ last_place)) }
@@ -108,7 +110,7 @@ impl Journal {
         }
     }
 
-    /// Empties the journal for another incarnation. It keeps the first position and the ring, and allocates nothing.
+    /// Empties the journal for another incarnation. The first position and the ring are unchanged. Takes no memory.
     pub fn restart(&mut self, incarnation: u64)
         ensures { (f : Feed) → Keeps self.old f → Keeps self.new (restarted f incarnation) }
     {
@@ -117,7 +119,7 @@ impl Journal {
         self.incarnation = incarnation;
     }
 
-    /// Appends the next item; a full ring loses its oldest one. It allocates nothing.
+    /// Appends the next item. A full ring loses its oldest one. Takes no memory.
     #[inline(always)]
     pub fn push(&mut self, item: Item)
         requires { self.old.position < last_place }
@@ -127,7 +129,7 @@ impl Journal {
         self.position += 1;
     }
 
-    /// Returns the cursor past all items.
+    /// Returns the cursor after the last item.
     pub fn cursor(&self) -> Cursor
         ensures value { result ≡ cursor_of self.now }
         ensures journal { IsJournal self.now }
@@ -147,8 +149,8 @@ impl Journal {
 
     /// Returns the first `max` items from the cursor on, or all.
     ///
-    /// OldCursor if the cursor is of another incarnation. Ahead if it is past the position of the next item. Behind
-    /// if the ring doesn't reach back to it. NoRoom comes last.
+    /// Refuses a cursor of another incarnation as OldCursor, then one past the position of the next item as Ahead, then one
+    /// that the ring doesn't reach back to as Behind. Then reports NoRoom if memory runs out.
     pub fn since(&self, alloc: Global, cursor: Cursor, max: u32) -> Result<Since, SinceFault>
         ensures given { (f : Feed) → Keeps self.now f → IfOk result (IsGiven f (passes all_keys) cursor max) }
         ensures items { (f : Feed) → Keeps self.now f → IfOk result (λ since. since.items ≡ take max (from f cursor.position)) }
@@ -157,10 +159,10 @@ impl Journal {
         self.since_under(alloc, &mut AllKeys, cursor, max)
     }
 
-    /// Like `since`, for the items under a scope, with the cursor after the last item looked at. It looks at no more
-    /// items than it takes to find `max` under the scope. A floor is under every scope.
+    /// Like `since`, for the items under a scope, with the cursor after the last item looked at. A floor is under every
+    /// scope.
     ///
-    /// It copies only the items that it returns.
+    /// Looks at no more items than it takes to find `max` of them, and copies only those that it returns.
     pub fn since_under<S: KeyScope>(
         &self,
         alloc: Global,
@@ -194,7 +196,7 @@ impl Journal {
         })
     }
 
-    // Returns the index in the ring of the item after the cursor.
+    // Returns the index in the ring of the item after the cursor, or why the cursor is refused.
     fn start(&self, cursor: Cursor) -> Result<usize, SinceFault>
         ensures found { (f : Feed) → Keeps self.now f → IfOk result (IsStart self.now f cursor) }
         ensures within { IfOk result (λ i. i ≤ length self.now.items) }
@@ -205,8 +207,8 @@ impl Journal {
     }
 }
 
-// Appends a copy of the item if it is under the scope, as every floor is, and returns whether it is. A change and a
-// floor are copied in separate arms: a copy that may be either would be moved once more.
+// Appends a copy of the item if it is under the scope, and returns whether it is. A floor always is. A change and a floor
+// are copied in separate arms, which saves one move.
 fn add<S: KeyScope>(
     alloc: Global,
     scope: &mut S,
@@ -229,7 +231,7 @@ fn add<S: KeyScope>(
     Ok(true)
 }
 
-// Returns the index of the item after the cursor among the last `kept` ones.
+// Returns the index of the item after the cursor among the last `kept` items, or why the cursor is refused.
 fn place(incarnation: u64, position: u64, kept: usize, cursor: Cursor) -> Result<usize, SinceFault>
     requires { position ≤ last_place }
     ensures found { IfOk result (λ i. (place_fault incarnation position kept cursor ≡ None) × (cursor.position + kept ≡ position + i)) }

@@ -1,7 +1,7 @@
-//! The journal: the last items that took effect in a store, which a reader gets from a cursor on.
+//! The journal: the last items that took effect in a store. A reader gets those from a cursor on.
 //!
-//! The journals of replicas, and the cursor from which a subscriber that was away catches up, are of this project. A
-//! subscriber of MINIX 3's data store is notified of a change, and checks.
+//! A subscriber of MINIX 3's data store is notified of a change, and checks. Journals, and the cursor from which a
+//! subscriber catches up after it was away, are this project's.
 #![tactic(auto)]
 
 mod cursor;

@@ -2,15 +2,15 @@
 
 use ds_names::Key;
 
-/// A set of keys with a test for membership, which can't fail. A test may update buffers, so it takes `&mut`, but the
-/// set is unchanged.
+/// A set of keys, with a test for membership that can't fail. The test takes `&mut` for its buffers; the set is
+/// unchanged.
 pub trait KeyScope {
     ghost use Rattle.std.specs.Prelude.{◌≡◌, Bool};
     ghost use Rattle.ds_names.specs.declared.key.Key.{Key};
 
     ghost keeps: { Self → Key → Bool };
 
-    /// Whether the key is in the set.
+    /// Returns whether the key is in the set.
     fn admits(&mut self, key: &Key) -> bool
         ensures answer { result ≡ keeps self.old key.now }
         ensures same { keeps self.new ≡ keeps self.old };

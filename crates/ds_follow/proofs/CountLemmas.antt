@@ -1,4 +1,4 @@
--- Two sorted lists of items, where each of the one has its match in the other; and what stands in front of an item.
+-- Two sorted lists, where each item of one has its match in the other, and the items in front of an item.
 use Rattle.std.proofs.Common.{◌≡◌, ◌⊎◌, ℕ, zero, suc, ◌+◌, ◌≤◌, Bool, not, List, [], ◌∷◌, take, filter, Some, Contains, refl, ap, sym, ◌∙◌, subst, inl, inr, arith}
 use Rattle.std.specs.Prelude.{slice_get}
 use Rattle.std.specs.List.Sorted.{IsStrictlySortedBy}
@@ -95,7 +95,7 @@ module _ (w : Item → ℕ) where
         let dropped = total_dropped w apart others c h (ap (λ (o : Ordering). not (is_eq o)) (tied_itself items_total c)) in
         omega (arith, without, dropped)
 
--- ---- what is less than an item stands in front of it, in each front of the list
+-- ---- items less than an item are in front of it, in each prefix of the list
 in_front : (m n : ℕ) (xs : List Item) (x y : Item) → IsStrictlySortedBy item_cmp xs → In x xs → slice_get (take m xs) n ≡ Some y → item_cmp x y ≡ Less → In x (take n (take m xs))
 unfolding IsStrictlySortedBy
 in_front m n [] x y s h e l = absurd h

@@ -203,7 +203,7 @@ module _ (s t : State) (sub : ℕ) (query : Query) (stamp max before after : ℕ
           let same : Changed d ≡ Changed c = reached.exact (Changed d) (Changed c) (accepted (Changed d) there) (all.among (Changed c) here) above back in
           ap (body_or d.body) same
 
-    -- so no other answer than want of memory is a refusal
+    -- so out-of-memory is the only refusal
     no_answer : (fault : JoinFault) → fault ≢ NoRoom → (o : Option ChangeRecord) (void : Bool) → held_for new c.key ≡ o → AnswersFor o void (held_count new) new.limits.keys c (Err fault) → ⊥
     no_answer fault never None true is a = let no : Err fault ≡ Ok Stale = a in cc
     no_answer NotOwner never None false is a = a

@@ -1,4 +1,4 @@
--- When a map goes on following a store.
+-- Maps that continue to follow a store.
 use Rattle.std.proofs.Common.{◌≡◌, ◌⊎◌, ℕ, ◌<◌, Bool, true, false, List, [], ◌++◌, length, take, Option, Some, None, Contains, refl, sym, ◌∙◌, subst, inl, inr, arith}
 use Rattle.std.specs.List.{list_any}
 use Rattle.std.proofs.lemmas.List.Elements.{Contains-append_left, Contains-append_cases}
@@ -41,7 +41,7 @@ stays_reached es s t r run = runs_stay_reached s t (commands_of es) (replies_of 
 pub later : (es : List (Entry Command Reply)) (s t : State) → IsReached s → Run Answered s es t → GoesOn s t
 later es s t r run = runs_go_on s t (commands_of es) (replies_of es) r (histories_run es s t run)
 
--- a later store, in which the subscription is as it was
+-- a later store, in which the subscription is unchanged
 module _ (s t : State) (sub : ℕ) (query : Query) (stamp : ℕ) (map : List Item) (r : IsReached s) (q : IsReached t) (goes : GoesOn s t) (same : subscription_at t sub ≡ subscription_at s sub)
     (f : FollowsStore s sub query stamp map) where
   accepted_stays : IsPartOf s.feed.accepted t.feed.accepted

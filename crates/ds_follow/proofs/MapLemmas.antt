@@ -34,7 +34,7 @@ module _ (accepted held : List Item) (exact : AreExact accepted) (top : IsTop he
     | inr k ↦ under_part query items accepted (λ x m. top.among x (part x m)) i k
   ]
 
-  -- a held item that comes to the map is in it then
+  -- a held item that reaches the map is in it then
   stays : (i : Item) → Contains held i → Contains (old ++ under (is_under query) items) i → Contains new i
   stays i h k =
       let e = t.greatest i k in

@@ -1,4 +1,4 @@
--- How a subscriber's own Subscribe and Checks keep its map up with a store, whatever commands others send.
+-- Laws of a map that follows a store by its subscriber's own Subscribe and Checks, whatever commands others send.
 use Rattle.std.specs.Prelude.{◌≡◌, ◌≢◌, ◌⊎◌, ℕ, ◌<◌, true, false, List, [], ◌++◌, length, take, slice_get, Contains, Some}
 use Rattle.history.specs.declared.entry.Entry.{Entry}
 use Rattle.history.specs.History.{Run}
@@ -26,17 +26,17 @@ use Rattle.ds_follow.specs.Follower.{FollowsStore, IsTakenOver, IsCurrent}
 
 -- ---- over others' calls
 
--- After any calls, the map continues to follow, or the subscription was replaced.
+-- A law: after any calls, the map still follows, or the subscription was replaced.
 abbrev pub FollowsOn : Type 0
 FollowsOn =
     (es : List (Entry Command Reply)) (s t : State) (sub : ℕ) (query : Query) (stamp : ℕ) (map : List Item) → IsReached s →
     Run Answered s es t → FollowsStore s sub query stamp map → FollowsStore t sub query stamp map ⊎ IsTakenOver t sub stamp
 
--- None of the calls was for the subscription.
+-- Whether none of the calls was for the subscription.
 abbrev pub AreForOthers : ℕ → List (Entry Command Reply) → Type 0
 AreForOthers sub es = (e : Entry Command Reply) → Contains es e → uses sub e.command ≡ false
 
--- After such calls the map continues to follow.
+-- A law: after calls of which none was for the subscription, the map still follows.
 abbrev pub FollowsAlone : Type 0
 FollowsAlone =
     (es : List (Entry Command Reply)) (s t : State) (sub : ℕ) (query : Query) (stamp : ℕ) (map : List Item) → IsReached s →
@@ -44,13 +44,13 @@ FollowsAlone =
 
 -- ---- the subscriber's own calls
 
--- After a Subscribe with INITIAL the empty map follows.
+-- A law: after a Subscribe with INITIAL, the empty map follows.
 abbrev pub FollowsFirst : Type 0
 FollowsFirst =
     (s t : State) (sub : ℕ) (query : Query) (stamp owed : ℕ) → IsReached s →
     Step s (Subscribe sub query true true) (Subscribed stamp owed) t → FollowsStore t sub query stamp []
 
--- With the items of a Check the map follows. If there are fewer than `max`, it has all.
+-- Whether the map follows after it took the items of a Check. If there were fewer than `max`, the map is current.
 pub record IsRefreshed (t : State) (sub : ℕ) (query : Query) (max after : ℕ) (items map : List Item) : Type 0 where
   pub follows : FollowsStore t sub query after map
   pub current : length items < max → IsCurrent t query map
@@ -61,32 +61,31 @@ FollowsCheck =
     FollowsStore s sub query stamp old → Step s (Check sub max) (Checked items before after) t →
     IsTop new (old ++ under (is_under query) items) → IsRefreshed t sub query max after items new
 
--- ---- the stamp that a Check shows, if the map followed some calls before it
+-- ---- the stamp that a Check returns, if the map followed some calls before it
 
--- It isn't the subscriber's last stamp: some call between was for the subscription.
+-- A law: if a Check returns another stamp than the subscriber's last one, some call between was for the subscription.
 abbrev pub TellsOthers : Type 0
 TellsOthers =
     (es : List (Entry Command Reply)) (s m t : State) (sub : ℕ) (query : Query) (stamp max before after : ℕ) (items map : List Item) →
     IsReached s → FollowsStore s sub query stamp map → Run Answered s es m → Step m (Check sub max) (Checked items before after) t →
     before ≢ stamp → (e : Entry Command Reply) × Contains es e × (uses sub e.command ≡ true)
 
--- It is the subscriber's last stamp: the map still follows.
+-- A law: if a Check returns the subscriber's last stamp, the map still followed before the Check.
 abbrev pub TellsOwn : Type 0
 TellsOwn =
     (es : List (Entry Command Reply)) (s m t : State) (sub : ℕ) (query : Query) (stamp max before after : ℕ) (items map : List Item) →
     IsReached s → FollowsStore s sub query stamp map → Run Answered s es m → Step m (Check sub max) (Checked items before after) t →
     before ≡ stamp → FollowsStore m sub query stamp map
 
--- ---- room in the map
+-- ---- refusals of the map
 
--- What a map holds that took the first `n` items of a Check.
+-- Whether `new` is the holding of a map that took the first `n` items of a Check.
 pub record TookFirst (query : Query) (old new : Holding) (items : List Item) (n : ℕ) : Type 0 where
   pub sound : IsSound new
   pub limits : new.limits ≡ larger
   pub top : IsTop (held_items new) (held_items old ++ under (is_under query) (take n items))
 
--- The next item is refused only if memory runs out: what is held for its key has its owner, and no other body in its version, and
--- there is room for its key, or for its owner's floor.
+-- A law: a map that took the first items of a Check refuses the next one only if memory runs out.
 abbrev pub ChecksFit : Type 0
 ChecksFit =
     (s t : State) (sub : ℕ) (query : Query) (stamp max before after : ℕ) (items : List Item) (old new : Holding) (n : ℕ) (next : Item)

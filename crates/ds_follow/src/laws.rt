@@ -1,13 +1,13 @@
-//! The laws of followers, and of what was merged.
+//! Laws of followers, and of merged items.
 
 ghost use Rattle.ds_follow.specs.Laws.{ChecksFit, FollowsAlone, FollowsCheck, FollowsFirst, FollowsOn, TellsOthers, TellsOwn};
 ghost use Rattle.ds_follow.specs.Merged.{MergedStaysHeld};
 
-/// A law: a subscriber's own Subscribe and Checks keep its map up with a store.
+/// Laws of a map that follows a store by its subscriber's own Subscribe and Checks.
 ///
-/// Whatever commands others send, the map continues to follow, or its subscription has a greater stamp, which the next Check shows.
-/// A Subscribe with INITIAL begins with an empty map. With the items of a Check the map follows; if they are fewer than were asked
-/// for, the map is what the store holds under the query. The map refuses an item of a Check only if memory runs out.
+/// After a Subscribe with INITIAL, an empty map follows. After it takes the items of a Check, it still follows. If the Check returned fewer
+/// items than it may, the map is what the store holds under the query. Whatever commands others send, the map still follows, or the
+/// subscription has a greater stamp, which the next Check returns. The map refuses an item of a Check only if memory runs out.
 pub fn followers_follow()
     ensures on { FollowsOn }
     ensures alone { FollowsAlone }
@@ -18,8 +18,9 @@ pub fn followers_follow()
     ensures fit { ChecksFit }
 {}
 
-/// A law: a store continues to hold the items that were merged into it, whatever commands come: for each change its version or a
-/// greater one, or a floor that makes it void, and for each floor one that is at least as great.
+/// A law: a store continues to hold the items that were merged into it, whatever commands it gets.
+///
+/// For each change it holds at least its version, or a floor that makes it void. For each floor it holds one at least as high.
 pub fn merged_items_stay()
     ensures { MergedStaysHeld }
 {}

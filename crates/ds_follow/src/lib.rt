@@ -1,8 +1,8 @@
-//! Laws over histories of a store: when a subscriber's map follows it, whatever commands others send meanwhile, and what it continues
-//! to hold of items that were merged into it.
+//! Laws over the histories of a store: how a subscriber's map follows it while others send commands, and what the store continues to hold
+//! of merged items.
 //!
-//! A subscriber of MINIX 3's data store (DS) is notified of a change, and checks what changed (the DS interface of MINIX 3). Stamps, by
-//! which it learns that another program replaced its subscription, are of this project.
+//! A subscriber of MINIX 3's data store (DS) is notified of a change, and checks what changed (the DS interface of MINIX 3). By a stamp, a
+//! subscriber learns that another program replaced its subscription. Stamps are this project's.
 #![tactic(auto)]
 
 mod laws;

@@ -11,10 +11,6 @@ use Rattle.ds_held.specs.Held.{change_item}
 use Rattle.ds_held.specs.Kept.{floored}
 use Rattle.ds_held.proofs.JoinLemmas.{get_front, get_back}
 
-pub found_at : {X : Type 0} (xs : List X) (i : ℕ) (r : Option (Bor X)) → IsItemAt xs i r → option_copied r ≡ slice_get xs i
-found_at xs i (Some x) h = ap (λ y. Some y) h.1 ∙ sym (slice_get-get_or xs i x.now h.3.0)
-found_at xs i None h = sym (slice_get_past xs i h.3)
-
 module _ (fs : List Floor) (cs : List ChangeRecord) where
   -- The element at an index of floors and then changes, as items.
   pub floor_item_at : (i : ℕ) (f : Floor) → i < length fs → f ≡ get_or fs i f → Some (floored f) ≡ slice_get (map floored fs ++ map change_item cs) i

@@ -1,11 +1,12 @@
 -- A binary search for a key in a list in key order.
-use Rattle.std.proofs.Common.{◌≡◌, ℕ, zero, suc, ◌<◌, ◌≤◌, List, [], ◌∷◌, length, get_or, map, Result, Ok, Err, refl, sym, subst, arith}
+use Rattle.std.proofs.Common.{◌≡◌, ℕ, zero, suc, ◌+◌, ◌<◌, ◌≤◌, List, [], ◌∷◌, length, get_or, map, Bool, true, false, Result, Ok, Err, refl, sym, ap, ◌∙◌, subst, arith}
+use Rattle.std.proofs.lemmas.List.{get_or_read}
 use Rattle.std.specs.declared.cmp.Ordering.{Ordering}
 use Rattle.std.specs.declared.cmp.Ordering.TheVariants.{Less, Equal, Greater}
 use Rattle.std.specs.Ordering.{ordering_index}
 use Rattle.std.specs.Cmp.{IsTotalOrder}
-use Rattle.std.specs.List.{AllByRecursion}
-use Rattle.std.specs.List.Sorted.{IsStrictlySortedBy, IsNonDecreasingBy, IsSearchInRange, IsBinarySearchResult}
+use Rattle.std.specs.List.{AllByRecursion, AllWithin}
+use Rattle.std.specs.List.Sorted.{IsStrictlySortedBy, IsNonDecreasingBy, IsPartitionedBy, IsSearchInRange, IsBinarySearchResult}
 use Rattle.std.specs.FinMap.{is_sorted}
 use Rattle.std.specs.FinMap.Entries.{below_all}
 use lib.Dec.{T}
@@ -16,6 +17,16 @@ few : (r : Ordering) → ordering_index r ≤ 2
 few Less = omega arith
 few Equal = omega arith
 few Greater = omega arith
+
+least : (r : Ordering) → ordering_index r ≤ 0 → r ≡ Less
+least Less l = refl
+least Equal l = absurd (omega (arith, l))
+least Greater l = absurd (omega (arith, l))
+
+most : (r : Ordering) → 2 ≤ ordering_index r → r ≡ Greater
+most Less l = absurd (omega (arith, l))
+most Equal l = absurd (omega (arith, l))
+most Greater l = refl
 
 pub at : {X : Type 0} (P : X → Type 0) (xs : List X) (j : ℕ) (d : X) → AllByRecursion P xs → j < length xs → P (get_or xs j d)
 at P [] j d a l = absurd (omega (arith, l))
@@ -53,3 +64,36 @@ module _ {K V X : Type 0} (R : K → K → Ordering) (total : IsTotalOrder R) (e
   pub place_from_search : (xs : List X) (k : K) (r : Result ℕ ℕ) → T (is_sorted R (map {B = K × V} row xs)) → IsSearchInRange r (length xs) → IsBinarySearchResult (λ (x : X). R (row x).0 k) xs r → IsPlaceOf R (λ (x : X). (row x).0) xs k r
   place_from_search xs k (Ok i) s w h = (w, h)
   place_from_search xs k (Err i) s w h = (w, h (orders_rise k xs s))
+
+  -- what comes before an element before the sought key, and after one after it
+  module _ (k : K) (xs : List X) (sorted : T (is_sorted R (map {B = K × V} row xs))) (i : ℕ) (x : X) (within : i < length xs) (read : x ≡ get_or xs i x) where
+    pub less_upto : R (row x).0 k ≡ Less → AllWithin (λ (y : X). R (row y).0 k ≡ Less) xs 0 (i + 1)
+    less_upto less j d a b =
+        least (R (row (get_or xs j d)).0 k)
+        (subst (λ (r : Ordering). ordering_index (R (row (get_or xs j d)).0 k) ≤ ordering_index r) (ap (λ (y : X). R (row y).0 k) (sym (get_or_read xs i x within read d)) ∙ less)
+        (orders_rise k xs sorted j i d (omega (arith, b)) within))
+
+    pub greater_from : R (row x).0 k ≡ Greater → AllWithin (λ (y : X). R (row y).0 k ≡ Greater) xs i (length xs)
+    greater_from greater j d a b =
+        most (R (row (get_or xs j d)).0 k)
+        (subst (λ (r : Ordering). ordering_index r ≤ ordering_index (R (row (get_or xs j d)).0 k)) (ap (λ (y : X). R (row y).0 k) (sym (get_or_read xs i x within read d)) ∙ greater)
+        (orders_rise k xs sorted i j d a b))
+
+-- The same where the elements that pass a test come first.
+module _ {X : Type 0} (p : X → Bool) (xs : List X) (parted : IsPartitionedBy p xs) (i : ℕ) (x : X) (within : i < length xs) (read : x ≡ get_or xs i x) where
+  pub passed_upto : p x ≡ true → AllWithin (λ (y : X). p y ≡ true) xs 0 (i + 1)
+  passed_upto t j d a b = parted j i d (omega (arith, b)) within (ap p (sym (get_or_read xs i x within read d)) ∙ t)
+
+  pub failed_from : p x ≡ false → AllWithin (λ (y : X). p y ≡ false) xs i (length xs)
+  failed_from t j d a b = by_test (p (get_or xs j d)) refl
+    where
+      by_test : (r : Bool) → p (get_or xs j d) ≡ r → r ≡ false
+      by_test true e = sym (parted i j d a b e) ∙ ap p (sym (get_or_read xs i x within read d)) ∙ t
+      by_test false e = refl
+
+-- Nothing is before the first element, or after the last.
+pub none_before : {X : Type 0} (P : X → Type 0) (xs : List X) → AllWithin P xs 0 0
+none_before P xs k d a b = absurd (omega (arith, b))
+
+pub none_after : {X : Type 0} (P : X → Type 0) (xs : List X) (n : ℕ) → length xs ≤ n → AllWithin P xs n (length xs)
+none_after P xs n l k d a b = absurd (omega (arith, a, b, l))

@@ -2,6 +2,7 @@
 
 use ds_entry::Change;
 use ds_names::{Key, Kind};
+use ds_rows::Rows;
 use std::alloc::{AllocError, Global};
 use std::hash::{FoldHasher, Hasher};
 
@@ -14,9 +15,13 @@ const FEWEST: usize = 64;
 /// A place is a guess: the caller checks the change there, so a wrong guess costs a search and nothing else. If two
 /// keys have one hash, the guess is of the one noted last. The table has at least four slots for each held key,
 /// unless memory ran out for it, so that is rare.
+///
+/// A change that is inserted or dropped moves those after it, and their guesses are wrong. Puts note their places
+/// again, as many as there are changes; then all places are noted.
 #[derive(Drop)]
 pub(crate) struct Guesses {
     places: Vec<u16>,
+    doubts: usize,
 }
 
 // Hashes a key.
@@ -37,6 +42,7 @@ impl Guesses {
     pub(crate) fn new(alloc: Global) -> Guesses {
         Guesses {
             places: Vec::new(alloc),
+            doubts: 0,
         }
     }
 
@@ -62,13 +68,19 @@ impl Guesses {
         }
     }
 
-    // Notes the places of all changes.
-    fn look(&mut self, changes: &[Change]) {
-        let mut place = 0u16;
-        for change in changes {
+    // Notes the change at the place.
+    fn note_at(&mut self, changes: &Rows<Change>, place: usize) {
+        if let (Some(change), Ok(place)) = (changes.get(place), u16::try_from(place)) {
             self.note(change.key(), place);
-            place = place.wrapping_add(1);
         }
+    }
+
+    // Notes the places of all changes.
+    fn look(&mut self, changes: &Rows<Change>) {
+        for place in 0..changes.len() {
+            self.note_at(changes, place);
+        }
+        self.doubts = 0;
     }
 
     // Doubles the table.
@@ -78,20 +90,25 @@ impl Guesses {
         self.places.resize(FEWEST.max(count.saturating_mul(2)), 0)
     }
 
-    // Adds 1 to each guess at or after the place. It has no branch, so a compiler can vectorize it.
-    fn move_along(&mut self, place: u16) {
-        for guess in self.places.iter_mut() {
-            *guess = guess.wrapping_add(u16::from(*guess >= place));
+    // Notes a new key's change, inserted at the place.
+    fn insert(&mut self, changes: &Rows<Change>, place: usize) {
+        if changes.len() > self.places.len() / 4 && self.grow().is_ok() {
+            return self.look(changes);
+        }
+        self.note_at(changes, place);
+        if place < changes.len().saturating_sub(1) {
+            self.doubts = changes.len();
         }
     }
 
-    // Notes a new key's change, inserted at the place.
-    fn insert(&mut self, changes: &[Change], place: usize) {
-        if changes.len() > self.places.len() / 4 && self.grow().is_ok() {
+    // Notes a held key's change, put at the place, while there are doubts.
+    #[inline(never)]
+    fn settle(&mut self, changes: &Rows<Change>, place: usize) {
+        self.doubts = self.doubts.saturating_sub(1);
+        if self.doubts == 0 {
             self.look(changes);
-        } else if let (Some(change), Ok(place)) = (changes.get(place), u16::try_from(place)) {
-            self.move_along(place);
-            self.note(change.key(), place);
+        } else {
+            self.note_at(changes, place);
         }
     }
 
@@ -99,19 +116,21 @@ impl Guesses {
     #[inline(always)]
     pub(crate) fn note_put(
         &mut self,
-        changes: &[Change],
+        changes: &Rows<Change>,
         place: Result<usize, usize>,
         is_put: bool,
     ) {
-        if let (Err(place), true) = (place, is_put) {
-            self.insert(changes, place);
+        match place {
+            Err(place) if is_put => self.insert(changes, place),
+            Ok(place) if self.doubts > 0 => self.settle(changes, place),
+            _ => {}
         }
     }
 
     /// Notes that changes were dropped, if there are fewer than `count` now.
-    pub(crate) fn note_dropped(&mut self, changes: &[Change], count: usize) {
+    pub(crate) fn note_dropped(&mut self, changes: &Rows<Change>, count: usize) {
         if changes.len() != count {
-            self.look(changes);
+            self.doubts = changes.len();
         }
     }
 }

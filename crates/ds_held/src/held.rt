@@ -1,6 +1,6 @@
 //! Holders of changes and floors.
 
-ghost use Rattle.std.specs.Prelude.{◌≡◌, ◌≤◌, ◌++◌, ◌∷◌, [], All, IfOk, IfErr, IfSome, OnOk, filter, option_and_then, slice_get, take};
+ghost use Rattle.std.specs.Prelude.{◌≡◌, ◌≤◌, ◌++◌, ◌∷◌, [], All, IfOk, IfErr, IfSome, OnOk, drop, filter, option_and_then, slice_get, take};
 ghost use Rattle.std.specs.Option.{option_copied, option_map};
 ghost use Rattle.std.specs.List.{find};
 ghost use Rattle.ds_entry.specs.Change.{IsChange, IsValue};
@@ -21,12 +21,13 @@ use crate::floors::{floor_at, is_void, nth_floor, raise};
 use crate::guesses::Guesses;
 use crate::join::join_into;
 use crate::limits::Limits;
-use crate::order::{behind, change_at, first_of};
+use crate::order::{begin_after, change_at, first_of};
 use crate::reading::{copy_all, item_at};
 use crate::void::drop_void;
 use ds_entry::{Body, Change, Floor, ItemRef, Items, Value};
 use ds_join::{JoinFault, Merge, Stop};
 use ds_names::{Generation, Key, Name, NoRoom};
+use ds_rows::Rows;
 use std::alloc::Global;
 use std::marker::Model;
 
@@ -41,7 +42,7 @@ mod merging;
 #[derive(Drop)]
 pub struct Held {
     floors: Vec<Floor>,
-    changes: Vec<Change>,
+    changes: Rows<Change>,
     guesses: Guesses,
     limits: Limits,
 }
@@ -56,9 +57,9 @@ impl Model for Held {
 
     ghost use Rattle.ds_held.specs.Kept.{holding_of, AreKept};
 
-    ghost view = { λ h. holding_of h.floors.items h.changes.items h.limits };
+    ghost view = { λ h. holding_of h.floors.items h.changes h.limits };
 
-    ghost invariant = { λ h. AreKept h.floors.items h.changes.items h.limits };
+    ghost invariant = { λ h. AreKept h.floors.items h.changes h.limits };
 }
 
 impl Held {
@@ -75,7 +76,7 @@ impl Held {
     {
         Held {
             floors: Vec::new(alloc),
-            changes: Vec::new(alloc),
+            changes: Rows::new(alloc),
             guesses: Guesses::new(alloc),
             limits,
         }
@@ -174,12 +175,13 @@ impl Held {
         first_of(&self.changes, after)
     }
 
-    /// Returns the changes in the order of the keys, or those of the keys after `after`. One search finds where they
-    /// begin.
-    pub fn changes_after(&self, after: Option<&Key>) -> &[Change]
-        ensures { result.now ≡ filter (comes_after (option_copied after.entry)) (held_changes self.now) }
+    /// Returns the index, in the order of the keys, from which on the changes are those of the keys after `after`; 0 if
+    /// `after` is `None`. One search finds it.
+    pub fn begin_after(&self, after: Option<&Key>) -> usize
+        ensures within { result ≤ held_count self.now }
+        ensures begin { drop result (held_changes self.now) ≡ filter (comes_after (option_copied after.entry)) (held_changes self.now) }
     {
-        behind(&self.changes, after)
+        begin_after(&self.changes, after)
     }
 
     /// Returns the item at an index from 0; `None` past the end. Floors come first, in the order of their owners'

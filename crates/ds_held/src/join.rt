@@ -8,6 +8,7 @@ ghost use Rattle.ds_held.specs.Kept.{floored};
 use crate::held::Held;
 use ds_entry::{Change, Floor};
 use ds_join::Stop;
+use ds_rows::Rows;
 use std::alloc::Global;
 
 // Raises the floors of another holder, in order.
@@ -26,14 +27,20 @@ fn raise_all(held: &mut Held, other: &[Floor]) -> Result<(), Stop>
 }
 
 // Merges the changes of another holder, in order, after its `before` floors.
-fn merge_all(alloc: Global, held: &mut Held, before: usize, other: &[Change]) -> Result<(), Stop>
+fn merge_all(
+    alloc: Global,
+    held: &mut Held,
+    before: usize,
+    other: &Rows<Change>,
+) -> Result<(), Stop>
     requires few_before { before ≤ 64 }
     requires few { length other.now ≤ 4096 }
     ensures merged { OnOk result (AreMerged held.old (map change_item other.now) held.new) }
     ensures stopped { IfErr result (JoinStopsBehind before held.old (map change_item other.now) held.new) }
 {
     let mut done = before;
-    for change in other {
+    for i in 0..other.len() {
+        let change = other.at(i);
         match held.merge_copy(alloc, change) {
             Ok(_) => done += 1,
             Err(fault) => return Err(Stop { done, fault }),
@@ -47,7 +54,7 @@ pub(crate) fn join_into(
     alloc: Global,
     held: &mut Held,
     floors: &[Floor],
-    changes: &[Change],
+    changes: &Rows<Change>,
 ) -> Result<(), Stop>
     requires few_floors { length floors.now ≤ 64 }
     requires few { length changes.now ≤ 4096 }

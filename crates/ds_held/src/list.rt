@@ -1,12 +1,13 @@
 //! The judgement of a change, and putting an element at its place in a list.
 
-ghost use Rattle.std.specs.Prelude.{◌≡◌, ◌≤◌, OnOk, OnErr, length};
+ghost use Rattle.std.specs.Prelude.{◌≡◌, ◌<◌, ◌≤◌, OnOk, OnErr, length};
 ghost use Rattle.ds_held.specs.Kept.{put_at, IsGap, IsPlaceIn};
 ghost use Rattle.ds_held.specs.Merge.{AnswersHeld, AnswersNew, AnswersOwn, UnlessVoid};
 
 use ds_entry::Change;
 use ds_join::{JoinFault, Merge};
 use ds_names::NoRoom;
+use ds_rows::Rows;
 use std::cmp::Ordering;
 
 // Judges a change of a held key, by the key's owner.
@@ -73,5 +74,27 @@ pub(crate) fn put<T: Drop>(
             Ok(()) => Ok(()),
             Err(_) => Err(NoRoom),
         },
+    }
+}
+
+// Puts an element at its place in a list in slots. Replacing another one allocates nothing.
+#[inline(always)]
+pub(crate) fn put_row<T: Drop>(
+    rows: &mut Rows<T>,
+    place: Result<usize, usize>,
+    element: T,
+) -> Result<(), NoRoom>
+    requires place { IsPlaceIn place (length rows.old) }
+    requires few { length rows.old < 65536 }
+    ensures put { OnOk result (rows.new ≡ put_at rows.old place element) }
+    ensures same { OnErr result (rows.new ≡ rows.old) }
+    ensures gap { OnErr result (IsGap place) }
+{
+    match place {
+        Ok(i) => {
+            rows.set(i, element);
+            Ok(())
+        }
+        Err(i) => rows.insert(i, element),
     }
 }

@@ -8,12 +8,13 @@ ghost use Rattle.ds_held.specs.Kept.{floored};
 
 use ds_entry::{Change, Floor, Item, ItemRef, Items};
 use ds_names::NoRoom;
+use ds_rows::Rows;
 use std::alloc::Global;
 
 // Returns the item at an index, floors first.
 pub(crate) fn item_at<'a>(
     floors: &'a [Floor],
-    changes: &'a [Change],
+    changes: &'a Rows<Change>,
     index: usize,
 ) -> Option<ItemRef<'a>>
     ensures { option_map item_lent result ≡ slice_get (map floored floors.now ++ map change_item changes.now) index }
@@ -38,10 +39,11 @@ fn add_floors(items: &mut Items, floors: &[Floor]) -> Result<(), NoRoom>
 }
 
 // Appends copies of the changes to a list of items.
-fn add_changes(alloc: Global, items: &mut Items, changes: &[Change]) -> Result<(), NoRoom>
+fn add_changes(alloc: Global, items: &mut Items, changes: &Rows<Change>) -> Result<(), NoRoom>
     ensures { OnOk result (items.new ≡ items.old ++ map change_item changes.now) }
 {
-    for change in changes {
+    for i in 0..changes.len() {
+        let change = changes.at(i);
         let Ok(copy) = change.copy(alloc) else {
             return Err(NoRoom);
         };
@@ -51,7 +53,11 @@ fn add_changes(alloc: Global, items: &mut Items, changes: &[Change]) -> Result<(
 }
 
 // Returns copies of all items, floors first.
-pub(crate) fn copy_all(alloc: Global, floors: &[Floor], changes: &[Change]) -> Result<Items, NoRoom>
+pub(crate) fn copy_all(
+    alloc: Global,
+    floors: &[Floor],
+    changes: &Rows<Change>,
+) -> Result<Items, NoRoom>
     ensures { IfOk result (λ items. items ≡ map floored floors.now ++ map change_item changes.now) }
 {
     let mut items = Items::new(alloc);

@@ -5,12 +5,19 @@ ghost use Rattle.ds_entry.specs.Left.{value_of};
 ghost use Rattle.ds_held.specs.Kept.{left_by_floor, marks_left, puts_void_by};
 
 use ds_entry::{Body, Change, Floor};
+use ds_rows::Rows;
 
-// Drops the changes that a floor voids. It allocates nothing.
-pub(crate) fn drop_void(changes: &mut Vec<Change>, floor: &Floor)
-    ensures { changes.new.items ≡ left_by_floor floor.now changes.old.items }
+// Drops the changes that a floor voids, the last first. It allocates nothing.
+pub(crate) fn drop_void(changes: &mut Rows<Change>, floor: &Floor)
+    ensures { changes.new ≡ left_by_floor floor.now changes.old }
 {
-    changes.retain(|change| !floor.voids(change));
+    let mut i = changes.len();
+    while i > 0 {
+        i -= 1;
+        if floor.voids(changes.at(i)) {
+            changes.remove(i);
+        }
+    }
 }
 
 // Returns 1 for a put, 0 for a tombstone.
@@ -23,31 +30,28 @@ fn puts_in(change: &Change) -> usize
     }
 }
 
-// Drops the changes that a floor voids, with the marks beside them, in one walk, and returns how many of them were
-// puts. It allocates nothing.
+// Drops the changes that a floor voids, with the marks beside them, in one walk from the last to the first, and
+// returns how many of them were puts. It allocates nothing.
 pub(crate) fn drop_beside<M: Drop>(
-    changes: &mut Vec<Change>,
-    marks: &mut Vec<M>,
+    changes: &mut Rows<Change>,
+    marks: &mut Rows<M>,
     floor: &Floor,
 ) -> usize
-    requires { length marks.old.items ≡ length changes.old.items }
-    ensures changes { changes.new.items ≡ left_by_floor floor.now changes.old.items }
-    ensures marks { marks.new.items ≡ marks_left floor.now changes.old.items marks.old.items }
-    ensures count { result ≡ length (puts_void_by floor.now changes.old.items) }
+    requires { length marks.old ≡ length changes.old }
+    ensures changes { changes.new ≡ left_by_floor floor.now changes.old }
+    ensures marks { marks.new ≡ marks_left floor.now changes.old marks.old }
+    ensures count { result ≡ length (puts_void_by floor.now changes.old) }
 {
-    let mut left = 0;
     let mut count = 0;
-    for i in 0..changes.len() {
-        let change = &changes[i];
+    let mut i = changes.len();
+    while i > 0 {
+        i -= 1;
+        let change = changes.at(i);
         if floor.voids(change) {
             count += puts_in(change);
-        } else {
-            changes.swap(left, i);
-            marks.swap(left, i);
-            left += 1;
+            changes.remove(i);
+            marks.remove(i);
         }
     }
-    changes.truncate(left);
-    marks.truncate(left);
     count
 }

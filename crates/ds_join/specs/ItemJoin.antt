@@ -1,10 +1,10 @@
--- The join of what two holders hold, and its laws.
+-- The join of two holdings, and its laws.
 use Rattle.std.specs.Prelude.{List, ◌++◌}
 use Rattle.ds_entry.specs.ItemCovers.{AreSingleNumbered}
 use Rattle.ds_entry.specs.declared.item.Item.{Item}
 use Rattle.ds_join.specs.ItemTop.{IsTop, CoversAll}
 
--- Whether `joined` is the top of all that is in either.
+-- Whether `joined` is the top of all items of either side.
 abbrev pub IsJoin : List Item → List Item → List Item → Type 0
 IsJoin joined xs ys = IsTop joined (xs ++ ys)
 
@@ -20,7 +20,7 @@ JoinIsAssociative =
 abbrev pub JoinIsIdempotent : Type 0
 JoinIsIdempotent = (xs : List Item) → IsTop xs xs → IsJoin xs xs xs
 
--- Whether `joined` covers everything that either side holds, and whatever does so covers it.
+-- Whether `joined` covers all items of both sides, and is covered by every list that does.
 pub record IsLeastAbove (joined xs ys : List Item) : Type 0 where
   pub left : CoversAll joined xs
   pub right : CoversAll joined ys

@@ -12,7 +12,7 @@ use Rattle.ds_join.specs.ItemTop.{IsTop, tops, HasOneOwnerInTurn}
 abbrev pub TopExists : Type 0
 TopExists = (set : List Item) → AreSingleNumbered set → (held : List Item) × IsTop held set
 
--- A law: it has only one.
+-- A law: a single-numbered set has only one top.
 abbrev pub TopIsUnique : Type 0
 TopIsUnique = (set held other : List Item) → AreSingleNumbered set → IsTop held set → IsTop other set → held ≡ other
 
@@ -20,20 +20,19 @@ TopIsUnique = (set held other : List Item) → AreSingleNumbered set → IsTop h
 abbrev pub HeldIsItsTop : Type 0
 HeldIsItsTop = (held set : List Item) → IsTop held set → IsTop held held
 
--- A law: a floor of the owner is held that isn't below any of the set.
+-- A law: the top has a floor of each owner that has one in the set, at least as high as all of these.
 abbrev pub GreatestFloorIsHeld : Type 0
 GreatestFloorIsHeld =
     (set held : List Item) (f : Floor) → IsTop held set → Contains set (Floored f) →
     (g : Floor) × Contains held (Floored g) × (g.owner ≡ f.owner) × (f.generation ≤ g.generation)
 
--- A law: what a floor of the set voids isn't held, whether it arrived early or late.
+-- A law: the top has no change that a floor of the set voids, whichever of the two arrived first.
 abbrev pub NothingVoidIsHeld : Type 0
 NothingVoidIsHeld =
     (set held : List Item) (f : Floor) (c : ChangeRecord) → IsTop held set → Contains set (Floored f) → Contains held (Changed c) →
     voids f c ≡ false
 
--- A law: `tops` returns a top of every list in which, in order of arrival, the changes of a key that aren't void have
--- one owner.
+-- A law: `tops` returns a top of every list in which each item fits those before it.
 abbrev pub TopsIsTop : Type 0
 TopsIsTop = (items : List Item) → HasOneOwnerInTurn items → IsTop (tops items) items
 
@@ -46,6 +45,6 @@ abbrev pub TopOfUnion : Type 0
 TopOfUnion =
     (xs ys top joined : List Item) → AreSingleNumbered (xs ++ ys) → IsTop top xs → IsTop joined (xs ++ ys) → IsTop joined (top ++ ys)
 
--- A law: the top of all known items that a known one covers is that one alone.
+-- A law: the top of all items of a set that one of them covers is that one alone.
 abbrev pub TopOfCovered : Type 0
 TopOfCovered = (i : Item) (known : List Item) → Contains known i → IsTop (i ∷ []) (covered_by i known)

@@ -1,21 +1,20 @@
-//! Counting items by their outcome.
-
+//! Counts of items by their outcome.
 ghost use Rattle.std.specs.Prelude.{◌≡◌};
 ghost use Rattle.ds_join.specs.Count.{counted, none_counted, stop_behind, CanCountOne};
 
 use crate::merge::{JoinFault, Merge, Stop};
 
-/// The outcomes of items that reached a map or a delivery in order. Those that are neither taken nor stale were
-/// known, or skipped because they aren't under the map's query.
+/// How many items a map or a delivery has handled, and how many were taken or stale. The others were known, or skipped
+/// because they aren't under the map's query.
 #[derive(Clone, Copy, Debug, PartialEq, Eq)]
 pub struct Count {
-    /// How many items are done, including those that were skipped.
+    /// How many items were handled, including those that were skipped.
     pub done: usize,
-    /// How many took effect: changes of keys for which nothing or a smaller version was held, and floors of owners with
-    /// none or a lower one.
+    /// How many items took effect: a change if nothing or a smaller version of its key was held, a floor if none or a lower
+    /// one of its owner was held.
     pub taken: usize,
-    /// How many were stale: a greater version was held, or a floor that voids the change, or a higher floor of the
-    /// same owner.
+    /// How many items were stale: a change if a greater version or a floor that voids it was held, a floor if a higher one
+    /// of its owner was held.
     pub stale: usize,
 }
 
@@ -31,7 +30,7 @@ impl Count {
         }
     }
 
-    /// Counts one more item, by its answer, or `None` if it was skipped.
+    /// Counts one more item, by its answer. `None` is an item that was skipped.
     pub fn add(&mut self, answer: Option<Merge>)
         requires { CanCountOne self.old }
         ensures { self.new ≡ counted self.old answer }
@@ -44,7 +43,7 @@ impl Count {
         }
     }
 
-    /// Returns the stop at the next item, with this fault.
+    /// Returns the error of a join that stopped at the next item with this fault.
     pub fn stop(&self, fault: JoinFault) -> Stop
         ensures { result ≡ stop_behind self.now fault }
     {

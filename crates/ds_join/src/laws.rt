@@ -4,12 +4,12 @@ ghost use Rattle.ds_join.specs.ItemJoin.{JoinIsCommutative, JoinIsAssociative, J
 ghost use Rattle.ds_join.specs.ItemTopLaws.{TopExists, TopIsUnique, HeldIsItsTop, GreatestFloorIsHeld};
 ghost use Rattle.ds_join.specs.ItemTopLaws.{NothingVoidIsHeld, TopsIsTop, TopOfTop, TopOfUnion, TopOfCovered};
 
-/// The laws of tops of items.
+/// Laws of the top of a set of items.
 ///
-/// A single-numbered set has exactly one top. What is held is its own top. Each owner's greatest floor is held, and
+/// A single-numbered set has exactly one top. What is held is its own top. The top has each owner's greatest floor, and
 /// nothing that a floor of the set voids. `tops` computes a top if, in order of arrival, the changes of each key that
-/// aren't void have one owner. The top of a union can be computed from the top of one side. The known items that an
-/// item covers have that item alone as their top.
+/// aren't void have one owner. The top of a union can be computed from the top of one side. An item of a set is the top
+/// of all items that it covers there.
 pub fn item_top_laws()
     ensures exists { TopExists }
     ensures unique { TopIsUnique }
@@ -22,7 +22,7 @@ pub fn item_top_laws()
     ensures of_covered { TopOfCovered }
 {}
 
-/// The laws of the join of items: it is commutative, associative, idempotent on tops, and least.
+/// Laws of the join of items: it is commutative, associative, idempotent on tops, and least.
 pub fn item_join_laws()
     ensures commutative { JoinIsCommutative }
     ensures associative { JoinIsAssociative }

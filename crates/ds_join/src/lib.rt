@@ -1,10 +1,9 @@
-//! What is held of a set of items: of each owner its greatest floor, and of each key the change with the greatest
-//! version that no floor voids. Here are the definitions and laws of such tops and of their joins, and the answers of
-//! a merge.
+//! The top of a set of items, the joins of such tops with their laws, and the answers of a merge.
 //!
-//! Merging is a join: the result doesn't depend on the order in which items arrive, nor on repeats. MINIX 3's data
-//! store overwrites in order of arrival. Versions, tombstones, floors, and replicas that converge are of this
-//! project.
+//! The top is what is held of a set: of each owner the greatest floor, and of each key the greatest version that no
+//! floor voids. Merging is a join, so the result depends neither on the order in which items arrive nor on repeats.
+//! MINIX 3's data store overwrites in order of arrival. Versions, tombstones, floors and replicas that converge are this
+//! project's.
 #![tactic(auto)]
 
 mod count;

@@ -30,7 +30,7 @@ use Rattle.ds_machine.specs.declared.command.Command.TheVariants.{Publish, Delet
 use Rattle.ds_machine.specs.declared.reply.Reply.{Reply}
 use Rattle.ds_machine.specs.declared.reply.Reply.TheVariants.{MergeStopped, Refused}
 
--- The refusals that are judged before a pattern is read, which may take memory.
+-- The refusals that are judged before a pattern is read. Reading a pattern may take memory.
 abbrev pub before_patterns : List Refusal
 before_patterns = BadSub ∷ TooMany ∷ TooLong ∷ []
 
@@ -45,7 +45,7 @@ abbrev pub MayLackFor : Scope → (Refusal → Bool) → Type 0
 MayLackFor All stands = first_refusal stands ≡ None
 MayLackFor (Under query) stands = find stands before_patterns ≡ None
 
--- Values of the kind take no memory.
+-- Whether values of the kind take no memory.
 abbrev pub IsKindInPlace : Kind → Type 0
 IsKindInPlace Label = Unit {0}
 IsKindInPlace U32 = Unit {0}

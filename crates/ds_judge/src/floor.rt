@@ -12,9 +12,10 @@ use ds_machine::{Cause, Refusal};
 use ds_names::Endpoint;
 use ds_names::limits::{LAST_PLACE, MOST_FLOORS};
 
-/// Returns the first cause against a floor of another holder: Stale below its owner's held floor, Known at it, Full if
-/// its owner has none and 64 others do, Worn. Without a cause, it is above the held one or has room, and the position
-/// is below 2^62.
+/// Returns the first cause against a floor from another holder, or `None` if the floor would take effect.
+///
+/// Stale if the owner's held floor is higher, Known if it is the same, Full if the owner has none and 64 others have one,
+/// and Worn if no position below 2^62 is left.
 pub fn cause_of_floor(standing: &FloorStanding, floor: &Floor) -> Option<Cause>
     ensures first { result ≡ first_cause None (against_floor (machine_floor_standing floor.now.owner standing.now) floor.now) }
     ensures free { IfNone result (IsFloorFree (machine_floor_standing floor.now.owner standing.now) floor.now) }

@@ -1,4 +1,4 @@
--- Where the readable part of a text ends, for anything that is written part by part: a change, or a command.
+-- The place of the first part that can't be read, for anything that consists of parts, such as a change or a command.
 use Rattle.std.specs.Prelude.{◌≡◌, ◌≢◌, ℕ, zero, suc, ◌+◌, List, [], ◌∷◌, ◌++◌, length}
 use Rattle.ds_names.specs.Run.{Begins}
 use Rattle.ds_entry.specs.Change.{ChangeRecord, IsChange, IsBodyInPlace}
@@ -7,20 +7,20 @@ use Rattle.ds_line.specs.Spelling.{change_parts, spelling}
 use Rattle.ds_line.specs.declared.fault.LineFault.{LineFault}
 use Rattle.ds_line.specs.declared.fault.LineFault.TheVariants.{BadLine, NoRoom}
 
--- Whether the bytes begin with the first `count` of the parts, in order, followed by the rest, and no part is
--- followed by a byte that would make it longer.
+-- Whether the bytes are the first `count` parts and then the rest, and no part is followed by a byte that would make it
+-- longer.
 abbrev pub Stand : ℕ → List Part → List ℕ → List ℕ → Type 0
 Stand zero parts bytes rest = bytes ≡ rest
 Stand (suc count) [] bytes rest = ⊥
 Stand (suc count) (p ∷ parts) bytes rest = (after : List ℕ) × Begins (run_of p.class) bytes p.text after × Stand count parts after rest
 
--- Whether some member's first `count` parts are at the front of the bytes.
+-- Whether the bytes begin with the first `count` parts of some member.
 pub record CanRead {T : Type 0} (IsMember : T → Type 0) (parts : T → List Part) (count : ℕ) (bytes rest : List ℕ) : Type 0 where
   pub member : T
   pub is : IsMember member
   pub front : Stand count (parts member) bytes rest
 
--- Whether the most parts that can be read end where the rest begins.
+-- Whether the rest begins after as many parts of a member as can be read.
 pub record StopsAt {T : Type 0} (IsMember : T → Type 0) (parts : T → List Part) (bytes rest : List ℕ) : Type 0 where
   pub count : ℕ
   pub read : CanRead IsMember parts count bytes rest
@@ -42,7 +42,7 @@ pub record IsLineFault (bytes : List ℕ) (place : ℕ) : Type 0 where
   pub none : HasNoLine bytes
   pub first : IsFaultPlace IsChange change_parts bytes place
 
--- Whether the bytes begin with the whole line of a put whose value takes memory: a text or a blob.
+-- Whether the bytes begin with the whole line of a put of a text or a blob, whose value takes memory.
 pub record LineTakesRoom (bytes : List ℕ) : Type 0 where
   pub change : ChangeRecord
   pub rest : List ℕ
@@ -50,7 +50,7 @@ pub record LineTakesRoom (bytes : List ℕ) : Type 0 where
   pub value : ¬ IsBodyInPlace change.body
   pub front : bytes ≡ spelling change ++ rest
 
--- The meaning of a fault.
+-- The meaning of a fault of a change's reader.
 abbrev pub IsFaultIn : LineFault → List ℕ → Type 0
 IsFaultIn (BadLine place) bytes = IsLineFault bytes place
 IsFaultIn NoRoom bytes = LineTakesRoom bytes

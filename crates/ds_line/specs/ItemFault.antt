@@ -1,4 +1,4 @@
--- Why no item is read, and where its first fault is.
+-- The faults of an item's reader, and their places.
 use Rattle.std.specs.Prelude.{◌≢◌, ℕ, List, ◌++◌}
 use Rattle.ds_entry.specs.Item.{IsItem}
 use Rattle.ds_entry.specs.declared.item.Item.{Item}
@@ -17,7 +17,7 @@ pub record IsItemFault (bytes : List ℕ) (place : ℕ) : Type 0 where
   pub none : HasNoItem bytes
   pub first : IsFaultPlace IsItem item_parts bytes place
 
--- The meaning of a fault: out of memory is possible only for puts of texts and blobs.
+-- The meaning of a fault of an item's reader. Only puts of texts and blobs run out of memory.
 abbrev pub IsItemFaultIn : LineFault → List ℕ → Type 0
 IsItemFaultIn (BadLine place) bytes = IsItemFault bytes place
 IsItemFaultIn NoRoom bytes = LineTakesRoom bytes

@@ -6,8 +6,7 @@ use Rattle.ds_line.specs.ItemFault.{IsItemFaultIn}
 use Rattle.ds_line.specs.ItemSpelling.{item_spelling}
 use Rattle.ds_line.specs.declared.fault.LineFault.{LineFault}
 
--- The answer: the bytes begin with an item's line of this length, and the item is stored; or the fault says why they
--- don't.
+-- The answer: the length of the item's line at the front, whose item is stored, or why there is none.
 abbrev pub ReadsItemLine : List ℕ → Result ℕ LineFault → Option Item → Type 0
 ReadsItemLine bytes (Ok len) (Some i) = IsItem i × (take len bytes ≡ item_spelling i) × (len ≡ length (item_spelling i))
 ReadsItemLine bytes (Ok len) None = ⊥

@@ -11,7 +11,7 @@ use Rattle.ds_line.specs.Spelling.{space, newline, change_parts}
 abbrev pub floor_parts : Floor → List Part
 floor_parts f = byte 33 ∷ space ∷ part Name f.owner ∷ space ∷ part Number (decimal f.generation) ∷ newline ∷ []
 
--- The parts of the change, or of the floor.
+-- The parts of a change or a floor.
 abbrev pub item_parts : Item → List Part
 item_parts (Changed c) = change_parts c
 item_parts (Floored f) = floor_parts f

@@ -1,11 +1,10 @@
--- The parts that a line consists of, each a text of some class.
+-- The parts of a line. Each is a text of some class.
 use Rattle.std.specs.Prelude.{ℕ, Bool, false, ◌&&◌, ◌||◌, nat_le, List, [], ◌∷◌}
 use Rattle.std.specs.List.{flat_map}
 use Rattle.std.specs.Char.{is_ascii_digit, is_ascii_alphanumeric}
 use Rattle.ds_names.specs.Name.{is_name_byte}
 
--- The sort of text that a part is: one byte, a name, a word, a decimal number, an endpoint, a quoted text, or bytes
--- in hex.
+-- The class of a part's text: one byte, a name, a word, a decimal number, an endpoint, a quoted text, or bytes in hex.
 pub data Class : Type 0 where
   Byte : Class
   Name : Class
@@ -29,12 +28,12 @@ run_of Endpoint b = is_ascii_digit b
 run_of Quoted b = false
 run_of Hex b = is_hex_byte b
 
--- A text, and the class that says where it ends.
+-- A part: a text, and the class that decides where the part ends.
 pub record Part : Type 0 where
   pub class : Class
   pub text : List ℕ
 
--- The part of this class and text.
+-- The part with this class and text.
 abbrev pub part : Class → List ℕ → Part
 part class text = record { class = class; text = text }
 

@@ -16,7 +16,7 @@ use Rattle.ds_line.specs.declared.fault.LineFault.{LineFault}
 use Rattle.ds_line.specs.declared.part_fault.PartFault.{PartFault}
 use Rattle.ds_line.specs.declared.part_fault.PartFault.TheVariants.{BadPart, NoRoom}
 
--- The parts of a change up to the word of its kind.
+-- The parts of a change up to and with the word of its kind.
 abbrev pub up_to_kind : Key → List Part
 up_to_kind key = part Name key.name ∷ space ∷ part Word (kind_word key.kind) ∷ []
 
@@ -53,8 +53,8 @@ HasVersion key owner = (version : Version) × HasBody key owner version
 abbrev pub HasOwner : Key → Type 0
 HasOwner key = (owner : List ℕ) × HasVersion key owner
 
--- `StopsAt` for the members whose first parts are the known ones; the text of their further parts is read. None of
--- them has all its further parts there.
+-- Like `StopsAt`, for the members that begin with the known parts. The bytes are those of their further parts, and no
+-- member has all of these at the front.
 pub record StopsBehind {T : Type 0} (IsMember : T → Type 0) (parts : T → List Part) (known : List Part) (bytes rest : List ℕ) : Type 0 where
   pub count : ℕ
   pub member : T
@@ -65,45 +65,44 @@ pub record StopsBehind {T : Type 0} (IsMember : T → Type 0) (parts : T → Lis
   pub most : (m : T) (more : List Part) (after : List ℕ) → IsMember m → parts m ≡ known ++ more → ¬ Stand (suc count) more bytes after
   pub none : (m : T) (more : List Part) (after : List ℕ) → IsMember m → parts m ≡ known ++ more → ¬ Stand (length more) more bytes after
 
--- `StopsBehind` for changes.
+-- Like `StopsBehind`, for changes.
 abbrev pub ChangeStops : List Part → List ℕ → List ℕ → Type 0
 ChangeStops known bytes rest = StopsBehind IsChange change_parts known bytes rest
 
--- Whether the further parts of the change are at the front, and the rest comes after them.
+-- Whether the bytes are the further parts of the change, after the known ones, and then the rest.
 pub record Completes (known : List Part) (c : ChangeRecord) (bytes rest : List ℕ) : Type 0 where
   pub change : IsChange c
   pub further : List Part
   pub split : change_parts c ≡ known ++ further
   pub text : bytes ≡ texts further ++ rest
 
--- Whether the further parts of a put whose value takes memory are at the front.
+-- Whether the bytes begin with the further parts of a put of a text or a blob.
 pub record CompletesInRoom (known : List Part) (bytes : List ℕ) : Type 0 where
   pub put : ChangeRecord
   pub rest : List ℕ
   pub completes : Completes known put bytes rest
   pub value : ¬ IsBodyInPlace put.body
 
--- The answer of a reader after the known parts: the change, and how many bytes are left after its line; how many are
--- left from the first part that can't be read on; or that memory ran out for the value.
+-- The answer of a reader after the known parts: the change and the number of bytes after its line, or the number of bytes
+-- from the first part on that can't be read, or out of memory for the value.
 abbrev pub ReadsChange : List Part → List ℕ → Result (ChangeRecord × ℕ) PartFault → Type 0
 ReadsChange known bytes (Ok r) = (rest : List ℕ) × Completes known r.0 bytes rest × (length rest ≡ r.1)
 ReadsChange known bytes (Err (BadPart left)) = (rest : List ℕ) × ChangeStops known bytes rest × (length rest ≡ left)
 ReadsChange known bytes (Err NoRoom) = CompletesInRoom known bytes
 
--- The answer of a body's reader, as one about the change with these other parts.
+-- The answer of a body's reader, with the change of that body and these other parts in place of the body.
 abbrev pub with_body : Key → List ℕ → Version → Result (Body × ℕ) PartFault → Result (ChangeRecord × ℕ) PartFault
 with_body key owner version (Ok r) = Ok (change_of key owner version r.0, r.1)
 with_body key owner version (Err stop) = Err stop
 
--- `ReadsChange` for a reader that stores the change as an item and returns how many bytes are left.
+-- Like `ReadsChange`, for a reader that stores the change as an item and returns the number of bytes after its line.
 abbrev pub ReadsInto : List Part → List ℕ → Result ℕ PartFault → Option Item → Type 0
 ReadsInto known bytes (Ok left) (Some (Changed c)) = ReadsChange known bytes (Ok (c, left))
 ReadsInto known bytes (Ok left) (Some (Floored f)) = ⊥
 ReadsInto known bytes (Ok left) None = ⊥
 ReadsInto known bytes (Err stop) placed = ReadsChange known bytes (Err stop)
 
--- The answer: the bytes begin with a change's line of this length, and the change is stored; or the fault says why
--- they don't.
+-- The answer: the length of the change's line at the front, whose change is stored, or why there is none.
 abbrev pub ReadsChangeLine : List ℕ → Result ℕ LineFault → Option Item → Type 0
 ReadsChangeLine bytes (Ok len) (Some (Changed c)) = IsChange c × (take len bytes ≡ spelling c) × (len ≡ length (spelling c))
 ReadsChangeLine bytes (Ok len) (Some (Floored f)) = ⊥

@@ -28,7 +28,7 @@ kind_word U32 = codes "u32"
 kind_word Str = codes "str"
 kind_word Mem = codes "mem"
 
--- The escaped form of a byte: a quote and a backslash get a backslash before them, any other byte stands for itself.
+-- The escaped form of a byte: a quote and a backslash get a backslash before them, any other byte is unchanged.
 abbrev pub escaped_byte : ℕ → List ℕ
 escaped_byte b = if b == 34 || b == 92 then 92 ∷ b ∷ [] else b ∷ []
 

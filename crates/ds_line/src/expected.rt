@@ -2,8 +2,8 @@
 
 use ds_names::Kind;
 
-/// A part of a line, by its meaning. A reader notes the part that it reads next, so when that part can't be read, the
-/// note names what was expected.
+/// A part of a line, by its meaning. A reader notes each part before it reads it. So if a part can't be read, the note
+/// says what was expected.
 ///
 /// The parts of changes and floors come first. The others are for callers that read lines of their own.
 #[derive(Clone, Copy, Debug, PartialEq, Eq)]
@@ -28,7 +28,7 @@ pub enum Expected {
     Command,
     /// The endpoint of the caller.
     Caller,
-    /// The endpoint whose name is queried.
+    /// The endpoint whose label is looked up.
     Endpoint,
     /// `new` or `over`.
     Mode,
@@ -37,7 +37,7 @@ pub enum Expected {
     Generation,
     /// The number of a subscription.
     Sub,
-    /// The most changes of the answer.
+    /// The most changes that the answer may have.
     Max,
     Pattern,
     Kinds,
@@ -55,13 +55,13 @@ pub enum Expected {
     Position,
     /// `*`, or a pattern and kinds.
     Scope,
-    /// The key that a page begins after, or `-`.
+    /// The key after which a page begins, or `-`.
     After,
     /// The number of a message.
     Message,
     /// The receiver of a message: a side, or a map.
     Holder,
-    /// The count of a message's items to deliver, or `*`.
+    /// How many of a message's items to deliver, or `*`.
     Count,
     /// `up`, `down`, `refresh` or `restart`.
     Request,
@@ -83,6 +83,6 @@ pub enum Expected {
     Id,
     /// The number of a major device or a port.
     Unit,
-    /// An earlier end of the line: it is too long.
+    /// An earlier newline, since the line is too long.
     Limit,
 }

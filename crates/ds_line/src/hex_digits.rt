@@ -6,8 +6,8 @@ ghost use Rattle.ds_names.specs.Run.{Ends};
 ghost use Rattle.ds_line.specs.Part.{is_hex_byte};
 ghost use Rattle.ds_line.specs.Numbers.{AreNumbersOf};
 
-// Returns the number of a digit, below 16, or 255 for any other byte. It needs no table, so the compiler can
-// vectorize it.
+// Returns the number of a digit, below 16, or 255 for any other byte. Uses no table, so that the compiler can vectorize
+// it.
 #[inline(always)]
 #[tactic(auto, using(crate::proofs::SixteenLemmas::digit_number, crate::proofs::SixteenLemmas::letter_number))]
 fn number_of(byte: u8) -> u8
@@ -23,8 +23,8 @@ fn number_of(byte: u8) -> u8
     }
 }
 
-/// Reads the byte that two hex digits at the front write, high half first, and returns it with the rest. `None` if
-/// the bytes don't begin with two digits.
+/// Reads two hex digits at the front, and returns their byte, high half first, with the bytes after them. `None` if the
+/// bytes don't begin with two digits.
 #[inline]
 pub fn pair_at(bytes: &[u8]) -> Option<(u8, &[u8])>
     ensures found { IfSome result (λ r. bytes.now ≡ encode_lower (r.0 ∷ []) ++ r.1.now) }
@@ -55,8 +55,8 @@ fn numbers_of(digits: &[u8; 32]) -> Option<[u8; 32]>
     if digits_alone { Some(numbers) } else { None }
 }
 
-/// Reads the 16 bytes that 32 hex digits at the front write into the block, and returns the rest. `None` if the bytes
-/// don't begin with 32 digits.
+/// Reads 32 hex digits at the front, stores their 16 bytes in the block, and returns the bytes after the digits. `None`
+/// if the bytes don't begin with 32 digits.
 #[inline(always)]
 pub fn sixteen_at<'a>(bytes: &'a [u8], block: &mut [u8; 16]) -> Option<&'a [u8]>
     ensures found { IfSome result (λ rest. bytes.now ≡ encode_lower block.new ++ rest.now) }
@@ -70,7 +70,7 @@ pub fn sixteen_at<'a>(bytes: &'a [u8], block: &mut [u8; 16]) -> Option<&'a [u8]>
     Some(rest)
 }
 
-/// Whether the bytes don't begin with a hex digit.
+/// Returns whether the bytes don't begin with a hex digit.
 #[inline]
 pub fn ends_digits(bytes: &[u8]) -> bool
     ensures { IsTrue result ↔ Ends is_hex_byte bytes.now }

@@ -12,18 +12,18 @@ pub fn items_have_one_line()
     ensures { (i j : Item) → IsItem i → IsItem j → item_spelling i ≡ item_spelling j → i ≡ j }
 {}
 
-/// A law: no spelling is a prefix of another. If the same bytes begin with the lines of two items, the items are
-/// equal, and so is the rest.
+/// A law: no spelling is a prefix of another. If bytes begin with the lines of two items, the two are equal, and so are
+/// the bytes after them.
 pub fn item_lines_are_apart()
     ensures { (i j : Item) (r s : List ℕ) → IsItem i → IsItem j → item_spelling i ++ r ≡ item_spelling j ++ s → (i ≡ j) × (r ≡ s) }
 {}
 
-/// A law: the first part of an item that can't be read has one place.
+/// A law: bytes have at most one place where the first part that can't be read of an item begins.
 pub fn item_faults_have_one_place()
     ensures { (bytes : List ℕ) (p q : ℕ) → IsFaultPlace IsItem item_parts bytes p → IsFaultPlace IsItem item_parts bytes q → p ≡ q }
 {}
 
-/// A law: a spelling ends with its only newline.
+/// A law: a spelling has one newline, its last byte.
 pub fn newlines_end_item_lines()
     ensures { (i : Item) → IsItem i → EndsLine (item_spelling i) }
 {}

@@ -19,9 +19,9 @@ use std::alloc::Global;
 
 /// Reads the item whose line is at the front, and returns it with the line's length, newline included.
 ///
-/// A line that begins with `!` is read as a floor's, any other as a change's. Refuses bytes that don't begin with an
-/// item's line as BadLine, with the place of the first part that can't be read. NoRoom is possible only for a whole
-/// line of a put of a text or a blob.
+/// Bytes that begin with `!` are read as a floor, any others as a change. Refuses bytes that don't begin with an item's
+/// line as BadLine, with the place of the first part that can't be read. Then reports NoRoom if memory runs out, which
+/// only a put of a text or a blob takes.
 pub fn read_item(alloc: Global, bytes: &[u8]) -> Result<(Item, usize), LineFault>
     ensures line { IfOk result (λ r. IsItem r.0) }
     ensures found { IfOk result (λ r. take r.1 bytes.now ≡ item_spelling r.0) }
@@ -37,10 +37,10 @@ pub fn read_item(alloc: Global, bytes: &[u8]) -> Result<(Item, usize), LineFault
     }
 }
 
-/// Like `read_item`, but stores the item in `slot` and returns the line's length. A result would be copied from each
-/// reader to its caller.
+/// Like `read_item`, but stores the item in `slot` and returns the line's length. So no item is copied from reader to
+/// caller.
 ///
-/// It notes the part that it reads next: at BadLine, the part that begins at the place.
+/// Notes each part in `expected` before it reads it. At BadLine, `expected` is the part that begins at the place.
 #[inline(always)]
 pub fn read_item_into(
     alloc: Global,
@@ -56,7 +56,7 @@ pub fn read_item_into(
     floor_into(bytes, expected, slot)
 }
 
-// Reads a floor's line. Not inlined: most items are changes, and each would pay for clearing this function's frame.
+// Reads a floor's line. Not inlined, because most items are changes, and they would clear this function's frame too.
 #[inline(never)]
 fn floor_into(
     bytes: &[u8],
@@ -79,7 +79,7 @@ fn floor_into(
     Ok(length)
 }
 
-// Reads a floor from its mark on, and returns how many bytes are left after its line.
+// Reads a floor from its `!` on, and returns it with the number of bytes after its line.
 fn floor_at(bytes: &[u8], expected: &mut Expected) -> Result<(Floor, usize), PartFault>
     ensures { ReadsFloor bytes.now result }
 {

@@ -10,7 +10,7 @@ use ds_names::NoRoom;
 use itoa::Buffer;
 use std::alloc::Global;
 
-/// Writes the line of an item, newline included.
+/// Returns the line of an item, newline included. Fails only if memory runs out.
 pub fn write_item(alloc: Global, item: &Item) -> Result<Vec<u8>, NoRoom>
     ensures { IfOk result (λ line. line.items ≡ item_spelling item.now) }
 {
@@ -30,7 +30,7 @@ pub fn append_item(buffer: &mut Vec<u8>, item: &Item) -> Result<(), NoRoom>
     }
 }
 
-// Appends the line of a floor, or nothing.
+// Appends the line of a floor. If memory runs out, the buffer is unchanged.
 fn append_floor(buffer: &mut Vec<u8>, floor: &Floor) -> Result<(), NoRoom>
     ensures written { OnOk result (buffer.new.items ≡ buffer.old.items ++ texts (floor_parts floor.now)) }
     ensures unchanged { OnErr result (buffer.new.items ≡ buffer.old.items) }

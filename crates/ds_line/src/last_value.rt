@@ -12,11 +12,11 @@ use ds_entry::{Blob, Text, Value};
 use ds_names::{Kind, read_byte, read_decimal};
 use std::alloc::Global;
 
-/// Reads a value of the kind and the newline after it, and returns the value with the rest. It is for callers that
+/// Reads a value of the kind and the newline after it, and returns the value with the bytes after both. For callers that
 /// read lines of their own that end with a value.
 ///
-/// It notes which of the two it reads next. A label's value is `generation/slot`, of any generation. NoRoom is
-/// possible only if both are there and the value is a text or a blob.
+/// Notes each of the two before it reads it. A label's value is `generation/slot`, of any generation. Refuses bytes that
+/// don't begin with the two as BadPart. Then reports NoRoom if memory runs out, which only texts and blobs take.
 pub fn last_value_at<'a>(
     alloc: Global,
     kind: Kind,

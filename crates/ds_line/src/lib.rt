@@ -1,4 +1,4 @@
-//! The lines of changes and floors: each has one spelling, which is read and written here.
+//! Reads and writes the lines of changes and floors. Each change and each floor has exactly one spelling.
 //!
 //! A change's line is `NAME KIND OWNER EPOCH.SEQ = VALUE`, or ends with `-` for a tombstone. A floor's is `! OWNER
 //! GENERATION`. Each ends with a newline. Bytes that don't begin with a line are refused with the place of the first

@@ -7,8 +7,8 @@ use crate::block::put;
 use itoa::Buffer;
 use std::marker::Model;
 
-/// The front of a line, built in place so that a buffer grows once. It has room for 256 bytes, which is enough for
-/// all of a line but a text or a blob.
+/// The front of a line, built in place so that the caller's buffer grows only once. It has 256 bytes, enough for each
+/// line without its text or blob.
 #[derive(Drop)]
 pub struct Line {
     block: [u8; 256],
@@ -46,7 +46,7 @@ impl Line {
         self.len += text.len();
     }
 
-    /// Appends a number in decimal. Most numbers of versions have one digit or two.
+    /// Appends a number in decimal. Is fast for one digit or two, which most numbers of versions have.
     #[tactic(auto, using(std::proofs::lemmas::Fmt::decimal_digit, crate::proofs::DecimalLemmas::two_digits))]
     #[inline(always)]
     pub fn put_number(&mut self, number: u32)
@@ -64,7 +64,7 @@ impl Line {
         self.put(digits.format(number).as_bytes());
     }
 
-    /// Returns its bytes.
+    /// Returns the bytes of the line so far.
     #[inline(always)]
     pub fn bytes(&self) -> &[u8]
         ensures { result.now ≡ self.now }

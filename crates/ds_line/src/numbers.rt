@@ -8,7 +8,7 @@ use crate::writing::{append, append_all};
 use ds_names::NoRoom;
 use itoa::Buffer;
 
-/// Appends a line of decimal numbers, each after a text of its own. If memory runs out, the buffer is unchanged.
+/// Appends pairs of a text and a decimal number, and a newline. If memory runs out, the buffer is unchanged.
 pub fn append_numbers(buffer: &mut Vec<u8>, numbers: &[(&[u8], u64)]) -> Result<(), NoRoom>
     ensures written { OnOk result (buffer.new.items
         ≡ buffer.old.items ++ (flat_map (λ n. n.0.now ++ decimal n.1) numbers.now ++ 10 ∷ [])) }
@@ -22,7 +22,7 @@ pub fn append_numbers(buffer: &mut Vec<u8>, numbers: &[(&[u8], u64)]) -> Result<
     written
 }
 
-// Like `append_numbers`, but if memory runs out, a part of the line may have been appended.
+// Like `append_numbers`, but if memory runs out, the buffer may have a part of the line.
 fn put_numbers(buffer: &mut Vec<u8>, numbers: &[(&[u8], u64)]) -> Result<(), NoRoom>
     ensures written { OnOk result (buffer.new.items
         ≡ buffer.old.items ++ (flat_map (λ n. n.0.now ++ decimal n.1) numbers.now ++ 10 ∷ [])) }

@@ -11,8 +11,9 @@ ghost use Rattle.ds_line.specs.Spelling.{kind_word};
 
 use ds_names::{Endpoint, Generation, Kind, Name, read_endpoint};
 
-/// Reads the name at the front, the longest run of name bytes. `None` if that run isn't a name. Like the readers
-/// below, it is for callers that read lines of their own.
+/// Reads the name at the front, the longest run of name bytes. Returns `None` if that run isn't a name.
+///
+/// This reader and the next ones are for callers that read lines of their own.
 pub fn name_at(bytes: &[u8]) -> Option<Name>
     ensures found { IfSome result (λ name. Begins is_name_byte bytes.now name (drop (length name) bytes.now)) }
     ensures name { IfSome result IsName }
@@ -21,7 +22,7 @@ pub fn name_at(bytes: &[u8]) -> Option<Name>
     Name::front(bytes)
 }
 
-/// Returns the rest after a name at the front.
+/// Returns the bytes after a name at the front.
 pub fn behind_name<'a>(bytes: &'a [u8], name: &Name) -> &'a [u8]
     requires { length name.now ≤ length bytes.now }
     ensures { result.now ≡ drop (length name.now) bytes.now }
@@ -29,7 +30,7 @@ pub fn behind_name<'a>(bytes: &'a [u8], name: &Name) -> &'a [u8]
     &bytes[name.bytes().len()..]
 }
 
-// Each letter and digit is at its own index; a comma fills the rest.
+// Each letter and digit is at its own index. A comma is at every other index.
 static WORD_BYTES: [u8; 256] = *b"\
     ,,,,,,,,,,,,,,,,,,,,,,,,,,,,,,,,\
     ,,,,,,,,,,,,,,,,0123456789,,,,,,\
@@ -40,7 +41,7 @@ static WORD_BYTES: [u8; 256] = *b"\
     ,,,,,,,,,,,,,,,,,,,,,,,,,,,,,,,,\
     ,,,,,,,,,,,,,,,,,,,,,,,,,,,,,,,,";
 
-// Whether a word may hold the byte.
+// Returns whether a word may have the byte.
 #[inline]
 fn is_word_byte(b: u8) -> bool
     ensures { result ≡ is_ascii_alphanumeric b }
@@ -55,7 +56,7 @@ fn word_len(bytes: &[u8]) -> usize
     bytes.iter().take_while(|b| is_word_byte(**b)).count()
 }
 
-/// Splits off the word at the front, the longest run of letters and digits, which may be empty.
+/// Returns the word at the front, which is the longest run of letters and digits and may be empty, and the bytes after it.
 pub fn word_at(bytes: &[u8]) -> (&[u8], &[u8])
     ensures found { Begins is_ascii_alphanumeric bytes.now result.0.now result.1.now }
     ensures valid { IsTrue (list_all is_ascii_alphanumeric result.0.now) }
@@ -63,7 +64,7 @@ pub fn word_at(bytes: &[u8]) -> (&[u8], &[u8])
     bytes.split_at(word_len(bytes))
 }
 
-// Returns the kind whose word the bytes begin with, and the rest. No kind's word begins another's.
+// Returns the kind whose word the bytes begin with, and the bytes after it. No kind's word begins another's.
 #[inline(always)]
 fn kind_front(bytes: &[u8]) -> Option<(Kind, &[u8])>
     ensures found { IfSome result (λ r. bytes.now ≡ kind_word r.0 ++ r.1.now) }
@@ -82,8 +83,8 @@ fn kind_front(bytes: &[u8]) -> Option<(Kind, &[u8])>
     }
 }
 
-/// Reads the word of a kind at the front, and returns the kind with the rest. `None` if the longest run of letters
-/// and digits is another word.
+/// Reads the word of a kind at the front, and returns the kind with the bytes after it. `None` if the longest run of
+/// letters and digits isn't a kind's word.
 #[inline(always)]
 pub fn kind_at(bytes: &[u8]) -> Option<(Kind, &[u8])>
     ensures found { IfSome result (λ r. Begins is_ascii_alphanumeric bytes.now (kind_word r.0) r.1.now) }
@@ -98,8 +99,7 @@ pub fn kind_at(bytes: &[u8]) -> Option<(Kind, &[u8])>
     }
 }
 
-/// Reads the text of an endpoint at the front, and returns the endpoint with the rest. `None` if the bytes don't
-/// begin with one.
+/// Reads the endpoint at the front, and returns it with the bytes after it. `None` if the bytes don't begin with one.
 pub fn endpoint_at(bytes: &[u8]) -> Option<(Endpoint, &[u8])>
     ensures found { IfSome result (λ r. Begins is_ascii_digit bytes.now (endpoint_text r.0) r.1.now) }
     ensures valid { IfSome result (λ r. IsEndpoint r.0) }

@@ -26,8 +26,8 @@ use std::alloc::Global;
 
 /// Reads the change whose line is at the front, and returns it with the line's length, newline included.
 ///
-/// Refuses bytes that don't begin with a change's line as BadLine, with the place of the first part that can't be
-/// read. NoRoom is possible only for a whole line of a put of a text or a blob: no other line needs memory.
+/// Refuses bytes that don't begin with a change's line as BadLine, with the place of the first part that can't be read.
+/// Then reports NoRoom if memory runs out, which only a put of a text or a blob takes.
 pub fn read_change(alloc: Global, bytes: &[u8]) -> Result<(Change, usize), LineFault>
     ensures line { IfOk result (λ r. IsChange r.0) }
     ensures found { IfOk result (λ r. take r.1 bytes.now ≡ spelling r.0) }
@@ -38,7 +38,7 @@ pub fn read_change(alloc: Global, bytes: &[u8]) -> Result<(Change, usize), LineF
     read_change_noting(alloc, bytes, &mut expected)
 }
 
-// Like `read_change`, and notes the part that it reads next: at BadLine, the part that begins at the place.
+// Like `read_change`, and notes each part before it reads it. At BadLine, the note is the part that begins at the place.
 fn read_change_noting(
     alloc: Global,
     bytes: &[u8],
@@ -57,8 +57,8 @@ fn read_change_noting(
     }
 }
 
-/// Like `read_change_noting`, but stores the change in `slot` and returns the line's length. A result would be copied
-/// from each reader to its caller.
+/// Like `read_change_noting`, but stores the change in `slot` and returns the line's length. So no change is copied from
+/// reader to caller.
 pub(crate) fn change_into(
     alloc: Global,
     bytes: &[u8],
@@ -79,9 +79,9 @@ pub(crate) fn change_into(
     Ok(length)
 }
 
-// Each reader below returns how many bytes are left after the change's line, or from the first part that can't be
-// read on. What it read of the change is in `slot`, or in the body that it returns. Each name is copied once: it is
-// read where the key and the owner are kept, and the change is built in `slot` from there.
+// Each reader below returns the number of bytes after the change's line, or the number of bytes from the first part on
+// that can't be read. It stores the change in `slot`, or returns the body. Each name is read into one variable and copied
+// once, into the change in `slot`.
 
 // Reads a change from its name on.
 fn change_at(
@@ -291,7 +291,7 @@ fn label_at(
     Ok((Body::Put(Value::Label(endpoint)), rest.len()))
 }
 
-// Reads a put of another kind from its value on.
+// Reads a put of a number, a text or a blob from its value on.
 fn other_at(
     alloc: Global,
     key: &Key,

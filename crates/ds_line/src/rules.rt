@@ -1,6 +1,6 @@
-//! What the parts of a change that were read allow for the parts after them.
+//! Tests whether some change has the parts that were read so far.
 //!
-//! Labels have rules of their own, and the last sequence number is left to the tombstones of sweeps.
+//! They fail by the rules of labels, and for the greatest sequence number, which only tombstones of sweeps have.
 
 ghost use Rattle.std.specs.Prelude.{◌≡◌, ◌≤◌, ◌^◌, ◌<◌, ◌↔◌, IsTrue};
 ghost use Rattle.ds_names.specs.Name.{IsName, rs_name};
@@ -12,11 +12,11 @@ ghost use Rattle.ds_line.specs.Reading.{HasOwner, HasVersion, HasSeq, HasBody, H
 use ds_names::limits::LAST_SEQ;
 use ds_names::{Generation, Key, Name, Version};
 
-/// Whether some change has the key.
+/// Returns whether some change has the key.
 pub fn has_owner(key: &Key) -> bool
     ensures { IsTrue result ↔ HasOwner key.now }
 {
-    // Any name is allowed for another kind; the call states that its bytes are one.
+    // Another kind allows any name. The call states that the key has one.
     let _name = key.name.bytes();
     if key.kind.is_label() {
         !key.name.is_rs()
@@ -25,12 +25,12 @@ pub fn has_owner(key: &Key) -> bool
     }
 }
 
-/// Whether some change with the key has the owner.
+/// Returns whether some change with the key has the owner.
 pub fn has_version(key: &Key, owner: &Name) -> bool
     requires { HasOwner key.now }
     ensures { IsTrue result ↔ HasVersion key.now owner.now }
 {
-    // Likewise for the owner.
+    // The call states that the owner is a name.
     let _owner = owner.bytes();
     if key.kind.is_label() {
         owner.is_rs()
@@ -39,7 +39,7 @@ pub fn has_version(key: &Key, owner: &Name) -> bool
     }
 }
 
-/// Whether some change with the key and the owner has the epoch.
+/// Returns whether some change with the key and the owner has the epoch.
 pub fn has_seq(key: &Key, owner: &Name, epoch: Generation) -> bool
     requires { HasVersion key.now owner.now }
     ensures { IsTrue result ↔ HasSeq key.now owner.now epoch }
@@ -52,7 +52,7 @@ pub fn has_seq(key: &Key, owner: &Name, epoch: Generation) -> bool
     }
 }
 
-/// Whether some change with the key and the owner has the version.
+/// Returns whether some change with the key and the owner has the version.
 pub fn has_body(key: &Key, owner: &Name, version: &Version) -> bool
     requires { HasSeq key.now owner.now version.now.epoch }
     ensures { IsTrue result ↔ HasBody key.now owner.now version.now }
@@ -61,7 +61,7 @@ pub fn has_body(key: &Key, owner: &Name, version: &Version) -> bool
     if key.kind.is_label() { seq <= 1 } else { true }
 }
 
-/// Whether some put has the key, the owner and the version.
+/// Returns whether some put has the key, the owner and the version.
 pub fn has_value(key: &Key, owner: &Name, version: &Version) -> bool
     requires { HasBody key.now owner.now version.now }
     ensures { IsTrue result ↔ HasValue key.now owner.now version.now }
@@ -73,7 +73,7 @@ pub fn has_value(key: &Key, owner: &Name, version: &Version) -> bool
     }
 }
 
-/// Whether some tombstone has the key, the owner and the version.
+/// Returns whether some tombstone has the key, the owner and the version.
 pub fn has_tombstone(key: &Key, owner: &Name, version: &Version) -> bool
     requires { HasBody key.now owner.now version.now }
     ensures { IsTrue result ↔ IsChange (change_of key.now owner.now version.now Gone) }

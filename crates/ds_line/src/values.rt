@@ -1,4 +1,4 @@
-//! The values of texts and blobs, as a line spells them.
+//! Readers of quoted texts and of blobs in hex.
 
 ghost use Rattle.std.specs.Prelude.{◌≡◌, ◌≢◌, ◌++◌, ◌≤◌, List, ℕ, IfSome, IfNone, IsTrue, take};
 ghost use Rattle.hex.specs.Hex.{IsBytes, encode_lower};
@@ -11,7 +11,7 @@ use crate::block::put;
 use crate::hex_digits::{ends_digits, pair_at, sixteen_at};
 use ds_names::read_byte;
 
-// Reads one byte of a quoted text: `\"` is a quote, `\\` a backslash, and any other printable byte stands for itself.
+// Reads one byte of a quoted text: `\"` is a quote, `\\` a backslash, and any other printable byte is itself.
 fn text_byte_at(bytes: &[u8]) -> Option<(u8, &[u8])>
     ensures found { IfSome result (λ r. bytes.now ≡ escaped_byte r.0 ++ r.1.now) }
     ensures valid { IfSome result (λ r. IsTrue (is_text_byte r.0)) }
@@ -32,8 +32,8 @@ fn text_byte_at(bytes: &[u8]) -> Option<(u8, &[u8])>
     }
 }
 
-/// Reads the quoted text at the front into the block. Returns its length, and the rest after the closing quote.
-/// `None` if the bytes don't begin with a quoted text of at most 256 bytes.
+/// Reads the quoted text at the front into the block. Returns its length, and the bytes after the closing quote. `None`
+/// if the bytes don't begin with a quoted text of at most 256 bytes.
 pub fn quoted_at<'a>(bytes: &'a [u8], block: &mut [u8; 256]) -> Option<(usize, &'a [u8])>
     ensures found { IfSome result (λ r. Begins (run_of Quoted) bytes.now (quoted (take r.0 block.new)) r.1.now) }
     ensures fits { IfSome result (λ r. r.0 ≤ 256) }
@@ -60,8 +60,8 @@ pub fn quoted_at<'a>(bytes: &'a [u8], block: &mut [u8; 256]) -> Option<(usize, &
     Some((256, rest))
 }
 
-// Reads groups of 32 hex digits at the front into the block. Returns the count of bytes, and the rest after the last
-// whole group.
+// Reads groups of 32 hex digits at the front into the block. Returns the number of bytes stored, and the bytes after the
+// last whole group.
 fn sixteens_at<'a>(bytes: &'a [u8], block: &mut [u8; 1024]) -> (usize, &'a [u8])
     ensures found { bytes.now ≡ encode_lower (take result.0 block.new) ++ result.1.now }
     ensures each { IsBytes (take result.0 block.new) }
@@ -79,8 +79,8 @@ fn sixteens_at<'a>(bytes: &'a [u8], block: &mut [u8; 1024]) -> (usize, &'a [u8])
     (1024, rest)
 }
 
-/// Reads the hex of a blob at the front into the block. Returns the blob's length, and the rest after the longest run
-/// of hex digits. `None` if that run isn't a blob's: it is odd, or above 2048 digits.
+/// Reads the hex of a blob at the front into the block. Returns the blob's length, and the bytes after the longest run
+/// of hex digits. `None` if the run has an odd number of digits, or more than 2048.
 pub fn hex_at<'a>(bytes: &'a [u8], block: &mut [u8; 1024]) -> Option<(usize, &'a [u8])>
     ensures found { IfSome result (λ r. Begins (run_of Hex) bytes.now (encode_lower (take r.0 block.new)) r.1.now) }
     ensures fits { IfSome result (λ r. r.0 ≤ 1024) }

@@ -1,4 +1,4 @@
-//! Writing the line of a change, and a value alone.
+//! Writing the line of a change, or its value alone.
 
 ghost use Rattle.std.specs.Prelude.{◌≡◌, ◌==◌, ◌||◌, not, ◌<◌, ◌≤◌, ◌+◌, ◌*◌, ◌++◌, List, ℕ, [], ◌∷◌, length, take, drop, OnOk, OnErr, IfOk};
 ghost use Rattle.std.specs.List.{flat_map, prefix_len};
@@ -15,7 +15,7 @@ use ds_names::{Kind, NoRoom};
 use itoa::Buffer;
 use std::alloc::Global;
 
-/// Writes the line of a change, newline included.
+/// Returns the line of a change, newline included. Fails only if memory runs out.
 pub fn write_change(alloc: Global, change: &Change) -> Result<Vec<u8>, NoRoom>
     ensures { IfOk result (λ line. line.items ≡ spelling change.now) }
 {
@@ -46,7 +46,7 @@ pub fn append_change(buffer: &mut Vec<u8>, change: &Change) -> Result<(), NoRoom
     append(buffer, line.bytes())
 }
 
-// Writes a change's line up to its mark.
+// Puts a change's line up to its `=` or `-` into `line`.
 fn put_front(line: &mut Line, change: &Change)
     requires { line.old ≡ [] }
     ensures written { line.new ≡ texts (up_to_mark change.now.key change.now.owner change.now.version) }
@@ -62,7 +62,7 @@ fn put_front(line: &mut Line, change: &Change)
     line.put(b" ");
 }
 
-// Writes the word of a kind, between two spaces.
+// Puts the word of a kind into `line`, between two spaces.
 #[inline(always)]
 fn put_kind(line: &mut Line, kind: Kind)
     requires { length line.old ≤ 64 }
@@ -77,7 +77,7 @@ fn put_kind(line: &mut Line, kind: Kind)
     }
 }
 
-/// Appends a value, as the lines of changes spell it, between two texts. If memory runs out, the buffer is unchanged.
+/// Appends a value between two texts, spelled as in the line of a change. If memory runs out, the buffer is unchanged.
 pub fn append_value(
     buffer: &mut Vec<u8>,
     before: &[u8],
@@ -131,7 +131,7 @@ pub fn append_all(buffer: &mut Vec<u8>, texts: &[&[u8]]) -> Result<(), NoRoom>
     Ok(())
 }
 
-// Appends a quoted text between two others, or nothing.
+// Appends a quoted text between two others. If memory runs out, the buffer is unchanged.
 fn append_text(buffer: &mut Vec<u8>, before: &[u8], text: &[u8], after: &[u8]) -> Result<(), NoRoom>
     ensures written { OnOk result (buffer.new.items ≡ buffer.old.items ++ (before.now ++ (quoted text.now ++ after.now))) }
     ensures unchanged { OnErr result (buffer.new.items ≡ buffer.old.items) }
@@ -145,7 +145,7 @@ fn append_text(buffer: &mut Vec<u8>, before: &[u8], text: &[u8], after: &[u8]) -
     written
 }
 
-// Appends the escaped bytes of a text, the closing quote and another text, or nothing.
+// Appends the escaped bytes of a text, the closing quote and another text. If memory runs out, the buffer is unchanged.
 fn append_closed(buffer: &mut Vec<u8>, text: &[u8], after: &[u8]) -> Result<(), NoRoom>
     ensures written { OnOk result (buffer.new.items ≡ buffer.old.items ++ (escaped text.now ++ 34 ∷ after.now)) }
     ensures unchanged { OnErr result (buffer.new.items ≡ buffer.old.items) }
@@ -159,7 +159,7 @@ fn append_closed(buffer: &mut Vec<u8>, text: &[u8], after: &[u8]) -> Result<(), 
     written
 }
 
-// Appends the escaped bytes of a text, or nothing.
+// Appends the escaped bytes of a text. If memory runs out, the buffer is unchanged.
 fn append_escaped(buffer: &mut Vec<u8>, text: &[u8]) -> Result<(), NoRoom>
     ensures written { OnOk result (buffer.new.items ≡ buffer.old.items ++ escaped text.now) }
     ensures unchanged { OnErr result (buffer.new.items ≡ buffer.old.items) }
@@ -181,7 +181,7 @@ fn append_escaped(buffer: &mut Vec<u8>, text: &[u8]) -> Result<(), NoRoom>
     Ok(())
 }
 
-// Returns the count of leading bytes that need no escape.
+// Returns the number of bytes before the first one that needs an escape.
 fn plain_len(text: &[u8]) -> usize
     ensures { result ≡ prefix_len (λ b. not (b == 34 || b == 92)) text.now }
 {
@@ -190,7 +190,7 @@ fn plain_len(text: &[u8]) -> usize
         .count()
 }
 
-// Returns where the escaped byte begins in the two bytes of a backslash and itself.
+// Returns where the escaped form begins in a backslash and the byte: 0 if it needs the backslash, else 1.
 fn spelled_from(byte: u8) -> usize
     ensures fits { result ≤ 1 }
     ensures spelled { drop result (92 ∷ byte ∷ []) ≡ escaped_byte byte }
@@ -198,7 +198,7 @@ fn spelled_from(byte: u8) -> usize
     if byte == b'"' || byte == b'\\' { 0 } else { 1 }
 }
 
-// Appends a blob in hex between two texts, or nothing.
+// Appends a blob in hex between two texts. If memory runs out, the buffer is unchanged.
 fn append_blob(buffer: &mut Vec<u8>, before: &[u8], blob: &[u8], after: &[u8]) -> Result<(), NoRoom>
     requires { length blob.now ≤ 1024 }
     ensures written { OnOk result (buffer.new.items ≡ buffer.old.items ++ (before.now ++ (encode_lower blob.now ++ after.now))) }
@@ -215,8 +215,8 @@ fn append_blob(buffer: &mut Vec<u8>, before: &[u8], blob: &[u8], after: &[u8]) -
     }
 }
 
-// Writes the hex of a blob to the front of the block, 16 bytes at a time. Returns how many bytes of the blob are
-// written; fewer than 16 are left.
+// Writes the hex of a blob to the front of the block, 16 bytes at a time. Returns the number of the blob's bytes that were
+// written. Fewer than 16 are left.
 fn write_sixteens(blob: &[u8], block: &mut [u8; 2048]) -> usize
     requires { length blob.now ≤ 1024 }
     ensures written { take (2 * result) block.new ≡ encode_lower (take result blob.now) }

@@ -8,7 +8,7 @@ use Rattle.desk.specs.Closing.{IsCloseFault}
 use Rattle.desk.specs.Pass.{Pass}
 
 module _ {M C R : Type 0} {G : Ghosts (View M C R)} where
-  -- one stays open for want of memory, or for a note
+  -- a desk stays open because memory ran out, or because of a note
   pub stays_open : (fault : DeskFault) (made : ℕ) (ps : List (Pass M C R G)) → made ≤ length ps → IsCloseFault fault made ps → (fault ≡ NoRoom) ⊎ (fault ≡ Noted)
   stays_open BadCount made ps all cause = absurd cause
   stays_open BadFirst made ps all cause = absurd cause

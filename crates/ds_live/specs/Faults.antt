@@ -1,4 +1,4 @@
--- The fault of a run, by the faults of its workers.
+-- The fault of a run, from the faults of its workers.
 use Rattle.std.specs.Prelude.{◌≡◌, ◌⊎◌, List, [], ◌∷◌, Option, Some, None}
 use Rattle.std.specs.Option.{option_map}
 use Rattle.ds_exchange.specs.declared.fault.ExchangeFault.{ExchangeFault}
@@ -12,7 +12,7 @@ use Rattle.ds_refresh.specs.declared.fault.RefreshFault.TheVariants as refreshes
 use Rattle.ds_workers.specs.declared.fault.WorkerFault.{WorkerFault}
 use Rattle.ds_workers.specs.declared.fault.WorkerFault.TheVariants as workers
 
--- ---- the same fault, as a run reports it
+-- ---- a fault, as a run reports it
 abbrev pub call_fault : CallFault → LiveFault
 call_fault (calls.Desk fault) = Desk fault
 call_fault (calls.Refused refusal) = Refused refusal
@@ -44,6 +44,6 @@ abbrev pub lowest_fault : List (Option WorkerFault) → Option LiveFault
 lowest_fault [] = None
 lowest_fault (f ∷ fs) = fault_or (lowest_fault fs) (option_map worker_fault f)
 
--- The fault is the lowest worker's. If no worker has one, a thread couldn't be made, or there is none.
+-- Whether the fault is the lowest worker's. If no worker has one, a thread couldn't be made, or there is no fault.
 abbrev pub HasWorkersFault : List (Option WorkerFault) → Option LiveFault → Type 0
 HasWorkersFault fs fault = (fault ≡ lowest_fault fs) ⊎ (fault ≡ fault_or (lowest_fault fs) (Some NoThread))

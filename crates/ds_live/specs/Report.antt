@@ -1,4 +1,4 @@
--- The report of a run, by what the run left.
+-- The report of a run.
 use Rattle.std.specs.Prelude.{◌+◌, ◌==◌, Bool, List, if◌then◌else◌}
 use Rattle.std.specs.List.{list_all}
 use Rattle.std.specs.Cmp.Lexicographic.{pointwise}
@@ -8,22 +8,22 @@ use Rattle.ds_entry.specs.Under.{entries_of}
 use Rattle.ds_entry.specs.contracts.item.ItemPartialEq.TheImpl.{ghosts as item}
 use Rattle.ds_refresh.specs.Follower.{FollowerRecord, mapped}
 
--- Two lists have the same items in the same order, by `==`.
+-- Whether two lists have the same items in the same order, by `==`.
 abbrev pub same_items : List Item → List Item → Bool
 same_items = pointwise item.eq
 
--- The map has these entries.
+-- Whether the follower's map has exactly these entries.
 abbrev pub has_entries : List Item → FollowerRecord → Bool
 has_entries entries f = same_items (entries_of (mapped f)) entries
 
 abbrev pub all_have : List Item → List FollowerRecord → Bool
 all_have entries followers = list_all (has_entries entries) followers
 
--- Two stores hold the same entries.
+-- Whether two stores hold the same entries.
 abbrev pub have_same : List Item → List Item → Bool
 have_same held other = same_items (entries_of held) (entries_of other)
 
--- Raises are the takes and what is pending.
+-- Whether the raises are the takes, plus one if the bit is pending.
 abbrev pub is_exact : Row → Bool
 is_exact r = r.raises == r.takes + (if r.pending then 1 else 0)
 

@@ -2,7 +2,7 @@
 use Rattle.std.specs.Prelude.{Bool, ◌&&◌, nat_le}
 use Rattle.ds_live.specs.declared.sizes.Sizes.{Sizes}
 
--- 1 to 8 publishers, 1 to 8 subscribers, 1 to 1000 turns
+-- Whether each size is in its range: 1 to 8 publishers, 1 to 8 subscribers, 1 to 1000 turns.
 abbrev pub are_fit : Sizes → Bool
 are_fit s =
     nat_le 1 s.publishers

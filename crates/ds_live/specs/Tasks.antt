@@ -12,7 +12,7 @@ use Rattle.ds_workers.specs.declared.task.Task.TheVariants.{Exchange, Follow, Pu
 use Rattle.ds_workers.specs.Workers.{StorePass}
 
 module _ {Z : Type 0} {G : Ghosts (View (Boxed Z) Command Reply)} where
-  -- The task's pass, if it has one, is of the desk.
+  -- Whether the task's pass, if it has one, is of the desk.
   abbrev pub IsOther : TableId → Task (StorePass Z G) → Type 0
   IsOther second Publish = Unit {0}
   IsOther second (Follow follower) = Unit {0}

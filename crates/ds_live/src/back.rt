@@ -1,8 +1,8 @@
-//! What workers hand back.
+//! The passes and followers that workers hand back.
 
 use ds_refresh::Follower;
 
-/// The passes and the followers that no worker has.
+/// The passes and the followers that no worker has any more.
 #[derive(Drop)]
 pub(crate) struct Back<P> {
     /// The passes of the first desk.

@@ -11,7 +11,7 @@ use desk::{Closed, Desk, DeskFault, Pass, Passes};
 use ds_store::Store;
 use std::alloc::Global;
 
-/// Has each pass but the last make a note that the next one learns, so that all notes are learnt.
+/// Lets each pass but the last make a note, which the next pass learns. So all notes are learnt.
 pub(crate) fn share_notes(
     desk: &Desk<Box<Store>>,
     passes: &mut Vec<Pass<Box<Store>>>,

@@ -1,4 +1,4 @@
-//! Finishes the workers, and takes their passes back.
+//! The end of the workers, which hand their passes back.
 
 ghost use Rattle.std.specs.Prelude.{All, ◌≡◌, ◌≤◌, ◌+◌, [], length, sum_by, vec_capacity};
 ghost use Rattle.desk.specs.Desk.{identity};
@@ -14,7 +14,7 @@ use ds_workers::{Desks, Gate, StoreTurns, StoreWorker, Task, Turns, Worker};
 use std::alloc::Global;
 use std::sync::Wait;
 
-/// Takes all passes back. If there is no fault, each worker finishes first, worker 0 before the others. Returns the fault, or that of
+/// Takes all passes back. If there is no fault, each worker finishes first, in the order of their numbers. Returns the fault, or that of
 /// the first worker that can't finish.
 pub(crate) fn dismiss<R: Wait, G: Gate>(
     rt: &R,
@@ -44,7 +44,7 @@ pub(crate) fn dismiss<R: Wait, G: Gate>(
     fault
 }
 
-// Has a worker finish, unless there is a fault. Returns that fault, or the worker's.
+// Lets a worker finish, unless there is a fault. Returns that fault, or the worker's.
 fn finish<W: Wait>(
     rt: &W,
     alloc: Global,
@@ -64,7 +64,7 @@ fn finish<W: Wait>(
     }
 }
 
-// Takes back what a task has: a pass of the second desk, or a follower, which is dropped if there is no room for it.
+// Takes back what a task has: a pass of the second desk, or a follower. If memory runs out for a follower, it is dropped.
 fn collect(
     second: &Desk<Box<Store>>,
     task: Task<Pass<Box<Store>>>,

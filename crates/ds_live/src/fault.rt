@@ -9,7 +9,7 @@ use ds_refresh::RefreshFault;
 use ds_workers::WorkerFault;
 use thiserror::Error;
 
-/// Why a run of threads, or a part of one, failed.
+/// Why a run of threads, or a part of it, failed.
 #[derive(Clone, Copy, Debug, PartialEq, Eq, Error)]
 pub enum LiveFault {
     /// The limit of a refresh isn't 2 to 65536 calls.
@@ -29,7 +29,7 @@ pub enum LiveFault {
     Stopped {
         /// How many items were done.
         done: usize,
-        /// Why the next one wasn't.
+        /// Why the next item was refused.
         fault: Refusal,
     },
     /// A gate turned a worker away.

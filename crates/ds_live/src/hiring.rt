@@ -19,10 +19,10 @@ use ds_workers::{Desks, Gate, StoreTurns, Task, Turns, Worker, everything, publi
 use std::alloc::Global;
 use std::sync::Wait;
 
-// The number of items in the journal of a store.
+// The number of items that a store's journal keeps.
 const RING: u32 = 256;
 
-/// Opens a desk of a new store of this incarnation. Returns it with its passes, 1 to 64.
+/// Opens a desk with a new store of this incarnation, and returns it with its 1 to 64 passes.
 pub(crate) fn open_desk(
     alloc: Global,
     incarnation: u64,
@@ -44,8 +44,10 @@ pub(crate) fn open_desk(
     }
 }
 
-/// Makes a job for each pass of the first desk; the last job is worker 0's. Publishers come first, whose labels are published here, then
-/// subscribers, then the worker that exchanges, with the pass of the second desk. The lists of passes keep their capacity.
+/// Makes a job for each pass of the first desk, and publishes the publishers' labels.
+///
+/// Publishers have the first numbers, then come the subscribers, then the worker that exchanges, which gets the pass of the second desk.
+/// Worker 0 has the last job of the list. The lists of passes keep their capacity.
 pub(crate) fn hire<'e, R: Wait, G: Gate>(
     rt: &'e R,
     alloc: Global,
@@ -114,7 +116,7 @@ pub(crate) fn hire<'e, R: Wait, G: Gate>(
     Ok(jobs)
 }
 
-// RS publishes the labels of the publishers.
+// Publishes the labels of the publishers, as RS.
 fn publish_labels<W: Wait>(
     rt: &W,
     desk: &Desk<Box<Store>>,

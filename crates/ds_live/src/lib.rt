@@ -1,7 +1,7 @@
 //! A run of threads that share two stores: publishers, followers, and an exchange between the two replicas.
 //!
-//! Drivers, the servers that follow them by MINIX 3's data store (DS), and a second replica: `live_run` runs each of them in a thread of
-//! its own, and reports the result. The run and its report are of this project.
+//! `live_run` runs drivers, servers that follow them by MINIX 3's data store (DS), and an exchange with a second replica, each in a thread
+//! of its own, and reports the result. The run and its report are this project's.
 #![tactic(auto)]
 
 mod back;

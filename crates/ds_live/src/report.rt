@@ -16,17 +16,17 @@ use std::alloc::Global;
 /// The report of a run.
 #[derive(Clone, Copy, Debug, PartialEq, Eq)]
 pub struct LiveReport {
-    /// How many puts the first store holds.
+    /// The number of puts that the first store holds.
     pub entries: usize,
     /// Whether each subscriber's map has the same puts.
     pub maps: bool,
     /// Whether the second store has the same puts.
     pub replicas: bool,
-    /// Whether, in each row of both desks' accounts, raises are the takes and what is pending.
+    /// Whether, in each row of both desks' accounts, the raises are the takes, plus one if the bit is pending.
     pub account: bool,
 }
 
-/// Returns the report on two closed desks and the subscribers' followers.
+/// Returns the report of two closed desks and the subscribers' followers. Fails only if memory runs out.
 pub(crate) fn report_of(
     alloc: Global,
     left: &Closed<Box<Store>>,
@@ -83,7 +83,7 @@ fn entries_held(alloc: Global, held: &Held) -> Result<Items, NoRoom>
     Ok(puts)
 }
 
-// Returns whether each row of an account is exact.
+// Returns whether the raises of each row of an account are the takes, plus one if the bit is pending.
 fn are_exact(account: &Account) -> bool
     ensures { result ≡ are_exact account.now }
 {
@@ -99,7 +99,7 @@ fn are_exact(account: &Account) -> bool
     true
 }
 
-// Returns whether raises are the takes and what is pending.
+// Returns whether the raises are the takes, plus one if the bit is pending.
 fn is_exact(row: Row) -> bool
     ensures { result ≡ is_exact row }
 {

@@ -23,12 +23,14 @@ use std::alloc::Global;
 use std::sync::Wait;
 use std::thread::Threads;
 
-/// Runs publishers and subscribers that share a store, and a worker that gives what it has to a second store, each in a thread of its
+/// Runs publishers and subscribers that share a store, and a worker that sends what it holds to a second store, each in a thread of its
 /// own. Then brings the subscribers' maps and the second store up to date, closes both desks, and reports what they hold.
 ///
-/// Publishers are workers 0, 1 and so on, then come the subscribers, then the worker that exchanges. Each takes `changes` turns, with
-/// the gate before each and after the last. Errors: BadSizes; if workers fail, the fault of the lowest, which is GateShut if its gate
-/// turned it away; NoThread if a thread couldn't be made; NoRoom.
+/// Publishers are workers 0, 1 and so on. Then come the subscribers, then the worker that exchanges. Each worker takes `changes` turns, and
+/// arrives at the gate before each turn and after the last one.
+///
+/// Refuses sizes out of range as BadSizes. If workers fail, returns the fault of the one with the lowest number, which is GateShut if the
+/// gate turned it away. Then come NoThread if a thread couldn't be made, and NoRoom.
 pub fn live_run<R: Threads + Wait + Sync, G: Gate + Sync>(
     rt: &R,
     alloc: Global,

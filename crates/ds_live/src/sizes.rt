@@ -6,16 +6,16 @@ ghost use Rattle.ds_live.specs.Sizes.{are_fit};
 /// The number of workers, and of the turns that each takes.
 #[derive(Clone, Copy, Debug, PartialEq, Eq)]
 pub struct Sizes {
-    /// How many publishers: 1 to 8.
+    /// The number of publishers, 1 to 8.
     pub publishers: u32,
-    /// How many subscribers: 1 to 8.
+    /// The number of subscribers, 1 to 8.
     pub subscribers: u32,
-    /// How many turns each worker takes: 1 to 1000.
+    /// The number of turns of each worker, 1 to 1000.
     pub changes: u32,
 }
 
 impl Sizes {
-    // Returns whether each is in its range.
+    // Returns whether each size is in its range.
     pub(crate) fn are_fit(self) -> bool
         ensures { result ≡ are_fit self }
     {

@@ -1,4 +1,4 @@
-//! Runs all workers, each in a thread of its own.
+//! The threads of all workers.
 
 ghost use Rattle.std.specs.Prelude.{All, ◌≡◌, map};
 ghost use Rattle.desk.specs.Desk.{identity};
@@ -12,7 +12,8 @@ use ds_workers::{Gate, StoreTurns};
 use std::sync::Wait;
 use std::thread::Threads;
 
-/// Runs all jobs. Returns them with the fault of the lowest worker that has one, or NoThread if a thread couldn't be made and none has.
+/// Runs all jobs, and returns them with the fault of the run, if any: that of the lowest worker that has one, else NoThread if a thread
+/// couldn't be made.
 pub(crate) fn work_all<'e, R: Threads + Wait + Sync, G: Gate + Sync>(
     rt: &'e R,
     given_up: &'e GivenUp,

@@ -36,7 +36,7 @@ pub record AskedChange : Type 0 where
 abbrev pub published : EndpointRecord → Key → Version → Bool → AskedChange
 published caller key version overwrite = record { caller = caller; key = key; version = version; over_live = overwrite; over_none = true }
 
--- The change that a Delete asks for: only if an entry is live.
+-- The change that a Delete asks for, which needs a live entry.
 abbrev pub deleted : EndpointRecord → Key → Version → AskedChange
 deleted caller key version = record { caller = caller; key = key; version = version; over_live = true; over_none = false }
 

@@ -14,7 +14,7 @@ use Rattle.ds_machine.specs.declared.command.Command.TheVariants.{Merge}
 use Rattle.ds_machine.specs.declared.reply.Reply.TheVariants.{Merged}
 use Rattle.ds_machine.specs.Taken.{HasNoFloor, TakesHeld, KeysApart, all_taken}
 
--- No cause applies to any of the items once those before it took effect.
+-- Whether no cause applies to any of the items, once those before it took effect.
 abbrev pub AreFree : State → List Item → Type 0
 AreFree s [] = Unit {0}
 AreFree s (i ∷ items) = (cause_of s i ≡ None) × AreFree (takes_effect s (i ∷ [])) items

@@ -25,7 +25,8 @@ brought_by s (Sweep caller owner generation) = Floored (floor_of owner generatio
 brought_by s (Merge items) = items
 brought_by s _ = []
 
--- As many of the items as the store knows after this reply: none if refused, those done if a merge was stopped.
+-- The items of a command that the store knows after this reply: none after a refusal, those done after a stopped Merge,
+-- else all.
 abbrev pub known_after : Reply → List Item → List Item
 known_after (Accepted owed) items = items
 known_after Known items = items
@@ -42,12 +43,12 @@ pub record IsNews (accepted : List Item) (i : Item) : Type 0 where
   pub newer : (j : Item) → Contains accepted j → covers j i ≡ false
   pub fits : FitsOwners accepted i
 
--- Each of the items is news when its turn comes.
+-- Whether each of the items is news when its turn comes.
 abbrev pub AreNews : List Item → List Item → Type 0
 AreNews accepted [] = Unit {0}
 AreNews accepted (i ∷ items) = IsNews accepted i × AreNews (accepted ++ i ∷ []) items
 
--- Some of the learnt items took effect, each news at its turn, and nothing else happened.
+-- Whether some of the learnt items took effect, each news at its turn, and nothing else happened.
 pub record Grows (old : State) (learnt : List Item) (new : State) : Type 0 where
   pub items : List Item
   pub news : AreNews old.feed.accepted items
@@ -78,7 +79,7 @@ abbrev pub OpeningIsReached : Type 0
 OpeningIsReached =
     (incarnation first ring : ℕ) (limits : LimitsRecord) → IsLimits limits → IsReached (opening incarnation first ring limits)
 
--- Laws: steps and runs lead from reached states to reached states.
+-- A law: steps and runs lead from reached states to reached states.
 abbrev pub StepsStayReached : Type 0
 StepsStayReached = (s t : State) (command : Command) (reply : Reply) → IsReached s → Step s command reply t → IsReached t
 
@@ -98,7 +99,7 @@ pub record GoesOn (old new : State) : Type 0 where
   pub grown : (since : List Item) × AreNews old.feed.accepted since × (new.feed.accepted ≡ old.feed.accepted ++ since)
   pub stamp : old.stamp ≤ new.stamp
 
--- Laws: the relation is reflexive and transitive, and every step and run keeps it.
+-- A law: the relation is reflexive and transitive, and every step and run keeps it.
 abbrev pub GoesOnSame : Type 0
 GoesOnSame = (s : State) → GoesOn s s
 

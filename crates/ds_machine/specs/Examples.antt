@@ -57,7 +57,7 @@ two_drivers =
     Publish rs (label (codes "tty")) (at 4 0) (Label (endpoint_of 4 18)) false ∷
     Publish (endpoint_of 3 17) (number (codes "mtu")) (at 3 0) (U32 1500) false ∷ []
 
--- Refusals of further publishes, in their order.
+-- The refusals of further publishes, in their order.
 abbrev pub PublishRow : Type 0
 PublishRow =
     replies_from (opening 1 0 256 larger) (two_drivers ++
@@ -129,7 +129,7 @@ RingRow =
     Journaled (record { items = []; cursor = cursor_at 1 3 }) ∷
     Refused Ahead ∷ Refused OldCursor ∷ Refused TooMany ∷ Refused TooMany ∷ []
 
--- Pages: all floors on the first; a page is the last one if no change is left.
+-- The row of pages. The first page has all floors, and a page is the last one if no change is left.
 abbrev pub PageRow : Type 0
 PageRow =
     replies_from (opening 1 0 256 larger) (two_drivers ++
@@ -148,7 +148,7 @@ PageRow =
     Paged (record { items = []; last = true; cursor = cursor_at 1 4 }) ∷
     Refused TooMany ∷ []
 
--- Pages between which the store changes, and the journal from the first page's cursor on.
+-- The row of pages between which the store changes, with the journal from the first page's cursor on.
 abbrev pub ChangingPagesRow : Type 0
 ChangingPagesRow =
     replies_from (opening 1 0 256 larger) (

@@ -128,7 +128,7 @@ pub record WantsRoom (old : State) (reply : Reply) (new : State) : Type 0 where
 abbrev pub Answers : State → Reply × State → Reply → State → Type 0
 Answers old out reply new = IsOutcome out reply new ⊎ WantsRoom old reply new
 
--- Memory ran out after `done` items of a merge. None of them was refused, and they took effect.
+-- Whether memory ran out after `done` items of a Merge. None of them was refused, and they took effect.
 pub record StopsForRoom (old : State) (items : List Item) (reply : Reply) (new : State) (done : ℕ) : Type 0 where
   pub few : length items ≤ most_items
   pub some_left : done < length items
@@ -141,7 +141,7 @@ abbrev pub MergeWantsRoom : State → Command → Reply → State → Type 0
 MergeWantsRoom old (Merge items) reply new = (done : ℕ) × StopsForRoom old items reply new done
 MergeWantsRoom old _ reply new = ⊥
 
--- One step of the machine.
+-- Whether the command leads from the first state to the second with this reply, by one step of the machine.
 abbrev pub Step : State → Command → Reply → State → Type 0
 Step old command reply new = Answers old (outcome old command) reply new ⊎ MergeWantsRoom old command reply new
 

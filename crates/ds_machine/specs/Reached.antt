@@ -12,7 +12,7 @@ pub record IsServed (s : State) (seer : Subscription) : Type 0 where
   pub shown : IsPartOf seer.shown s.feed.accepted
   pub stamp : seer.stamp ≤ s.stamp
 
--- Items that cover each other are equal: no two changes of one key, owner and version have two bodies.
+-- Whether items that cover each other are equal. So no two changes of one key, owner and version have two bodies.
 abbrev pub AreExact : List Item → Type 0
 AreExact items = (i j : Item) → Contains items i → Contains items j → covers j i ≡ true → covers i j ≡ true → i ≡ j
 

@@ -96,7 +96,7 @@ CheckedSays =
     (s t : State) (sub max : ℕ) (items : List Item) (before after : ℕ) → Step s (Check sub max) (Checked items before after) t →
     IsShown s sub max items before after t
 
--- Laws: a reader gets exactly what the definition says, and the state is unchanged.
+-- A law: a Since returns exactly what the definition says, and the state is unchanged.
 abbrev pub JournaledSays : Type 0
 JournaledSays =
     (s t : State) (scope : Scope) (at : Cursor) (max : ℕ) (since : readings.Since) → Step s (Since scope at max) (Journaled since) t →

@@ -75,13 +75,13 @@ against_change t c _ = false
 abbrev pub TakesPlace : ChangeRecord → ChangeRecord → Type 0
 TakesPlace h c = (h.owner ≡ c.owner) × (version_cmp h.version c.version ≡ Less)
 
--- There is room for another key, or the change takes the place of its key's held one.
+-- Whether another key can be held, or the change takes the place of the held one of its key.
 abbrev pub HasRoom : Option ChangeRecord → ℕ → ℕ → ChangeRecord → Type 0
 HasRoom None count most c = count < most
 HasRoom (Some h) count most c = TakesPlace h c
 
--- No cause applies to the change: its key has room or its held change yields, no floor makes it void, and a position is
--- left.
+-- Whether no cause applies to the change: its key can be held or its held change yields, no floor makes it void, and a
+-- position is left.
 pub record IsFree (t : Standing) (c : ChangeRecord) : Type 0 where
   pub room : HasRoom t.held t.count t.most c
   pub valid : t.void ≡ false
@@ -112,12 +112,12 @@ against_floor t f (Refused Full) = is_none t.held && nat_le most_floors t.count
 against_floor t f (Refused Worn) = nat_le last_place t.position
 against_floor t f _ = false
 
--- There is room for another floor, or this one is above its owner's held one.
+-- Whether another floor can be held, or this one is above the held one of its owner.
 abbrev pub HasFloorRoom : Option Floor → ℕ → Floor → Type 0
 HasFloorRoom None count f = count < most_floors
 HasFloorRoom (Some g) count f = g.generation < f.generation
 
--- No cause applies to the floor: it has room, and a position is left.
+-- Whether no cause applies to the floor: it can be held, and a position is left.
 pub record IsFloorFree (t : FloorStanding) (f : Floor) : Type 0 where
   pub room : HasFloorRoom t.held t.count f
   pub left : t.position < last_place

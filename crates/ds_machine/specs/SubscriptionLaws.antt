@@ -26,12 +26,12 @@ RunKeepsSubscription =
     (s t : State) (commands : List Command) (replies : List Reply) (sub : ℕ) → IsReached s → Run s commands replies t →
     list_any (uses sub) commands ≡ false → subscription_at t sub ≡ subscription_at s sub
 
--- There is a subscription, and its stamp is above every stamp taken up to this state.
+-- Whether there is a subscription, and its stamp is above every stamp taken up to this state.
 abbrev pub HasNewStamp : State → Option Subscription → Type 0
 HasNewStamp s None = ⊥
 HasNewStamp s (Some seer) = s.stamp < seer.stamp
 
--- Laws: a subscription that differs has a new stamp.
+-- A law: a subscription that differs after a step has a new stamp.
 abbrev pub StepStampsSubscription : Type 0
 StepStampsSubscription =
     (s t : State) (command : Command) (reply : Reply) (sub : ℕ) → IsReached s → Step s command reply t →

@@ -10,7 +10,7 @@ use Rattle.ds_machine.specs.Reached.{IsReached}
 use Rattle.ds_machine.specs.Standing.{TakesPlace}
 use Rattle.ds_machine.specs.State.{State, held, next_position, takes_effect}
 
--- No floor was accepted.
+-- Whether no floor was accepted.
 abbrev pub HasNoFloor : State → Type 0
 HasNoFloor s = (f : Floor) → ¬ Contains s.feed.accepted (Floored f)
 
@@ -21,7 +21,7 @@ pub record TakesHeld (s : State) (c : ChangeRecord) : Type 0 where
   pub key : over.key ≡ c.key
   pub place : TakesPlace over c
 
--- No two of the changes have the same key.
+-- Whether no two of the changes have the same key.
 abbrev pub KeysApart : List ChangeRecord → Type 0
 KeysApart [] = Unit {0}
 KeysApart (c ∷ cs) = ((d : ChangeRecord) → Contains cs d → ¬ (c.key ≡ d.key)) × KeysApart cs

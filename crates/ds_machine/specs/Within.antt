@@ -8,7 +8,7 @@ use Rattle.ds_machine.specs.declared.command.Command.{Command}
 use Rattle.ds_machine.specs.declared.reply.Reply.{Reply}
 use Rattle.ds_names.specs.Limits.{most_floors, last_place}
 
--- At most the allowed keys and floors are held, and no position or stamp is above the last one.
+-- Whether at most the allowed keys and floors are held, and no position or stamp is above the last one.
 pub record IsWithin (s : State) : Type 0 where
   pub keys : length (changes_in (held s)) ≤ s.limits.keys
   pub floors : length (floors_in (held s)) ≤ most_floors

@@ -10,11 +10,10 @@ use Rattle.std.specs.FinMap.{FinMap, find, get, put, get-from_entries, get-entri
 use Rattle.std.specs.FinMap as finite
 use lib.Dec.{T}
 use Rattle.ds_names.specs.Key.{name_cmp}
-use Rattle.ds_entry.specs.Change.{ChangeRecord}
 use Rattle.ds_entry.specs.declared.floor.Floor.{Floor}
 use Rattle.ds_join.specs.declared.merge.Merge.TheVariants.{Taken}
 use Rattle.ds_held.specs.Limits.{LimitsRecord}
-use Rattle.ds_held.specs.Held.{Holding, held_changes, held_floors, floor_for, floor_count, nothing_held}
+use Rattle.ds_held.specs.Held.{Holding, held_changes, held_floors, floor_for, nothing_held}
 use Rattle.ds_held.specs.Raise.{after_raise}
 use Rattle.ds_held.specs.Kept.{owned, by_owner, floors_map, AreOwnersRising, IsFloorPlace, IsGap, put_at}
 use Rattle.ds_held.proofs.PlaceLemmas.{put_there, get_there, get_none}

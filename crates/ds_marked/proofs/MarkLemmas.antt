@@ -1,6 +1,6 @@
 -- Marks beside changes.
-use Rattle.std.proofs.Common.{◌≡◌, ℕ, ◌<◌, ◌≤◌, List, [], ◌∷◌, length, set, map, true, false, cond, Option, Some, None, is_some, Result, Ok, Err, refl, sym, ap, ◌∙◌, subst, arith, length-set}
-use Rattle.std.specs.List.{slice_get}
+use Rattle.std.proofs.Common.{◌≡◌, ℕ, zero, suc, ◌<◌, ◌≤◌, inl, inr, List, [], ◌∷◌, length, set, map, true, false, cond, Option, Some, None, is_some, Result, Ok, Err, refl, sym, ap, ◌∙◌, subst, arith, length-set}
+use Rattle.std.specs.List.{slice_get, insert, remove}
 use Rattle.std.specs.Option.{option_map, IfSome}
 use Rattle.std.specs.Result.{MatchResult, OnErr}
 use Rattle.std.specs.Prelude.{⊤}
@@ -15,11 +15,12 @@ use Rattle.ds_names.specs.Key.{key_cmp}
 use Rattle.ds_names.proofs.OrderLemmas.{keys_total, exact_keys}
 use Rattle.ds_entry.specs.Change.{ChangeRecord}
 use Rattle.ds_entry.specs.declared.floor.Floor.{Floor}
-use Rattle.ds_held.specs.Limits.{LimitsRecord}
-use Rattle.ds_held.specs.Held.{Holding, held_changes, held_for, held_count, nothing_held, is_void_at, IsSound}
+use Rattle.ds_held.specs.Limits.{LimitsRecord, IsLimits}
+use Rattle.ds_held.specs.Held.{Holding, held_changes, held_for, held_count, nothing_held, IsSound}
 use Rattle.ds_held.specs.Raise.{at_kept_keys}
 use Rattle.ds_held.specs.Kept.{keyed, by_key, changes_map, AreKeysRising, IsGap, IsPlace, put_at, left_by_floor, marks_left}
 use Rattle.ds_held.proofs.EntryLemmas.{unlike}
+use Rattle.ds_held.proofs.HeldLemmas.{count_is}
 use Rattle.ds_held.proofs.KeptLemmas.{change_there, change_none, changes_are, kept_nothing}
 use Rattle.ds_marked.specs.Marked.{remarked}
 use Rattle.ds_marked.specs.Beside.{marked_keys, marks_beside, IsBeside}
@@ -153,6 +154,20 @@ module _ {M : Type 0} where
   marks_nothing lim h ms e f = ap (λ (g : Holding). marks_beside (held_changes g) ms) e ∙ ap (marks_beside (held_changes (nothing_held lim))) f ∙ ap (λ l. marks_beside {M = M} l []) (changes_are [] [] lim tt)
 
 -- ---- room for a mark
+pub few_keys : (l : LimitsRecord) → IsLimits l → l.keys ≤ 4096
+few_keys l (inl e) = subst (λ (x : LimitsRecord). x.keys ≤ 4096) (sym e) (omega arith)
+few_keys l (inr e) = subst (λ (x : LimitsRecord). x.keys ≤ 4096) (sym e) (omega arith)
+
+pub few_marks : {M : Type 0} (h : Holding) (ms : List M) → IsBeside h ms → held_count h ≤ h.limits.keys → (l : LimitsRecord) → l ≡ h.limits → IsLimits l → length ms < 65536
+few_marks h ms beside few l is known =
+    let limit = few_keys h.limits (subst IsLimits is known) in let count = count_is h in let each = beside.each in omega (arith, limit, few, count, each)
+
+-- A mark that is inserted and removed again leaves the marks.
+pub undone : {X : Type 0} (xs : List X) (i : ℕ) (x : X) → i ≤ length xs → remove (insert xs i x) i ≡ xs
+undone xs zero x w = refl
+undone [] (suc i) x w = absurd (omega (arith, w))
+undone (y ∷ xs) (suc i) x w = ap (λ l. y ∷ l) (undone xs i x (omega (arith, w)))
+
 pub room_there : (xs : List ChangeRecord) (key : Key) (n cap : ℕ) (p : Result ℕ ℕ) → IsPlace xs key p → n ≡ length xs → MatchResult p (λ i. ⊤) (λ i. n < cap) → MatchResult p (λ i. i < n) (λ i. (i ≤ n) × (n < cap))
 room_there xs key n cap (Ok i) at e w = omega (arith, at.0, e)
 room_there xs key n cap (Err i) at e w = (omega (arith, at.0, e), w)

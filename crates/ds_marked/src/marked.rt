@@ -14,8 +14,9 @@ ghost use Rattle.ds_marked.specs.Put.{IsPutMarked, IsRaisedMarked};
 use ds_entry::{Change, Floor};
 use ds_held::{Held, Limits};
 use ds_names::NoRoom;
+use ds_rows::Rows;
 use pairs::pair_at;
-use putting::{put_marked, raise_marked, set_at};
+use putting::{put_marked, raise_marked, set_at, set_row};
 use std::alloc::Global;
 use std::marker::Model;
 
@@ -28,7 +29,7 @@ mod putting;
 #[derive(Drop)]
 pub struct Marked<M> {
     held: Held,
-    marks: Vec<M>,
+    marks: Rows<M>,
     floor_marks: Vec<M>,
 }
 
@@ -42,9 +43,9 @@ impl<M> Model for Marked<M> {
 
     ghost use Rattle.ds_marked.specs.Beside.{marked_by, IsBeside, IsBesideFloors};
 
-    ghost view = { λ h. marked_by h.held h.marks.items h.floor_marks.items };
+    ghost view = { λ h. marked_by h.held h.marks h.floor_marks.items };
 
-    ghost invariant = { λ h. IsBeside h.held h.marks.items × IsBesideFloors h.held h.floor_marks.items };
+    ghost invariant = { λ h. IsBeside h.held h.marks × IsBesideFloors h.held h.floor_marks.items };
 }
 
 impl<M: Drop> Marked<M> {
@@ -54,7 +55,7 @@ impl<M: Drop> Marked<M> {
     {
         Marked {
             held: Held::bounded(alloc, limits),
-            marks: Vec::new(alloc),
+            marks: Rows::new(alloc),
             floor_marks: Vec::new(alloc),
         }
     }
@@ -84,10 +85,10 @@ impl<M: Drop> Marked<M> {
     }
 
     /// Returns the marks of all changes, in the order of their keys.
-    pub fn marks(&self) -> &[M]
+    pub fn marks(&self) -> &Rows<M>
         ensures { AreMarks self.now result.now }
     {
-        self.marks.as_slice()
+        &self.marks
     }
 
     /// Returns the marks of all floors, in the order of the owners' names.
@@ -155,7 +156,7 @@ impl<M: Drop> Marked<M> {
         ensures marks { self.new.marks ≡ remarked_at self.old index mark }
         ensures floor_marks { self.new.floor_marks ≡ self.old.floor_marks }
     {
-        set_at(&mut self.marks, index, mark);
+        set_row(&mut self.marks, index, mark);
     }
 
     /// Replaces the mark of the floor at an index, in the order of the owners' names. It allocates nothing, and does

@@ -4,7 +4,7 @@ use Rattle.std.specs.Char.{is_ascii_digit}
 use Rattle.std.specs.Fmt.{decimal}
 use Rattle.ds_names.specs.Run.{Begins}
 
--- A slot, and the number of its process among all that RS started.
+-- A process: its number among all that RS started, and its slot.
 pub record EndpointRecord : Type 0 where
   pub generation : ℕ
   pub slot : ℕ
@@ -13,11 +13,11 @@ pub record EndpointRecord : Type 0 where
 abbrev pub endpoint_of : ℕ → ℕ → EndpointRecord
 endpoint_of g s = record { generation = g; slot = s }
 
--- Whether two endpoints are equal, in generation and in slot.
+-- Whether two endpoints have the same generation and the same slot.
 abbrev pub is_same_endpoint : EndpointRecord → EndpointRecord → Bool
 is_same_endpoint d e = d.generation == e.generation && d.slot == e.slot
 
--- Whether the endpoint is that of RS, `0/2`.
+-- Whether the endpoint is RS's, `0/2`.
 abbrev pub is_rs : EndpointRecord → Bool
 is_rs e = is_same_endpoint e (endpoint_of 0 2)
 

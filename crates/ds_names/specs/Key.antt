@@ -7,7 +7,7 @@ use Rattle.ds_names.specs.Kind.{kind_place}
 use Rattle.ds_names.specs.declared.key.Key.{Key}
 use Rattle.ds_names.specs.declared.kind.Kind.TheVariants.{Label}
 
--- The order of names: byte by byte, and a prefix before what it begins.
+-- The order of names: byte by byte. A prefix comes before the longer name.
 abbrev pub name_cmp : List ℕ → List ℕ → Ordering
 name_cmp = slice_cmp nat_cmp
 
@@ -15,6 +15,6 @@ name_cmp = slice_cmp nat_cmp
 abbrev pub key_cmp : Key → Key → Ordering
 key_cmp a b = ordering_then (name_cmp a.name b.name) (nat_cmp (kind_place a.kind) (kind_place b.kind))
 
--- The key of a name's label.
+-- The key of the label under a name.
 abbrev pub label_key : List ℕ → Key
 label_key name = record { name = name; kind = Label }

@@ -1,4 +1,4 @@
--- The order of kinds, and the kinds that a mask names.
+-- The order of kinds, and the kinds in a mask.
 use Rattle.std.specs.Prelude.{ℕ, ◌/◌, ◌%◌, ◌==◌, Bool, true, false}
 use Rattle.ds_names.specs.declared.kind.Kind.{Kind}
 use Rattle.ds_names.specs.declared.kind.Kind.TheVariants.{Label, U32, Str, Mem}
@@ -10,7 +10,7 @@ kind_place U32 = 1
 kind_place Str = 2
 kind_place Mem = 3
 
--- Whether the kind is that of labels.
+-- Whether the kind is Label.
 abbrev pub is_label : Kind → Bool
 is_label Label = true
 is_label U32 = false

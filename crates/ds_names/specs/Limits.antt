@@ -1,11 +1,11 @@
--- The numbers that bound every store, whatever its own limits are.
+-- Numbers that bound every store, whatever its own limits are.
 use Rattle.std.specs.Prelude.{ℕ, ◌^◌}
 
 -- The most items of a Merge, a Check, a Since or a Page.
 abbrev pub most_items : ℕ
 most_items = 256
 
--- The most floors that are held.
+-- The most floors that a store holds.
 abbrev pub most_floors : ℕ
 most_floors = 64
 
@@ -13,7 +13,7 @@ most_floors = 64
 abbrev pub longest_pattern : ℕ
 longest_pattern = 128
 
--- The last sequence number, which no caller uses.
+-- The greatest sequence number. No caller uses it.
 abbrev pub last_seq : ℕ
 last_seq = 4294967295
 

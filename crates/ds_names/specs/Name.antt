@@ -18,6 +18,6 @@ pub record IsName (bytes : List ℕ) : Type 0 where
 abbrev pub is_same_name : List ℕ → List ℕ → Bool
 is_same_name = pointwise ◌==◌
 
--- `rs`, the label of the reincarnation server.
+-- The label of the reincarnation server, `rs`.
 abbrev pub rs_name : List ℕ
 rs_name = 114 ∷ 115 ∷ []

@@ -1,4 +1,4 @@
--- Where a run of bytes of one sort ends.
+-- The end of a run of bytes of one sort.
 use Rattle.std.specs.Bool.{IsFalse}
 use Rattle.std.specs.Prelude.{◌≡◌, ℕ, Bool, List, [], ◌∷◌, ◌++◌}
 
@@ -7,7 +7,7 @@ abbrev pub Ends : (ℕ → Bool) → List ℕ → Type 0
 Ends sort [] = Unit {0}
 Ends sort (b ∷ bytes) = IsFalse (sort b)
 
--- Whether the bytes are the text and then the rest, and a run of the sort ends between the two.
+-- Whether the bytes are the text and the rest after it, and a run of the sort ends between the two.
 pub record Begins (sort : ℕ → Bool) (bytes text rest : List ℕ) : Type 0 where
   pub parts : bytes ≡ text ++ rest
   pub ends : Ends sort rest

@@ -8,7 +8,7 @@ ghost use Rattle.std.specs.Fmt.{decimal};
 ghost use Rattle.ds_names.specs.Decimal.{leading_number};
 ghost use Rattle.ds_names.specs.Run.{Begins};
 
-// Returns the number that the leading digits write, and their count. `None` if it is 2^64 or more.
+// Returns the number that the leading digits write, and the count of digits. `None` if it is 2^64 or more.
 fn number_of(bytes: &[u8]) -> Option<(u64, usize)>
     ensures { SomeIff result (leading_number bytes.now < 2 ^ 64) (leading_number bytes.now, prefix_len is_ascii_digit bytes.now) }
 {
@@ -28,7 +28,7 @@ fn number_of(bytes: &[u8]) -> Option<(u64, usize)>
     }
 }
 
-// Like `number_of`, for any count of digits: each step is checked for overflow.
+// Like `number_of`, for any count of digits. Checks each step for overflow.
 fn long_number_of(bytes: &[u8]) -> Option<(u64, usize)>
     ensures { SomeIff result (leading_number bytes.now < 2 ^ 64) (leading_number bytes.now, prefix_len is_ascii_digit bytes.now) }
 {
@@ -42,7 +42,7 @@ fn long_number_of(bytes: &[u8]) -> Option<(u64, usize)>
     Some((number, bytes.len()))
 }
 
-// Returns the number below 2^64 at the front, written without leading zeros, and the rest after its digits.
+// Returns the number at the front, below 2^64 and without leading zeros, and the bytes after its digits.
 fn any_decimal(bytes: &[u8]) -> Option<(u64, &[u8])>
     ensures found { IfSome result (λ r. Begins is_ascii_digit bytes.now (decimal r.0) r.1.now) }
     ensures limit { IfSome result (λ r. r.0 < 2 ^ 64) }
@@ -56,10 +56,10 @@ fn any_decimal(bytes: &[u8]) -> Option<(u64, &[u8])>
     Some((number, rest))
 }
 
-/// Reads the decimal number at the front, and returns it with the rest after its digits.
+/// Reads the decimal number at the front, and returns it with the bytes after it.
 ///
-/// The number is the longest run of digits, without leading zeros. `None` if there is no such number of at most
-/// `most`.
+/// The number is the longest run of digits. Returns `None` if there is no digit, if the number has leading zeros, or if
+/// it is above `most`.
 pub fn read_decimal(bytes: &[u8], most: u64) -> Option<(u64, &[u8])>
     ensures found { IfSome result (λ r. Begins is_ascii_digit bytes.now (decimal r.0) r.1.now) }
     ensures limit { IfSome result (λ r. r.0 ≤ most) }
@@ -72,7 +72,7 @@ pub fn read_decimal(bytes: &[u8], most: u64) -> Option<(u64, &[u8])>
     Some((number, rest))
 }
 
-/// Reads the given byte at the front, and returns the rest. `None` if the bytes don't begin with it.
+/// Reads the given byte at the front, and returns the bytes after it. `None` if they begin with another one or are empty.
 pub fn read_byte(bytes: &[u8], byte: u8) -> Option<&[u8]>
     ensures found { IfSome result (λ rest. bytes.now ≡ byte ∷ rest.now) }
     ensures none { IfNone result ((rest : List ℕ) → bytes.now ≢ byte ∷ rest) }

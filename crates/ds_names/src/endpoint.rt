@@ -15,8 +15,8 @@ use thiserror::Error;
 
 /// The number of a process among all that RS started, 0 to 2097151.
 ///
-/// In MINIX 3 an endpoint has a generation, so the endpoint of a dead process is never taken for its successor's. The
-/// range is this project's.
+/// MINIX 3 puts a generation into each endpoint, so that nobody mistakes the endpoint of a dead process for its
+/// successor's. The range is this project's.
 #[derive(Clone, Copy, Debug, PartialEq, Eq, PartialOrd, Ord)]
 pub struct Generation {
     number: u32,
@@ -35,7 +35,7 @@ impl Model for Generation {
 }
 
 impl Generation {
-    /// Returns the generation with this number, 0 to 2097151. `None` if it is greater.
+    /// Returns the generation with this number, or `None` if it is above 2097151.
     pub fn of(number: u32) -> Option<Generation>
         ensures { SomeIff result (number ≤ 2097151) number }
     {
@@ -46,7 +46,7 @@ impl Generation {
         }
     }
 
-    /// Returns its number, 0 to 2097151.
+    /// Returns the generation's number, 0 to 2097151.
     pub fn number(self) -> u32
         ensures value { result ≡ self }
         ensures limit { result ≤ 2097151 }
@@ -55,7 +55,7 @@ impl Generation {
     }
 }
 
-/// Why bytes aren't an endpoint: they aren't `generation/slot`.
+/// The error for bytes that aren't an endpoint's text, `generation/slot`.
 #[derive(Clone, Copy, Debug, PartialEq, Eq, Error)]
 #[error("an endpoint is written as generation/slot")]
 pub struct BadEndpoint;
@@ -81,7 +81,7 @@ impl Model for Endpoint {
 }
 
 impl Endpoint {
-    /// Returns the endpoint of a generation and a slot, 0 to 1023. `None` for a greater slot.
+    /// Returns the endpoint of a generation and a slot, or `None` if the slot is above 1023.
     pub fn of(generation: Generation, slot: u16) -> Option<Endpoint>
         ensures { SomeIff result (slot ≤ 1023) (endpoint_of generation slot) }
     {
@@ -103,14 +103,14 @@ impl Endpoint {
         }
     }
 
-    /// Whether it is the endpoint of RS.
+    /// Returns whether the endpoint is RS's.
     pub fn is_rs(self) -> bool
         ensures { result ≡ is_rs self }
     {
         self == Endpoint::rs()
     }
 
-    /// Returns its generation.
+    /// Returns the endpoint's generation.
     pub fn generation(self) -> Generation
         ensures value { result ≡ self.generation }
         ensures valid { IsEndpoint self }
@@ -118,7 +118,7 @@ impl Endpoint {
         self.generation
     }
 
-    /// Returns its slot, 0 to 1023.
+    /// Returns the endpoint's slot, 0 to 1023.
     pub fn slot(self) -> u16
         ensures value { result ≡ self.slot }
         ensures valid { IsEndpoint self }
@@ -126,7 +126,7 @@ impl Endpoint {
         self.slot
     }
 
-    /// Reads the text `generation/slot` of an endpoint. Refuses any other bytes as BadEndpoint.
+    /// Reads an endpoint from its text, `generation/slot`. Refuses any other bytes as BadEndpoint.
     pub fn read(bytes: &[u8]) -> Result<Endpoint, BadEndpoint>
         ensures found { IfOk result (λ e. IsEndpoint e × (bytes.now ≡ endpoint_text e)) }
         ensures none { OnErr result ((e : EndpointRecord) → IsEndpoint e → bytes.now ≢ endpoint_text e) }
@@ -141,7 +141,7 @@ impl Endpoint {
         Ok(Endpoint { generation, slot })
     }
 
-    /// Prints `generation/slot`, in decimals without leading zeros. `Endpoint::read` reads it back.
+    /// Prints `generation/slot`, in decimals without leading zeros. `Endpoint::read` reads the text back.
     pub fn print(self, alloc: Global) -> Result<String, NoRoom>
         ensures { IfOk result (λ text. string_bytes text ≡ endpoint_text self) }
     {
@@ -151,9 +151,9 @@ impl Endpoint {
     }
 }
 
-/// Reads the text of an endpoint at the front, and returns its generation, its slot and the rest.
+/// Reads the endpoint at the front, and returns its generation, its slot and the bytes after it.
 ///
-/// The slot is the longest run of digits. `None` if the bytes don't begin with an endpoint.
+/// The slot is the longest run of digits. Returns `None` if the bytes don't begin with an endpoint.
 pub fn read_endpoint(bytes: &[u8]) -> Option<(u32, u16, &[u8])>
     ensures found { IfSome result (λ r. Begins is_ascii_digit bytes.now (endpoint_text (endpoint_of r.0 r.1)) r.2.now) }
     ensures valid { IfSome result (λ r. IsEndpoint (endpoint_of r.0 r.1)) }

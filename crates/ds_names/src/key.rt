@@ -28,7 +28,7 @@ impl Key {
     }
 }
 
-/// A law: keys have a total order, and two keys that compare equal are equal.
+/// A law: the order of keys is total, and two keys that compare as equal are equal.
 pub fn keys_are_ordered()
     ensures total { IsTotalOrder key_cmp }
     ensures exact { (a b : Key) → key_cmp a b ≡ Equal → a ≡ b }

@@ -14,7 +14,7 @@ ghost use Rattle.ds_names.specs.declared.kind.Kind.{Kind};
 use std::cmp::Ordering;
 use std::marker::Model;
 
-/// The type of an entry's value. Kinds are ordered as their variants are.
+/// The type of an entry's value. Kinds are in the order of their variants.
 ///
 /// MINIX 3's DS has labels, unsigned 32-bit numbers, strings and memory among its types.
 #[derive(Clone, Copy, Debug)]
@@ -26,7 +26,7 @@ pub enum Kind {
 }
 
 impl Kind {
-    /// Whether it is the kind of labels.
+    /// Returns whether the kind is Label.
     pub fn is_label(self) -> bool
         ensures value { result ≡ is_label self }
         ensures label { IsTrue result ↔ (self ≡ Kind.Label) }
@@ -37,7 +37,7 @@ impl Kind {
         }
     }
 
-    // Returns its index in the order of kinds.
+    // Returns the kind's index in the order of kinds.
     fn place(self) -> u8
         ensures { result ≡ kind_place self }
     {
@@ -88,7 +88,7 @@ impl PartialOrd for Kind {
     }
 }
 
-/// A set of at least one kind, as a mask (of this project): the sum of 1, 2, 4 and 8 for label, u32, str and mem.
+/// A set of at least one kind, as a mask: the sum of 1, 2, 4 and 8 for label, u32, str and mem. Sets are this project's.
 #[derive(Clone, Copy, Debug, PartialEq, Eq)]
 pub struct Kinds {
     mask: u8,
@@ -107,7 +107,7 @@ impl Model for Kinds {
 }
 
 impl Kinds {
-    /// Returns the kinds of a mask, 1 to 15. `None` for any other number.
+    /// Returns the set with a mask, or `None` if the mask is 0 or above 15.
     pub fn of(mask: u8) -> Option<Kinds>
         ensures { SomeIff result ((0 < mask) × (mask ≤ 15)) mask }
     {
@@ -118,7 +118,7 @@ impl Kinds {
         }
     }
 
-    /// Whether the kind is in the set.
+    /// Returns whether the kind is in the set.
     pub fn has(self, kind: Kind) -> bool
         ensures { result ≡ names_kind self kind }
     {

@@ -1,8 +1,8 @@
 //! Names, kinds, keys, endpoints and versions: the words that every other crate uses.
 //!
-//! MINIX 3's data store (DS) finds an entry by a name and a type, here a [`Kind`]. A process is named by its
-//! [`Endpoint`], a generation and a slot (Tanenbaum and Woodhull, third edition; Herder and others, DSN 2007).
-//! Versions, and the ranges of all numbers, are of this project.
+//! MINIX 3's data store (DS) finds an entry by a name and a type, here a [`Kind`]. A process has an [`Endpoint`], which
+//! is a generation and a slot (Tanenbaum and Woodhull, third edition; Herder and others, DSN 2007). Versions, and the
+//! ranges of all numbers, are this project's.
 #![tactic(auto)]
 
 mod decimal;

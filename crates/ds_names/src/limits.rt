@@ -1,4 +1,4 @@
-//! The numbers that bound every store, whatever its own limits are (of this project).
+//! Numbers that bound every store, whatever its own limits are. All are this project's.
 
 /// The greatest generation.
 pub const LAST_GENERATION: u32 = 2097151;
@@ -6,10 +6,10 @@ pub const LAST_GENERATION: u32 = 2097151;
 /// The most items of a Merge, a Check, a Since or a Page.
 pub const MOST_ITEMS: usize = 256;
 
-/// The most floors that are held.
+/// The most floors that a store holds.
 pub const MOST_FLOORS: usize = 64;
 
-/// The last sequence number, which no caller uses.
+/// The greatest sequence number. No caller uses it.
 pub const LAST_SEQ: u32 = u32::MAX;
 
 /// The greatest position, and the greatest stamp.

@@ -20,10 +20,10 @@ use std::cmp::Ordering;
 use std::marker::Model;
 use thiserror::Error;
 
-/// Why bytes aren't a name.
+/// The error for bytes that aren't a name.
 #[derive(Clone, Copy, Debug, PartialEq, Eq, Error)]
 pub enum NameFault {
-    /// They aren't 1 to 64 bytes, each an ASCII letter or digit, `.`, `_` or `-`.
+    /// The bytes aren't 1 to 64, each an ASCII letter or digit, `.`, `_` or `-`.
     #[error("a name has 1 to 64 letters, digits, dots, underscores and dashes")]
     BadName,
 }
@@ -31,7 +31,7 @@ pub enum NameFault {
 /// The name of an entry or of its owner: 1 to 64 bytes, each an ASCII letter or digit, `.`, `_` or `-`.
 ///
 /// MINIX 3's DS keeps entries under names, and RS calls each service by its label. The alphabet and the length are
-/// this project's. A name is kept in place and allocates nothing.
+/// this project's. A name is kept in place and takes no memory.
 #[derive(Clone, Copy, Debug)]
 pub struct Name {
     block: [u8; 64],
@@ -54,7 +54,7 @@ impl Model for Name {
     ghost inverse_ok = { λ a h. block_of-name_of a h };
 }
 
-// Each byte that a name may hold is at its own index; a comma fills the rest.
+// Each byte that a name may have is at its own index. A comma is at every other index.
 static NAME_BYTES: [u8; 256] = *b"\
     ,,,,,,,,,,,,,,,,,,,,,,,,,,,,,,,,\
     ,,,,,,,,,,,,,-.,0123456789,,,,,,\
@@ -65,7 +65,7 @@ static NAME_BYTES: [u8; 256] = *b"\
     ,,,,,,,,,,,,,,,,,,,,,,,,,,,,,,,,\
     ,,,,,,,,,,,,,,,,,,,,,,,,,,,,,,,,";
 
-/// Whether a name may hold the byte.
+/// Returns whether a name may have the byte.
 #[inline]
 pub fn is_name_byte(b: u8) -> bool
     ensures { result ≡ is_name_byte b }
@@ -74,7 +74,7 @@ pub fn is_name_byte(b: u8) -> bool
 }
 
 impl Name {
-    /// Reads bytes that are a name. Refuses others as BadName.
+    /// Reads a name. Refuses bytes that aren't one as BadName.
     pub fn read(bytes: &[u8]) -> Result<Name, NameFault>
         ensures { OkIff result (IsName bytes.now) bytes.now }
     {
@@ -84,7 +84,7 @@ impl Name {
         }
     }
 
-    /// Reads the name at the front, which is the longest run of name bytes. `None` if that run is empty or too long.
+    /// Reads the name at the front, the longest run of name bytes. Returns `None` if the run is empty or above 64 bytes.
     pub fn front(bytes: &[u8]) -> Option<Name>
         ensures found { IfSome result (λ name. Begins is_name_byte bytes.now name (drop (length name) bytes.now)) }
         ensures name { IfSome result IsName }
@@ -101,9 +101,9 @@ impl Name {
         })
     }
 
-    /// Reads the name at the front into `self`, and returns the rest after it. The name is written once.
+    /// Reads the name at the front into `self`, and returns the bytes after it.
     ///
-    /// `None` where `front` returns none; `self` is some other name then.
+    /// Returns `None` if `front` does; `self` is then some other name. Writes the name once, where `front` copies it.
     #[inline(always)]
     pub fn read_front<'a>(&mut self, bytes: &'a [u8]) -> Option<&'a [u8]>
         ensures found { IfSome result (λ rest. Begins is_name_byte bytes.now self.new rest.now) }
@@ -135,7 +135,7 @@ impl Name {
         }
     }
 
-    /// Whether it is RS's label.
+    /// Returns whether the name is RS's label.
     pub fn is_rs(&self) -> bool
         ensures value { result ≡ is_same_name self.now rs_name }
         ensures same { IsTrue result ↔ (self.now ≡ rs_name) }
@@ -144,7 +144,7 @@ impl Name {
         self.bytes() == b"rs".as_slice()
     }
 
-    /// Returns its bytes, 1 to 64 of them.
+    /// Returns the name's bytes, 1 to 64.
     pub fn bytes(&self) -> &[u8]
         ensures value { result.now ≡ self.now }
         ensures name { IsName self.now }
@@ -153,7 +153,7 @@ impl Name {
     }
 }
 
-// Copies the leading name bytes into a block of zeros, and returns their count. `None` if they don't fit.
+// Copies the leading name bytes into a block of zeros, and returns their count. Returns `None` if they don't fit.
 #[inline(always)]
 fn fill(block: &mut [u8; 64], bytes: &[u8]) -> Option<usize>
     requires { block.old ≡ replicate 64 0 }
@@ -172,8 +172,8 @@ fn fill(block: &mut [u8; 64], bytes: &[u8]) -> Option<usize>
     Some(bytes.len())
 }
 
-// Compares the blocks of two names, eight bytes at a time, as numbers. No name has a zero byte, so the padding
-// doesn't change the order.
+// Compares the blocks of two names as numbers of eight bytes. No name has a zero byte, so the padding doesn't change
+// the order.
 #[inline]
 fn block_order(mine: &[u8; 64], theirs: &[u8; 64]) -> Ordering
     ensures { result ≡ slice_cmp nat_cmp mine.now theirs.now }
@@ -187,7 +187,7 @@ fn block_order(mine: &[u8; 64], theirs: &[u8; 64]) -> Ordering
     Ordering::Equal
 }
 
-// Returns eight bytes of the block as a number, big endian: those from `8 * at` on.
+// Returns the eight bytes from `8 * at` on as a big-endian number.
 #[inline(always)]
 fn word_at(block: &[u8; 64], at: usize) -> u64
     requires { at < 8 }

@@ -8,10 +8,10 @@ ghost use Rattle.ds_names.specs.Version.{version_cmp};
 use crate::endpoint::Generation;
 use std::cmp::Ordering;
 
-/// The version of a change (of this project): of two changes of one key, the greater version wins.
+/// The version of a change. Of two changes of one key, the one with the greater version wins.
 ///
-/// Versions are compared by epoch, the generation of the process that made the change, and within an epoch by
-/// sequence number, 0 to 4294967295.
+/// Versions are ordered by epoch, which is the generation of the process that made the change. Within an epoch the
+/// sequence number decides, 0 to 4294967295. Versions are this project's.
 #[derive(Clone, Copy, Debug, PartialEq, Eq, PartialOrd, Ord)]
 pub struct Version {
     pub epoch: Generation,
@@ -27,7 +27,7 @@ impl Version {
     }
 }
 
-/// A law: versions have a total order, and two versions that compare equal are equal.
+/// A law: the order of versions is total, and two versions that compare as equal are equal.
 pub fn versions_are_ordered()
     ensures total { IsTotalOrder version_cmp }
     ensures exact { (v w : Version) → version_cmp v w ≡ Equal → v ≡ w }

@@ -1,4 +1,4 @@
--- The item that a row stands for, with the bytes of its names.
+-- The item of a row and the bytes of its names.
 use Rattle.std.specs.Prelude.{◌≡◌, ℕ, List, ◌++◌, length, take}
 use Rattle.ds_names.specs.Endpoint.{EndpointRecord, endpoint_of}
 use Rattle.ds_names.specs.Key.{label_key}
@@ -22,18 +22,18 @@ use Rattle.ds_packed.specs.declared.row.Row.TheVariants as rows
 abbrev pub named : List ℕ → Names → Kind → Version → Body → ChangeRecord
 named bytes place kind version body = change_of (record { name = key_name_in bytes place; kind = kind }) (owner_in bytes place) version body
 
--- The label of a name and an endpoint: owned by `rs`, with number 0 in the endpoint's generation.
+-- The put of a label: its owner is `rs`, and its version is number 0 in the endpoint's generation.
 abbrev pub labelled : List ℕ → EndpointRecord → ChangeRecord
 labelled name e = change_of (label_key name) rs_name (record { epoch = e.generation; seq = 0 }) (bodies.Put (values.Label e))
 
--- The count of bytes that are kept of its names.
+-- The number of bytes that the row's names take.
 abbrev pub row_length : Row → ℕ
 row_length (rows.Label name slot generation) = name
 row_length (rows.U32 place version number) = names_length place
 row_length (rows.Gone place version kind) = names_length place
 row_length (rows.Floor owner generation) = owner
 
--- The item whose names are at the front of the bytes.
+-- The row's item, whose names are at the front of the bytes.
 abbrev pub row_item : List ℕ → Row → Item
 row_item names (rows.Label name slot generation) = Changed (labelled (take name names) (endpoint_of generation slot))
 row_item names (rows.U32 place version number) = Changed (named names place kinds.U32 version (bodies.Put (values.U32 number)))

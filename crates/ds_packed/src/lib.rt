@@ -1,6 +1,7 @@
-//! Lists of items without texts and memory, packed (of this project).
+//! Packed lists of items, for items without texts and blobs.
 //!
-//! An item takes the bytes of its names and a row of numbers; an `Item` itself has room for the longest names.
+//! A packed item takes the bytes of its names and a row of numbers. An `Item` takes as many bytes as the longest names.
+//! Packing is this project's.
 #![tactic(auto)]
 
 mod names;

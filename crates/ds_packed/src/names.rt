@@ -1,4 +1,4 @@
-//! Where the names of a change are, among the bytes of names.
+//! The places of a change's names, among the bytes of all names.
 
 ghost use Rattle.std.specs.Prelude.{◌≡◌, ◌≤◌, length, IfSome};
 ghost use Rattle.ds_entry.specs.Change.{IsChange};
@@ -8,8 +8,8 @@ ghost use Rattle.ds_packed.specs.Names.{names_length, key_name_in, owner_in, Add
 use ds_entry::Change;
 use ds_names::Name;
 
-/// Where a change's names are: the key's at the front, and the owner's from an index on. A key's name mostly begins
-/// with its owner's, which then isn't kept twice; otherwise the owner's comes after it.
+/// The places of a change's names: the key's name is at the front, and the owner's from an index on. A key's name mostly
+/// begins with its owner's, so the owner's bytes aren't kept twice. Otherwise they come after the key's.
 #[derive(Clone, Copy)]
 pub(crate) struct Names {
     name: u8,
@@ -18,7 +18,7 @@ pub(crate) struct Names {
 }
 
 impl Names {
-    // Returns how many bytes are kept.
+    // Returns the number of bytes that the two names take.
     pub(crate) fn length(self) -> usize
         ensures { result ≡ names_length self }
     {
@@ -66,7 +66,7 @@ pub(crate) fn add_names(change: &Change, names: &mut Vec<u8>) -> Option<Names>
     })
 }
 
-// Returns the name that the bytes are.
+// Reads bytes that are known to be a name.
 pub(crate) fn name_of(bytes: &[u8]) -> Name
     requires { IsName bytes.now }
     ensures { result ≡ bytes.now }

@@ -8,7 +8,7 @@ use ds_entry::Item;
 use std::alloc::Global;
 use std::marker::Model;
 
-/// Items in order, none of which is a text or memory.
+/// A packed list of items. No item is a text or a blob.
 #[derive(Drop)]
 pub struct Packed {
     rows: Vec<Row>,
@@ -27,7 +27,7 @@ impl Model for Packed {
     ghost invariant = { λ p. AreRows p.names.items p.rows.items };
 }
 
-// Returns the total length of the items' names: at least what is kept of them.
+// Returns the total length of the items' names, which is at least what the packed list takes for them.
 fn names_length(items: &[Item]) -> usize {
     let mut length: usize = 0;
     for item in items {
@@ -53,7 +53,7 @@ impl Packed {
         })
     }
 
-    /// Packs the items. `None` if one of them is a text or memory, or if memory runs out.
+    /// Packs the items. Returns `None` if one of them is a text or a blob, or if memory runs out.
     pub fn of(alloc: Global, items: &[Item]) -> Option<Packed>
         ensures { IfSome result (λ packed. packed ≡ items.now) }
     {
@@ -65,7 +65,7 @@ impl Packed {
         Some(packed)
     }
 
-    // Appends an item. `None` if it is a text or memory, or if memory runs out.
+    // Appends an item. Returns `None` if it is a text or a blob, or if memory runs out.
     #[tactic(auto, using(crate::proofs::RowsLemmas::rows_push))]
     fn with(self, item: &Item) -> Option<Packed>
         ensures { IfSome result (λ packed. packed ≡ self ++ item.now ∷ []) }
@@ -79,7 +79,7 @@ impl Packed {
         Some(Packed { rows, names })
     }
 
-    /// Returns the items, from the first one on.
+    /// Returns a reader of the items, at the first one.
     pub fn items(&self) -> Unpacking<'_>
         ensures { result ≡ self.now }
     {

@@ -1,4 +1,4 @@
-//! Rows: what an item holds besides its names.
+//! Rows: items without the bytes of their names.
 
 ghost use Rattle.std.specs.Prelude.{◌≡◌, ◌≤◌, length, IfSome};
 ghost use Rattle.ds_entry.specs.Change.{IsChange};
@@ -13,11 +13,11 @@ use crate::names::{Names, add_names, name_of};
 use ds_entry::{Body, Change, Floor, Item, Value};
 use ds_names::{Endpoint, Generation, Key, Kind, Name, Version};
 
-/// What an item holds besides its names, and where they are. A change is a label, a number, or a tombstone of any
-/// kind.
+/// An item without the bytes of its names, but with their places. A change in a row is a label, a number, or a tombstone
+/// of any kind.
 #[derive(Clone, Copy)]
 pub(crate) enum Row {
-    /// A label. Its owner is always `rs`, which isn't kept, and its version is number 0 in its endpoint's generation.
+    /// A label. Neither its owner nor its version is kept: they are `rs`, and number 0 in its endpoint's generation.
     Label {
         name: u8,
         slot: u16,
@@ -40,8 +40,8 @@ pub(crate) enum Row {
 }
 
 impl Row {
-    // Returns the row of an item, and appends its names to the bytes. `None` if it is a text or memory, or if memory
-    // runs out.
+    // Returns the row of an item, and appends its names to the bytes. Returns `None` if it is a text or a blob, or if
+    // memory runs out.
     #[inline(always)]
     pub(crate) fn of(item: &Item, names: &mut Vec<u8>) -> Option<Row>
         ensures row { IfSome result (λ row. AddsRow item.now row names.old.items names.new.items) }
@@ -62,7 +62,7 @@ impl Row {
         }
     }
 
-    // Returns the row of a change.
+    // Like `of`, for a change.
     #[inline(always)]
     fn of_change(change: &Change, names: &mut Vec<u8>) -> Option<Row>
         ensures row { IfSome result (λ row. AddsRow (Changed change.now) row names.old.items names.new.items) }
@@ -93,7 +93,7 @@ impl Row {
         }
     }
 
-    // Returns the item of a row whose names are at the front of the bytes.
+    // Builds the item of a row whose names are at the front of the bytes.
     pub(crate) fn item(self, names: &[u8]) -> Item
         requires within { row_length self ≤ length names.now }
         requires item { IsItem (row_item names.now self) }
@@ -128,7 +128,7 @@ impl Row {
         }
     }
 
-    // Returns how many bytes of its names are kept.
+    // Returns the number of bytes that the row's names take.
     pub(crate) fn length(self) -> usize
         ensures { result ≡ row_length self }
     {
@@ -140,7 +140,7 @@ impl Row {
     }
 }
 
-// Builds the label of a name and an endpoint.
+// Builds the put of a label.
 fn label_of(name: Name, endpoint: Endpoint) -> Item
     requires { IsChange (labelled name endpoint) }
     ensures { result ≡ Changed (labelled name endpoint) }

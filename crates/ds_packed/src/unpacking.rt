@@ -9,7 +9,7 @@ use crate::row::Row;
 use ds_entry::Item;
 use std::marker::Model;
 
-/// The items of a list that are left to read. Reading allocates nothing.
+/// A reader of a packed list, with the items that are left. Reading takes no memory.
 #[derive(Drop)]
 pub struct Unpacking<'a> {
     rows: &'a [Row],
@@ -29,7 +29,7 @@ impl<'a> Model for Unpacking<'a> {
 }
 
 impl<'a> Unpacking<'a> {
-    // Returns the items of rows.
+    // Returns a reader of the items of rows.
     pub(crate) fn new(rows: &'a [Row], names: &'a [u8]) -> Unpacking<'a>
         requires { HasRows names.now rows.now }
         ensures { result ≡ unpacked names.now rows.now }
@@ -37,7 +37,7 @@ impl<'a> Unpacking<'a> {
         Unpacking { rows, names }
     }
 
-    /// Returns how many items are left.
+    /// Returns the number of items that are left.
     #[tactic(auto, using(crate::proofs::RowsLemmas::unpacked_length))]
     pub fn len(&self) -> usize
         ensures { result ≡ length self.now }
@@ -45,7 +45,7 @@ impl<'a> Unpacking<'a> {
         self.rows.len()
     }
 
-    /// Returns the first `count` items. `None` if fewer are left.
+    /// Returns a reader of the first `count` items, or `None` if fewer are left.
     #[tactic(auto, using(crate::proofs::RowsLemmas::unpacked_first, crate::proofs::RowsLemmas::first_rows, crate::proofs::RowsLemmas::unpacked_length))]
     pub fn first(&self, count: usize) -> Option<Unpacking<'a>>
         ensures some { IfSome result (AreFirstItems count self.now) }
@@ -58,7 +58,7 @@ impl<'a> Unpacking<'a> {
         })
     }
 
-    /// Returns the next item; `None` past the last one.
+    /// Returns the next item, or `None` past the last one.
     pub fn next(&mut self) -> Option<Item>
         ensures some { IfSome result (λ item. self.old ≡ item ∷ self.new) }
         ensures item { IfSome result IsItem }

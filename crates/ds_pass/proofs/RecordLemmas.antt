@@ -12,7 +12,7 @@ use Rattle.ds_pass.specs.Called.{HadAccepted, Made, MadeCall}
 use Rattle.ds_pass.specs.Later.{MadeSeesMore, SeenMoreAgain}
 use Rattle.ds_pass.specs.Record.{HasJustItsCalls, PassOrigin, PassRecord, place_behind}
 
--- ---- calls one after the other
+-- ---- calls in order
 pub made_none : (p : PassRecord) → Made p p []
 made_none p = record {
   same = refl;
@@ -40,7 +40,7 @@ made_more p q r own more a b = record {
   just = just_later p q r a.just b.just;
 }
 
--- each of them has a place behind what was seen
+-- each of them has a place after what was seen
 pub made_above : (p q : PassRecord) (own : List (Entry Command Reply)) → Made p q own → place_behind p + length own ≤ place_behind q
 made_above p q own a =
     omega (arith, ap (λ (o : PassOrigin). o.first) a.same, ap (λ (l : List (Entry Command Reply)). length l) a.seen, length-append p.history a.between, a.longer)
@@ -54,7 +54,7 @@ seen_more_again p q r a b = record { same_opening = b.same_opening ∙ a.same_op
 
 -- ---- one call
 module _ (p q : PassRecord) (command : Command) (reply : Reply) (place : ℕ) (c : MadeCall p q command reply place) where
-  -- nothing has been seen behind it
+  -- nothing has been seen after it
   pub call_behind : place + 1 ≡ place_behind q
   call_behind =
       omega (arith, c.at, ap (λ (o : PassOrigin). o.first) c.made.same, ap (λ (l : List (Entry Command Reply)). length l) c.ends, length-append (p.history ++ c.between) (entry p.origin.number command reply ∷ []))

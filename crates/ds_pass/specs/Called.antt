@@ -1,4 +1,4 @@
--- What the calls of a pass add to what it has seen.
+-- The effect of a pass's calls on what it has seen.
 use Rattle.std.specs.Prelude.{◌≡◌, ◌⊎◌, ℕ, ◌+◌, ◌^◌, ◌≤◌, List, [], ◌∷◌, ◌++◌, length}
 use Rattle.history.specs.declared.entry.Entry.{Entry}
 use Rattle.history.specs.History.{entry}
@@ -9,7 +9,8 @@ use Rattle.ds_machine.specs.declared.reply.Reply.{Reply}
 use Rattle.ds_machine.specs.declared.reply.Reply.TheVariants.{Refused}
 use Rattle.ds_pass.specs.Record.{HasJustItsCalls, HasLegalHistory, PassRecord, place_behind}
 
--- q is the pass p later: it has seen more, and made exactly these calls. Either it is unchanged, or its entries are exactly its calls.
+-- Whether q is the pass p later, which may have seen more, and made exactly these calls. Either it is unchanged, or its entries in the
+-- history are exactly its calls.
 pub record Made (p q : PassRecord) (own : List (Entry Command Reply)) : Type 0 where
   pub same : q.origin ≡ p.origin
   pub same_opening : q.opened ≡ p.opened
@@ -19,7 +20,7 @@ pub record Made (p q : PassRecord) (own : List (Entry Command Reply)) : Type 0 w
   pub calls_are : q.calls ≡ p.calls ++ own
   pub just : (q ≡ p) ⊎ HasJustItsCalls q
 
--- q is the pass p after one more call. The call got this reply at this place, and is the last that q has seen.
+-- Whether q is the pass p after one more call. The call got this reply at this place, and is the last one that q has seen.
 pub record MadeCall (p q : PassRecord) (command : Command) (reply : Reply) (place : ℕ) : Type 0 where
   pub made : Made p q (entry p.origin.number command reply ∷ [])
   pub between : List (Entry Command Reply)
@@ -27,12 +28,12 @@ pub record MadeCall (p q : PassRecord) (command : Command) (reply : Reply) (plac
   pub at : place ≡ p.origin.first + length (p.history ++ between)
   pub legal : HasLegalHistory q
 
--- A reply that isn't a refusal.
+-- Whether the reply isn't a refusal.
 abbrev pub IsAccepted : Reply → Type 0
 IsAccepted (Refused refusal) = ⊥
 IsAccepted _ = Unit {0}
 
--- Among the calls that the pass made from p to q is one that wasn't refused.
+-- Whether one of the calls that the pass made from p to q wasn't refused.
 pub record HadAccepted (p q : PassRecord) : Type 0 where
   pub front : List (Entry Command Reply)
   pub call : Entry Command Reply
@@ -40,7 +41,7 @@ pub record HadAccepted (p q : PassRecord) : Type 0 where
   pub made : Made p q (front ++ call ∷ back)
   pub accepted : IsAccepted call.reply
 
--- q is the pass p after a call that wasn't entered, because no place below 2 ^ 62 is left.
+-- Whether q is the pass p after a call that failed, because no place below 2 ^ 62 is left.
 pub record FoundWorn (p q : PassRecord) (fault : DeskFault) : Type 0 where
   pub fault_is : fault ≡ Worn
   pub made : Made p q []

@@ -1,4 +1,4 @@
--- Why the calls of a pass ended with a fault.
+-- The faults of a pass's calls.
 use Rattle.std.specs.Prelude.{◌≡◌, ◌≢◌, ◌⊎◌, ℕ, ◌^◌, List, [], ◌∷◌, ◌++◌}
 use Rattle.history.specs.declared.entry.Entry.{Entry}
 use Rattle.desk.specs.declared.fault.DeskFault.{DeskFault}
@@ -13,13 +13,13 @@ use Rattle.ds_pass.specs.declared.fault.CallFault.{CallFault}
 use Rattle.ds_pass.specs.declared.fault.CallFault.TheVariants.{Desk, Refused, NoRoom}
 use Rattle.ds_pass.specs.Record.{PassRecord, place_behind}
 
--- The fault that reports a store's refusal: NoRoom as NoRoom, any other as Refused.
+-- Whether the fault reports this refusal of the store: NoRoom as NoRoom, any other as Refused.
 abbrev pub TellsRefusal : Refusal → CallFault → Type 0
 TellsRefusal refusal fault = ((refusal ≡ refusals.NoRoom) × (fault ≡ NoRoom)) ⊎ ((refusal ≢ refusals.NoRoom) × (fault ≡ Refused refusal))
 
 -- ---- one call
 
--- The call of this command failed: no place is left at the desk and nothing was entered, or the store refused it.
+-- Whether the call of this command failed with this fault: no place is left at the desk, or the store refused the command.
 abbrev pub FailsAsking : PassRecord → PassRecord → Command → CallFault → Type 0
 FailsAsking p q command fault =
     ((worn : DeskFault) × FoundWorn p q worn × (fault ≡ Desk worn))
@@ -27,21 +27,21 @@ FailsAsking p q command fault =
 
 -- ---- several calls
 
--- The store refused the last of these calls.
+-- Whether the store refused the last of these calls.
 pub record EndsRefused (own : List (Entry Command Reply)) (refusal : Refusal) : Type 0 where
   pub front : List (Entry Command Reply)
   pub last : Entry Command Reply
   pub parts : own ≡ front ++ last ∷ []
   pub refused : last.reply ≡ replies.Refused refusal
 
--- The fault ends these calls of a pass, which is q after them: no place is left at the desk, the store refused the last of them, or
--- memory ran out.
+-- Whether the fault ended these calls of a pass, which is q after them: no place is left at the desk, the store refused the last of them,
+-- or memory ran out.
 abbrev pub IsFaultAfter : PassRecord → List (Entry Command Reply) → CallFault → Type 0
 IsFaultAfter q own (Desk fault) = (fault ≡ Worn) × (place_behind q ≡ 2 ^ 62)
 IsFaultAfter q own (Refused refusal) = (refusal ≢ refusals.NoRoom) × EndsRefused own refusal
 IsFaultAfter q own NoRoom = Unit {0}
 
--- The pass made calls of its own from p to q, which this fault ended.
+-- Whether the pass made calls from p to q, which this fault ended.
 pub record FailsBy (p q : PassRecord) (fault : CallFault) : Type 0 where
   pub own : List (Entry Command Reply)
   pub made : Made p q own

@@ -1,4 +1,4 @@
--- A pass by plain values: which one it is, what it has seen, and what it called.
+-- Passes by plain values: the identity of a pass, what it has seen, and what it called.
 use Rattle.std.specs.Prelude.{◌≡◌, ℕ, ◌+◌, List, length, Option, Some}
 use Rattle.std.specs.Option.{option_map}
 use Rattle.std.specs.declared.boxed.Box.{Box}
@@ -19,11 +19,11 @@ use Rattle.ds_store.specs.Turns.{Answered}
 abbrev pub Boxed : Type 0 → Type 0
 Boxed Z = Box ContentRecord Z
 
--- The content that the machine of a desk stands for.
+-- Whether the content is the one of a store on the heap.
 abbrev pub is_content : {Z : Type 0} → Boxed Z → ContentRecord → Type 0
 is_content m content = m.value ≡ content
 
--- Which pass it is, of which desk, and the place of the desk's first call.
+-- The identity of a pass: its number, its desk, and the place of the desk's first call.
 pub record PassOrigin : Type 0 where
   pub desk : TableId
   pub number : ℕ
@@ -48,20 +48,21 @@ boxed_content m = m.value
 abbrev pub pass_record : {Z : Type 0} {G : Ghosts (View (Boxed Z) Command Reply)} → Pass (Boxed Z) Command Reply G → PassRecord
 pass_record p = record { origin = pass_origin p; opened = option_map boxed_content (opening p); history = history p; calls = calls p }
 
--- The first place after what it has seen.
+-- The first place after the history that the pass has seen.
 abbrev pub place_behind : PassRecord → ℕ
 place_behind p = p.origin.first + length p.history
 
--- This holds in each state to which these calls lead from a state that the desk's store stood for when the desk was opened.
+-- Whether the property holds in each state to which these entries lead, from a state that the desk's store stood for when the desk was
+-- opened.
 abbrev pub AfterEach : PassRecord → List (Entry Command Reply) → (State → Type 0) → Type 0
 AfterEach p es holds =
     (content : ContentRecord) → p.opened ≡ Some content → (s t : State) → ContentStands content s → Run Answered s es t → holds t
 
--- The entries of the pass in what it has seen are exactly its calls.
+-- Whether the pass's entries in the history that it has seen are exactly its calls.
 abbrev pub HasJustItsCalls : PassRecord → Type 0
 HasJustItsCalls p = calls_by p.origin.number p.history ≡ p.calls
 
--- What it has seen is a legal history from each state that the desk's store stood for, and there is such a state.
+-- Whether the pass has seen a legal history from each state that the desk's store stood for, and there is such a state.
 pub record HasLegalHistory (p : PassRecord) : Type 0 where
   pub content : ContentRecord
   pub opened_with : p.opened ≡ Some content

@@ -5,7 +5,7 @@ use ds_machine::Refusal;
 use ds_names::NoRoom;
 use thiserror::Error;
 
-/// Why a call of a store at a desk failed.
+/// Why a call of a store at a desk failed. The desk's refusal comes first.
 #[derive(Clone, Copy, Debug, PartialEq, Eq, Error)]
 pub enum CallFault {
     /// The desk refused the call.

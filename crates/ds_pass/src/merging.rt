@@ -1,4 +1,4 @@
-//! A Merge that a seat asks its store for.
+//! A Merge into a seat's store.
 
 ghost use Rattle.std.specs.Prelude.{◌≡◌, ℕ, IfOk, IfErr};
 ghost use Rattle.ds_machine.specs.declared.command.Command.TheVariants as commands;
@@ -14,18 +14,18 @@ use ds_machine::{Command, Refusal, Reply};
 use std::sync::Wait;
 use thiserror::Error;
 
-/// Why a Merge didn't do all its items.
+/// Why a Merge didn't do all of its items.
 #[derive(Clone, Copy, Debug, PartialEq, Eq, Error)]
 pub enum MergeFault {
     /// The desk refused the call.
     #[error("the desk refused: {0}")]
     Desk(DeskFault),
-    /// The store did the first items, and refused the next one. `done` is 0 if it refused the Merge as a whole.
+    /// The store did the first `done` items, and refused the next one. `done` is 0 if the store refused the whole Merge.
     #[error("stopped after {done} items: {fault}")]
     Stopped {
         /// How many items were done.
         done: usize,
-        /// Why the next one wasn't.
+        /// Why the next item was refused.
         fault: Refusal,
     },
 }
@@ -42,7 +42,7 @@ impl From<DeskFault> for MergeFault {
 }
 
 impl<W: Wait> Seat<'_, W> {
-    /// Merges the items into the store in their order, 1 to 256 of them. Returns how many took effect, once all are done.
+    /// Merges 1 to 256 items into the store, in order. Returns how many of them took effect.
     pub fn merge(&mut self, items: Items) -> Result<usize, MergeFault>
         ensures same { IsSameSeat self.old self.new }
         ensures told { IfOk result (λ taken. (done stale owed place : ℕ)

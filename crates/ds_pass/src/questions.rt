@@ -1,4 +1,4 @@
-//! Questions that a seat asks its store, each with its own answer.
+//! The store's questions, each with an answer of its own type.
 
 ghost use Rattle.std.specs.Prelude.{◌≡◌, ◌<◌, ◌≤◌, ◌^◌, ℕ, true, IfOk, IfErr, OnOk};
 ghost use Rattle.ds_machine.specs.declared.command.Command.TheVariants as commands;
@@ -25,14 +25,14 @@ pub struct Shown {
     pub items: Items,
     /// The subscription's stamp before the Check.
     pub before: u64,
-    /// Its stamp after the Check.
+    /// The subscription's stamp after the Check.
     pub after: u64,
     /// The place of the Check in the history.
     pub place: u64,
 }
 
 impl<W: Wait> Seat<'_, W> {
-    /// Subscribes with INITIAL, and replaces the subscription of this number. Returns its stamp.
+    /// Subscribes with INITIAL, in place of any subscription of this number. Returns the new stamp.
     pub fn subscribe(&mut self, sub: u32, query: Query) -> Result<u64, CallFault>
         ensures same { IsSameSeat self.old self.new }
         ensures told { IfOk result (λ stamp. (owed place : ℕ)
@@ -60,7 +60,7 @@ impl<W: Wait> Seat<'_, W> {
         }
     }
 
-    /// Checks the subscription: at most `max` items that it was not shown yet.
+    /// Checks the subscription. Returns at most `max` items that it hasn't been shown.
     pub fn check(&mut self, sub: u32, max: u32) -> Result<Shown, CallFault>
         ensures same { IsSameSeat self.old self.new }
         ensures told { IfOk result (λ s.
@@ -90,7 +90,7 @@ impl<W: Wait> Seat<'_, W> {
         }
     }
 
-    /// Returns a page of what is held: at most `max` items after the key.
+    /// Returns a page of what is held under the scope: at most `max` changes after the key.
     pub fn page(&mut self, scope: Scope, after: Option<Key>, max: u32) -> Result<Page, CallFault>
         ensures same { IsSameSeat self.old self.new }
         ensures told { IfOk result (λ page. (place : ℕ)
@@ -111,7 +111,7 @@ impl<W: Wait> Seat<'_, W> {
         }
     }
 
-    /// Returns what took effect from the cursor on: at most `max` items of the journal.
+    /// Returns at most `max` items of the journal that are under the scope, from the cursor on.
     pub fn since(&mut self, scope: Scope, cursor: Cursor, max: u32) -> Result<Since, CallFault>
         ensures same { IsSameSeat self.old self.new }
         ensures told { IfOk result (λ since. (place : ℕ)

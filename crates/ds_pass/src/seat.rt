@@ -1,4 +1,4 @@
-//! A pass at its desk, as one thread uses it.
+//! Seats: a pass at its desk, for the calls of one thread.
 
 ghost use Rattle.std.specs.Prelude.{◌≡◌, ◌^◌, ◌<◌, ◌≤◌, [], IfOk, IfErr, OnOk};
 ghost use Rattle.desk.specs.Desk.{identity};
@@ -15,7 +15,7 @@ use ds_store::Store;
 use std::marker::Model;
 use std::sync::Wait;
 
-/// A store at a desk, as the pass that is lent to the seat calls it. Other passes may call the desk meanwhile.
+/// A borrowed pass with its desk and what its calls wait by. Other passes may call the desk meanwhile.
 #[derive(Drop)]
 pub struct Seat<'a, W> {
     rt: &'a W,
@@ -38,7 +38,7 @@ impl<'a, W> Model for Seat<'a, W> {
 }
 
 impl<'a, W> Seat<'a, W> {
-    /// Seats the pass at its desk. What the seat saw and called is the pass's once the seat is left.
+    /// Returns a seat of the pass at its desk. After `leave`, the pass has all that the seat saw and called.
     pub fn new(rt: &'a W, desk: &'a Desk<Box<Store>>, pass: &'a mut Pass<Box<Store>>) -> Seat<'a, W>
         requires { desk_of pass.old ≡ identity desk.now }
         ensures { result ≡ seat_of pass.entry.ghost_name (pass_record pass.old) }
@@ -58,12 +58,13 @@ impl<'a, W> Seat<'a, W> {
         pass
     }
 
-    /// Returns what its calls wait by.
+    /// Returns the runtime by which the calls wait.
     pub fn rt(&self) -> &'a W {
         self.rt
     }
 
-    /// Takes every notice that is pending for the server. Each of its bits is owed by a call below `floor`. BadServer from 16 on.
+    /// Takes every notice that is pending for the server. Each bit is owed by a call whose place is below `floor`. Refuses a server from 16
+    /// on as BadServer.
     pub fn take(&mut self, server: u32) -> Result<Taken, DeskFault>
         ensures same { IsSameSeat self.old self.new }
         ensures looked { OnOk result (Made self.old.pass self.new.pass []) }
@@ -73,7 +74,7 @@ impl<'a, W> Seat<'a, W> {
         self.desk.take(self.pass, server)
     }
 
-    /// Returns how far the history goes: the first place that no call has entered.
+    /// Returns how far the history goes: the first place without a call.
     pub fn front(&mut self) -> u64
         ensures same { IsSameSeat self.old self.new }
         ensures looked { Made self.old.pass self.new.pass [] }
@@ -84,8 +85,8 @@ impl<'a, W> Seat<'a, W> {
 }
 
 impl<'a, W: Wait> Seat<'a, W> {
-    /// Sends a command to the desk's store, and waits for its turn. The reply fits the command. It is at `place` in the history, of
-    /// which the pass has seen all up to there. `Worn` if no place below 2^62 is left at the desk: nothing is entered.
+    /// Waits for its turn, and then sends a command to the desk's store. The reply fits the command, and the call is at `place` in the
+    /// history. The pass has then seen everything up to there. Refuses as Worn if no place below 2^62 is left, without a call.
     pub fn ask(&mut self, command: Command) -> Result<Answer<Reply>, DeskFault>
         ensures same { IsSameSeat self.old self.new }
         ensures called { IfOk result (λ a. MadeCall self.old.pass self.new.pass command a.reply a.place) }

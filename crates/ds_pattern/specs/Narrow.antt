@@ -1,4 +1,4 @@
--- What reducing a pattern to ASCII preserves.
+-- The properties that a pattern keeps when it is reduced to ASCII.
 use Rattle.std.specs.Prelude.{◌≡◌, ℕ, ◌≤◌, List, [], ◌∷◌, is_some, ⊤}
 use Rattle.std.specs.Str.{IsAscii}
 use Rattle.regex_class.specs.Ranges.{Range, in_ranges}
@@ -6,7 +6,7 @@ use Rattle.regex_hir.specs.Re.{Re, Rest, attempt}
 use Rattle.regex_hir.specs.Looks.{holds}
 use Rattle.regex_hir.specs.declared.look.Look.{Look}
 
--- Whether both have the same members below 128.
+-- Whether both classes have the same members below 128.
 abbrev pub SameAscii : List Range → List Range → Type 0
 SameAscii rs ss = (c : ℕ) → c ≤ 0x7F → in_ranges rs c ≡ in_ranges ss c
 
@@ -20,7 +20,7 @@ SameInAscii a b =
     (text : List ℕ) → IsAscii text → (k l : Rest) → ((i : ℕ) → is_some (k i) ≡ is_some (l i)) →
     (i : ℕ) → is_some (attempt text a k i) ≡ is_some (attempt text b l i)
 
--- Whether the patterns at each index of two lists match at the same places.
+-- Whether, in a text of ASCII, the patterns at each index of the two lists match at the same places.
 abbrev pub EachSame : List Re → List Re → Type 0
 EachSame [] [] = ⊤
 EachSame (a ∷ first) (b ∷ second) = SameInAscii a b × EachSame first second

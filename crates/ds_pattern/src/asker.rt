@@ -1,4 +1,4 @@
-//! Testing many keys against a query.
+//! Tests of many keys against one query.
 
 ghost use Rattle.std.specs.Prelude.{◌≡◌, IfOk};
 ghost use Rattle.ds_pattern.specs.Under.{is_under, query_of};
@@ -10,7 +10,7 @@ use regex_vm::PikeVm;
 use std::alloc::Global;
 use std::marker::Model;
 
-/// A query with the buffers to test many keys. They are allocated when it is built; a test allocates nothing.
+/// A query with buffers for tests of many keys. The buffers are allocated once, so a test takes no memory.
 #[derive(Drop)]
 pub struct Asker<'f> {
     pattern: &'f Pattern,
@@ -49,8 +49,8 @@ impl<'f> Asker<'f> {
         })
     }
 
-    /// Whether a key is under the query: the query names its kind, and the pattern matches its name whole. For a key
-    /// of another kind, the pattern isn't run.
+    /// Returns whether a key is under the query: the query names the key's kind, and the pattern matches the key's name
+    /// whole. Runs the pattern only for a kind that the query names.
     pub fn admits(&mut self, key: &Key) -> bool
         ensures under { result ≡ is_under self.old key.now }
         ensures same { self.new ≡ self.old }

@@ -1,4 +1,4 @@
-//! Queries whose pattern was compiled.
+//! Queries with a compiled pattern.
 
 ghost use Rattle.std.specs.Prelude.{◌≡◌, Ok, false, IsFalse, IfOk, IfErr};
 ghost use Rattle.ds_names.specs.Kind.{names_kind};
@@ -29,7 +29,7 @@ impl Model for Filter {
 }
 
 impl Filter {
-    /// Compiles a query. It is refused as its pattern is.
+    /// Compiles a query, or returns the fault of its pattern.
     pub fn read(alloc: Global, query: &Query) -> Result<Filter, PatternFault>
         ensures read { IfOk result (λ filter. filter ≡ query.now) }
         ensures pattern { IfOk result (λ filter. IsPattern filter.text) }
@@ -41,22 +41,22 @@ impl Filter {
         })
     }
 
-    /// Whether the query names the kind. For a key of another kind, the pattern needn't be run.
+    /// Returns whether the query names the kind. If not, no key of the kind is under it, whatever the pattern.
     pub fn names(&self, kind: Kind) -> bool
         ensures { result ≡ names_kind self.now.kinds kind }
     {
         self.kinds.has(kind)
     }
 
-    /// Returns a tester for many keys.
+    /// Returns a tester for many keys. Fails only if memory runs out for its buffers.
     pub fn asker(&self, alloc: Global) -> Result<Asker<'_>, NoRoom>
         ensures { IfOk result (λ asker. asker ≡ self.now) }
     {
         Asker::new(alloc, &self.pattern, self.kinds)
     }
 
-    /// Whether a key is under the query: the query names its kind, and the pattern matches its name whole. For a key
-    /// of another kind, the pattern isn't run and nothing is allocated.
+    /// Returns whether a key is under the query: the query names the key's kind, and the pattern matches the key's name
+    /// whole. Runs the pattern, which takes memory, only for a kind that the query names.
     pub fn admits(&self, alloc: Global, key: &Key) -> Result<bool, NoRoom>
         ensures under { IfOk result (λ yes. yes ≡ is_under self.now key.now) }
         ensures other_kind { IsFalse (names_kind self.now.kinds key.now.kind) → result ≡ Ok false }

@@ -1,8 +1,8 @@
 //! Patterns over the names of entries, and queries.
 //!
 //! A subscription of MINIX 3's data store (DS) is a regular expression over the names of entries (the DS interface of
-//! MINIX 3; Herder and others, DSN 2007). The whole match, the syntax, which is that of the crate `regex`, the kinds
-//! and the limits are of this project.
+//! MINIX 3; Herder and others, DSN 2007). This project adds kinds and limits, matches names whole, and takes the syntax of
+//! the crate `regex`.
 #![tactic(auto)]
 
 mod asker;

@@ -1,8 +1,8 @@
-//! Patterns reduced to what a name can match.
+//! Patterns reduced to what matters for names.
 //!
-//! A name is ASCII, and no caller needs the position of a group. So a class keeps only its characters below 128, an
-//! assertion about words considers only ASCII, and a capture group becomes its content. `\w` is then four ranges
-//! instead of 700, and `\b` looks at two bytes instead of two characters.
+//! A name is ASCII, and no caller needs the position of a group. So a class keeps only its characters below 128, a word
+//! boundary is one of ASCII words, and a capture group becomes its content. Then `\w` has four ranges instead of 700, and
+//! `\b` looks at two bytes instead of two characters.
 
 ghost use Rattle.std.specs.Prelude.{map, IfOk, IsFalse};
 ghost use Rattle.regex_hir.specs.Meaning.{meaning};
@@ -16,7 +16,7 @@ use std::alloc::{AllocError, Global};
 /// The last character of ASCII.
 const LAST_ASCII: u32 = 0x7f;
 
-/// Returns the tree that matches the same names, with classes and assertions of ASCII and without groups.
+/// Returns a tree that matches the same names, with classes and assertions of ASCII and without groups.
 #[cycle(narrowed)]
 pub(crate) fn narrowed(alloc: Global, tree: &Hir) -> Result<Hir, AllocError>
     ensures { IfOk result (λ new. SameInAscii (meaning new) (meaning tree.now)) }
@@ -56,7 +56,7 @@ fn all_narrowed(alloc: Global, trees: &[Hir]) -> Result<Vec<Hir>, AllocError>
     Ok(all)
 }
 
-// Returns the assertion that holds for words of ASCII when this one holds for words. It looks at bytes only.
+// Returns the assertion about ASCII words in place of one about words. It looks at bytes only.
 fn look_of_ascii(look: Look) -> Look
     ensures holds { HoldsInAscii result look }
     ensures bytes { IsFalse (is_unicode_look result) }
@@ -72,7 +72,7 @@ fn look_of_ascii(look: Look) -> Look
     }
 }
 
-// Returns the ranges of characters below 128.
+// Returns the class with only its characters below 128.
 fn of_ascii(alloc: Global, class: &Class) -> Result<Class, AllocError>
     ensures { IfOk result (λ new. SameAscii new.ranges.items class.now.ranges.items) }
 {

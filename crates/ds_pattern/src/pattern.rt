@@ -20,17 +20,18 @@ use std::fmt;
 use std::marker::Model;
 use thiserror::Error;
 
-/// Why a text isn't a pattern. Causes are judged in this order.
+/// Why a text isn't a pattern. The causes are judged in this order.
 #[derive(Clone, Copy, Debug, PartialEq, Eq, Error)]
 pub enum PatternFault {
-    /// It has more than 128 bytes.
+    /// The text has more than 128 bytes.
     #[error("a pattern has at most 128 bytes")]
     TooLong,
-    /// A byte isn't printable ASCII, or `regex` refuses the text P, or `^(?:P)$`, as a pattern or as nested too deep.
+    /// A byte isn't printable ASCII, or `regex` refuses the text P or the text `^(?:P)$`: it isn't a regular expression, or
+    /// is nested too deep.
     #[error("not a pattern over names")]
     BadPattern,
-    /// An allocation was refused, or the compiled table of the pattern would exceed `SIZE_LIMIT` bytes. It may be
-    /// reported in place of BadPattern.
+    /// Out of memory, or the compiled table of the pattern would exceed `SIZE_LIMIT` bytes. May be reported in place of
+    /// BadPattern.
     #[error("out of memory")]
     NoRoom,
 }
@@ -73,12 +74,12 @@ impl From<regex_syntax::Error> for PatternFault {
 /// The most bytes of a pattern.
 pub const LONGEST_PATTERN: usize = 128;
 
-/// The most bytes of a compiled pattern's table: 12 for each state of its automaton, and 8 for each range of bytes
-/// that leads from one state to another. A table exceeds it by at most 24 bytes. `bench/README.md` has measurements.
+/// The most bytes of a compiled pattern's table: 12 for each state of its automaton, and 8 for each range of bytes that
+/// leads from one state to another. A table may exceed the limit by 24 bytes. `bench/README.md` has measurements.
 pub const SIZE_LIMIT: usize = 12 << 10;
 
-/// A pattern over names: at most 128 bytes of printable ASCII that `regex` accepts, alone and within `^(?:` and `)$`.
-/// It keeps the compiled automaton, whose table is within the limit.
+/// A compiled pattern over names. Its text P has at most 128 bytes of printable ASCII, and `regex` accepts both P and
+/// `^(?:P)$`. The table of the automaton is within the limit.
 #[derive(Drop)]
 pub struct Pattern {
     text: String,
@@ -122,7 +123,8 @@ impl Pattern {
         })
     }
 
-    /// Whether the pattern that `regex` reads in `^(?:P)$`, with its default options, matches the name.
+    /// Returns whether the pattern matches the name whole, as `regex` matches `^(?:P)$` with its default options. Fails only
+    /// if memory runs out.
     pub fn matches(&self, alloc: Global, name: &Name) -> Result<bool, NoRoom>
         ensures { IfOk result (λ yes. yes ≡ matches_whole self.now name.now) }
     {
@@ -130,7 +132,7 @@ impl Pattern {
         Ok(finds(&self.whole, &mut machine, name))
     }
 
-    // Returns its automaton, which finds a match in exactly the names that the pattern matches whole.
+    // Returns the automaton, which finds a match in exactly the names that the pattern matches whole.
     pub(crate) fn whole(&self) -> &Nfa
         ensures { FindsWhole result.now self.now }
     {
@@ -144,7 +146,7 @@ impl fmt::Debug for Pattern {
     }
 }
 
-// Whether the automaton finds a match in the name. The machine's buffers suffice.
+// Returns whether the automaton finds a match in the name. The machine's buffers suffice, so the call takes no memory.
 pub(crate) fn finds(whole: &Nfa, machine: &mut PikeVm, name: &Name) -> bool
     requires { machine.old.states ≡ vec_len whole.now.states }
     ensures found { result ≡ is_some (first_match whole.now name.now (length name.now) 0 (length name.now)) }
@@ -155,14 +157,14 @@ pub(crate) fn finds(whole: &Nfa, machine: &mut PikeVm, name: &Name) -> bool
     machine.is_match(whole, bytes, 0, bytes.len(), bytes.len())
 }
 
-// Whether all bytes are printable ASCII.
+// Returns whether all bytes are printable ASCII.
 fn is_printable(bytes: &[u8]) -> bool
     ensures { result ≡ is_printable bytes.now }
 {
     bytes.iter().all(|b| 0x20 <= *b && *b <= 0x7e)
 }
 
-// Returns printable bytes as a text.
+// Returns bytes of printable ASCII as a `str`.
 #[tactic(auto, using(crate::proofs::PrintableLemmas::utf8_of_printable))]
 fn text_of(bytes: &[u8]) -> &str
     requires { IsTrue (is_printable bytes.now) }
@@ -181,7 +183,7 @@ fn anchored(alloc: Global, text: &str) -> Result<String, AllocError>
     Ok(whole)
 }
 
-// Parses the text as a pattern.
+// Parses the text as a regular expression.
 fn tree_of(alloc: Global, text: &str) -> Result<Hir, PatternFault>
     requires { IsTrue (is_printable text.now) }
     ensures read { IfOk result (IsReadAs text.now) }
@@ -191,7 +193,7 @@ fn tree_of(alloc: Global, text: &str) -> Result<Hir, PatternFault>
     Ok(parsed.hir)
 }
 
-// Checks whether the text is a pattern.
+// Refuses a text that isn't a regular expression.
 fn judge(alloc: Global, text: &str) -> Result<(), PatternFault>
     requires { IsTrue (is_printable text.now) }
     ensures ok { OnOk result (IsTrue (is_regex text.now)) }

@@ -1,4 +1,4 @@
-//! Queries of subscribers, before the pattern is compiled.
+//! Queries of subscribers, with a pattern that isn't compiled yet.
 
 ghost use Rattle.std.specs.Prelude.{◌≡◌, ℕ, IfOk};
 ghost use Rattle.std.specs.Bool.{◌==◌};
@@ -25,7 +25,7 @@ impl Model for PatternText {
 }
 
 impl PatternText {
-    /// Copies the bytes.
+    /// Copies the bytes. Fails only if memory runs out.
     pub fn of(alloc: Global, bytes: &[u8]) -> Result<PatternText, NoRoom>
         ensures { IfOk result (λ text. text ≡ bytes.now) }
     {
@@ -34,14 +34,14 @@ impl PatternText {
         })
     }
 
-    /// Returns its bytes.
+    /// Returns the bytes of the text.
     pub fn bytes(&self) -> &[u8]
         ensures { result.now ≡ self.now }
     {
         &self.bytes
     }
 
-    /// Copies the text.
+    /// Copies the text. Fails only if memory runs out.
     pub fn copy(&self, alloc: Global) -> Result<PatternText, NoRoom>
         ensures { IfOk result (λ text. text ≡ self.now) }
     {
@@ -63,9 +63,9 @@ impl Eq for PatternText {
     ghost laws = { nat_list_eq_equiv };
 }
 
-/// A subscriber's query: the entries whose names a pattern matches whole, of some kinds.
+/// A subscriber's query: some kinds, and a pattern that matches the names of entries whole.
 ///
-/// Whether the text is a pattern is checked when the query is compiled.
+/// Whether the text is a pattern is checked only when the query is compiled.
 #[derive(Debug, PartialEq, Eq, Drop)]
 pub struct Query {
     pub text: PatternText,
@@ -73,7 +73,7 @@ pub struct Query {
 }
 
 impl Query {
-    /// Copies the query.
+    /// Copies the query. Fails only if memory runs out.
     pub fn copy(&self, alloc: Global) -> Result<Query, NoRoom>
         ensures { IfOk result (λ query. query ≡ self.now) }
     {

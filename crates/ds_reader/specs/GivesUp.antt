@@ -1,5 +1,5 @@
--- When a reader gives up: memory for the items ran out, the store refused a command, or the allowed number of commands
--- wasn't enough.
+-- The conditions on which a reader gives up: memory ran out for the items, the store refused a command, or the allowed
+-- number of commands wasn't enough.
 use Rattle.std.specs.Prelude.{◌≡◌, ◌≢◌, ◌⊎◌, ℕ, ◌<◌, ◌≤◌, true, List, [], ◌∷◌, ◌++◌, length, None, Some, All}
 use Rattle.std.specs.Option.{unwrap_or}
 use Rattle.ds_entry.specs.declared.item.Item.{Item}
@@ -26,39 +26,38 @@ use Rattle.ds_reader.specs.declared.fault.ReadFault.{ReadFault}
 use Rattle.ds_reader.specs.declared.fault.ReadFault.TheVariants.{Refused, NoRoom, Unfinished, Overtaken}
 use Rattle.ds_reader.specs.declared.reading.Reading.{Reading}
 
--- In this state the store refuses the command for this cause, and lack of memory comes last.
+-- Whether the store refuses the command in this state for this cause. Out-of-memory is reported after every other cause.
 pub record IsCommandRefused (t : State) (command : Command) (refusal : Refusal) : Type 0 where
   pub step : Step t command (replies.Refused refusal) t
   pub last : IsLast t command (replies.Refused refusal)
 
 -- ---- a reader by checks
 
--- The place has a subscription with this query, and these items were shown to it.
+-- Whether the place has a subscription with this query, which was shown these items.
 pub record Shows (s : State) (sub : ℕ) (query : Query) (shown : List Item) : Type 0 where
   pub seer : Subscription
   pub here : subscription_at s sub ≡ Some seer
   pub query_is : seer.query ≡ query
   pub shown_is : seer.shown ≡ shown
 
--- A Check that showed as many items as it asked for.
+-- Whether the Check returned `max` items, which is all that it may.
 pub record IsFull (max : ℕ) (t : CheckTurn) : Type 0 where
   pub asked : t.max ≡ max
   pub full : max ≤ length t.items
 
--- A run of the machine leads here from a state in which exactly these items had been shown to the subscription.
+-- Whether a run of the machine leads to this state from one in which the subscription had been shown exactly these items.
 pub record WasLeft (t : State) (sub : ℕ) (query : Query) (shown : List Item) : Type 0 where
   pub left : State
   pub shows : Shows left sub query shown
   pub goes : Goes left t
 
--- The Checks so far, since the Subscribe, were all full, and left the subscription with what they showed.
+-- Whether the Checks since the Subscribe were all full, and the subscription was shown exactly their items.
 pub record AreAllFull (s t : State) (sub : ℕ) (reading : Reading) (turns : List CheckTurn) : Type 0 where
   pub are : AreChecks s.feed t.feed (is_under reading.query) [] turns
   pub full : All (IsFull reading.max) turns
   pub was_left : WasLeft t sub reading.query (gathered.checked turns)
 
--- After the Checks so far, one more found the subscription (in state `found`) with another stamp than the one that the
--- reader had left.
+-- Whether one more Check found another stamp than the reader's last one. The store was then in the state `found`.
 pub record IsOvertaken (s t : State) (sub : ℕ) (reading : Reading) (turns : List CheckTurn) : Type 0 where
   pub found : State
   pub all : AreAllFull s found sub reading turns
@@ -67,7 +66,7 @@ pub record IsOvertaken (s t : State) (sub : ℕ) (reading : Reading) (turns : Li
   pub differs : seer.stamp ≢ all.was_left.shows.seer.stamp
   pub goes : GoesOn found t
 
--- After the Checks so far, all full, one more showed items for which the reader had no memory.
+-- Whether one more Check returned items, for which memory may have run out. All Checks before it were full.
 pub record IsCheckedMore (s t : State) (reading : Reading) (turns : List CheckTurn) : Type 0 where
   pub turn : CheckTurn
   pub are : AreChecks s.feed t.feed (is_under reading.query) [] (turns ++ turn ∷ [])
@@ -76,9 +75,9 @@ pub record IsCheckedMore (s t : State) (reading : Reading) (turns : List CheckTu
   pub some : turn.items ≢ []
   pub few : length turns < reading.questions
 
--- Why a reader by checks stopped, with the store in state `t`: the store refused its Subscribe or its next Check, the
--- allowed Checks weren't enough, another took the subscription over, or memory ran out before its first command or for
--- the items of a Check.
+-- Whether a reader by checks stopped with this fault, with the store in state `t`. The store refused its Subscribe or its
+-- next Check, the allowed Checks weren't enough, another program took the subscription over, or memory ran out before the
+-- first command or for the items of a Check.
 abbrev pub StopsChecks : State → State → ℕ → Reading → ReadFault → Type 0
 StopsChecks s t sub reading (Refused refusal) =
     IsCommandRefused t (subscribe_anew sub reading.query) refusal ⊎
@@ -90,17 +89,17 @@ StopsChecks s t sub reading _ = Unit {0}
 
 -- ---- a reader by the journal
 
--- A reply of the journal with as many items as the Since asked for.
+-- Whether the Since returned `max` items, which is all that it may.
 pub record IsFullSince (max : ℕ) (t : SinceTurn) : Type 0 where
   pub asked : t.max ≡ max
   pub full : max ≤ length t.since.items
 
--- The journal's replies so far, from the cursor on, were all full.
+-- Whether the journal's replies from the cursor on were all full.
 pub record AreFullSinces (t : State) (reading : Reading) (from : Cursor) (turns : List SinceTurn) : Type 0 where
   pub are : AreSince t.feed (is_under reading.query) from turns
   pub full : All (IsFullSince reading.max) turns
 
--- After the replies so far, all full, one more had items.
+-- Whether one more reply had items. All replies before it were full.
 pub record IsJournaledMore (t : State) (reading : Reading) (from : Cursor) (turns : List SinceTurn) : Type 0 where
   pub turn : SinceTurn
   pub are : AreSince t.feed (is_under reading.query) from (turns ++ turn ∷ [])
@@ -108,8 +107,8 @@ pub record IsJournaledMore (t : State) (reading : Reading) (from : Cursor) (turn
   pub asked : turn.max ≡ reading.max
   pub some : turn.since.items ≢ []
 
--- Why reading the journal stopped: the next Since was refused, the allowed number of them weren't enough, or memory ran
--- out for the next one or for its items.
+-- Whether reading the journal stopped with this fault: the next Since was refused, the allowed number of them wasn't
+-- enough, or memory ran out for the next one or for its items.
 abbrev pub StopsSinces : State → Reading → Cursor → ReadFault → Type 0
 StopsSinces t reading from (Refused refusal) =
     (turns : List SinceTurn) × AreFullSinces t reading from turns ×
@@ -122,12 +121,12 @@ StopsSinces t reading from _ = Unit {0}
 
 -- ---- a reader by pages
 
--- The pages so far, since the reader began. None of them was the last.
+-- Whether these are the pages since the reader began, none of which was the last.
 pub record AreAllOpen (s t : State) (reading : Reading) (pages : List PageTurn) : Type 0 where
   pub are : AreOpenPages t.feed (is_under reading.query) None (next_position s) pages
   pub asked : All (λ page. page.max ≡ reading.max) pages
 
--- All pages were read, and this is the cursor of the first one.
+-- Whether all pages were read, and this is the cursor of the first one.
 pub record ArePaged (s t : State) (reading : Reading) (from : Cursor) : Type 0 where
   pub pages : List PageTurn
   pub open_ones : AreAllOpen s t reading pages
@@ -138,7 +137,7 @@ pub record ArePaged (s t : State) (reading : Reading) (from : Cursor) : Type 0 w
   pub ends : last.page.last ≡ true
   pub from_is : from ≡ unwrap_or (first_cursor pages) last.page.cursor
 
--- After the pages so far, none of them the last, one more had items.
+-- Whether one more page had items. No page before it was the last.
 pub record IsPagedMore (s t : State) (reading : Reading) (pages : List PageTurn) : Type 0 where
   pub open_ones : AreAllOpen s t reading pages
   pub turn : PageTurn
@@ -146,8 +145,8 @@ pub record IsPagedMore (s t : State) (reading : Reading) (pages : List PageTurn)
   pub asked : turn.max ≡ reading.max
   pub some : turn.page.items ≢ []
 
--- Why reading pages stopped: the next Page was refused, the allowed number of them weren't enough, or memory ran out
--- for the next one or for its items.
+-- Whether reading pages stopped with this fault: the next Page was refused, the allowed number of them wasn't enough, or
+-- memory ran out for the next one or for its items.
 abbrev pub StopsOpen : State → State → Reading → ReadFault → Type 0
 StopsOpen s t reading (Refused refusal) =
     (pages : List PageTurn) × AreAllOpen s t reading pages ×
@@ -157,7 +156,7 @@ StopsOpen s t reading NoRoom =
     (pages : List PageTurn) × (length pages < reading.questions) × (AreAllOpen s t reading pages ⊎ IsPagedMore s t reading pages)
 StopsOpen s t reading _ = Unit {0}
 
--- Why a reader by pages stopped: before the last page, or after it, in the journal.
+-- Whether a reader by pages stopped with this fault, before the last page, or in the journal after it.
 abbrev pub StopsPages : State → State → Reading → ReadFault → Type 0
 StopsPages s t reading fault =
     StopsOpen s t reading fault ⊎ ((from : Cursor) × ArePaged s t reading from × StopsSinces t reading from fault)

@@ -15,8 +15,8 @@ use Rattle.ds_machine.specs.State.{State, next_position}
 use Rattle.ds_reader.specs.GivesUp.{ArePaged}
 use Rattle.ds_reader.specs.declared.reading.Reading.{Reading}
 
--- The items were all accepted and are under the query, and they are whole under it up to the store's cursor: everything
--- under it that took effect by then is covered by one of them.
+-- Whether the items are all of what a reader wants: each was accepted and is under the query, and each item under the query
+-- that took effect up to the store's cursor is covered by one of them.
 pub record IsReadWhole (t : State) (query : Query) (items : List Item) : Type 0 where
   pub among : IsPartOf items (under (is_under query) t.feed.accepted)
   pub whole : IsWhole t.feed (is_under query) (given t.feed.accepted items) (next_position t)

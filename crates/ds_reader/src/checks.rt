@@ -14,16 +14,16 @@ use crate::reading::Reading;
 use ds_entry::Items;
 use std::alloc::Global;
 
-/// Reads a store by a subscription while others use the store. It subscribes with INITIAL, over any earlier
-/// subscription of this number, and checks until a Check shows fewer items than it asked for. Each item is under the
-/// query. Everything that took effect under it, up to the store's cursor at the end, is among the items or covered by
-/// one of them. Stamps reveal whether another took the subscription over. The store gets the Subscribe and the
-/// Checks, and nothing else.
+/// Reads a store by a subscription while others use the store.
 ///
-/// Errors: `Refused` if the store refused the Subscribe or the next Check, by this cause; `Unfinished` if the allowed
-/// number of Checks, each full, wasn't enough; `Overtaken` if a Check reported another stamp than the one that the
-/// reader had left; `NoRoom` if memory ran out before the first command or for the items; `Worn` if no further
-/// command can be sent. What the reader and others did to the store until then remains.
+/// Subscribes with INITIAL, in place of any subscription of this number, and checks until a Check returns fewer items than
+/// it may. Each item is under the query. Each item that took effect under the query, up to the store's cursor at the end,
+/// is returned, or covered by one that is. The store gets the Subscribe and the Checks, and nothing else.
+///
+/// Fails as `Refused` if the store refused the Subscribe or a Check, and as `Unfinished` if the allowed number of Checks
+/// wasn't enough. Fails as `Overtaken` if a Check returned another stamp than the reader's last one. Fails as `NoRoom` if
+/// memory ran out before the first command or for the items, and as `Worn` if no further command can be sent. The commands
+/// sent until then keep their effect.
 pub fn read_by_checks<A: Asks>(
     alloc: Global,
     asked: &mut A,

@@ -46,14 +46,15 @@ fn catch_up<A: Asks>(
     Err(ReadFault::Unfinished)
 }
 
-/// Reads a store by pages, and then by the journal from the first page's cursor on, while others use the store. Each
-/// item is under the query. Everything that took effect under it, up to the store's cursor at the end, is among the
-/// items or covered by one of them. No page is older than the call. The store gets Pages and Sinces of this query,
-/// and nothing else.
+/// Reads a store by pages, and then by the journal from the first page's cursor on, while others use the store.
 ///
-/// Errors: `Refused` if the store refused the next Page or Since, by this cause; `Unfinished` if the allowed number of
-/// Pages didn't reach the last page, or as many Sinces were all full; `NoRoom` if memory ran out for the next command
-/// or for the items; `Worn` if no further command can be sent. What others did to the store meanwhile remains.
+/// Each item is under the query. Each item that took effect under the query, up to the store's cursor at the end, is
+/// returned, or covered by one that is. No page is older than the call. The store gets Pages and Sinces of this query, and
+/// nothing else.
+///
+/// Fails as `Refused` if the store refused a Page or a Since. Fails as `Unfinished` if the allowed number of Pages didn't
+/// reach the last page, or as many Sinces were all full. Fails as `NoRoom` if memory ran out for the next command or for
+/// the items, and as `Worn` if no further command can be sent.
 pub fn read_by_pages<A: Asks>(
     alloc: Global,
     asked: &mut A,

@@ -43,7 +43,7 @@ module _ (p q : PassRecord) (f : FollowerRecord) (stamp before after place : ℕ
   check_called : MadeCall p q (Check f.sub most_items) (Checked items before after) place
   check_called = subst (λ (r : Reply). MadeCall p q (Check f.sub most_items) r place) told called
 
-  -- it was told its own
+  -- it got its own stamp
   module _ (same : before ≡ stamp) where
     own_called : MadeCall p q (Check f.sub most_items) (Checked items stamp after) place
     own_called = subst (λ (b : ℕ). MadeCall p q (Check f.sub most_items) (Checked items b after) place) same check_called
@@ -75,7 +75,7 @@ module _ (p q : PassRecord) (f : FollowerRecord) (stamp before after place : ℕ
         };
       }
 
-    -- or it stopped, for want of memory alone
+    -- or it stopped, only because memory ran out
     pub never_stops : (new : SubMapRecord) (stop : Stop) → IsMap new → IsTop (held_items new.held) (mapped f ++ under (is_under f.map.query) (take stop.done items)) →
         IsTakeStopped f.map.query f.map.held items new.held stop → stop.fault ≡ NoRoom
     never_stops new stop map top stopped =
@@ -89,7 +89,7 @@ module _ (p q : PassRecord) (f : FollowerRecord) (stamp before after place : ℕ
           | inr u ↦ u.noroom
         ]
 
--- ---- the same of a follower by its parts, and of the map that took the items
+-- ---- likewise for a follower by its parts, and for the map that took the items
 module _ (p q : PassRecord) (f : FollowerRecord) (sub : ℕ) (o : Option ℕ) (old new : SubMapRecord) (stamp before after place : ℕ) (items : List Item) (reply : Reply)
     (parts : f ≡ follower_of sub o old) (stamped : f.stamp ≡ Some stamp) (keeps : KeepsUpWith p f) (called : MadeCall p q (Check sub most_items) reply place)
     (told : reply ≡ Checked items before after) (same : before ≡ stamp) where

@@ -24,7 +24,7 @@ of_both : (sub : ℕ) (query : Query) (own more : List (Entry Command Reply)) �
 of_both sub query [] more a b = b
 of_both sub query (e ∷ own) more a b = (a.0, of_both sub query own more a.1 b)
 
--- ---- behind calls that were open
+-- ---- after calls that were open
 module _ (p q : PassRecord) (f g : FollowerRecord) (count : ℕ) (gone : HasGone p q f g count) where
   pub only_gone : (limit : ℕ) → count ≤ limit → CallsOnly p q f limit
   only_gone limit few = record { own = gone.own; made = gone.made; few = omega (arith, few, gone.all); theirs = all_open f.sub f.map.query f.stamp g.stamp gone.own gone.open_calls }

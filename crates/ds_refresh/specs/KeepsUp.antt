@@ -1,4 +1,4 @@
--- When a follower keeps up with a pass.
+-- Followers that keep up with a pass.
 use Rattle.std.specs.Prelude.{ℕ, List, Option, Some, None}
 use mathlib.Core.List.{IsPrefix}
 use Rattle.history.specs.declared.entry.Entry.{Entry}
@@ -10,13 +10,13 @@ use Rattle.ds_follow.specs.Follower.{FollowsStore}
 use Rattle.ds_pass.specs.Record.{AfterEach, PassRecord}
 use Rattle.ds_refresh.specs.Follower.{FollowerRecord, mapped}
 
--- After some front of what the pass has seen, the map follows the store.
+-- Whether the map follows the store in its state after some prefix of the history that the pass has seen.
 pub record StandsForFront (p : PassRecord) (sub : ℕ) (query : Query) (stamp : ℕ) (map : List Item) : Type 0 where
   pub front : List (Entry Command Reply)
   pub begins : IsPrefix front p.history
   pub follows : AfterEach p front (λ t. FollowsStore t sub query stamp map)
 
--- A follower with a last stamp does. For one that is new or lost nothing is said.
+-- Whether a follower with a last stamp keeps up. One that is new or lost always does.
 abbrev pub StandsIfStamped : PassRecord → ℕ → Query → Option ℕ → List Item → Type 0
 StandsIfStamped p sub query None map = Unit {0}
 StandsIfStamped p sub query (Some stamp) map = StandsForFront p sub query stamp map

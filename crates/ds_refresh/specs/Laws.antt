@@ -7,21 +7,21 @@ use Rattle.ds_refresh.specs.Follower.{FollowerRecord, mapped}
 use Rattle.ds_refresh.specs.KeepsUp.{KeepsUpWith}
 use Rattle.ds_refresh.specs.Refresh.{IsUpTo}
 
--- A follower that is new or lost keeps up with every pass.
+-- A law: a follower that is new or lost keeps up with every pass.
 abbrev pub LostKeepsUp : Type 0
 LostKeepsUp = (p : PassRecord) (f : FollowerRecord) → f.stamp ≡ None → KeepsUpWith p f
 
--- A follower that keeps up with a pass keeps up with it when it has seen more, and with each pass that has seen all that it has.
+-- A law: a follower that keeps up with a pass keeps up with each one that has seen the same or more.
 abbrev pub KeepsUpLater : Type 0
 KeepsUpLater = (p q : PassRecord) (f : FollowerRecord) → HasSeenMore p q → KeepsUpWith p f → KeepsUpWith q f
 
--- Two passes of one desk: of the histories that they have seen, one begins the other.
+-- Whether these may be two passes of one desk: of the histories that they have seen, one is a prefix of the other.
 pub record AreAtOneDesk (p q : PassRecord) : Type 0 where
   pub opened : q.opened ≡ p.opened
   pub first : q.origin.first ≡ p.origin.first
   pub agree : OneBegins p.history q.history
 
--- Two followers of one query that were refreshed up to the same place have equal maps.
+-- A law: two followers with one query that were refreshed up to the same place have equal maps.
 abbrev pub RefreshedAlike : Type 0
 RefreshedAlike =
     (p q : PassRecord) (f g : FollowerRecord) (place : ℕ) → AreAtOneDesk p q → HasLegalHistory p → g.map.query ≡ f.map.query →

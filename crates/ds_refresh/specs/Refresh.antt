@@ -1,4 +1,4 @@
--- What a refresh does, from the pass p and the follower f to q and g.
+-- The effects of a refresh, from the pass p and the follower f to q and g.
 use Rattle.std.specs.Prelude.{◌≡◌, ◌⊎◌, ℕ, ◌<◌, ◌≤◌, List, [], ◌∷◌, ◌++◌, length, Option, Some, None}
 use Rattle.std.specs.List.{AllByRecursion}
 use Rattle.history.specs.declared.entry.Entry.{Entry}
@@ -15,27 +15,27 @@ use Rattle.ds_refresh.specs.Follower.{FollowerRecord, IsSameFollower, mapped}
 use Rattle.ds_refresh.specs.FollowerCalls.{AreOpenCalls, ChecksLast, IsOfFollower, IsOpenCall}
 use Rattle.ds_refresh.specs.KeepsUp.{KeepsUpWith}
 
--- All of these calls are the follower's.
+-- Whether all of these calls are the follower's.
 abbrev pub AreOfFollower : ℕ → Query → List (Entry Command Reply) → Type 0
 AreOfFollower sub query own = AllByRecursion (λ (e : Entry Command Reply). IsOfFollower sub query e.command) own
 
--- At most `limit` calls were made, each of them the follower's.
+-- Whether at most `limit` calls were made, each of them the follower's.
 pub record CallsOnly (p q : PassRecord) (f : FollowerRecord) (limit : ℕ) : Type 0 where
   pub own : List (Entry Command Reply)
   pub made : Made p q own
   pub few : length own ≤ limit
   pub theirs : AreOfFollower f.sub f.map.query own
 
--- The same of a seat.
+-- Like `CallsOnly`, for a seat.
 abbrev pub SeatCallsOnly : SeatRecord → SeatRecord → FollowerRecord → ℕ → Type 0
 SeatCallsOnly s t f limit = IsSameSeat s t × CallsOnly s.pass t.pass f limit
 
--- The place is the first after what q has seen. After that the map is what the store holds under its query.
+-- Whether the place is the first one after the history that q has seen, and the map is what the store holds there under the query.
 pub record IsUpTo (q : PassRecord) (g : FollowerRecord) (place : ℕ) : Type 0 where
   pub at : place ≡ place_behind q
   pub current : AfterEach q q.history (λ t. IsCurrent t g.map.query (mapped g))
 
--- The last call ended the refresh, and none before did. Its place is above all that p had seen.
+-- Whether the last call ended the refresh, and none before it did. Its place is above all that p had seen.
 pub record EndsUpTo (p q : PassRecord) (f g : FollowerRecord) (limit place : ℕ) : Type 0 where
   pub own : List (Entry Command Reply)
   pub last : Entry Command Reply
@@ -50,7 +50,7 @@ pub record EndsUpTo (p q : PassRecord) (f g : FollowerRecord) (limit place : ℕ
   pub up_to : IsUpTo q g place
   pub above : place_behind p < place
 
--- Exactly `limit` calls were made, and none of them ended the refresh.
+-- Whether exactly `limit` calls were made, and none of them ended the refresh.
 pub record EndsMore (p q : PassRecord) (f g : FollowerRecord) (limit : ℕ) : Type 0 where
   pub own : List (Entry Command Reply)
   pub made : Made p q own
@@ -62,20 +62,20 @@ abbrev pub Refreshes : PassRecord → PassRecord → FollowerRecord → Follower
 Refreshes p q f g limit (UpTo place) = EndsUpTo p q f g limit place
 Refreshes p q f g limit More = EndsMore p q f g limit
 
--- The map is unchanged, unless a call was accepted.
+-- Whether the map is unchanged, unless a call was accepted.
 abbrev pub KeepsMap : PassRecord → PassRecord → FollowerRecord → FollowerRecord → Type 0
 KeepsMap p q f g = (g.map ≡ f.map) ⊎ HadAccepted p q
 
 -- ---- call by call
 
--- One call that didn't end the refresh.
+-- Whether one call was made that didn't end the refresh.
 pub record GoesOnBy (p q : PassRecord) (f g : FollowerRecord) : Type 0 where
   pub call : Entry Command Reply
   pub made : Made p q (call ∷ [])
   pub legal : HasLegalHistory q
   pub is_open : IsOpenCall f.sub f.map.query f.stamp call g.stamp
 
--- One call that did.
+-- Whether one call was made that ended the refresh.
 pub record EndsBy (p q : PassRecord) (f g : FollowerRecord) (place : ℕ) : Type 0 where
   pub call : Entry Command Reply
   pub stamp : ℕ
@@ -87,12 +87,12 @@ pub record EndsBy (p q : PassRecord) (f g : FollowerRecord) (place : ℕ) : Type
   pub stamp_is : g.stamp ≡ Some after
   pub up_to : IsUpTo q g place
 
--- One call. It returns a place if it ended the refresh.
+-- The effect of one call, by whether it returned the place that ends the refresh.
 abbrev pub TakesOneCall : PassRecord → PassRecord → FollowerRecord → FollowerRecord → Option ℕ → Type 0
 TakesOneCall p q f g None = GoesOnBy p q f g
 TakesOneCall p q f g (Some place) = EndsBy p q f g place
 
--- `count` calls were made, and none ended the refresh.
+-- Whether `count` calls were made, and none of them ended the refresh.
 pub record HasGone (p q : PassRecord) (f g : FollowerRecord) (count : ℕ) : Type 0 where
   pub own : List (Entry Command Reply)
   pub made : Made p q own

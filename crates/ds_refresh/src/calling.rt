@@ -13,8 +13,10 @@ use ds_pass::{CallFault, Seat, Shown};
 use std::alloc::Global;
 use std::sync::Wait;
 
-/// Makes one call. A lost follower subscribes, replaces its subscription, and then empties its map. One that isn't lost checks; if the
-/// Check shows another stamp, the follower is lost. Returns the place after the call, if it ends the refresh.
+/// Makes one call of a refresh. Returns the place after the call if it ends the refresh.
+///
+/// A follower that is new or lost subscribes, in place of any subscription of its number, and empties its map. Any other one checks. If
+/// the Check returns another stamp, the follower is lost.
 pub(crate) fn call_once<W: Wait>(
     seat: &mut Seat<'_, W>,
     alloc: Global,

@@ -1,4 +1,4 @@
-//! A subscriber's map, with the subscription that keeps it up to date.
+//! Followers: a subscriber's map with the subscription that keeps it up to date.
 
 ghost use Rattle.std.specs.Prelude.{◌≡◌, None, IfOk, IfErr};
 ghost use Rattle.ds_pattern.specs.Patterns.{IsPatternFault};
@@ -9,14 +9,14 @@ use ds_submap::SubMap;
 use std::alloc::Global;
 use std::marker::Model;
 
-/// A map that follows a store by a subscription. It is new, follows, or is lost.
+/// A map that follows a store by a subscription. A follower is new, follows, or is lost.
 #[derive(Drop)]
 pub struct Follower {
     pub(crate) sub: u32,
-    // The query of the map, to subscribe to.
+    // The query of the map and of the subscription.
     pub(crate) query: Query,
     pub(crate) map: SubMap,
-    // The last stamp of its subscription that it knows. None if it is new or lost.
+    // The last stamp that the follower got for its subscription. `None` if it is new or lost.
     pub(crate) stamp: Option<u64>,
 }
 
@@ -37,7 +37,7 @@ impl Model for Follower {
 }
 
 impl Follower {
-    /// Makes a new follower of this subscription. Refused as the query's pattern is.
+    /// Returns a new follower with this subscription, or the fault of the query's pattern.
     pub fn new(alloc: Global, sub: u32, query: Query) -> Result<Follower, PatternFault>
         ensures new { IfOk result (λ follower. follower ≡ new_follower sub query) }
         ensures refused { IfErr result (λ fault. IsPatternFault fault query.text) }
@@ -51,21 +51,21 @@ impl Follower {
         })
     }
 
-    /// Returns the number of its subscription.
+    /// Returns the number of the subscription.
     pub fn sub(&self) -> u32
         ensures { result ≡ self.now.sub }
     {
         self.sub
     }
 
-    /// Returns its map.
+    /// Returns the map.
     pub fn map(&self) -> &SubMap
         ensures { result.now ≡ self.now.map }
     {
         &self.map
     }
 
-    /// Makes it lost: the next refresh subscribes anew, and then empties the map.
+    /// Makes the follower lost. The next refresh subscribes again, and then empties the map.
     pub fn lose(&mut self)
         ensures { self.new ≡ follower_of self.old.sub None self.old.map }
     {

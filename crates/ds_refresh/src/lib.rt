@@ -1,7 +1,7 @@
 //! Brings a subscriber's map up to date with a store that other threads call meanwhile.
 //!
-//! A subscriber of MINIX 3's data store (DS) is notified, and checks until nothing is left (the DS interface of MINIX 3). Stamps,
-//! by which it learns that another program replaced its subscription, and the limit of calls are of this project.
+//! A subscriber of MINIX 3's data store (DS) is notified, and checks until nothing is left (the DS interface of MINIX 3). By a stamp, a
+//! subscriber learns that another program replaced its subscription. Stamps and the limit of calls are this project's.
 #![tactic(auto)]
 
 mod calling;

@@ -13,21 +13,23 @@ use ds_pass::Seat;
 use std::alloc::Global;
 use std::sync::Wait;
 
-/// How a refresh ended.
+/// The outcome of a refresh.
 #[derive(Clone, Copy, Debug, PartialEq, Eq)]
 pub enum Fresh {
     /// The map is what the store held under the query after all calls below this place.
     UpTo(u64),
-    /// The limit of calls was reached first.
+    /// The limit of calls was reached before that.
     More,
 }
 
-/// Brings the follower's map up to date by at most `limit` calls, 2 to 65536, while others call the desk. It may wait.
+/// Brings the follower's map up to date by at most `limit` calls, 2 to 65536, while other threads call the desk. May wait.
 ///
-/// A new or lost follower subscribes, and its map is emptied; then it checks until a Check returns fewer items than it asks for.
-/// `UpTo(place)`: the map is what the store held under the query after all calls below that place, which is above each that the
-/// pass had seen. `More`: exactly `limit` calls were made, and none ended the refresh. If a Check shows another stamp, the follower
-/// is lost, and subscribes again. After any fault it is lost; its map is unchanged if no call was accepted.
+/// A follower that is new or lost subscribes, and empties its map. Then it checks until a Check returns fewer items than it may. If a Check
+/// returns another stamp, the follower is lost, and subscribes again.
+///
+/// Returns `UpTo(place)` if the map is what the store held under the query after all calls below `place`, which is above all that the pass
+/// had seen. Returns `More` after exactly `limit` calls without such an end. Refuses any other limit as BadLimit. After any other fault the
+/// follower is lost; if no call was accepted, its map is unchanged.
 pub fn refresh<W: Wait>(
     seat: &mut Seat<'_, W>,
     alloc: Global,

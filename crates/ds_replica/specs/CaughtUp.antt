@@ -53,12 +53,12 @@ HoldsAtLeastInWorlds =
     (account : Account) (w : World) (j : ℕ) (m : MapAccount) (side : Side) → Fits account w → HasAll account j m side →
     CoversAll (held_by w (Map j)) (under (is_under m.query) (held_by w (Store side)))
 
--- All of them keep the rules of changes and floors.
+-- Whether all of the items keep the rules of changes and floors.
 abbrev pub AreItems : List Item → Type 0
 AreItems items = (i : Item) → Contains items i → IsItem i
 
--- For each label under the query of a map that has all and nothing else, the map names the endpoint of the greatest
--- generation that the store knows for the name. It names none if that one has ended, or if the store knows none.
+-- Whether each map that has all and nothing else returns the right endpoint for each label under its query: that of the
+-- greatest generation that the store knows, or none if that one has ended or the store knows none.
 abbrev pub MapsNameNewest : Account → World → Type 0
 MapsNameNewest account w =
     (j : ℕ) (m : MapAccount) (side : Side) (name : List ℕ) → HasAll account j m side → HasNothingElse account m side →

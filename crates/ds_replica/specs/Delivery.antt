@@ -42,7 +42,8 @@ added done taken stale owed later = record {
   stop = later.stop;
 }
 
--- After a Merge that did all its items the others follow. After one that stopped or was refused, none do.
+-- Whether this is the tally and the state after the reply. The other groups follow a Merge that did all of its items. After
+-- any other reply, none of them does.
 abbrev pub OthersFollow : Reply → State → (Tally → State → Type 0) → Tally → State → Type 0
 OthersFollow (Merged done taken stale owed) mid Others tally new =
     (later : Tally) × Others later new × (tally ≡ added done taken stale owed later)
@@ -50,7 +51,7 @@ OthersFollow (MergeStopped done fault owed) mid Others tally new = (tally ≡ en
 OthersFollow (Refused fault) mid Others tally new = (tally ≡ ended 0 0 (Some fault)) × (new ≡ mid)
 OthersFollow _ mid Others tally new = ⊥
 
--- Each group goes to the store as one Merge, in order.
+-- Whether each group goes to the store as one Merge, in order.
 abbrev pub GroupsAreMerged : State → List (List Item) → Tally → State → Type 0
 GroupsAreMerged s [] tally new = (tally ≡ ended 0 0 None) × (new ≡ s)
 GroupsAreMerged s (group ∷ groups) tally new =
@@ -74,8 +75,8 @@ StandsAgainst held i Full = Unit {0}
 StandsAgainst held i NoRoom = Unit {0}
 StandsAgainst held i _ = ⊥
 
--- All items were done, or the next one is under the query and the fault against it is justified. Matching the query may
--- also run out of memory.
+-- Whether all items were done, or the next one is under the query and the fault applies to it. Matching the query may also
+-- run out of memory.
 abbrev pub DeliveryEnds : MapState → List Item → ℕ → Option Refusal → Type 0
 DeliveryEnds m items done None = done ≡ length items
 DeliveryEnds m items done (Some fault) =

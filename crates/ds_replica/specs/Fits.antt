@@ -12,7 +12,7 @@ use Rattle.ds_machine.specs.Reached.{IsReached}
 use Rattle.ds_replica.specs.World.{MapState, World}
 use Rattle.ds_replica.specs.Known.{StoreAccount, MapAccount, Account}
 
--- Everything that the items stand for was brought in.
+-- Whether everything that the items stand for was brought in.
 abbrev pub AreWithin : List Item → List Sent → Type 0
 AreWithin brought items = (s : Sent) → Contains items s → IsPartOf s.stands_for brought
 
@@ -37,7 +37,7 @@ pub record FitsMessage (brought : List Item) (account : List Sent) (items : List
   pub sent : (s : Sent) → Contains account s → IsSent s
   pub within : AreWithin brought account
 
--- Each holder holds the top of what it knows, each message has the account's items, and everything was brought in.
+-- Whether each holder holds the top of what it knows, each message has the account's items, and everything was brought in.
 pub record Fits (account : Account) (w : World) : Type 0 where
   pub a : FitsStore account.brought account.a w.a
   pub b : FitsStore account.brought account.b w.b

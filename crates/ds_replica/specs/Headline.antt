@@ -32,7 +32,7 @@ EventsFit =
     (account : Account) (old new : World) (events : List (Event × Outcome)) → Fits account old → HappenAll old events new →
     Fits (extended_all account events) new
 
--- Both hold the same under the query, tombstones, versions and floors included, and so have equal entries.
+-- Whether both hold the same items under the query, with tombstones, versions and floors, and so have equal entries.
 abbrev pub HoldSame : World → (Key → Bool) → Holder → Holder → Type 0
 HoldSame w query h i =
     (under query (held_by w h) ≡ under query (held_by w i)) ×

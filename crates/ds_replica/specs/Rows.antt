@@ -77,7 +77,7 @@ only_published = (Ask A first_publish, Replied (Accepted 0)) ∷ []
 abbrev pub exchanged : List (Event × Outcome)
 exchanged = only_published ++ snapshot A ∷ (Deliver 0 (Store B) None, Merged (counting 1 1 0) 0) ∷ []
 
--- Then both know the same, without contradictions, and hold the same.
+-- The row in which both stores then know the same, without contradictions, and hold the same.
 pub record ReplicasConverge : Type 0 where
   pub world : World
   pub happen : HappenAll fresh_world exchanged world
@@ -85,19 +85,19 @@ pub record ReplicasConverge : Type 0 where
   pub same : KnowSame all_keys (known_at (account_of exchanged) (Store A)) (known_at (account_of exchanged) (Store B))
   pub held : held_by world (Store B) ≡ driver_label ∷ []
 
--- Without the delivery, they neither know nor hold the same.
+-- The row in which, without the delivery, the stores neither know nor hold the same.
 pub record ReplicasDiffer : Type 0 where
   pub world : World
   pub happen : HappenAll fresh_world only_published world
   pub numbers : AreSingleNumbered (account_of only_published).brought
   pub differ : under all_keys (held_by world (Store A)) ≢ under all_keys (held_by world (Store B))
 
--- A map is made, and a store gets a floor and a label.
+-- The events in which a map is made, and a store gets a floor and a label.
 abbrev pub only_told : Query → Side → List (Event × Outcome)
 only_told query side =
     (NewMap query, MapMade 0) ∷ (Ask side swept, Replied (Swept 0 0)) ∷ (Ask side first_publish, Replied (Accepted 0)) ∷ []
 
--- A snapshot of that store goes to the map.
+-- The events in which a snapshot of that store goes to the map.
 abbrev pub sent : Query → Side → List (Event × Outcome)
 sent query side = only_told query side ++ snapshot side ∷ (Deliver 0 (Map 0) None, Merged (counting 2 2 0) 0) ∷ []
 
@@ -108,7 +108,7 @@ with_both query = record {
   taken = record { item = floor; stands_for = floor ∷ [] } ∷ record { item = driver_label; stands_for = driver_label ∷ [] } ∷ [];
 }
 
--- Then the map has all of that store and nothing else, and holds it, the label included.
+-- The row in which the map then has all of that store and nothing else, and holds it with the label.
 pub record MapCatchesUp (query : Query) : Type 0 where
   pub world : World
   pub happen : HappenAll fresh_world (sent query A) world
@@ -119,7 +119,8 @@ pub record MapCatchesUp (query : Query) : Type 0 where
   pub held : held_by world (Map 0) ≡ floor ∷ driver_label ∷ []
   pub named : label_in (held_by world (Map 0)) (codes "eth0") ≡ Some (endpoint_of 3 17)
 
--- Without the snapshot, it hasn't all: it neither holds what the store holds nor names what the store knows as newest.
+-- The row in which, without the snapshot, the map hasn't all. It neither holds what the store holds nor has the newest
+-- endpoint that the store knows.
 pub record MapLags (query : Query) : Type 0 where
   pub world : World
   pub happen : HappenAll fresh_world (only_told query A) world
@@ -130,8 +131,8 @@ pub record MapLags (query : Query) : Type 0 where
   pub older : ¬ IsNewest (store_of (account_of (only_told query A)) A).known (codes "eth0")
       (label_in (held_by world (Map 0)) (codes "eth0"))
 
--- If the other store gave the snapshot, the map has all of this store and more. It holds and names what this store
--- doesn't know.
+-- The row in which the other store sends the snapshot. The map then has all of this store and more, and has an endpoint
+-- that this store doesn't know.
 pub record MapLeads (query : Query) : Type 0 where
   pub world : World
   pub happen : HappenAll fresh_world (sent query B) world
@@ -141,12 +142,12 @@ pub record MapLeads (query : Query) : Type 0 where
   pub differ : held_by world (Map 0) ≢ under (is_under query) (held_by world (Store A))
   pub older : ¬ IsNewest (store_of (account_of (sent query B)) A).known (codes "eth0") (label_in (held_by world (Map 0)) (codes "eth0"))
 
--- The query is accepted, and the key is under it.
+-- Whether the query is accepted, and the key is under it.
 pub record AsksFor (query : Query) (key : Key) : Type 0 where
   pub read : pattern_fault query ≡ None
   pub asked : is_under query key ≡ true
 
--- Each row, for every query that the label is under.
+-- A law: the row holds for every query that the label is under.
 abbrev pub MapsCatchUp : Type 0
 MapsCatchUp = (query : Query) → AsksFor query (label_key (codes "eth0")) → MapCatchesUp query
 
@@ -165,7 +166,7 @@ irq = record { name = codes "irq"; kind = U32 }
 abbrev entry : ℕ → ℕ → Item
 entry seq n = Changed (change_of irq (codes "eth0") (record first_version { seq = seq }) (Put (Number n)))
 
--- Two entries of one version, and a later one.
+-- The first of two entries with one version.
 abbrev pub one : Item
 one = entry 0 9
 
@@ -182,13 +183,14 @@ told_both side incarnation k first second =
     (Ask side (Since All (record { incarnation = incarnation; position = 0 }) 1), Made k) ∷
     (RestartStore side (incarnation + 2), Restarted) ∷ []
 
--- Both stores do so, with the two in opposite orders, and then each gets its own message back.
+-- The events in which both stores do so, with the two entries in opposite orders, and then each gets its own message back.
 abbrev pub contradicted : List (Event × Outcome)
 contradicted =
     told_both A 1 0 one other ++ told_both B 2 1 other one ++
     (Deliver 0 (Store A) None, Merged (counting 1 1 0) 0) ∷ (Deliver 1 (Store B) None, Merged (counting 1 1 0) 0) ∷ []
 
--- Then both know the same but don't hold the same, and the message of one stops at the other by a clash.
+-- The row in which both stores then know the same but don't hold the same, and the message of one stops at the other by a
+-- clash.
 pub record ReplicasClash : Type 0 where
   pub world : World
   pub happen : HappenAll fresh_world contradicted world
@@ -204,7 +206,7 @@ and_a_map query = contradicted ++ (NewMap query, MapMade 0) ∷ (Deliver 1 (Map 
 abbrev pub with_other : Query → MapAccount
 with_other query = record { query = query; taken = record { item = other; stands_for = other ∷ one ∷ [] } ∷ [] }
 
--- Then the map has all of the first store and nothing else, but doesn't hold what that store holds.
+-- The row in which the map then has all of the first store and nothing else, but doesn't hold what that store holds.
 pub record MapClashes (query : Query) : Type 0 where
   pub world : World
   pub happen : HappenAll fresh_world (and_a_map query) world
@@ -231,7 +233,7 @@ renewal =
     (Ask A (Merge (one ∷ ended ∷ renewed ∷ [])), Replied (AllMerged 3 3 0 0)) ∷ snapshot A ∷
     (Deliver 0 (Store B) None, Merged (counting 2 2 0) 0) ∷ []
 
--- Then everything brought is exact but not single-numbered, and both stores know and hold the same.
+-- The row in which everything brought is exact but not single-numbered, and both stores know and hold the same.
 pub record OwnersChange : Type 0 where
   pub world : World
   pub happen : HappenAll fresh_world renewal world

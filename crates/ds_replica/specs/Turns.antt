@@ -40,7 +40,7 @@ empties_by h _ _ = false
 abbrev pub empties : Holder → Event × Outcome → Bool
 empties h e = empties_by h e.0 e.1
 
--- None of the events empties the holder.
+-- Whether none of the events empties the holder.
 abbrev pub Stays : Holder → List (Event × Outcome) → Type 0
 Stays h events = list_any (empties h) events ≡ false
 

@@ -19,9 +19,11 @@ pub fn accounts_fit()
 {}
 
 /// A law: after any events, replicas and maps that know the same under a query hold the same under it, if everything
-/// brought is exact: no two changes of one key, owner and version have two bodies. If it is single-numbered (each key
-/// also has one owner), nothing held or on its way contradicts anything else, and no delivery stops by a clash or
-/// another owner.
+/// brought is exact.
+///
+/// Changes are exact if no two of one key, owner and version have two bodies. They are single-numbered if, besides, each
+/// key has one owner. If everything brought is single-numbered, nothing held or on its way contradicts anything else, and
+/// no delivery stops by a clash or another owner.
 pub fn holders_agree()
     ensures equal { EqualWhereKnown }
     ensures over_events { EqualOverEvents }
@@ -29,9 +31,10 @@ pub fn holders_agree()
     ensures stops { NothingStopsInWorlds }
 {}
 
-/// A law: a map that was given everything a store accepted under its query, and nothing that the store doesn't know,
-/// holds exactly what the store holds under that query, if everything brought is exact, and its labels name no older
-/// generation. A map that was given more holds at least that.
+/// A law: a map that took everything that a store accepted under the map's query, and nothing that the store doesn't know,
+/// holds exactly what the store holds under the query, if everything brought is exact.
+///
+/// The map's labels then have no older generation than the store knows. A map that took more holds at least that.
 pub fn maps_catch_up()
     ensures all { WholeIsAll }
     ensures exact { HoldsTheStoresInWorlds }
@@ -45,9 +48,10 @@ pub fn items_are_brought()
     ensures events { EventsBringItems }
 {}
 
-/// A law: a store's turns among the events are a run of its machine, and what is whole for it stays whole. Each of its
-/// messages leaves out nothing: snapshots and the journal are whole, and pages and checks meet what the laws of pages
-/// and checks ask for.
+/// A law: a store's turns among the events are a run of its machine, and items that are whole for it stay whole.
+///
+/// None of its messages leaves anything out. Snapshots and the journal are whole, and pages and checks meet the premises of
+/// the laws of pages and checks.
 pub fn messages_are_whole()
     ensures turns { TurnsAreRunInWorlds }
     ensures stays { WholeStaysInWorlds }
@@ -59,8 +63,8 @@ pub fn messages_are_whole()
     ensures checks { ChecksAreWholeInWorlds }
 {}
 
-/// A law: what a store's machine lets take effect is new, as the laws of checks require, and a later state's feed is a
-/// later state of the earlier feed, as all laws of wholeness require.
+/// A law: the items that take effect at a store are new, as the laws of checks require. The feed of a later state continues
+/// the feed of an earlier one, as the laws of wholeness require.
 pub fn stores_grow()
     ensures news { NewsAreNew }
     ensures front { LaterIsFront }
@@ -74,10 +78,12 @@ pub fn floors_stand()
     ensures events { FloorsStandInWorlds }
 {}
 
-/// A law: worked rows. In some, two replicas end up knowing and holding the same, and a map has all of a store and
-/// names its label. In others, one condition of the laws is missing and the conclusion fails: the replicas don't know
-/// the same, the map wasn't given everything or was given more, or what a replica or map was given contradicts itself.
-/// In the last, a key returns with another owner, so that everything brought is exact but not single-numbered.
+/// Laws by example.
+///
+/// In some rows two replicas end up knowing and holding the same, and a map has all of a store and its label. In others one
+/// condition of the laws is missing, and the conclusion fails: the replicas don't know the same, the map didn't take
+/// everything or took more, or what a replica or map took contradicts itself. In the last row a key returns with another
+/// owner, so that everything brought is exact but not single-numbered.
 pub fn rows_happen()
     ensures converge { ReplicasConverge }
     ensures differ { ReplicasDiffer }

@@ -12,6 +12,6 @@ use Rattle.ds_machine.specs.declared.command.Scope.{Scope}
 abbrev pub page_in : State → Scope → Option Key → ℕ → Page
 page_in s scope after max = page_of (is_kept scope) after max (held s) (cursor s)
 
--- Everything that the state holds under the scope.
+-- The snapshot of everything that the state holds under the scope.
 abbrev pub snapshot_in : State → Scope → Snapshot
 snapshot_in s scope = snapshot_of (is_kept scope) (held s) (cursor s)

@@ -1,4 +1,4 @@
--- What a take leaves: the top of what was held and of the items under the query, in a map where floors stand.
+-- The result of a take: the top of what was held and of the items under the query, in a map that keeps its floors.
 use Rattle.std.proofs.Common.{◌≡◌, ◌++◌, List, [], ◌∷◌, All, Contains, IsTrue, take, Result, Ok, Err, refl, sym, ap, ◌∙◌, inl, inr}
 use Rattle.std.proofs.lemmas.List.Elements.{All-contains, All-contains_itself, All-weaker, Contains-append_cases, Contains-append_left, Contains-append_right}
 use Rattle.std.proofs.lemmas.Option.{none-some}
@@ -91,7 +91,7 @@ module _ (q : Query) (old : Holding) (items : List Item) (new : Holding) where
     limits = limits_stay old (under (is_under q) (take stop.done items)) s.front.answers new s.front.answered;
   }
 
-  -- Floors stand, whether they were held or arrived.
+  -- Floors are kept, whether they were held or arrived.
   floors_stand : (came : List Item) → IsTop (held_items new) (held_items old ++ under (is_under q) came) → EachFloorStands (held_items old ++ came) (held_items new)
   floors_stand came top f k =
       record {

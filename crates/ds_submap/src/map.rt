@@ -24,11 +24,11 @@ use ds_pattern::{Filter, PatternFault, Query};
 use std::alloc::Global;
 use std::marker::Model;
 
-/// What a subscriber keeps: its query, and of everything under it the greatest floor of each owner and the greatest
-/// version of each key, for up to 64 floors and 4096 keys.
+/// A subscriber's map: its query, and under the query the greatest floor of each owner and the greatest version of each key.
+/// It holds up to 64 floors and 4096 keys.
 ///
-/// While a floor of an owner is held, no entry from the owner's generations up to it is held, labels aside. No take
-/// brings one, however late it arrives, until the map is cleared.
+/// While a floor of an owner is held, no entry from the owner's generations up to it is held, except labels. No late item
+/// brings one back until the map is cleared.
 #[derive(Drop)]
 pub struct SubMap {
     filter: Filter,
@@ -68,11 +68,11 @@ impl SubMap {
 
     /// Takes items in order: raises each floor, merges each change under its query, and skips the others.
     ///
-    /// It stops at the first item that is refused, and keeps what it took before. Known, stale and skipped items
-    /// count as done.
+    /// Stops at the first item that is refused, and keeps the items taken before it. Known, stale and skipped items count as
+    /// done.
     ///
-    /// The first change of a kind that the query names allocates buffers to match names. A change is copied only to
-    /// be taken.
+    /// The first change of a kind that the query names takes memory for buffers that match names. A change is copied only
+    /// if it is taken.
     pub fn take(&mut self, alloc: Global, items: &Items) -> Result<Count, Stop>
         ensures joined { JoinsUnder self.old.query self.old.held (done_items result items.now) self.new.held }
         ensures counted { IfOk result (AreCounted self.old.query self.old.held items.now self.new.held) }

@@ -102,7 +102,7 @@ fn take_next<'f>(
     }
 }
 
-// Whether an item needs the query's pattern: a change of a kind that the query names. A floor is under every query.
+// Returns whether an item needs the query's pattern: a change of a kind that the query names. A floor is under every query.
 fn is_asked(filter: &Filter, item: &Item) -> bool
     ensures { result ≡ needs_query filter.now item.now }
 {

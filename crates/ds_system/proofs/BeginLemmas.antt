@@ -24,7 +24,8 @@ use Rattle.ds_world.specs.declared.fault.SeedFault.{SeedFault}
 use Rattle.ds_world.specs.declared.fault.SeedFault.TheVariants as seeds
 use Rattle.ds_world.specs.Seeds.{IsSeedFault}
 use Rattle.system_model.specs.System.{System}
-use Rattle.system_model.specs.Start.{labels_query, unit_with, file_driver_of, net_driver_of, file_unit, net_unit, assigned_all}
+use Rattle.system_model.specs.Start.{IsNew, labels_query, unit_with, file_driver_of, net_driver_of, file_unit, net_unit, assigned_all}
+use Rattle.system_model.proofs.LawLemmas.{systems_keep_laws}
 use Rattle.ds_system.specs.Stands.{SystemRecord}
 use Rattle.ds_system.specs.Since.{IsJustNew}
 use Rattle.ds_system.specs.Begin.{MakesLabelMap, MakesTwoMaps, HasBothMaps, BeginsOver, IsFirstGeneration, IsBeginFault, begin_fault_of}
@@ -113,6 +114,9 @@ with_both a b old new st h = h (new_world a b larger) st refl
 pub just_new : (settings : SettingsRecord) (a b : Seed) (next : ℕ) (world : WorldRecord) (value : SystemRecord) → 1 ≤ next → HasBothMaps a b world → BeginsOver settings next world value → IsJustNew settings a b next value
 just_new settings a b next world value some maps h =
     let start : System = record { rs = value.rs; numberers = value.numberers; world = maps.0; file = assigned_all (filter_map file_unit settings.services); net = assigned_all (filter_map net_unit settings.services); made = value.made } in
+    let new : IsNew settings a b next start = record { checked = h.checked; some = some; rs = h.rs; numberers = h.numberers; world = maps.1; file = refl; net = refl; made = h.made } in
+    let world : WorldStands value.world maps.0 = subst (λ (w : WorldRecord). WorldStands w maps.0) (sym h.same) maps.2 in
+    let fits = (systems_keep_laws settings a b next start start [] new refl).fits in
     record {
       past = record {
         settings = settings;
@@ -120,7 +124,7 @@ just_new settings a b next world value some maps h =
         b = b;
         next = next;
         start = start;
-        is_new = record { checked = h.checked; some = some; rs = h.rs; numberers = h.numberers; world = maps.1; file = refl; net = refl; made = h.made };
+        is_new = new;
         entries = [];
         now = start;
         run = refl;
@@ -130,7 +134,10 @@ just_new settings a b next world value some maps h =
       b_is = refl;
       next_is = refl;
       none = refl;
-      stands = record { rs = refl; numberers = refl; world = subst (λ (w : WorldRecord). WorldStands w maps.0) (sym h.same) maps.2; file = h.file; net = h.net; made = refl };
+      is = record {
+        stands = record { rs = refl; numberers = refl; world = world; file = h.file; net = h.net; made = refl };
+        came = record { first = value.world; fits = (maps.0, world, fits); told_so = refl };
+      };
     }
 
 -- ---- why none begins

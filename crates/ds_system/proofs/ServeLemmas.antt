@@ -1,5 +1,5 @@
 -- The effects of RS's actions.
-use Rattle.std.proofs.Common.{◌≡◌, ◌≢◌, ℕ, zero, suc, ◌+◌, ◌≤◌, true, false, List, [], ◌∷◌, ◌++◌, length, take, min, Option, Some, None, refl, ap, sym, ◌∙◌, subst, inl, inr, arith}
+use Rattle.std.proofs.Common.{◌≡◌, ◌≢◌, ℕ, zero, suc, ◌+◌, ◌≤◌, true, false, List, [], ◌∷◌, ◌++◌, length, take, Option, Some, None, refl, ap, sym, ◌∙◌, subst, inl, inr, arith}
 use Rattle.std.specs.List.{slice_get, filter_map, cons_option, AllByRecursion}
 use Rattle.std.proofs.lemmas.List.{append-nil, length_push, take_more}
 use Rattle.std.proofs.lemmas.List.Elements.{filter_map-append, Contains-append_cases}
@@ -20,7 +20,8 @@ use Rattle.rs_core.specs.declared.event.Event as services
 use Rattle.rs_core.specs.declared.fault.RsFault.{RsFault}
 use Rattle.rs_core.specs.declared.fault.RsFault.TheVariants as faults
 use Rattle.rs_core.specs.State.{RsRecord}
-use Rattle.rs_core.specs.Judging.{order, against, refusal}
+use Rattle.rs_core.specs.Judging.{order, against, refusal, asks, has_actions}
+use Rattle.rs_core.specs.Machine.{asked}
 use Rattle.rs_core.specs.Run.{offers}
 use Rattle.rs_core.specs.Step.{RsStep}
 use Rattle.ds_replica.specs.declared.event.Side.{Side}
@@ -29,6 +30,8 @@ use Rattle.ds_replica.specs.declared.outcome.Outcome.TheVariants as results
 use Rattle.ds_replica.specs.Happens.{HappenAll, gives_items}
 use Rattle.ds_replica.proofs.HappenLemmas.{happen_then}
 use Rattle.ds_world.specs.World.{WorldRecord}
+use Rattle.ds_world.specs.Told.{AreTold}
+use Rattle.ds_world.proofs.ReplyLemmas.{told_on}
 use Rattle.rs_to_store.specs.Asked.{asking_for, command_of, commands}
 use Rattle.system_model.specs.declared.event.SystemEvent.TheVariants as events
 use Rattle.system_model.specs.declared.outcome.SystemOutcome.TheVariants.{Acted, Refused}
@@ -66,24 +69,25 @@ answered_more side (y ∷ cs) [] c r e = absurd (let l : 0 ≡ length (y ∷ cs)
 answered_more side (y ∷ cs) (x ∷ rs) c r e = ap (λ (l : WorldEvents). (Ask side y, results.Replied x) ∷ l) (answered_more side cs rs c r (omega (arith, e)))
 
 pub asked_none : (side : Side) (w : WorldRecord) → AllAsked side [] [] w w
-asked_none side w = record { one_each = refl; proper = λ e h. absurd (Contains-nil e h); leads = λ s st. (s, refl, st) }
+asked_none side w = record { one_each = refl; proper = λ e h. absurd (Contains-nil e h); leads = λ s st. (s, refl, st); told = refl }
 
 pub asked_more : (side : Side) (cs : List Command) (rs after : List Reply) (a b d : WorldRecord) (o : Option Command) → AllAsked side cs rs a b → AskedIfAny side o rs after b d → AllAsked side (cs ++ cons_option o []) after a d
 asked_more side cs rs after a b d None all one =
     subst (λ (l : List Command). AllAsked side l after a d) (sym (append-nil cs))
     (subst (λ (l : List Reply). AllAsked side cs l a d) (sym one.0) (subst (λ (w : WorldRecord). AllAsked side cs rs a w) (sym one.1) all))
-asked_more side cs rs after a b d (Some c) all (r, same, proper, leads) =
+asked_more side cs rs after a b d (Some c) all (r, same, leads, told) =
     subst (λ (l : List Reply). AllAsked side (cs ++ c ∷ []) l a d) (sym same)
     record {
       one_each = length_push rs r ∙ (ap (λ n. n + 1) all.one_each ∙ sym (length_push cs c));
       proper = subst AreProper (sym more) (λ e h. elim (Contains-append_cases (asks_replied side cs rs) ((Ask side c, results.Replied r) ∷ []) e h) [
         | inl k ↦ all.proper e k
-        | inr k ↦ proper_one (Ask side c) (results.Replied r) proper e k
+        | inr k ↦ proper_one (Ask side c) (results.Replied r) told.0 e k
       ]);
       leads = λ w st.
           let one = all.leads w st in
           let two = leads one.0 one.2 in
           (two.0, subst (λ (l : WorldEvents). HappenAll w l two.0) (sym more) (happen_then (asks_replied side cs rs) ((Ask side c, results.Replied r) ∷ []) w one.0 two.0 one.1 (two.0, two.1, refl)), two.2);
+      told = subst (λ (l : WorldEvents). AreTold a l d) (sym more) (told_on (asks_replied side cs rs) ((Ask side c, results.Replied r) ∷ []) a b d all.told (d, leads, told, refl));
     }
   where
     more : asks_replied side (cs ++ c ∷ []) (rs ++ r ∷ []) ≡ asks_replied side cs rs ++ (Ask side c, results.Replied r) ∷ []
@@ -109,7 +113,7 @@ all_at P (y ∷ xs) (suc i) x h e = all_at P xs i x h.1 e
 never_room : (rs : RsRecord) (event : services.Event) (tick : ℕ) → refusal rs event tick ≡ Some faults.NoRoom → ⊥
 never_room rs event tick e = let q : false ≡ true = (found (against rs event tick) order faults.NoRoom e).1 in cc
 
-pub stands_fault : (rs : RsRecord) (event : services.Event) (tick : ℕ) (fault : RsFault) → refusal rs event tick ≡ Some fault → IsServiceFault (refusal rs event tick) fault
+pub stands_fault : (rs : RsRecord) (event : services.Event) (tick : ℕ) (fault : RsFault) → refusal rs event tick ≡ Some fault → IsServiceFault rs event tick fault
 stands_fault rs event tick faults.NoRoom e = absurd (never_room rs event tick e)
 stands_fault rs event tick faults.TickBack e = e
 stands_fault rs event tick faults.Worn e = e
@@ -122,24 +126,25 @@ stands_fault rs event tick faults.GenerationsSpent e = e
 stands_fault rs event tick faults.NoSlot e = e
 
 -- unless something was against the event, RS refuses it only if memory runs out
-pub late_fault : (rs : RsRecord) (event : services.Event) (tick : ℕ) (fault : RsFault) → (fault ≢ faults.NoRoom → refusal rs event tick ≡ Some fault) → refusal rs event tick ≡ None → IsServiceFault (refusal rs event tick) fault
-late_fault rs event tick faults.NoRoom h none = none
-late_fault rs event tick faults.TickBack h none = h (λ e. cc)
-late_fault rs event tick faults.Worn h none = h (λ e. cc)
-late_fault rs event tick faults.UnknownLabel h none = h (λ e. cc)
-late_fault rs event tick faults.BadCause h none = h (λ e. cc)
-late_fault rs event tick faults.AlreadyUp h none = h (λ e. cc)
-late_fault rs event tick faults.NotUp h none = h (λ e. cc)
-late_fault rs event tick faults.OldEndpoint h none = h (λ e. cc)
-late_fault rs event tick faults.GenerationsSpent h none = h (λ e. cc)
-late_fault rs event tick faults.NoSlot h none = h (λ e. cc)
+pub late_fault : (rs : RsRecord) (event : services.Event) (tick : ℕ) (fault : RsFault) → (fault ≢ faults.NoRoom → refusal rs event tick ≡ Some fault) → refusal rs event tick ≡ None → (fault ≡ faults.NoRoom → asks has_actions (asked rs event tick) ≡ true)
+    → IsServiceFault rs event tick fault
+late_fault rs event tick faults.NoRoom h none acts = (none, acts refl)
+late_fault rs event tick faults.TickBack h none acts = h (λ e. cc)
+late_fault rs event tick faults.Worn h none acts = h (λ e. cc)
+late_fault rs event tick faults.UnknownLabel h none acts = h (λ e. cc)
+late_fault rs event tick faults.BadCause h none acts = h (λ e. cc)
+late_fault rs event tick faults.AlreadyUp h none acts = h (λ e. cc)
+late_fault rs event tick faults.NotUp h none acts = h (λ e. cc)
+late_fault rs event tick faults.OldEndpoint h none acts = h (λ e. cc)
+late_fault rs event tick faults.GenerationsSpent h none acts = h (λ e. cc)
+late_fault rs event tick faults.NoSlot h none acts = h (λ e. cc)
 
 module _ (value : SystemRecord) (event : services.Event) (tick : ℕ) (side : Side) where
-  pub rs_refused : (fault : RsFault) → IsServiceFault (refusal value.rs event tick) fault → SystemEventLeads (events.Service event tick side) (Refused (refusals.Service fault)) value value
-  rs_refused fault e s st = (s, no_steps, record { refused = subst (λ (z : RsRecord). IsServiceFault (refusal z event tick) fault) (sym st.rs) e; steps_are = refl; system_is = refl }, st)
+  pub rs_refused : (fault : RsFault) → IsServiceFault value.rs event tick fault → SystemEventLeads (events.Service event tick side) (Refused (refusals.Service fault)) value value
+  rs_refused fault e s st = (s, no_steps, record { refused = subst (λ (z : RsRecord). IsServiceFault z event tick fault) (sym st.rs) e; steps_are = refl; system_is = refl }, st, refl)
 
   -- and then RS and the made changes are unchanged
-  pub rs_kept : (fault : RsFault) (rs : RsRecord) (made : List ChangeRecord) → rs ≡ value.rs → made ≡ value.made → IsServiceFault (refusal value.rs event tick) fault
+  pub rs_kept : (fault : RsFault) (rs : RsRecord) (made : List ChangeRecord) → rs ≡ value.rs → made ≡ value.made → IsServiceFault value.rs event tick fault
       → SystemEventLeads (events.Service event tick side) (Refused (refusals.Service fault)) value (record value { rs = rs; made = made })
   rs_kept fault rs made same kept e =
       subst (λ (r : RsRecord). SystemEventLeads (events.Service event tick side) (Refused (refusals.Service fault)) value (record value { rs = r; made = made })) (sym same)
@@ -153,4 +158,5 @@ module _ (value : SystemRecord) (event : services.Event) (tick : ℕ) (side : Si
         events_alone (asks_replied side (commands acts) replies),
         record { step = subst (λ (z : RsRecord). RsStep z event tick acts next) (sym st.rs) step; one_each = all.one_each; asked = record { steps_are = refl; proper = all.proper; happen = led.1 }; system_is = refl },
         record { rs = refl; numberers = st.numberers; world = led.2; file = st.file; net = st.net; made = ap (λ (l : List ChangeRecord). l ++ offers acts) st.made },
+        all.told,
       )

@@ -16,6 +16,7 @@ use Rattle.driver_tables.specs.Stands.{TableRecord, TableStands}
 use Rattle.ds_replica.specs.declared.event.Holder.TheVariants.{Map}
 use Rattle.ds_replica.specs.World.{MapState, World, map_held, held_by}
 use Rattle.ds_world.specs.World.{WorldRecord, WorldStands, map_state, held_in}
+use Rattle.ds_world.specs.Told.{AreTold}
 use Rattle.rs_to_store.specs.Following.{labels_of, Follows, HasFollowed}
 use Rattle.system_model.specs.declared.event.Table.{Table}
 use Rattle.system_model.specs.declared.event.Table.TheVariants.{File, Net}
@@ -110,6 +111,15 @@ stands_with : (value : SystemRecord) (s : System) (table : Table) (kept : TableR
 stands_with value s File kept t st k = record { rs = st.rs; numberers = st.numberers; world = st.world; file = k; net = st.net; made = st.made }
 stands_with value s Net kept t st k = record { rs = st.rs; numberers = st.numberers; world = st.world; file = st.file; net = k; made = st.made }
 
+-- a turn of a table is no event of the world
+same_world : (value : SystemRecord) (table : Table) (next : TableRecord) → (keeping_table value table next).world ≡ value.world
+same_world value File next = refl
+same_world value Net next = refl
+
+none_told : (value : SystemRecord) (table : Table) (turn : TableTurn) (next : TableRecord) → AreTold value.world (turn_alone table turn).events (keeping_table value table next).world
+none_told value File turn next = refl
+none_told value Net turn next = refl
+
 module _ (value : SystemRecord) where
   -- the map of the value's world is the system's
   own_map : (s : System) → SystemStands value s → (table : Table) (turn : TableTurn) → FollowsItems (held_in value.world (Map (map_number table))) turn → FollowsItems (held_by s.world (Map (map_number table))) turn
@@ -131,6 +141,7 @@ module _ (value : SystemRecord) where
           system_is = refl;
         },
         stands_with value s table next g.0.after st g.2,
+        none_told value table g.0 next,
       )
 
   pub reply_leads : (table : Table) (endpoint : EndpointRecord) (id : ℕ) (next : TableRecord) (answer : Result Move TableFault) → HasReplied endpoint id (kept_table value table) next answer
@@ -141,6 +152,7 @@ module _ (value : SystemRecord) where
         no_steps,
         record { none = refl; after = g.0; replies = g.1; steps_are = refl; system_is = refl },
         stands_with value s table next g.0 st g.2,
+        same_world value table next,
       )
 
   pub both_lead : (file_next net_next : TableRecord) (rounds : List (List Move)) (fault : Option TableFault) → ServersFollow value.world value.file file_next value.net net_next rounds fault
@@ -165,6 +177,7 @@ module _ (value : SystemRecord) where
           system_is = refl;
         },
         record { rs = st.rs; numberers = st.numberers; world = st.world; file = g.4; net = h.4; made = st.made },
+        refl,
       )
   both_lead file_next net_next rounds fault (first, Some stop, f, n) s st =
       let g = f s.file st.file in
@@ -184,4 +197,5 @@ module _ (value : SystemRecord) where
           system_is = refl;
         },
         record { rs = st.rs; numberers = st.numberers; world = st.world; file = g.4; net = subst (λ (v : TableRecord). TableStands v s.net) (sym n.2) st.net; made = st.made },
+        refl,
       )

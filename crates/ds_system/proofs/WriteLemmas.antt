@@ -1,5 +1,5 @@
 -- A service's write: the instance that numbers it, the causes against it, and its effect.
-use Rattle.std.proofs.Common.{◌≡◌, ℕ, ◌+◌, ◌||◌, Bool, true, false, not, cond, List, [], ◌∷◌, ◌++◌, Option, Some, None, Result, Ok, Err, IsOk, refl, ap, sym, ◌∙◌, subst}
+use Rattle.std.proofs.Common.{◌≡◌, ℕ, Bool, true, false, not, cond, List, [], ◌∷◌, ◌++◌, Option, Some, None, Result, Ok, Err, IsOk, refl, ap, sym, ◌∙◌, subst}
 use Rattle.std.specs.List.{slice_set}
 use Rattle.std.specs.Option.{option_map}
 use Rattle.ds_names.specs.Endpoint.{EndpointRecord}
@@ -21,6 +21,7 @@ use Rattle.ds_replica.specs.declared.outcome.Outcome.TheVariants as results
 use Rattle.ds_replica.specs.Bringing.{AreParts, IsProper}
 use Rattle.ds_world.specs.World.{WorldRecord}
 use Rattle.ds_world.specs.Run.{EventLeads}
+use Rattle.ds_world.specs.Told.{IsTold, AreTold}
 use Rattle.rs_to_store.specs.Asked.{asking_for}
 use Rattle.system_model.specs.declared.outcome.SystemFault.{SystemFault}
 use Rattle.system_model.specs.declared.outcome.SystemFault.TheVariants as refusals
@@ -127,8 +128,8 @@ module _ (value : SystemRecord) (label : List ℕ) (key : Key) (side : Side) whe
   refused_of content fault h s st = subst (λ (o : Result Instance SystemFault). IsWriteFault o fault) (sym (judged_of content s st)) h
 
   refused_so : (content : Body) (fault : SystemFault) → IsWriteFault (judged value.rs value.numberers label key content) fault → SystemEventLeads (write_event label key content side) (Refused fault) value value
-  refused_so (Put v) fault h s st = (s, no_steps, record { refused = refused_of (Put v) fault h s st; steps_are = refl; system_is = refl }, st)
-  refused_so Gone fault h s st = (s, no_steps, record { refused = refused_of Gone fault h s st; steps_are = refl; system_is = refl }, st)
+  refused_so (Put v) fault h s st = (s, no_steps, record { refused = refused_of (Put v) fault h s st; steps_are = refl; system_is = refl }, st, refl)
+  refused_so Gone fault h s st = (s, no_steps, record { refused = refused_of Gone fault h s st; steps_are = refl; system_is = refl }, st, refl)
 
   pub write_refused : (content : Body) (fault : SystemFault) → judged value.rs value.numberers label key content ≡ Err fault → SystemEventLeads (write_event label key content side) (Refused fault) value value
   write_refused content fault e = refused_so content fault (judged_fault (judged value.rs value.numberers label key content) fault e (never_wanting value.rs value.numberers label key content))
@@ -141,8 +142,8 @@ module _ (value : SystemRecord) (label : List ℕ) (key : Key) (side : Side) whe
     abbrev pub written : SystemRecord
     written = record value { numberers = slice_set value.numberers it.place left; world = next; made = value.made ++ change_of key label number content ∷ [] }
 
-    module _ (is : judged value.rs value.numberers label key content ≡ Ok it) (drawn : Gives (numbers_left value.numberers it) left number) (change : IsChange (change_of key label number content)) (leads : EventLeads (Ask side (asking_for it.running.endpoint key number content)) (results.Replied reply) value.world next) where
-      writes : (s : System) → SystemStands value s → (t : System) × (steps : Steps) × WritesEntry s label key content side reply steps t × SystemStands written t
+    module _ (is : judged value.rs value.numberers label key content ≡ Ok it) (drawn : Gives (numbers_left value.numberers it) left number) (change : IsChange (change_of key label number content)) (leads : EventLeads (Ask side (asking_for it.running.endpoint key number content)) (results.Replied reply) value.world next) (told : IsTold (Ask side (asking_for it.running.endpoint key number content)) (results.Replied reply) value.world next) where
+      writes : (s : System) → SystemStands value s → (t : System) × (steps : Steps) × WritesEntry s label key content side reply steps t × SystemStands written t × AreTold value.world steps.events next
       writes s st =
           let led = leads s.world st.world in
           let event = Ask side (asking_for it.running.endpoint key number content) in (
@@ -165,9 +166,11 @@ module _ (value : SystemRecord) (label : List ℕ) (key : Key) (side : Side) whe
               net = st.net;
               made = ap (λ (l : List ChangeRecord). l ++ change_of key label number content ∷ []) st.made;
             },
+            (next, leads, told, refl),
           )
 
   pub wrote : (content : Body) (it : Instance) (number : Version) (left : NumbererRecord) (reply : Reply) (next : WorldRecord) → judged value.rs value.numberers label key content ≡ Ok it → Gives (numbers_left value.numberers it) left number → IsChange (change_of key label number content)
-      → EventLeads (Ask side (asking_for it.running.endpoint key number content)) (results.Replied reply) value.world next → SystemEventLeads (write_event label key content side) (Replied reply) value (written content it number left reply next)
-  wrote (Put v) it number left reply next is drawn change leads = writes (Put v) it number left reply next is drawn change leads
-  wrote Gone it number left reply next is drawn change leads = writes Gone it number left reply next is drawn change leads
+      → EventLeads (Ask side (asking_for it.running.endpoint key number content)) (results.Replied reply) value.world next → IsTold (Ask side (asking_for it.running.endpoint key number content)) (results.Replied reply) value.world next
+      → SystemEventLeads (write_event label key content side) (Replied reply) value (written content it number left reply next)
+  wrote (Put v) it number left reply next is drawn change leads told = writes (Put v) it number left reply next is drawn change leads told
+  wrote Gone it number left reply next is drawn change leads told = writes Gone it number left reply next is drawn change leads told

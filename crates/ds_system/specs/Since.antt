@@ -2,15 +2,22 @@
 use Rattle.std.specs.Prelude.{◌≡◌, ℕ, true, ◌<◌, ◌≤◌, List, [], ◌∷◌, ◌++◌, length, map}
 use Rattle.rs_settings.specs.Settings.{SettingsRecord}
 use Rattle.driver_tables.specs.Driver.{has_label}
+use Rattle.ds_held.specs.Limits.{larger}
 use Rattle.ds_replica.specs.declared.seed.Seed.{Seed}
+use Rattle.ds_replica.specs.Known.{Account, new_account, extended_all}
 use Rattle.ds_world.specs.declared.fault.WorldFault.{WorldFault}
 use Rattle.ds_world.specs.declared.fault.WorldFault.TheVariants.{TooMany, NoRoom}
+use Rattle.ds_world.specs.World.{WorldRecord}
 use Rattle.ds_world.specs.Run.{most_events}
+use Rattle.ds_world.specs.Account.{TurnsAreRun}
+use Rattle.ds_world.specs.Told.{AreTold, RepliesAreKept, MessagesStay}
+use Rattle.ds_world.specs.Laws.{CameSince, Laws, LawsHold}
 use Rattle.system_model.specs.declared.event.SystemEvent.{SystemEvent}
 use Rattle.system_model.specs.declared.outcome.SystemOutcome.{SystemOutcome}
 use Rattle.system_model.specs.System.{System}
-use Rattle.system_model.specs.Happening.{SystemDoes, SystemEntry, SystemRun}
-use Rattle.system_model.specs.Start.{IsNew, account_since}
+use Rattle.system_model.specs.Steps.{WorldEvents}
+use Rattle.system_model.specs.Happening.{SystemDoes, SystemEntry, SystemRun, all_events}
+use Rattle.system_model.specs.Start.{IsNew, two_maps, account_since}
 use Rattle.system_model.specs.Laws.{SystemLaws}
 use Rattle.system_model.specs.Sending.{sent_over, TurnsAreRight}
 use Rattle.ds_system.specs.Stands.{SystemRecord, SystemStands}
@@ -23,10 +30,20 @@ pub record AreEntriesOf (events : List SystemEvent) (outcomes : List SystemOutco
   pub outcomes_are : map (λ (e : SystemEntry). e.outcome) entries ≡ outcomes
 
 -- The events lead in order, with these outcomes, from each system that the old value stands for to one that the new
--- value stands for.
+-- value stands for, and the world reports all of its own events among them as a world does.
 abbrev pub SystemRunLeads : List SystemEvent → List SystemOutcome → SystemRecord → SystemRecord → Type 0
 SystemRunLeads events outcomes old new =
-    (s : System) → SystemStands old s → (t : System) × (entries : List SystemEntry) × AreEntriesOf events outcomes entries × SystemRun s entries t × SystemStands new t
+    (s : System) → SystemStands old s →
+    (t : System) × (entries : List SystemEntry) × AreEntriesOf events outcomes entries × SystemRun s entries t × SystemStands new t ×
+    AreTold old.world (all_events entries) new.world
+
+-- What a run of a world says of its events, their outcomes and its messages.
+pub record WorldRan (old : WorldRecord) (events : WorldEvents) (new : WorldRecord) : Type 0 where
+  pub told : AreTold old events new
+  pub replies : RepliesAreKept old events new
+  pub messages : MessagesStay old new
+  pub laws : LawsHold old events new
+  pub turns : TurnsAreRun old events new
 
 -- Why a run is refused; NoRoom only if the events aren't too many.
 abbrev pub IsSystemRunFault : WorldFault → List SystemEvent → Type 0
@@ -47,6 +64,15 @@ pub record SystemPast : Type 0 where
   pub now : System
   pub run : SystemRun start entries now
 
+-- The account of a new system's world: two empty stores, and both servers' maps.
+abbrev pub account_begun : Seed → Seed → Account
+account_begun a b = extended_all (new_account a b larger) two_maps
+
+-- The value stands for the system that the past led to, and its world came by the past's events.
+pub record IsPastOf (past : SystemPast) (value : SystemRecord) : Type 0 where
+  pub stands : SystemStands value past.now
+  pub came : CameSince (account_begun past.a past.b) (all_events past.entries) value.world
+
 -- The value stands for a new system of these settings, seeds and first generation.
 pub record IsJustNew (settings : SettingsRecord) (a b : Seed) (next : ℕ) (value : SystemRecord) : Type 0 where
   pub past : SystemPast
@@ -55,7 +81,7 @@ pub record IsJustNew (settings : SettingsRecord) (a b : Seed) (next : ℕ) (valu
   pub b_is : past.b ≡ b
   pub next_is : past.next ≡ next
   pub none : past.entries ≡ []
-  pub stands : SystemStands value past.now
+  pub is : IsPastOf past value
 
 -- The later past is this one, followed by these entries.
 pub record PastGrowsBy (past : SystemPast) (entries : List SystemEntry) (later : SystemPast) : Type 0 where
@@ -83,16 +109,20 @@ pub record HoldsOfPast (past : SystemPast) : Type 0 where
   pub turns : (front back : List SystemEntry) (entry : SystemEntry) → past.entries ≡ front ++ entry ∷ back → IsRightAmong past front entry back
   pub apart : (label : List ℕ) → has_label past.now.file.units label ≡ true → has_label past.now.net.units label ≡ true → ⊥
 
--- Whether these events, with these outcomes, continued the past to that of a system that the value stands for, and
--- the laws hold of the whole past, from the first event on.
-pub record LawfulSince (past : SystemPast) (events : List SystemEvent) (outcomes : List SystemOutcome) (value : SystemRecord) : Type 0 where
+-- Whether these events, with these outcomes, continued the past to that of the new value; the world ran its own events
+-- among them; and the laws of systems and of worlds hold of the whole past, from the first event on. So what snapshots,
+-- journals, pages and checks of any run brought is whole, as the laws of worlds say, and by the laws of systems nothing
+-- else is needed for *catch-up* and *no older generation*.
+pub record LawfulSince (past : SystemPast) (events : List SystemEvent) (outcomes : List SystemOutcome) (old new : SystemRecord) : Type 0 where
   pub entries : List SystemEntry
   pub are : AreEntriesOf events outcomes entries
+  pub ran : WorldRan old.world (all_events entries) new.world
   pub later : SystemPast
   pub goes_on : PastGrowsBy past entries later
-  pub stands : SystemStands value later.now
+  pub is : IsPastOf later new
   pub holds : HoldsOfPast later
+  pub world : Laws (account_begun later.a later.b) (all_events later.entries) new.world
 
 -- Whether `LawfulSince` holds for every past that the old value may have.
 abbrev pub SystemLawsHold : List SystemEvent → List SystemOutcome → SystemRecord → SystemRecord → Type 0
-SystemLawsHold events outcomes old new = (past : SystemPast) → SystemStands old past.now → LawfulSince past events outcomes new
+SystemLawsHold events outcomes old new = (past : SystemPast) → IsPastOf past old → LawfulSince past events outcomes old new

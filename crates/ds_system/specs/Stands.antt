@@ -5,6 +5,7 @@ use Rattle.rs_core.specs.State.{RsRecord}
 use Rattle.rs_core.specs.Numbering.{NumbererRecord}
 use Rattle.driver_tables.specs.Stands.{TableRecord, TableStands}
 use Rattle.ds_world.specs.World.{WorldRecord, WorldStands}
+use Rattle.ds_world.specs.Told.{AreTold}
 use Rattle.system_model.specs.declared.event.Table.{Table}
 use Rattle.system_model.specs.declared.event.Table.TheVariants.{File, Net}
 use Rattle.system_model.specs.declared.event.SystemEvent.{SystemEvent}
@@ -44,6 +45,8 @@ pub record SystemStands (value : SystemRecord) (s : System) : Type 0 where
   pub made : s.made ≡ value.made
 
 -- The event leads with this outcome from each system that the old value stands for to one that the new value stands
--- for.
+-- for, and the world reports each of its own events among the steps as a world does.
 abbrev pub SystemEventLeads : SystemEvent → SystemOutcome → SystemRecord → SystemRecord → Type 0
-SystemEventLeads event outcome old new = (s : System) → SystemStands old s → (t : System) × (steps : Steps) × SystemDoes s event outcome steps t × SystemStands new t
+SystemEventLeads event outcome old new =
+    (s : System) → SystemStands old s →
+    (t : System) × (steps : Steps) × SystemDoes s event outcome steps t × SystemStands new t × AreTold old.world steps.events new.world

@@ -7,6 +7,7 @@ ghost use Rattle.ds_system.specs.Since.{SystemRunLeads, SystemLawsHold, IsSystem
 
 use driver_tables::{FileTable, NetTable};
 use ds_entry::{Body, Change};
+use ds_machine::answers_say;
 use ds_world::{World, WorldFault};
 use rs_core::{Numberer, Rs};
 use std::alloc::Global;
@@ -70,6 +71,9 @@ impl System {
     /// same hold the same, and no delivery is stopped by a clash or by another owner. No Send and no Start of either
     /// server goes to an older generation.
     ///
+    /// The outcomes of the world's own events, the store's replies and the messages are as `World::run` promises, and all
+    /// laws of worlds hold since the system was new: so a snapshot, a journal, pages or checks of any run are whole.
+    ///
     /// Refuses more than 65536 events as TooMany, then NoRoom if the outcomes can't be allocated; nothing happens then.
     /// A run of no events takes no memory.
     pub fn run(&mut self, events: SystemEvents) -> Result<SystemOutcomes, WorldFault>
@@ -81,13 +85,16 @@ impl System {
         ensures room { IfErr result (λ fault. fault ≡ WorldFault.NoRoom → events ≢ []) }
         ensures unchanged { OnErr result (self.new ≡ self.old) }
     {
+        answers_say();
         if events.len() > MOST_EVENTS {
             return Err(WorldFault::TooMany);
         }
         let Ok(outcomes) = Vec::with_capacity(self.alloc, events.len()) else {
             return Err(WorldFault::NoRoom);
         };
-        Ok(self.happen_all(events, outcomes))
+        let outcomes = self.happen_all(events, outcomes);
+        let _map = self.world.map(0);
+        Ok(outcomes)
     }
 
     // Runs the events. The list has room for their outcomes.

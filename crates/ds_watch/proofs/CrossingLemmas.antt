@@ -15,7 +15,7 @@ subscription_send =
 
 pub subscriptions_send : IsSend Subscriptions.the_row
 subscriptions_send =
-    let inside : IsSend in_subscriptions.the_row = declared_send in_subscriptions.the_type (search (subscription_send, sendable, crosses) depth 40, (search sendable depth 40, tt)) in
+    let inside : IsSend in_subscriptions.the_row = declared_send in_subscriptions.the_type (search (subscription_send, sendable, crosses) depth 40, (search sendable depth 40, (search sendable depth 40, tt))) in
     search (inside, sendable) depth 40
 
 subscription_sync : IsSync Subscription.the_row
@@ -25,5 +25,5 @@ subscription_sync =
 
 pub subscriptions_sync : IsSync Subscriptions.the_row
 subscriptions_sync =
-    let inside : IsSync in_subscriptions.the_row = declared_sync in_subscriptions.the_type (search (subscription_sync, sendable, crosses) depth 40, (search sendable depth 40, tt)) in
+    let inside : IsSync in_subscriptions.the_row = declared_sync in_subscriptions.the_type (search (subscription_sync, sendable, crosses) depth 40, (search sendable depth 40, (search sendable depth 40, tt))) in
     search (inside, sendable) depth 40

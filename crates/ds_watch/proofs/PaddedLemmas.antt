@@ -1,5 +1,5 @@
 -- Masks of fewer places.
-use Rattle.std.proofs.Common.{◌≡◌, ℕ, zero, suc, ◌+◌, ◌-◌, ◌*◌, ◌<◌, ◌≤◌, Bool, false, cond, List, [], ◌∷◌, ◌++◌, map, take, length, get_or, replicate, refl, ap, ap₂, sym, ◌∙◌, arith, append-nil}
+use Rattle.std.proofs.Common.{◌≡◌, ℕ, zero, suc, ◌+◌, ◌-◌, ◌*◌, ◌<◌, ◌≤◌, Bool, false, cond, List, [], ◌∷◌, ◌++◌, map, take, length, get_or, replicate, refl, ap, ap₂, sym, ◌∙◌, arith, append-nil, inl, inr, ◌⊎◌}
 use Rattle.std.proofs.lemmas.List.{length-map, length-take-le}
 use Rattle.ds_watch.specs.Mask.{mask, padded, PaddingKeepsNumber}
 
@@ -50,3 +50,14 @@ padded_by_place f d n xs fs l long few here none =
     let count : length (map f (take n xs)) ≡ n = length-map (take n xs) f ∙ length-take-le n xs within in
     let rest : 128 - n ≡ 128 - length (map f (take n xs)) = ap (λ c. 128 - c) (sym count) in
     more_by_place f d n (128 - n) xs fs (omega (arith, l, few)) within here none ∙ ap (λ m. map f (take n xs) ++ replicate m false) rest
+
+pub split : (m k : ℕ) → (k < m) ⊎ (m ≤ k)
+split zero k = inr (omega arith)
+split (suc m) zero = inl (omega arith)
+split (suc m) (suc k) = elim (split m k) [ inl l ↦ inl (omega (arith, l)) | inr l ↦ inr (omega (arith, l)) ]
+
+-- The same when only the first m places were looked at, and the others are empty.
+pub padded_by_used : {X : Type 0} (f : X → Bool) (d : X) (n m : ℕ) (xs : List X) (fs : List Bool) → length fs ≡ 128 → length xs ≡ 128 → n ≤ 128 → m ≤ n
+    → f d ≡ false → ((k : ℕ) → m ≤ k → get_or xs k d ≡ d) → ((k : ℕ) → k < m → get_or fs k false ≡ f (get_or xs k d)) → ((k : ℕ) → m ≤ k → get_or fs k false ≡ false) → fs ≡ padded (map f (take n xs))
+padded_by_used f d n m xs fs l long few low off empty here none =
+    padded_by_place f d n xs fs l long few (λ k w. elim (split m k) [ inl u ↦ here k u | inr u ↦ none k u ∙ sym (ap f (empty k u) ∙ off) ]) (λ k w. none k (omega (arith, w, low)))

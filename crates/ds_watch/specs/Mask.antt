@@ -1,4 +1,4 @@
--- Masks of subscriptions, in which the bit of a subscription is its number.
+-- Masks of subscriptions, in which bit k is subscription k.
 use Rattle.std.specs.Prelude.{◌≡◌, ℕ, ◌+◌, ◌-◌, ◌*◌, ◌==◌, Bool, false, ◌||◌, cond, List, [], ◌∷◌, ◌++◌, length, replicate, map}
 use Rattle.std.specs.Int.{bit_at}
 use Rattle.std.specs.List.{range_with_len}
@@ -25,6 +25,6 @@ either _ _ = []
 abbrev pub padded : List Bool → List Bool
 padded some = some ++ replicate (128 - length some) false
 
--- A law: padding keeps the number.
+-- A law: padding doesn't change the number.
 abbrev pub PaddingKeepsNumber : Type 0
 PaddingKeepsNumber = (some : List Bool) → mask (padded some) ≡ mask some

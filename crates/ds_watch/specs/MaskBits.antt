@@ -1,4 +1,4 @@
--- A mask's flags determine its number.
+-- The number of a mask's flags.
 use Rattle.std.specs.Prelude.{◌≡◌, ℕ, ◌+◌, ◌*◌, ◌/◌, ◌%◌, ◌^◌, ◌<◌, ◌==◌, Bool, true, false, cond, List, [], ◌∷◌, length, refl}
 use Rattle.std.proofs.Common.{suc, zero, get_or, ap, ◌∙◌, arith}
 use Rattle.std.proofs.Math.Nat.{pow-suc}
@@ -49,7 +49,7 @@ as_bit (suc (suc n)) l = absurd (omega arith)
 small_at : (m k : ℕ) → m < 2 ^ k → k ≡ 128 → m < 2 ^ 128
 small_at m k h e = let at : 2 ^ k ≡ 2 ^ 128 = ap (λ n. 2 ^ n) e in omega (arith, h, at)
 
--- The mask of a number's flags is the number.
+-- The mask of the flags of a number is that number.
 pub mask_flags : (n : ℕ) → n < 2 ^ 128 → mask (flags n) ≡ n
 mask_flags n small =
     same_from_bits_below 128 (mask (flags n)) n (small_at (mask (flags n)) (length (flags n)) (mask_small (flags n)) (flags_long n)) small

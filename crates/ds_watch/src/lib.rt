@@ -1,8 +1,8 @@
-//! Subscriptions: the query of each, and the masks that say what it is owed and what it is still to be shown.
+//! Subscriptions: the query of each, and the masks of what each is owed and hasn't been shown.
 //!
 //! A subscriber of MINIX 3's data store (DS) registers a regular expression over names. It is notified when a
 //! matching entry changes, and then checks which one (the DS interface of MINIX 3; Herder and others, DSN 2007). The
-//! limit of 128 subscriptions, and the stamps that number checks, are of this project.
+//! limit of 128 subscriptions, and the stamps that number checks, are this project's.
 #![tactic(auto)]
 
 mod laws;

@@ -5,7 +5,7 @@ ghost use Rattle.ds_watch.specs.Mask.{mask, either};
 
 use std::marker::Model;
 
-/// A set of subscriptions, each by the bit of its number.
+/// A set of subscriptions. Bit k is subscription k.
 #[derive(Clone, Copy)]
 pub struct Mask {
     bits: u128,
@@ -35,7 +35,7 @@ impl Mask {
         Mask { bits: 0 }
     }
 
-    /// Whether the subscription with this number is in the set.
+    /// Returns whether the subscription with this number is in the set.
     pub(crate) fn has(self, sub: usize) -> bool
         requires { sub < 128 }
         ensures { result ≡ slice_index_or self sub false }
@@ -43,7 +43,7 @@ impl Mask {
         self.bits & (1 << sub) != 0
     }
 
-    /// Returns the set with or without the subscription with this number.
+    /// Returns the set with the subscription of this number if `is_in`, else without it.
     pub fn put(self, sub: usize, is_in: bool) -> Mask
         requires { sub < 128 }
         ensures value { result ≡ slice_set self sub is_in }
@@ -56,7 +56,7 @@ impl Mask {
         }
     }
 
-    // Returns the set with the subscription with this number.
+    // Returns the set with the subscription of this number.
     fn with(self, sub: usize) -> Mask
         requires { sub < 128 }
         ensures value { result ≡ slice_set self sub true }
@@ -67,7 +67,7 @@ impl Mask {
         }
     }
 
-    // Returns the set without the subscription with this number.
+    // Returns the set without the subscription of this number.
     fn without(self, sub: usize) -> Mask
         requires { sub < 128 }
         ensures value { result ≡ slice_set self sub false }
@@ -85,7 +85,7 @@ impl Mask {
         self.bits |= other.bits;
     }
 
-    /// Returns the mask as a number, in which the bit of a subscription is its number.
+    /// Returns the mask as a number, in which bit k is subscription k.
     pub fn number(self) -> u128
         ensures { result ≡ mask self }
     {

@@ -1,12 +1,12 @@
-//! The masks beside a held change or floor.
+//! The masks of a held change or floor.
 
 ghost use Rattle.std.specs.Prelude.{◌≡◌, ◌<◌, ◌&&◌, false, slice_index_or};
 ghost use Rattle.ds_watch.specs.Masks.{fresh, shown_to, made_at};
 
 use crate::mask::Mask;
 
-/// The subscriptions that are owed a held change or floor, and those that haven't been shown it. A change is owed to
-/// those under whose query its key is, a floor to all.
+/// The subscriptions that are owed a held change or floor, and those of them that haven't been shown it. A subscription
+/// is owed each floor, and each change whose key is under its query.
 #[derive(Clone, Copy)]
 pub struct Masks {
     under: Mask,
@@ -14,7 +14,7 @@ pub struct Masks {
 }
 
 impl Masks {
-    /// Returns the masks of what just took effect: no subscription that it is owed to has been shown it.
+    /// Returns the masks of an item that just took effect, from the subscriptions that are owed it. None has been shown it.
     pub fn fresh(under: Mask) -> Masks
         ensures { result ≡ fresh under }
     {
@@ -24,14 +24,14 @@ impl Masks {
         }
     }
 
-    /// Returns the subscriptions to which it is owed.
+    /// Returns the subscriptions that are owed the item.
     pub fn under(self) -> Mask
         ensures { result ≡ self.under }
     {
         self.under
     }
 
-    /// Whether the subscription with this number is still to be shown it.
+    /// Returns whether the subscription of this number hasn't been shown the item.
     pub fn is_unseen(self, sub: usize) -> bool
         requires { sub < 128 }
         ensures { result ≡ slice_index_or self.unseen sub false }
@@ -39,7 +39,7 @@ impl Masks {
         self.unseen.has(sub)
     }
 
-    /// Returns the masks after it was shown to the subscription with this number.
+    /// Returns the masks after the subscription of this number was shown the item.
     pub fn shown_to(self, sub: usize) -> Masks
         requires { sub < 128 }
         ensures { result ≡ shown_to sub self }
@@ -50,8 +50,8 @@ impl Masks {
         }
     }
 
-    /// Returns the masks after a Subscribe with this number, for a key that is under the query or isn't. The
-    /// subscription is to be shown it only with `initial`.
+    /// Returns the masks after a Subscribe of this number, whose query the item is under if `is_under`. With `initial`, the
+    /// subscription hasn't been shown an item under its query; without, it counts as shown.
     pub fn made_at(self, sub: usize, is_under: bool, initial: bool) -> Masks
         requires { sub < 128 }
         ensures made { result ≡ made_at sub is_under initial self }

@@ -9,7 +9,7 @@ use ds_pattern::Filter;
 use std::alloc::Global;
 use std::marker::Model;
 
-/// A compiled query and its stamp. What the subscription is still to be shown is marked beside what is held.
+/// A compiled query and a stamp. What the subscription hasn't been shown is in the masks of the held items.
 #[derive(Drop)]
 pub struct Subscription {
     filter: Filter,
@@ -25,21 +25,21 @@ impl Model for Subscription {
 }
 
 impl Subscription {
-    /// Returns a subscription to a query, with this stamp. It allocates nothing.
+    /// Returns a subscription to a query, with this stamp. Takes no memory.
     pub fn new(filter: Filter, stamp: u64) -> Subscription
         ensures { result ≡ watching filter stamp }
     {
         Subscription { filter, stamp }
     }
 
-    /// Whether it is owed changes of the key.
+    /// Returns whether the subscription is owed changes of the key. Fails only if memory runs out.
     pub fn admits(&self, alloc: Global, key: &Key) -> Result<bool, NoRoom>
         ensures { IfOk result (λ yes. yes ≡ is_under self.now.query key.now) }
     {
         self.filter.admits(alloc, key)
     }
 
-    /// Returns the stamp of its last Subscribe or Check.
+    /// Returns the stamp of the last Subscribe or Check.
     pub fn stamp(&self) -> u64
         ensures { result ≡ self.now.stamp }
     {

@@ -1,4 +1,4 @@
--- Calls of a pass, one after the other.
+-- Calls of a pass, in order.
 use Rattle.std.proofs.Common.{◌≡◌, ◌<◌, Bool, true, false, Option, List, [], ◌∷◌, ◌++◌, length, refl, ap, sym, inl, inr, ◌∙◌, arith, length-append}
 use Rattle.history.specs.declared.entry.Entry.{Entry}
 use Rattle.ds_machine.specs.declared.command.Command.{Command}
@@ -37,7 +37,7 @@ some_made p q f g (UpTo place) ends =
     (ends.own ++ ends.last ∷ [], ends.made, omega (arith, length-append ends.own (ends.last ∷ [])))
 some_made p q f g More ends = (ends.own, ends.made, omega (arith, ends.all))
 
--- behind a look that called nothing
+-- after a look that called nothing
 pub refreshed : (p q r : PassRecord) (f g : FollowerRecord) (fresh : Fresh) → Made p q [] → CallsOnly q r f 8 → Refreshes q r f g 8 fresh → HasRefreshed p r f
 refreshed p q r f g fresh looked only ends = let some = some_made q r f g fresh ends in record {
   own = only.own;

@@ -21,12 +21,12 @@ lettered letter index = letter ∷ (48 + index) ∷ []
 abbrev pub version_of : ℕ → ℕ → Version
 version_of epoch seq = record { epoch = epoch; seq = seq }
 
--- RS publishes its label, `p0` and so on, over any earlier one.
+-- The command by which RS publishes the publisher's label, `p0` to `p7`, over any earlier one.
 abbrev pub publisher_label : ℕ → Command
 publisher_label index =
     Publish (endpoint_of 0 2) (label_key (lettered 112 index)) (version_of (index + 1) 0) (values.Label (publisher index)) true
 
--- The publisher overwrites its number, `n0` and so on, with the number of its turn.
+-- The key of the publisher's number, `n0` to `n7`.
 abbrev pub number_key : ℕ → Key
 number_key index = record { name = lettered 110 index; kind = kinds.U32 }
 

@@ -13,7 +13,7 @@ use Rattle.ds_workers.specs.declared.task.Task.TheVariants.{Exchange, Follow, Pu
 use Rattle.ds_workers.specs.declared.worker.Worker.{Worker}
 use Rattle.ds_workers.specs.Turns.{HasCalled, IsBroughtUp, IsHandedOver}
 
--- A pass of a desk of a store.
+-- The type of a pass at a store's desk.
 abbrev pub StorePass : (Z : Type 0) → Ghosts (View (Boxed Z) Command Reply) → Type 0
 StorePass Z G = Pass (Boxed Z) Command Reply G
 
@@ -23,25 +23,26 @@ others_in (Exchange other cursor) = 1
 others_in _ = 0
 
 module _ {Z : Type 0} {G : Ghosts (View (Boxed Z) Command Reply)} where
-  -- One of eight publishers; a follower that keeps up with the pass; a pass of the second desk.
+  -- Whether the task fits the worker: a publisher is one of eight, a follower keeps up with the pass, and an exchange has a pass of the
+  -- second desk.
   abbrev pub IsTask : TableId → ℕ → StorePass Z G → Task (StorePass Z G) → Type 0
   IsTask second index pass Publish = index < 8
   IsTask second index pass (Follow follower) = KeepsUpWith (pass_record pass) follower
   IsTask second index pass (Exchange other cursor) = desk_of other ≡ second
 
-  -- Its pass is of the first desk, and its task's pass is of the second.
+  -- Whether the worker's pass is of the first desk, and its task's pass is of the second.
   pub record IsOf (first second : TableId) (w : Worker (StorePass Z G)) : Type 0 where
     pub pass : desk_of w.pass ≡ first
     pub task : IsTask second w.index w.pass w.task
 
-  -- w is the worker v later, after calls of its own: with its number and its passes, each still of its desk.
+  -- Whether w is the worker v after calls of its own. Its number and its passes are the same, each still of its desk.
   pub record ComesBack (v w : Worker (StorePass Z G)) : Type 0 where
     pub same_index : w.index ≡ v.index
     pub same_others : others_in w.task ≡ others_in v.task
     pub called : HasCalled (pass_record v.pass) (pass_record w.pass)
     pub still : (first second : TableId) → IsOf first second v → IsOf first second w
 
-  -- Its map is up to date, or there is no more to exchange.
+  -- Whether the task is done: a follower's map is up to date, or there is no more to exchange.
   abbrev pub IsTaskDone : StorePass Z G → Task (StorePass Z G) → Type 0
   IsTaskDone pass Publish = Unit {0}
   IsTaskDone pass (Follow follower) = IsBroughtUp (pass_record pass) follower

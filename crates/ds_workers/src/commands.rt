@@ -33,7 +33,7 @@ fn first_version(endpoint: Endpoint) -> Version
     }
 }
 
-/// Returns the command by which RS publishes the label of publisher `index`, 0 to 7: `p0` to `p7`.
+/// Returns the command by which RS publishes the label of publisher `index`, 0 to 7. The labels are `p0` to `p7`.
 pub(crate) fn label(index: u32) -> Command
     requires { index < 8 }
     ensures { result ≡ publisher_label index }
@@ -54,7 +54,7 @@ pub(crate) fn label(index: u32) -> Command
     }
 }
 
-/// Returns the command by which publisher `index`, 0 to 7, overwrites its number: `n0` to `n7`.
+/// Returns the command by which publisher `index`, 0 to 7, overwrites its number. The numbers' names are `n0` to `n7`.
 pub(crate) fn change(index: u32, turn: u32) -> Command
     requires { index < 8 }
     ensures { result ≡ publisher_number index turn }

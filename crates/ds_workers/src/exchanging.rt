@@ -14,8 +14,8 @@ use ds_pass::{CallFault, Seat};
 use ds_store::Store;
 use std::sync::Wait;
 
-/// Makes one exchange, from the cursor on. If the journal doesn't reach back to it, the next exchange has no cursor. Returns whether
-/// there may be more.
+/// Makes one exchange, from the cursor on. Returns whether there may be more. If the journal doesn't reach back to the cursor, the next
+/// exchange has none.
 pub(crate) fn exchange<W: Wait>(
     rt: &W,
     first: &Desk<Box<Store>>,
@@ -39,7 +39,7 @@ pub(crate) fn exchange<W: Wait>(
     told
 }
 
-// The same at two seats.
+// Like `exchange`, at two seats.
 fn exchange_at<W: Wait>(
     first: &mut Seat<'_, W>,
     second: &mut Seat<'_, W>,
@@ -61,7 +61,7 @@ fn exchange_at<W: Wait>(
     }
 }
 
-/// Exchanges until there is no more.
+/// Makes exchanges until there is no more.
 pub(crate) fn hand_over<W: Wait>(
     rt: &W,
     first: &Desk<Box<Store>>,
@@ -85,7 +85,7 @@ pub(crate) fn hand_over<W: Wait>(
     told
 }
 
-// The same at two seats.
+// Like `hand_over`, at two seats.
 fn hand_over_at<W: Wait>(
     first: &mut Seat<'_, W>,
     second: &mut Seat<'_, W>,

@@ -1,4 +1,4 @@
-//! Refreshes a subscriber's follower.
+//! The turns of subscribers.
 
 ghost use Rattle.std.specs.Prelude.{◌≡◌, None, OnOk};
 ghost use Rattle.desk.specs.Desk.{identity};
@@ -16,8 +16,8 @@ use ds_store::Store;
 use std::alloc::Global;
 use std::sync::Wait;
 
-/// Takes a subscriber's turn: takes its server's notices, and refreshes its follower by at most 8 calls. After turn 1 the follower is
-/// lost.
+/// Takes a subscriber's turn: takes its server's notices, and refreshes its follower by at most 8 calls. Makes the follower lost after
+/// turn 1.
 pub(crate) fn follow<W: Wait>(
     rt: &W,
     alloc: Global,
@@ -41,7 +41,7 @@ pub(crate) fn follow<W: Wait>(
     told
 }
 
-// The same turn, at a seat.
+// Like `follow`, at a seat.
 fn follow_at<W: Wait>(
     seat: &mut Seat<'_, W>,
     alloc: Global,
@@ -85,7 +85,7 @@ pub(crate) fn bring_up<W: Wait>(
     told
 }
 
-// The same at a seat.
+// Like `bring_up`, at a seat.
 fn bring_up_at<W: Wait>(
     seat: &mut Seat<'_, W>,
     alloc: Global,

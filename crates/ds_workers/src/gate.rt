@@ -1,8 +1,8 @@
-//! Gates at which workers arrive before each of their turns.
+//! Gates, at which workers arrive before each of their turns.
 
 /// A gate that may hold a worker, or turn it away. Threads share it.
 pub trait Gate {
-    /// Worker `worker` arrives before its turn `turn`, counted from 0, or after its last one. False ends the worker.
+    /// Lets worker `worker` through before its turn `turn`, from 0, or after its last one. Returns false to end the worker.
     fn arrive(&self, worker: u32, turn: u32) -> bool;
 }
 

@@ -11,16 +11,16 @@ use ds_store::Store;
 use std::alloc::Global;
 use std::sync::Wait;
 
-/// Two desks that all workers share. The type of a desk is a parameter, so that the compiler derives that these are `Sync`.
+/// The two desks that all workers share. The type of a desk is a parameter, so that the compiler finds `Desks` to be `Sync`.
 #[derive(Drop)]
 pub struct Desks<D> {
     /// The desk of the store that publishers change and subscribers follow.
     pub first: D,
-    /// The desk of the store that gets what the first has.
+    /// The desk of the store that gets what the first one holds.
     pub second: D,
 }
 
-/// A worker, with all that its turns need. Each type is a parameter, so that the compiler derives that these are `Send`.
+/// A worker with all that its turns need. Each type is a parameter, so that the compiler finds `Turns` to be `Send`.
 #[derive(Drop)]
 pub struct Turns<'e, R, G, D, W> {
     /// The handle by which a worker waits.
@@ -29,7 +29,7 @@ pub struct Turns<'e, R, G, D, W> {
     pub alloc: Global,
     /// The gate before each turn.
     pub gate: &'e G,
-    /// Whether the run was given up.
+    /// The flag that says whether the run was given up.
     pub given_up: &'e GivenUp,
     /// The desks.
     pub desks: &'e D,

@@ -1,7 +1,7 @@
 //! The threads of a run at two desks of stores: publishers, subscribers, and one that exchanges.
 //!
-//! MINIX 3's drivers, the servers that follow them by its data store (DS), and a second replica, each in a thread of its own. Their
-//! turns, and the gate before each turn, are of this project.
+//! They play MINIX 3's drivers, the servers that follow drivers by the data store (DS), and a second replica. Their turns, and the gate
+//! before each turn, are this project's.
 #![tactic(auto)]
 
 mod commands;

@@ -1,4 +1,4 @@
-//! Publishes labels and numbers.
+//! The turns of publishers.
 
 ghost use Rattle.std.specs.Prelude.{◌≡◌, ◌<◌, IfErr, OnOk};
 ghost use Rattle.desk.specs.Desk.{identity};
@@ -17,7 +17,7 @@ use ds_pass::{CallFault, Seat};
 use ds_store::Store;
 use std::sync::Wait;
 
-/// RS publishes the label of publisher `index`, 0 to 7.
+/// Publishes the label of publisher `index`, 0 to 7, as RS.
 pub fn publish_label<W: Wait>(
     rt: &W,
     desk: &Desk<Box<Store>>,
@@ -58,7 +58,7 @@ pub(crate) fn publish<W: Wait>(
     told
 }
 
-// Sends one command, and fails if the store refuses it.
+// Sends one command. Fails if the store refuses it.
 fn ask_for_change<W: Wait>(seat: &mut Seat<'_, W>, command: Command) -> Result<(), CallFault>
     ensures called { SeatHasCalled seat.old seat.new }
     ensures accepted { OnOk result (WasAccepted seat.old.pass seat.new.pass command) }
@@ -68,7 +68,7 @@ fn ask_for_change<W: Wait>(seat: &mut Seat<'_, W>, command: Command) -> Result<(
     accepted(&answer.reply)
 }
 
-// Returns whether a change was accepted, by its reply.
+// Fails with the store's refusal, if the reply is one.
 fn accepted(reply: &Reply) -> Result<(), CallFault>
     ensures accepted { OnOk result (IsAccepted reply.now) }
     ensures refused { IfErr result (λ fault. (refusal : Refusal) × (reply.now ≡ Reply.Refused refusal) × TellsRefusal refusal fault) }

@@ -1,4 +1,4 @@
-//! A worker and its turns.
+//! Workers and their turns.
 
 ghost use Rattle.std.specs.Prelude.{◌≡◌, OnOk};
 ghost use Rattle.desk.specs.Desk.{identity};
@@ -16,18 +16,18 @@ use ds_store::Store;
 use std::alloc::Global;
 use std::sync::Wait;
 
-/// A worker with its pass of the first desk. The type of the pass is a parameter, so that the compiler derives that a worker is `Send`.
+/// A worker with its pass of the first desk. The type of the pass is a parameter, so that the compiler finds a worker to be `Send`.
 #[derive(Drop)]
 pub struct Worker<P> {
-    /// Its number: publishers come first, then subscribers, then the worker that exchanges.
+    /// The worker's number. Publishers come first, then subscribers, then the worker that exchanges.
     pub index: u32,
-    /// How many turns it takes.
+    /// The number of the worker's turns.
     pub turns: u32,
-    /// Its pass of the first desk.
+    /// The worker's pass of the first desk.
     pub pass: P,
-    /// Its task.
+    /// The worker's task.
     pub task: Task<P>,
-    /// Why it ended early.
+    /// Why the worker ended early, if it did.
     pub fault: Option<WorkerFault>,
 }
 
@@ -35,8 +35,8 @@ pub struct Worker<P> {
 pub type StoreWorker = Worker<Pass<Box<Store>>>;
 
 impl Worker<Pass<Box<Store>>> {
-    /// Takes all its turns, with the gate before each and after the last. Ends early at a fault, which it keeps, or if the run was
-    /// given up.
+    /// Takes all of the worker's turns, and arrives at the gate before each one and after the last. Ends early at a fault, which it keeps,
+    /// or once the run is given up.
     pub(crate) fn work<W: Wait, G: Gate>(
         &mut self,
         rt: &W,
@@ -54,7 +54,7 @@ impl Worker<Pass<Box<Store>>> {
         }
     }
 
-    // Takes all its turns.
+    // Takes all of the worker's turns.
     fn take_turns<W: Wait, G: Gate>(
         &mut self,
         rt: &W,
@@ -105,7 +105,7 @@ impl Worker<Pass<Box<Store>>> {
         }
     }
 
-    /// After the turns of all workers: brings a subscriber's map up to date, or exchanges what is left.
+    /// Brings a subscriber's map up to date, or exchanges what is left. Is for the time after the turns of all workers.
     pub fn finish<W: Wait>(
         &mut self,
         rt: &W,
@@ -131,7 +131,7 @@ impl Worker<Pass<Box<Store>>> {
     }
 }
 
-// Arrives at the gate, before a turn or after the last.
+// Arrives at the gate before a turn, or after the last one. Fails if the gate turns the worker away.
 fn pass_gate<G: Gate>(gate: &G, worker: u32, turn: u32) -> Result<(), WorkerFault> {
     if gate.arrive(worker, turn) {
         Ok(())

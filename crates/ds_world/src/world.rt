@@ -1,6 +1,6 @@
 //! Worlds.
 
-ghost use Rattle.std.specs.Prelude.{◌≡◌, ◌≢◌, ◌≤◌, [], ◌∷◌, length, slice_get, vec_capacity, IfOk, IfErr, IfSome, OnOk, OnErr};
+ghost use Rattle.std.specs.Prelude.{◌≡◌, ◌≢◌, ◌≤◌, [], ◌∷◌, length, slice_get, vec_capacity, All, IfOk, IfErr, IfSome, OnOk, OnErr};
 ghost use Rattle.std.specs.Option.{option_copied};
 ghost use Rattle.ds_held.specs.Limits.{larger};
 ghost use Rattle.ds_submap.specs.Map.{IsMap};
@@ -181,10 +181,11 @@ impl World {
         }
     }
 
-    /// Returns the map with this number, or `None` if there is no such map.
+    /// Returns the map with this number, or `None` if there is no such map. Every map of the world is a sound one.
     pub fn map(&self, number: usize) -> Option<&SubMap>
         ensures is { option_copied result ≡ slice_get self.now.maps number }
         ensures map { IfSome result (λ map. IsMap map.now) }
+        ensures maps { All IsMap self.now.maps }
     {
         self.maps.get(number)
     }

@@ -1,20 +1,86 @@
 //! Threads that publish, follow and exchange.
 
-use ds_live::{LiveFault, LiveReport, OpenGate, Sizes, live_run};
-use dsctl_cli::Failure;
+use crate::watch::Watch;
+use ds_live::{LiveFault, LiveReport, Sizes, live_run};
+use dsctl_cli::{Crew, Failure, Terminals};
 use std::process::ExitCode;
 use std::rt::Runtime;
 use std::sync::Wait;
 use std::thread::Threads;
+use std::time::Duration;
 
-/// Runs the publishers and subscribers, and prints a report.
+/// For how many milliseconds nothing is shown, and how many are between two showings.
+const STEP: u64 = 1000;
+
+/// Runs the publishers and subscribers, once or for some seconds, and prints a report. Shows turns at a terminal.
 pub(crate) fn run<R: Runtime + AllocGlobal + Threads + Wait + Sync>(
     rt: &R,
-    sizes: Sizes,
+    terminals: Terminals,
+    crew: Crew,
 ) -> Result<ExitCode, Failure> {
-    match live_run(rt, rt.alloc(), &OpenGate, sizes) {
+    match run_again(rt, terminals, crew) {
         Ok(report) => tell(rt, &report),
         Err(fault) => Err(failure_of(fault)),
+    }
+}
+
+// Repeats runs until the time is over, and returns the report on all.
+fn run_again<R: Runtime + AllocGlobal + Threads + Wait + Sync>(
+    rt: &R,
+    terminals: Terminals,
+    crew: Crew,
+) -> Result<LiveReport, LiveFault> {
+    let gate = Watch::new(crew.seed);
+    let begun = now(rt);
+    let most = (crew.seconds.unwrap_or(0) as u64).saturating_mul(1000);
+    let mut shown = 0;
+    let mut report = live_run(rt, rt.alloc(), &gate, sizes_of(crew))?;
+    for _again in 0..u64::MAX {
+        let passed = now(rt).saturating_sub(begun);
+        if passed >= most {
+            break;
+        }
+        if terminals.error && passed.saturating_sub(shown) >= STEP {
+            show(rt, gate.turns(), passed);
+            shown = passed;
+        }
+        report = joined(&report, live_run(rt, rt.alloc(), &gate, sizes_of(crew))?);
+    }
+    if shown > 0 {
+        let _ = rt.eprintln("");
+    }
+    Ok(report)
+}
+
+// The time now in milliseconds, or 0 if there is no clock.
+fn now(rt: &impl Runtime) -> u64 {
+    let time = rt.monotonic().unwrap_or(Duration::ZERO);
+    time.as_secs()
+        .saturating_mul(1000)
+        .saturating_add(time.subsec_millis() as u64)
+}
+
+// Shows the turns at a terminal, in place of those that were shown before.
+fn show(rt: &impl Runtime, turns: u64, passed: u64) {
+    let seconds = passed / 1000;
+    let _ = eprint!(rt; "\rdsctl: {turns} turns in {seconds} s");
+}
+
+fn sizes_of(crew: Crew) -> Sizes {
+    Sizes {
+        publishers: crew.publishers,
+        subscribers: crew.subscribers,
+        changes: crew.changes,
+    }
+}
+
+// Returns the report on two runs: what is true after both.
+fn joined(one: &LiveReport, other: LiveReport) -> LiveReport {
+    LiveReport {
+        entries: other.entries,
+        maps: one.maps && other.maps,
+        replicas: one.replicas && other.replicas,
+        account: one.account && other.account,
     }
 }
 

@@ -1,25 +1,23 @@
-//! `dsctl`: the data store at the command line, from standard input to standard output.
+//! `dsctl`: the data store at the command line, from standard input or a file to standard output.
 //!
 //! The program is thin: `dsctl_cli` parses the command line and has the prompt; `ds_script`, `rs_settings`,
 //! `trace_check`, `trace_record` and `ds_live` do the work; `ds_explain` explains bad lines. This crate prints
 //! settings, verdicts and reports and chooses the exit status. 0: done. 1: refused input. 2: usage. 3: memory, reading,
-//! writing or a run of threads failed, and standard error says which.
+//! writing or a run of threads failed, and standard error says which. 141: the reader of the answers went away.
 #![tactic(auto)]
 
-mod answers;
 mod front;
 mod live;
 mod recording;
+mod replaying;
 mod settings;
+mod stepped;
+mod tail;
 mod traces;
+mod watch;
 
-use answers::Answers;
-use ds_explain::{Audience, explain};
-use ds_live::Sizes;
-use ds_script::{BadLine, BadLines, ReplayFault, Replayed, Report, replay_reporting};
-use dsctl_cli::{Failure, Greeting, Terminals, Typed, Words, greet};
-use line_io::Plain;
-use std::io::{self, IsTerminal};
+use dsctl_cli::{Asked, Failure, Input, Terminals, Words};
+use std::io::IsTerminal;
 use std::process::ExitCode;
 use std::rt::Runtime;
 use std::sync::Wait;
@@ -33,8 +31,8 @@ fn main(rt: HostRuntime) -> ExitCode {
     match run(&rt, terminals) {
         Ok(status) => status,
         Err(failure) => {
-            failure.tell(&rt, terminals.error);
-            ExitCode::from(3)
+            failure.tell(&rt);
+            failure.status()
         }
     }
 }
@@ -44,127 +42,34 @@ fn run<R: Runtime + AllocGlobal + Threads + Wait + Sync>(
     rt: &R,
     terminals: Terminals,
 ) -> Result<ExitCode, Failure> {
-    match dsctl_cli::read(rt) {
-        Words::Replay { go_on } => replay_input(rt, terminals, bad_lines(go_on, terminals)),
-        Words::Settings => settings::show_input(rt, terminals),
-        Words::Verify => traces::judge_input(rt, terminals),
-        Words::Upgrade => traces::upgrade_input(rt, terminals),
-        Words::Record(form) => recording::record_input(rt, terminals, form),
-        Words::Live {
-            publishers,
-            subscribers,
-            changes,
-        } => live::run(
-            rt,
-            Sizes {
-                publishers,
-                subscribers,
-                changes,
-            },
-        ),
+    let Asked { words, file } = dsctl_cli::read(rt);
+    match words {
+        Words::Live(crew) => live::run(rt, terminals, crew),
         Words::Shown => Ok(ExitCode::SUCCESS),
         Words::Usage => Ok(ExitCode::from(2)),
         Words::NoRoom => Err(Failure::NoRoom),
-        Words::WriteFault => Err(Failure::WriteFault(None)),
+        Words::WriteFault(error) => Err(Failure::WriteFault(Some(error))),
+        reading => read_input(rt, terminals, reading, file.as_ref().map(|it| it.as_str())),
     }
 }
 
-// Returns what happens at bad lines: what the command line says, else a script ends there and a terminal continues.
-fn bad_lines(go_on: Option<bool>, terminals: Terminals) -> BadLines {
-    if go_on.unwrap_or(terminals.are_both()) {
-        BadLines::GoOn
-    } else {
-        BadLines::End
-    }
-}
-
-// Returns who reads the explanations of bad lines.
-fn audience(terminals: Terminals) -> Audience {
-    if terminals.are_both() {
-        Audience::Prompt
-    } else if terminals.error {
-        Audience::Terminal
-    } else {
-        Audience::File
-    }
-}
-
-// Returns the greeting for a script.
-fn greeting(bad_lines: BadLines) -> Greeting {
-    match bad_lines {
-        BadLines::End => Greeting::ScriptToStop,
-        BadLines::GoOn => Greeting::Script,
-    }
-}
-
-// Explains each bad line, and prints `badline` with its number and place if it ends the script.
-#[derive(Drop)]
-struct Explainer<'a, R> {
-    rt: &'a R,
-    audience: Audience,
-    bad_lines: BadLines,
-    unwritten: Option<io::Error>,
-}
-
-impl<R: Runtime + AllocGlobal> Report for Explainer<'_, R> {
-    fn bad_line(&mut self, line: &BadLine<'_>) {
-        if self.bad_lines == BadLines::End {
-            let number = line.number;
-            let place = line.place;
-            if let Err(error) = println!(self.rt; "badline {number} {place}") {
-                self.unwritten = Some(error);
-                return;
-            }
-        }
-        explain(self.rt, self.audience, line);
-    }
-}
-
-// Answers the script on standard input.
-fn replay_input(
-    rt: &(impl Runtime + AllocGlobal),
+// Opens the input that the command line names, and does what is asked for with it.
+fn read_input<R: Runtime + AllocGlobal>(
+    rt: &R,
     terminals: Terminals,
-    bad_lines: BadLines,
+    words: Words,
+    file: Option<&str>,
 ) -> Result<ExitCode, Failure> {
-    greet(rt, terminals, greeting(bad_lines));
-    let mut reader = Plain(Typed::prompted(rt, terminals));
-    let mut writer = Plain(Answers::new(io::writer(rt)));
-    let mut explainer = Explainer {
-        rt,
-        audience: audience(terminals),
-        bad_lines,
-        unwritten: None,
+    let Ok(input) = Input::open(rt, file) else {
+        return Err(Failure::Unopened);
     };
-    let replayed = replay_reporting(
-        rt.alloc(),
-        &mut reader,
-        &mut writer,
-        &mut explainer,
-        bad_lines,
-    );
-    outcome(
-        replayed,
-        explainer.unwritten,
-        reader.0.fault,
-        writer.0.fault,
-    )
-}
-
-// Returns the exit status of a replay, or why printing a bad line's place, reading or answering failed.
-fn outcome(
-    replayed: Result<Replayed, ReplayFault>,
-    unwritten: Option<io::Error>,
-    unread: Option<io::Error>,
-    unanswered: Option<io::Error>,
-) -> Result<ExitCode, Failure> {
-    match replayed {
-        Ok(Replayed { bad: 0, .. }) => Ok(ExitCode::SUCCESS),
-        Err(ReplayFault::BadLine { .. }) if unwritten.is_some() => {
-            Err(Failure::WriteFault(unwritten))
-        }
-        Ok(_) | Err(ReplayFault::BadLine { .. }) => Ok(ExitCode::from(1)),
-        Err(ReplayFault::ReadFault) => Err(Failure::ReadFault(unread)),
-        Err(ReplayFault::WriteFault) => Err(Failure::WriteFault(unanswered)),
-        Err(ReplayFault::NoRoom) => Err(Failure::NoRoom),
+    let terminals = terminals.at(&input);
+    match words {
+        Words::Settings => settings::show_input(rt, terminals, input),
+        Words::Verify => traces::judge_input(rt, terminals, input),
+        Words::Upgrade => traces::upgrade_input(rt, terminals, input),
+        Words::Record(form) => recording::record_input(rt, terminals, input, form),
+        Words::Replay(replaying) => replaying::replay_input(rt, terminals, input, replaying),
+        _ => Ok(ExitCode::from(2)),
     }
 }

@@ -1,42 +1,45 @@
 //! The trace of a run.
 
-use crate::answers::Answers;
+use crate::tail::WithTail;
+use ds_explain::explain_recorded;
 use ds_held::Limits;
-use dsctl_cli::{Failure, Greeting, Terminals, TraceForm, Typed, greet};
+use dsctl_cli::{Answers, Failure, Greeting, Input, Terminals, TraceForm, Typed, greet};
 use line_io::Plain;
 use std::io;
 use std::process::ExitCode;
 use std::rt::Runtime;
 use trace_record::{Form, RecordFault, record};
 
-/// Runs a store on the commands on standard input, and writes the trace of that run. Standard error gets the number and
-/// place of a bad line. Greets a user at a terminal.
-pub(crate) fn record_input(
-    rt: &(impl Runtime + AllocGlobal),
+/// Runs a store on the commands of the input, and writes the trace of that run. Standard error gets the number and
+/// place of a bad line, and what is wrong with it. Greets a user at a terminal.
+pub(crate) fn record_input<R: Runtime + AllocGlobal>(
+    rt: &R,
     terminals: Terminals,
+    input: Input<R>,
     form: TraceForm,
 ) -> Result<ExitCode, Failure> {
     greet(rt, terminals, Greeting::Commands);
-    let mut reader = Plain(Typed::unprompted(rt));
-    let mut writer = Plain(Answers::new(io::writer(rt)));
+    let mut reader = Plain(WithTail::new(Typed::unprompted(rt, input)));
+    let mut writer = Plain(Answers::new(rt, io::writer(rt)));
     let recorded = record(rt.alloc(), &mut reader, &mut writer, form_of(form));
-    outcome(rt, recorded, reader.0.fault, writer.0.fault)
+    outcome(rt, recorded, &mut reader.0, writer.0.fault)
 }
 
 // Returns the exit status of a recording, or why the input or the trace failed.
-fn outcome(
-    rt: &impl Runtime,
+fn outcome<R: Runtime + AllocGlobal>(
+    rt: &R,
     recorded: Result<u64, RecordFault>,
-    unread: Option<io::Error>,
+    input: &mut WithTail<Typed<'_, R>>,
     unwritten: Option<io::Error>,
 ) -> Result<ExitCode, Failure> {
     match recorded {
         Ok(_) => Ok(ExitCode::SUCCESS),
         Err(RecordFault::BadLine { line, place }) => {
             let _ = eprintln!(rt; "badline {line} {place}");
+            explain_recorded(rt, line, place, input.line(line));
             Ok(ExitCode::from(1))
         }
-        Err(RecordFault::ReadFault) => Err(Failure::ReadFault(unread)),
+        Err(RecordFault::ReadFault) => Err(Failure::ReadFault(input.reader.fault)),
         Err(RecordFault::WriteFault) => Err(Failure::WriteFault(unwritten)),
         Err(RecordFault::NoRoom) => Err(Failure::NoRoom),
     }

@@ -1,21 +1,22 @@
 //! Shows a settings text, or its first fault.
 
 use ds_explain::{explain_settings, write_settings};
-use dsctl_cli::{Failure, Greeting, Terminals, greet};
+use dsctl_cli::{Failure, Greeting, Input, Terminals, greet};
 use rs_settings::{Settings, SettingsCause, SettingsFault, read};
 use std::io::{self, BufWriter, ErrorKind, Read};
 use std::process::ExitCode;
 use std::rt::Runtime;
 
-/// Parses the settings on standard input, and prints their services, or their first fault. Nothing is printed before
-/// the whole text is judged. Greets a user at a terminal.
-pub(crate) fn show_input(
-    rt: &(impl Runtime + AllocGlobal),
+/// Parses settings, and prints their services, or their first fault. Nothing is printed before the whole text is judged.
+/// Greets a user at a terminal.
+pub(crate) fn show_input<R: Runtime + AllocGlobal>(
+    rt: &R,
     terminals: Terminals,
+    mut input: Input<R>,
 ) -> Result<ExitCode, Failure> {
     greet(rt, terminals, Greeting::Settings);
     let mut text = Vec::new(rt.alloc());
-    if let Err(error) = rt.reader().read_to_end(&mut text) {
+    if let Err(error) = input.read_to_end(&mut text) {
         return Err(match error.kind() {
             ErrorKind::OutOfMemory => Failure::NoRoom,
             _ => Failure::ReadFault(Some(error)),
@@ -38,8 +39,7 @@ fn show(rt: &(impl Runtime + AllocGlobal), settings: &Settings) -> Result<ExitCo
     }
 }
 
-// Prints the fault of a text, and writes to standard error which field it is about. Out of memory isn't a fault
-// of the text.
+// Prints the fault of a text, and writes each of its faults to standard error. Out of memory isn't a fault of the text.
 fn show_fault(
     rt: &(impl Runtime + AllocGlobal),
     text: &[u8],
@@ -55,7 +55,7 @@ fn show_fault(
     if let Err(error) = printed {
         return Err(Failure::WriteFault(Some(error)));
     }
-    match explain_settings(rt, text, fault) {
+    match explain_settings(rt, text) {
         Ok(()) => Ok(ExitCode::from(1)),
         Err(_) => Err(Failure::NoRoom),
     }

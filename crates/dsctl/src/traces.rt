@@ -1,23 +1,24 @@
 //! The verdict on a recorded trace, and the upgrade of one from format 1 to 2.
 
-use crate::answers::Answers;
 use crate::front::WithFront;
-use ds_explain::explain_trace;
-use dsctl_cli::{Failure, Greeting, Terminals, Typed, greet};
+use crate::tail::WithTail;
+use ds_explain::{explain_trace, explain_upgrade};
+use dsctl_cli::{Answers, Failure, Greeting, Input, Terminals, Typed, greet};
 use line_io::Plain;
 use std::io;
 use std::process::ExitCode;
 use std::rt::Runtime;
 use trace_check::{Judged, Stands, UpgradeFault, Verdict, Wanted, WrongLine, judge, upgrade};
 
-/// Judges the trace on standard input, and prints the verdict. If the trace isn't legal, standard error gets what was
-/// expected in the first wrong line. Greets a user at a terminal.
-pub(crate) fn judge_input(
-    rt: &(impl Runtime + AllocGlobal),
+/// Judges a trace, and prints the verdict. If the trace isn't legal, standard error gets what was expected in the first
+/// wrong line. Greets a user at a terminal.
+pub(crate) fn judge_input<R: Runtime + AllocGlobal>(
+    rt: &R,
     terminals: Terminals,
+    input: Input<R>,
 ) -> Result<ExitCode, Failure> {
     greet(rt, terminals, Greeting::Trace);
-    let mut reader = Plain(WithFront::new(Typed::unprompted(rt)));
+    let mut reader = Plain(WithFront::new(Typed::unprompted(rt, input)));
     let judged = judge(rt.alloc(), &mut reader);
     let input = reader.0;
     tell_verdict(rt, &judged, input.first_line(), input.reader.fault)
@@ -69,34 +70,47 @@ fn with_header<'a>(wrong: WrongLine<'a>, first_line: &'a [u8]) -> WrongLine<'a> 
     }
 }
 
-/// Writes the trace of format 1 on standard input in format 2. If it can't be upgraded, standard error says why, in one
-/// line. Greets a user at a terminal.
-pub(crate) fn upgrade_input(
-    rt: &(impl Runtime + AllocGlobal),
+/// Writes a trace of format 1 in format 2. If it can't be upgraded, standard error gets a word and a line's number,
+/// and what is wrong. Greets a user at a terminal.
+pub(crate) fn upgrade_input<R: Runtime + AllocGlobal>(
+    rt: &R,
     terminals: Terminals,
+    input: Input<R>,
 ) -> Result<ExitCode, Failure> {
     greet(rt, terminals, Greeting::Trace);
-    let mut reader = Plain(Typed::unprompted(rt));
-    let mut writer = Plain(Answers::new(io::writer(rt)));
+    let mut reader = Plain(WithTail::new(Typed::unprompted(rt, input)));
+    let mut writer = Plain(Answers::new(rt, io::writer(rt)));
     let upgraded = upgrade(rt.alloc(), &mut reader, &mut writer);
-    outcome(rt, upgraded, reader.0.fault, writer.0.fault)
+    outcome(rt, upgraded, &mut reader.0, writer.0.fault)
 }
 
 // Returns the exit status of an upgrade, or why reading or writing failed.
-fn outcome(
-    rt: &impl Runtime,
+fn outcome<R: Runtime + AllocGlobal>(
+    rt: &R,
     upgraded: Result<u64, UpgradeFault>,
-    unread: Option<io::Error>,
+    input: &mut WithTail<Typed<'_, R>>,
     unwritten: Option<io::Error>,
 ) -> Result<ExitCode, Failure> {
     match upgraded {
         Ok(_) => Ok(ExitCode::SUCCESS),
-        Err(UpgradeFault::ReadFault) => Err(Failure::ReadFault(unread)),
+        Err(UpgradeFault::ReadFault) => Err(Failure::ReadFault(input.reader.fault)),
         Err(UpgradeFault::WriteFault) => Err(Failure::WriteFault(unwritten)),
         Err(UpgradeFault::NoRoom) => Err(Failure::NoRoom),
-        Err(refusal) => {
-            let _ = rt.eprintln(refusal);
+        Err(fault) => {
+            let _ = rt.eprintln(fault);
+            explain_upgrade(rt, fault, wrong_line(input, fault));
             Ok(ExitCode::from(1))
         }
+    }
+}
+
+// Returns the line that a fault is about, if it was read.
+fn wrong_line<'a, R: Runtime>(
+    input: &'a mut WithTail<Typed<'_, R>>,
+    fault: UpgradeFault,
+) -> Option<&'a [u8]> {
+    match fault {
+        UpgradeFault::IllegalAt(number) | UpgradeFault::BadLineAt(number) => input.line(number),
+        _ => None,
     }
 }

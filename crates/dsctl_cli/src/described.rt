@@ -42,6 +42,24 @@ pub(crate) fn valued<'a>(
         .hide_possible_values(true)
 }
 
+/// The name of the argument that names an input.
+pub(crate) const FILE: &str = "file";
+
+const FILE_ABOUT: &str = "The file to read; - and none are standard input";
+
+/// Returns the argument that names an input, shown by this word.
+pub(crate) fn file<'a>(alloc: Global, shown: &'a str) -> Arg<'a> {
+    Arg::new(alloc, FILE).value_name(shown).help(FILE_ABOUT)
+}
+
+/// Adds the argument that names a subcommand's input.
+pub(crate) fn with_file<'a>(
+    alloc: Global,
+    command: Command<'a>,
+) -> Result<Command<'a>, AllocError> {
+    command.arg(file(alloc, "FILE"))
+}
+
 /// Adds a subcommand or an option.
 pub(crate) fn add<T: Drop>(all: &mut Vec<T>, one: T) -> Result<(), AllocError> {
     Ok(all.push(one)?)

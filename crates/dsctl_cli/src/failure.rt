@@ -1,9 +1,10 @@
-//! Failures that end the program with status 3.
+//! Failures that end the program early, and their statuses.
 
 use std::io::{self, ErrorKind};
+use std::process::ExitCode;
 use std::rt::Runtime;
 
-/// Why the program ends with status 3, with the system's error if there is one.
+/// Why the program ends early, with the system's error if there is one.
 #[derive(Clone, Copy)]
 pub enum Failure {
     NoRoom,
@@ -11,43 +12,58 @@ pub enum Failure {
     WriteFault(Option<io::Error>),
     /// A run of threads failed, with this word.
     Live(&'static str),
+    /// A file that the command line names can't be opened, as standard error says.
+    Unopened,
 }
 
+/// The status of a program whose reader went away: the one that a shell has for the signal for this.
+const READER_GONE: u8 = 141;
+
 impl Failure {
-    /// Writes the failure's word to standard error, and at a terminal the reason in a second line.
-    pub fn tell(&self, rt: &impl Runtime, at_terminal: bool) {
-        let _ = rt.eprintln(self.word());
-        if at_terminal {
-            self.tell_why(rt);
+    /// Writes the failure's word to standard error, and the system's reason in a second line. A reader that went away is
+    /// the end, and needs no word.
+    pub fn tell(&self, rt: &impl Runtime) {
+        if let Some(word) = self.word() {
+            let _ = rt.eprintln(word);
         }
-    }
-
-    fn word(&self) -> &'static str {
-        match self {
-            Failure::NoRoom => "noroom",
-            Failure::ReadFault(_) => "readfault",
-            Failure::WriteFault(_) => "writefault",
-            Failure::Live(word) => word,
-        }
-    }
-
-    fn tell_why(&self, rt: &impl Runtime) {
         match self {
             Failure::ReadFault(Some(error)) => tell_reason(rt, "the input can't be read", *error),
-            Failure::WriteFault(Some(error)) => tell_unwritten(rt, *error),
+            Failure::WriteFault(Some(error)) if !is_reader_gone(*error) => {
+                tell_reason(rt, "the answers can't be written", *error);
+            }
             _ => {}
         }
     }
-}
 
-fn tell_unwritten(rt: &impl Runtime, error: io::Error) {
-    if error.kind() == ErrorKind::BrokenPipe {
-        let _ = rt.eprintln("nobody reads the answers any more");
-    } else {
-        tell_reason(rt, "the answers can't be written", error);
+    /// Returns the exit status: 141 if the reader of the answers went away, 2 if a named file can't be opened, else 3.
+    pub fn status(&self) -> ExitCode {
+        match self {
+            Failure::WriteFault(Some(error)) if is_reader_gone(*error) => {
+                ExitCode::from(READER_GONE)
+            }
+            Failure::Unopened => ExitCode::from(2),
+            _ => ExitCode::from(3),
+        }
+    }
+
+    // Returns the word of status 3.
+    fn word(&self) -> Option<&'static str> {
+        match self {
+            Failure::NoRoom => Some("noroom"),
+            Failure::ReadFault(_) => Some("readfault"),
+            Failure::WriteFault(Some(error)) if is_reader_gone(*error) => None,
+            Failure::WriteFault(_) => Some("writefault"),
+            Failure::Live(word) => Some(word),
+            Failure::Unopened => None,
+        }
     }
 }
 
+// Whether nobody reads the answers any more.
+fn is_reader_gone(error: io::Error) -> bool {
+    error.kind() == ErrorKind::BrokenPipe
+}
+
 fn tell_reason(rt: &impl Runtime, what: &str, error: io::Error) {
-    let _ = eprintln!(rt; "{what}: {error}");
+    let _ = eprintln!(rt; "dsctl: {what}: {error}");
 }

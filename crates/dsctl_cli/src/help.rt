@@ -7,24 +7,28 @@ pub(crate) const LONG_ABOUT: &str = "\
 Replays a script against a data store in the manner of MINIX 3's DS, and prints
 each answer.
 
-The script is read from standard input, one command a line, and each answer is
-printed before the program waits for the next line. The store keeps, for each
-name and kind, the change with the greatest version, and for each owner the
-highest floor, which ends what the owner left: a late or repeated message never
-brings back a dead driver's endpoint, nor what the driver published. There are
-two such stores, side a and side b, and maps of subscribers. The items that a
-store prints are a message, which can be delivered to any of them.
+The script is read from the file that is named, or from standard input, one
+command a line, and each answer is printed before the program waits for the next
+line. The store keeps, for each name and kind, the change with the greatest
+version, and for each owner the highest floor, which ends what the owner left: a
+late or repeated message never brings back a dead driver's endpoint, nor what
+the driver published. There are two such stores, side a and side b, and maps of
+subscribers. The items that a store prints are a message, which can be delivered
+to any of them.
 
 A script also drives RS, the reincarnation server, which starts drivers and
 restarts those that die, and a file server and a network server, which send
 requests to drivers and learn from a map where the drivers are.
 
 A line that can't be read ends the script, and standard error says what was
-expected there; `dsctl replay --keep-going` continues after it. Comments and
-blank lines aren't allowed. At a terminal there is a greeting and a prompt, and
-bad lines are skipped, unless `dsctl replay --stop` is given. At the prompt
-`help` or `?` shows the lines, `help WORD` explains a line, an answer, a refusal
-or a kind, and `quit`, `exit` or ^D ends.
+expected there and what was found; `dsctl replay --keep-going` continues after
+it. If the first line is `script 2`, lines that begin with `#`, and empty lines,
+are passed over. With `dsctl replay --ends` an empty line ends each answer.
+
+At a terminal there is a greeting and a prompt, bad lines are skipped, unless
+`dsctl replay --stop` is given, and a refusal is explained. At the prompt `help`
+or `?` shows the commonest lines, `help all` shows all, `help WORD` explains a
+line, an answer, a refusal or a kind, and `quit`, `exit` or ^D ends.
 
 Lines of a script:
   publish CALLER new NAME KIND EPOCH.SEQ = VALUE

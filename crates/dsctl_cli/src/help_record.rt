@@ -5,11 +5,11 @@ pub(crate) const RECORD_ABOUT: &str = "Run a store on commands, and write the tr
 pub(crate) const RECORD_LONG_ABOUT: &str = "\
 Runs one store on commands, and writes the trace of that run.
 
-The commands are read from standard input, one a line. The store is a new one,
-of incarnation 1; its positions begin at 0, and its journal keeps 256 items, or
-as many as a first line `ring N` says. An entry of the trace is a command and
-the store's reply; `dsctl verify --help` lists its lines. The output is a legal
-trace, wherever the commands end.
+The commands are read from the file or from standard input, one a line. The
+store is a new one, of incarnation 1; its positions begin at 0, and its journal
+keeps 256 items, or as many as a first line `ring N` says. An entry of the trace
+is a command and the store's reply; `dsctl verify --help` lists its lines. The
+output is a legal trace, wherever the commands end.
 
 Lines of commands:
   COMMAND          a line of a script to a store: publish, delete, sweep,
@@ -28,8 +28,8 @@ with `--keys 1024`, and otherwise 4096 and 128.
 
 A line that can't be read ends the run with status 1. What was written before
 stays, and standard error has `badline LINE PLACE`, lines counted from 1 and
-bytes from 0. No line of a trace is above 4096 bytes: a command that would be,
-with `> PASS ` before it, is bad at its first byte too many.
+bytes from 0, and a sentence. No line of a trace is above 4096 bytes: a command
+that would be, with `> PASS ` before it, is bad at its first byte too many.
 
 Two commands:
   publish 0/2 new eth0 label 3.0 = 3/17

@@ -6,9 +6,9 @@ pub(crate) const VERIFY_LONG_ABOUT: &str = "\
 Judges whether a recorded trace of a data store is legal.
 
 A trace is a recording of one store: how it was opened, its commands, and its
-replies. It is read from standard input. Its first line opens a store, which
-runs the trace's commands, and each line of the replies must be this store's. So
-nothing is accepted for its form alone.
+replies. It is read from the file or from standard input. Its first line opens a
+store, which runs the trace's commands, and each line of the replies must be
+this store's. So nothing is accepted for its form alone.
 
 If each entry is a step of the store from the state after the entry before it,
 `legal N` is printed, N being the number of entries. Otherwise the first line
@@ -57,18 +57,18 @@ pub(crate) const UPGRADE_ABOUT: &str = "Write a trace of format 1 in format 2";
 pub(crate) const UPGRADE_LONG_ABOUT: &str = "\
 Writes a trace of format 1 in format 2.
 
-The trace is read from standard input. It is judged line by line, as by `dsctl
-verify`, and each entry is written once its reply was found legal. The header
-gets the limits of format 1, `64 1024`. Entries are unchanged, except sweeps: in
-format 1 they leave tombstones, in format 2 they raise floors. So a sweep
-becomes merges of its tombstones, 256 in each and the rest in the last one, with
-the notices that each of them owes. A sweep that leaves none is left out, and so
-is one that is refused. The output is legal: its store took the same changes,
-drew the same stamps and showed the same.
+The trace is read from the file or from standard input. It is judged line by
+line, as by `dsctl verify`, and each entry is written once its reply was found
+legal. The header gets the limits of format 1, `64 1024`. Entries are unchanged,
+except sweeps: in format 1 they leave tombstones, in format 2 they raise floors.
+So a sweep becomes merges of its tombstones, 256 in each and the rest in the
+last one, with the notices that each of them owes. A sweep that leaves none is
+left out, and so is one that is refused. The output is legal: its store took the
+same changes, drew the same stamps and showed the same.
 
 `dsctl verify --help` lists the lines of a trace. A trace that can't be written
 in format 2 ends there, with status 1: what was written before stays, and
-standard error has one line:
+standard error has one of these lines, and a sentence:
   illegal L  line L must be a line of a reply, as for `dsctl verify`
   badline L  line L must be another line, as for `dsctl verify`
   already 2  the trace is one of format 2; nothing is written

@@ -81,17 +81,20 @@ Exit status:
   1  a line can't be read: `badline LINE PLACE` is printed, lines counted from 1
      and bytes from 0, and standard error says what was expected; or the
      settings have a fault: `bad WORD INDEX` is printed, and standard error
-     names the field; or the trace isn't legal: `illegal LINE` or `badline LINE`
+     names each; or the trace isn't legal: `illegal LINE` or `badline LINE`
      is printed, and standard error says what was expected there. `dsctl record`
      and `dsctl upgrade`, which print a trace, report it on standard error only
-  2  the command line is wrong
+  2  the command line is wrong, or the file can't be opened
   3  memory, reading or writing failed: standard error has `noroom`, `readfault`
-     or `writefault`, also if nobody reads the answers any more; or `dsctl live`
-     failed, with a word that its help lists";
+     or `writefault`, and the system's reason; or `dsctl live` failed, with a
+     word that its help lists
+  141  the reader of the answers went away";
 
 pub(crate) const KEEP_GOING_ABOUT: &str = "Continue after a bad line; status 1 at the end";
 
 pub(crate) const STOP_ABOUT: &str = "End at a bad line, at a terminal too";
+
+pub(crate) const ENDS_ABOUT: &str = "End each answer by an empty line";
 
 pub(crate) const SETTINGS_ABOUT: &str = "Show the services of a settings text, or its first fault";
 
@@ -99,12 +102,14 @@ pub(crate) const SETTINGS_LONG_ABOUT: &str = "\
 Shows the services of a settings text for the reincarnation server (RS), or the
 text's first fault.
 
-The text is a TOML document on standard input. Nothing is printed before all of
-it is judged. For each service there is a line
+The text is a TOML document, in the file or on standard input. Nothing is
+printed before all of it is judged. For each service there is a line
 `service LABEL CLASS UNIT period P limit L publishes N`, with `-` for the unit
-of a server, and then one line `services N slots S`. For a fault, the only line
-is `bad WORD INDEX`, INDEX being that of the service, from 0, and left out if
-the fault isn't a service's; standard error names the field and its line.
+of a server, and with `complains N connects N forget F startup S` at its end,
+without those that are missing or 0. Then there is one line
+`services N slots S`. For a fault, the only line is `bad WORD INDEX`, INDEX
+being that of the service, from 0, and left out if the fault isn't a service's;
+standard error has a sentence for each fault, with its line.
 
 At the top:
   slots      process slots that RS may use, 1 to 1008; 64 by default
@@ -120,6 +125,14 @@ Of a service:
   limit      how many failures in a row RS answers by another start, 0 to 1000;
              0 by default
   publishes  the names that it may publish in the data store, 64 at most
+  complains  the labels of the services that it may complain of, 64 at most; by
+             default a server may complain of every service that is none
+  connects   the labels of the services that it may connect to, 64 at most; by
+             default all
+  forget     after how many ticks of one instance the failures before it no
+             longer count, 0 to 1000000000; 0, for never, by default
+  startup    ticks that an instance has to start, 0 to 1000000: its first period
+             counts from then on, or from its first heartbeat; 0 by default
 
 No two services have the same label, no two block or character services the same
 major number, no two network services the same port, and no name is published

@@ -1,7 +1,7 @@
 //! The command line of `dsctl live`.
 
 use crate::described::{add, add_made, described, valued};
-use crate::words::Words;
+use crate::words::{Crew, Words};
 use clap::builder::ValueParser;
 use clap::{Arg, ArgMatches, Command};
 use std::alloc::{AllocError, Global};
@@ -12,6 +12,10 @@ const PUBLISHERS: &str = "publishers";
 const SUBSCRIBERS: &str = "subscribers";
 
 const CHANGES: &str = "changes";
+
+const SEED: &str = "seed";
+
+const FOR: &str = "for";
 
 const ABOUT: &str = "Run threads that publish, follow and exchange, and report";
 
@@ -31,6 +35,12 @@ brought up to date, and then there are four lines:
   account exact    each notice that was raised was taken, or is pending; else
                    `account wrong`
 
+With `--seed` each worker pauses before each turn, for as long as is drawn from
+the seed: the threads meet otherwise. With `--for` runs follow one another, and
+the report is that of all: `differ` or `wrong` if it is so after any of them. At
+a terminal standard error shows each second how many turns there were so far, in
+one line.
+
 A run that fails prints nothing, has one word on standard error, and status 3:
   noroom           memory ran out
   stopped          memory ran out while the second store was brought up to date
@@ -49,10 +59,16 @@ pub(crate) fn add_live<'a>(alloc: Global, all: &mut Vec<Command<'a>>) -> Result<
 fn add_numbers<'a>(alloc: Global, all: &mut Vec<Arg<'a>>) -> Result<(), AllocError> {
     add_number(alloc, all, PUBLISHERS, "How many publish, 1 to 8", "2", 8)?;
     add_number(alloc, all, SUBSCRIBERS, "How many follow, 1 to 8", "2", 8)?;
-    add_number(alloc, all, CHANGES, TURNS_ABOUT, "3", 1000)
+    add_number(alloc, all, CHANGES, TURNS_ABOUT, "3", 1000)?;
+    add_choice(alloc, all, SEED, SEED_ABOUT, 0, 4294967295)?;
+    add_choice(alloc, all, FOR, FOR_ABOUT, 1, 86400)
 }
 
 const TURNS_ABOUT: &str = "How many turns each takes, 1 to 1000";
+
+const SEED_ABOUT: &str = "Draw pauses before turns, by 0 to 4294967295";
+
+const FOR_ABOUT: &str = "Repeat runs for seconds, 1 to 86400";
 
 // Adds an option whose value is a number from 1 to `most`.
 fn add_number<'a>(
@@ -67,12 +83,26 @@ fn add_number<'a>(
     add(all, number.default_value(default))
 }
 
-/// Returns the threads that the options ask for. Each option has a default; without it the number would be 0, which no
-/// run takes.
+// Adds an option whose value is a number from `least` to `most`, with no default.
+fn add_choice<'a>(
+    alloc: Global,
+    all: &mut Vec<Arg<'a>>,
+    name: &'a str,
+    about: &'a str,
+    least: i64,
+    most: i64,
+) -> Result<(), AllocError> {
+    let parser = ValueParser::Signed(least, most);
+    add(all, valued(alloc, name, about, parser))
+}
+
+/// Returns the run that the options ask for. Three have a default; without it the number would be 0, which no run takes.
 pub(crate) fn crew_of(given: &ArgMatches<'_>) -> Words {
-    Words::Live {
+    Words::Live(Crew {
         publishers: given.get_one::<u32>(PUBLISHERS).unwrap_or(0),
         subscribers: given.get_one::<u32>(SUBSCRIBERS).unwrap_or(0),
         changes: given.get_one::<u32>(CHANGES).unwrap_or(0),
-    }
+        seed: given.get_one::<u32>(SEED),
+        seconds: given.get_one::<u32>(FOR),
+    })
 }

@@ -1,8 +1,12 @@
 //! What a user at a terminal sees beside the answers, on standard error: a greeting, a prompt, and help on request.
 
 use crate::help::LINES;
+use crate::help_short::COMMONEST;
 use crate::help_word::explain_word;
-use std::io::{self, Read};
+use crate::input::Input;
+use crate::refusals::{Topic, explain_refusals};
+use std::cell::Cell;
+use std::io::{self, Read, Write};
 use std::rt::Runtime;
 
 /// What a greeting is about.
@@ -40,6 +44,14 @@ pub struct Terminals {
 }
 
 impl Terminals {
+    /// Returns these where this is the input: a named file isn't a terminal.
+    pub fn at<R: Runtime>(self, input: &Input<R>) -> Terminals {
+        Terminals {
+            input: self.input && input.is_standard(),
+            error: self.error,
+        }
+    }
+
     /// Whether a user types the input and sees standard error.
     pub fn are_both(&self) -> bool {
         self.input && self.error
@@ -54,14 +66,30 @@ pub fn greet(rt: &impl Runtime, terminals: Terminals, greeting: Greeting) {
     }
 }
 
-/// Standard input, with a prompt before each line if a user types it. Keeps the error of the last failed read.
+/// What the line is about that a user typed last.
+#[derive(Drop)]
+pub struct LastLine {
+    topic: Cell<Topic>,
+}
+
+impl LastLine {
+    /// Returns one before the first line.
+    pub fn new() -> LastLine {
+        LastLine {
+            topic: Cell::new(Topic::Store),
+        }
+    }
+}
+
+/// An input, with a prompt before each line if a user types it. Keeps the error of the last failed read.
 ///
-/// At the prompt, an empty line, `help`, `help WORD`, `?`, `quit` and `exit` are handled here, and aren't lines of the
-/// script. Once the input has ended it isn't read again: a terminal would wait for another ^D.
+/// At the prompt, an empty line, a comment, `help`, `help all`, `help WORD`, `?`, `quit` and `exit` are handled here, and
+/// aren't lines of the script. Once the input has ended it isn't read again: a terminal would wait for another ^D.
 #[derive(Drop)]
 pub struct Typed<'a, R: Runtime> {
     rt: &'a R,
-    reader: R::Reader,
+    reader: Input<R>,
+    last: Option<&'a LastLine>,
     prompts: bool,
     begins_line: bool,
     ended: bool,
@@ -70,18 +98,25 @@ pub struct Typed<'a, R: Runtime> {
 }
 
 impl<'a, R: Runtime> Typed<'a, R> {
-    /// Returns standard input, with a prompt if a user types it.
-    pub fn prompted(rt: &'a R, terminals: Terminals) -> Typed<'a, R> {
-        let mut typed = Typed::unprompted(rt);
+    /// Returns the input, with a prompt if a user types it. Tells `last` what each line is about.
+    pub fn prompted(
+        rt: &'a R,
+        reader: Input<R>,
+        terminals: Terminals,
+        last: &'a LastLine,
+    ) -> Typed<'a, R> {
+        let mut typed = Typed::unprompted(rt, reader);
         typed.prompts = terminals.are_both();
+        typed.last = Some(last);
         typed
     }
 
-    /// Returns standard input without a prompt.
-    pub fn unprompted(rt: &'a R) -> Typed<'a, R> {
+    /// Returns the input without a prompt.
+    pub fn unprompted(rt: &'a R, reader: Input<R>) -> Typed<'a, R> {
         Typed {
             rt,
-            reader: rt.reader(),
+            reader,
+            last: None,
             prompts: false,
             begins_line: true,
             ended: false,
@@ -116,17 +151,29 @@ impl<'a, R: Runtime> Typed<'a, R> {
         }
         let line = read.trim_ascii();
         let meaning = meaning_of(line);
-        if let Meaning::Help = meaning {
-            self.help(line);
+        match meaning {
+            Meaning::Help => self.help(line),
+            Meaning::Line => self.note(line),
+            Meaning::Nothing | Meaning::End => {}
         }
         meaning
     }
 
-    // Writes the help that a line asks for: about the word after `help`, or all lines.
+    // Notes what a line is about.
+    fn note(&self, line: &[u8]) {
+        if let Some(last) = self.last {
+            let (word, _) = first_word(line);
+            last.topic.set(Topic::of(word));
+        }
+    }
+
+    // Writes the help that a line asks for: the commonest lines, all lines, or what the word after `help` means.
     fn help(&self, line: &[u8]) {
         let (_, rest) = first_word(line);
         let word = word_asked(rest);
         if word.is_empty() || is_own(word) {
+            let _ = self.rt.eprintln(COMMONEST);
+        } else if word.eq_ignore_ascii_case(b"all") {
             let _ = eprintln!(self.rt; "{LINES}\n\n{AT_THE_PROMPT}");
         } else {
             explain_word(self.rt, word);
@@ -144,12 +191,12 @@ enum Meaning {
 }
 
 const AT_THE_PROMPT: &str = "\
-At the prompt: help or ? shows this, help WORD explains a line, an answer, a
-refusal or a kind, quit or exit or ^D ends.";
+At the prompt: help or ? shows the commonest lines, help all shows these, help
+WORD explains a line, an answer, a refusal or a kind, quit or exit or ^D ends.";
 
 fn meaning_of(line: &[u8]) -> Meaning {
     let (word, rest) = first_word(line);
-    if word.is_empty() {
+    if word.is_empty() || word.starts_with(b"#") {
         Meaning::Nothing
     } else if asks_for_help(word) {
         Meaning::Help
@@ -192,6 +239,62 @@ fn asks_to_end(word: &[u8]) -> bool {
 // Whether a word is one of the prompt's own.
 fn is_own(word: &[u8]) -> bool {
     asks_for_help(word) || asks_to_end(word)
+}
+
+/// Standard output. At a prompt, each refusal is followed by its meaning on standard error. Keeps the error of the last
+/// failed write.
+#[derive(Drop)]
+pub struct Answers<'a, R: Runtime, W> {
+    rt: &'a R,
+    writer: W,
+    last: Option<&'a LastLine>,
+    /// The error of the last failed write.
+    pub fault: Option<io::Error>,
+}
+
+impl<'a, R: Runtime, W: Write> Answers<'a, R, W> {
+    /// Returns such an output over a writer.
+    pub fn new(rt: &'a R, writer: W) -> Answers<'a, R, W> {
+        Answers {
+            rt,
+            writer,
+            last: None,
+            fault: None,
+        }
+    }
+
+    /// Returns likewise one that explains refusals, if a user types the lines.
+    pub fn explained(
+        rt: &'a R,
+        writer: W,
+        terminals: Terminals,
+        last: &'a LastLine,
+    ) -> Answers<'a, R, W> {
+        let mut answers = Answers::new(rt, writer);
+        if terminals.are_both() {
+            answers.last = Some(last);
+        }
+        answers
+    }
+}
+
+impl<R: Runtime, W: Write> Write for Answers<'_, R, W> {
+    fn write(&mut self, buf: &[u8]) -> io::Result<usize> {
+        let written = self.writer.write(buf);
+        match (&written, self.last) {
+            (Err(error), _) => self.fault = Some(*error),
+            (Ok(count), Some(last)) => {
+                let taken = buf.get(..*count).unwrap_or(buf);
+                explain_refusals(self.rt, last.topic.get(), taken);
+            }
+            (Ok(_), None) => {}
+        }
+        written
+    }
+
+    fn flush(&mut self) -> io::Result<()> {
+        self.writer.flush()
+    }
 }
 
 impl<R: Runtime> Read for Typed<'_, R> {

@@ -1,6 +1,6 @@
 //! The command line of `dsctl record`.
 
-use crate::described::{add, add_made, described, valued};
+use crate::described::{add, add_made, described, valued, with_file};
 use crate::help_record::{FORMAT_ABOUT, KEYS_ABOUT, RECORD_ABOUT, RECORD_LONG_ABOUT};
 use crate::words::TraceForm;
 use clap::builder::ValueParser;
@@ -22,7 +22,7 @@ pub(crate) fn add_record<'a>(alloc: Global, all: &mut Vec<Command<'a>>) -> Resul
     let mut options = Vec::new(alloc);
     add_forms(alloc, &mut options)?;
     let record = described(alloc, "record", RECORD_ABOUT, RECORD_LONG_ABOUT);
-    add_made(all, record.args(options))
+    add_made(all, with_file(alloc, record)?.args(options))
 }
 
 fn add_forms<'a>(alloc: Global, all: &mut Vec<Arg<'a>>) -> Result<(), AllocError> {

@@ -1,10 +1,10 @@
 //! The command line.
 
-use crate::described::{add, add_made, described, flag, named};
+use crate::described::{FILE, add, add_made, described, file, flag, named, with_file};
 use crate::help::{ABOUT, LINES, LONG_ABOUT};
 use crate::help_traces::{UPGRADE_ABOUT, UPGRADE_LONG_ABOUT, VERIFY_ABOUT, VERIFY_LONG_ABOUT};
 use crate::help_words::{
-    AFTER_HELP, KEEP_GOING_ABOUT, SETTINGS_ABOUT, SETTINGS_LONG_ABOUT, STOP_ABOUT,
+    AFTER_HELP, ENDS_ABOUT, KEEP_GOING_ABOUT, SETTINGS_ABOUT, SETTINGS_LONG_ABOUT, STOP_ABOUT,
 };
 use crate::live_words::{add_live, crew_of};
 use crate::record_words::{add_record, form_of, too_many_keys};
@@ -15,13 +15,19 @@ use std::env::Args;
 use std::io;
 use std::rt::Runtime;
 
+/// What the command line asks for, and the file that it names.
+#[derive(Drop)]
+pub struct Asked {
+    pub words: Words,
+    /// The name of the input. `None`, and `-`, are standard input.
+    pub file: Option<String>,
+}
+
 /// What the command line asks for, or how it was answered.
 #[derive(Clone, Copy)]
 pub enum Words {
-    /// Answer a script; and whether to continue after a bad line, if an option says so.
-    Replay {
-        go_on: Option<bool>,
-    },
+    /// Answer a script.
+    Replay(Replaying),
     /// Show a settings text.
     Settings,
     /// Judge a trace.
@@ -30,12 +36,8 @@ pub enum Words {
     Upgrade,
     /// Write the trace of a run, in this form.
     Record(TraceForm),
-    /// Run threads: how many publish, how many follow, and how many turns each takes.
-    Live {
-        publishers: u32,
-        subscribers: u32,
-        changes: u32,
-    },
+    /// Run threads.
+    Live(Crew),
     /// Help or the version was asked for, and is printed.
     Shown,
     /// The command line is wrong, as standard error says.
@@ -43,7 +45,31 @@ pub enum Words {
     /// Out of memory to parse it.
     NoRoom,
     /// Help or the version couldn't be written.
-    WriteFault,
+    WriteFault(io::Error),
+}
+
+/// How a script is answered.
+#[derive(Clone, Copy)]
+pub struct Replaying {
+    /// Whether to continue after a bad line, if an option says so.
+    pub go_on: Option<bool>,
+    /// Whether an empty line ends each answer.
+    pub ends: bool,
+}
+
+/// A run of threads.
+#[derive(Clone, Copy)]
+pub struct Crew {
+    /// How many publish.
+    pub publishers: u32,
+    /// How many follow.
+    pub subscribers: u32,
+    /// How many turns each takes.
+    pub changes: u32,
+    /// What the pauses before turns are drawn from; without it there are none.
+    pub seed: Option<u32>,
+    /// For how many seconds runs are repeated; without it there is one.
+    pub seconds: Option<u32>,
 }
 
 /// The form of a recorded trace.
@@ -58,11 +84,16 @@ pub enum TraceForm {
 }
 
 /// Parses the program's command line. Answers a wrong one, or a request for help, itself.
-pub fn read<R: Runtime + AllocGlobal>(rt: &R) -> Words {
+pub fn read<R: Runtime + AllocGlobal>(rt: &R) -> Asked {
     match std::env::args(rt) {
         Ok(given) => read_given(rt, given),
-        Err(error) => unread(rt, error.kind()),
+        Err(error) => without_file(unread(rt, error.kind())),
     }
+}
+
+// Returns this without a file.
+fn without_file(words: Words) -> Asked {
+    Asked { words, file: None }
 }
 
 // Answers a command line that can't be read: out of memory, or not UTF-8.
@@ -70,14 +101,14 @@ fn unread(rt: &impl Runtime, kind: io::ErrorKind) -> Words {
     if kind == io::ErrorKind::OutOfMemory {
         return Words::NoRoom;
     }
-    let _ = rt.eprintln("error: a word of the command line isn't UTF-8");
+    let _ = rt.eprintln("dsctl: a word of the command line isn't UTF-8");
     Words::Usage
 }
 
-fn read_given<R: Runtime + AllocGlobal>(rt: &R, given: Args) -> Words {
+fn read_given<R: Runtime + AllocGlobal>(rt: &R, given: Args) -> Asked {
     match listed(rt.alloc(), given) {
         Ok(words) => understood(rt, &words),
-        Err(AllocError) => Words::NoRoom,
+        Err(AllocError) => without_file(Words::NoRoom),
     }
 }
 
@@ -94,18 +125,21 @@ fn listed(alloc: Global, given: Args) -> Result<Vec<String>, AllocError> {
 }
 
 // Returns what the arguments ask for. Answers wrong ones, and requests for help.
-fn understood<R: Runtime + AllocGlobal>(rt: &R, words: &[String]) -> Words {
+fn understood<R: Runtime + AllocGlobal>(rt: &R, words: &[String]) -> Asked {
     match parse(rt.alloc(), words) {
-        Ok(words) => words,
-        Err(error) => answer(rt, &error, words),
+        Ok(asked) => asked,
+        Err(error) => without_file(answer(rt, &error, words)),
     }
 }
 
 // Parses the arguments.
-fn parse(alloc: Global, words: &[String]) -> Result<Words, Error> {
-    let asked = asked_by(&matches_of(alloc, words)?);
-    match asked {
-        Some(words) => Ok(words),
+fn parse(alloc: Global, words: &[String]) -> Result<Asked, Error> {
+    let matches = matches_of(alloc, words)?;
+    match asked_by(&matches) {
+        Some(words) => Ok(Asked {
+            words,
+            file: file_of(alloc, &matches)?,
+        }),
         None => Err(too_many_keys(alloc)?),
     }
 }
@@ -118,7 +152,10 @@ fn matches_of<'a>(alloc: Global, words: &'a [String]) -> Result<ArgMatches<'a>, 
 // Returns what is asked for; `None` for a trace of format 1 with 4096 keys.
 fn asked_by(matches: &ArgMatches<'_>) -> Option<Words> {
     let Some((word, given)) = matches.subcommand() else {
-        return Some(Words::Replay { go_on: None });
+        return Some(Words::Replay(Replaying {
+            go_on: None,
+            ends: false,
+        }));
     };
     Some(match word {
         "settings" => Words::Settings,
@@ -126,10 +163,29 @@ fn asked_by(matches: &ArgMatches<'_>) -> Option<Words> {
         "upgrade" => Words::Upgrade,
         "record" => Words::Record(form_of(given)?),
         "live" => crew_of(given),
-        _ => Words::Replay {
-            go_on: going_on(given),
-        },
+        _ => Words::Replay(way_of(given)),
     })
+}
+
+// Returns a copy of the name of the input, if one is given.
+fn file_of(alloc: Global, matches: &ArgMatches<'_>) -> Result<Option<String>, AllocError> {
+    let name = match matches.subcommand() {
+        Some(("live", _)) => None,
+        Some((_, given)) => given.get_str(FILE),
+        None => matches.get_str(FILE),
+    };
+    match name {
+        Some(name) => Ok(Some(String::from_str(alloc, name)?)),
+        None => Ok(None),
+    }
+}
+
+// Returns how the options have a script answered.
+fn way_of(given: &ArgMatches<'_>) -> Replaying {
+    Replaying {
+        go_on: going_on(given),
+        ends: given.get_flag(ENDS),
+    }
 }
 
 // Returns whether to continue after a bad line, if an option says so.
@@ -145,11 +201,16 @@ const KEEP_GOING: &str = "keep-going";
 
 const STOP: &str = "stop";
 
+// The option to end each answer by an empty line.
+const ENDS: &str = "ends";
+
 // Returns the program's command line.
 fn command<'a>(alloc: Global) -> Result<Command<'a>, AllocError> {
     let mut subcommands = Vec::new(alloc);
     add_subcommands(alloc, &mut subcommands)?;
-    program(alloc).subcommands(subcommands)
+    program(alloc)
+        .arg(file(alloc, "SCRIPT"))?
+        .subcommands(subcommands)
 }
 
 // Returns the program, without its subcommands.
@@ -162,81 +223,62 @@ fn program<'a>(alloc: Global) -> Command<'a> {
 
 fn add_subcommands<'a>(alloc: Global, all: &mut Vec<Command<'a>>) -> Result<(), AllocError> {
     add_replay(alloc, all)?;
-    add_without_options(alloc, all, "settings", SETTINGS_ABOUT, SETTINGS_LONG_ABOUT)?;
-    add_without_options(alloc, all, "verify", VERIFY_ABOUT, VERIFY_LONG_ABOUT)?;
-    add_without_options(alloc, all, "upgrade", UPGRADE_ABOUT, UPGRADE_LONG_ABOUT)?;
+    let settings = described(alloc, "settings", SETTINGS_ABOUT, SETTINGS_LONG_ABOUT);
+    add_made(all, with_file(alloc, settings))?;
+    let verify = described(alloc, "verify", VERIFY_ABOUT, VERIFY_LONG_ABOUT);
+    add_made(all, with_file(alloc, verify))?;
+    let upgrade = described(alloc, "upgrade", UPGRADE_ABOUT, UPGRADE_LONG_ABOUT);
+    add_made(all, with_file(alloc, upgrade))?;
     add_record(alloc, all)?;
     add_live(alloc, all)
-}
-
-// Adds a subcommand without options.
-fn add_without_options<'a>(
-    alloc: Global,
-    all: &mut Vec<Command<'a>>,
-    name: &'a str,
-    about: &'a str,
-    long_about: &'a str,
-) -> Result<(), AllocError> {
-    add(all, described(alloc, name, about, long_about))
 }
 
 fn add_replay<'a>(alloc: Global, all: &mut Vec<Command<'a>>) -> Result<(), AllocError> {
     let mut options = Vec::new(alloc);
     add_flags(alloc, &mut options)?;
     let about = "Answer a script; this is the default subcommand";
-    let replay = named(alloc, "replay", about).after_help(LINES);
+    let replay = with_file(alloc, named(alloc, "replay", about).after_help(LINES))?;
     add_made(all, replay.args(options))
 }
 
 fn add_flags<'a>(alloc: Global, options: &mut Vec<Arg<'a>>) -> Result<(), AllocError> {
     add(options, flag(alloc, KEEP_GOING, KEEP_GOING_ABOUT))?;
     let stop = flag(alloc, STOP, STOP_ABOUT);
-    add_made(options, stop.conflicts_with(KEEP_GOING))
+    add_made(options, stop.conflicts_with(KEEP_GOING))?;
+    add(options, flag(alloc, ENDS, ENDS_ABOUT))
 }
 
-// Tips for a user who named a file.
-const SCRIPT: &str = "A script is read from standard input, not by name: dsctl < SCRIPT";
+// The tip for a file's name where none is read.
+const NOTHING: &str = "dsctl: live reads nothing, and its options take numbers";
 
-const TEXT: &str = "A text is read from standard input, not by name: dsctl settings < TEXT";
+// The tip for more than one file's name.
+const ONE_FILE: &str = "dsctl: one file is read, and another word is too many";
 
-const TRACE: &str = "A trace is read from standard input, not by name: dsctl verify < TRACE";
-
-const OLDER_TRACE: &str =
-    "A trace is read from standard input, not by name: dsctl upgrade < TRACE > NEWER";
-
-const COMMANDS: &str =
-    "Commands are read from standard input, not by name: dsctl record < COMMANDS > TRACE";
-
-const NOTHING: &str = "dsctl live reads nothing, and its options take numbers";
-
-// The tip for a user who gave an option for bad lines without its subcommand.
-const BEHIND_REPLAY: &str =
-    "--keep-going and --stop follow a subcommand, as in dsctl replay --keep-going";
+// The tip for a user who gave an option of `replay` without its subcommand.
+const AFTER_REPLAY: &str =
+    "dsctl: --keep-going, --stop and --ends follow a subcommand, as in dsctl replay --ends";
 
 // Returns a tip to add to `clap`'s message about a wrong command line.
 fn tip(given: &[String]) -> Option<&'static str> {
-    let first = given.get(1)?.as_str();
-    match first {
-        "--keep-going" | "--stop" => Some(BEHIND_REPLAY),
-        _ => name_a_file(given).then_some(not_by_name(first)),
-    }
-}
-
-// Returns the tip for a file's name after this word.
-fn not_by_name(first: &str) -> &'static str {
-    match first {
-        "settings" => TEXT,
-        "verify" => TRACE,
-        "upgrade" => OLDER_TRACE,
-        "record" => COMMANDS,
-        "live" => NOTHING,
-        _ => SCRIPT,
+    match given.get(1)?.as_str() {
+        "--keep-going" | "--stop" | "--ends" => Some(AFTER_REPLAY),
+        "live" => names_a_file(given).then_some(NOTHING),
+        _ => (names_count(given) > 1).then_some(ONE_FILE),
     }
 }
 
 // Whether an argument looks like a file's name.
-fn name_a_file(given: &[String]) -> bool {
-    given.iter().skip(1).any(|word| names_file(word.as_str()))
+fn names_a_file(given: &[String]) -> bool {
+    names_count(given) > 0
+}
+
+// Returns how many arguments look like names of files.
+fn names_count(given: &[String]) -> usize {
+    given
+        .iter()
+        .skip(1)
+        .filter(|word| names_file(word.as_str()))
+        .count()
 }
 
 // Whether a word looks like a file's name.
@@ -261,6 +303,6 @@ fn answer(rt: &impl Runtime, error: &Error, given: &[String]) -> Words {
     match (error.use_stderr(), printed) {
         (true, _) => Words::Usage,
         (false, Ok(())) => Words::Shown,
-        (false, Err(_)) => Words::WriteFault,
+        (false, Err(error)) => Words::WriteFault(error),
     }
 }

@@ -22,7 +22,7 @@ pub record BreaksAt (text : List ℕ) (n : ℕ) : Type 0 where
   pub line : IsUnbroken (take n text)
   pub parts : take (suc n) text ≡ take n text ++ 10 ∷ []
 
--- The lines in order, each with its newline.
+-- The bytes of the lines in order, each with its newline.
 abbrev pub joined : List (List ℕ) → List ℕ
 joined lines = flat_map with_newline lines
 
@@ -31,7 +31,7 @@ abbrev pub unended : List ℕ → List (List ℕ)
 unended [] = []
 unended (b ∷ bs) = (b ∷ bs) ∷ []
 
--- Whether the input consists of these lines; the newline of the last one may be missing.
+-- Whether the input consists of these lines. The newline of the last one may be missing.
 pub record HasLines (input : List ℕ) (lines : List (List ℕ)) : Type 0 where
   pub front : List (List ℕ)
   pub last : List ℕ

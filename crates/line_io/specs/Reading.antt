@@ -1,4 +1,4 @@
--- The state of a reader of lines, and its steps to the next line.
+-- The state of an input's lines, and its steps to the next line.
 use Rattle.std.specs.Prelude.{◌≡◌, ◌≢◌, ℕ, suc, ◌+◌, ◌*◌, ◌-◌, ◌^◌, ◌≤◌, List, [], ◌++◌, take, drop}
 use Rattle.line_io.specs.Lines.{EndsLine, with_newline}
 
@@ -13,7 +13,7 @@ pub record LinesContent : Type 0 where
 abbrev pub no_lines : LinesContent
 no_lines = record { line = []; rest = []; count = 0; reads = 0 }
 
--- The state for a buffer in which the line is at `start` to `end`.
+-- The state whose buffer has the line from `start` to `end`.
 abbrev pub lines_of : List ℕ → (start end count reads : ℕ) → LinesContent
 lines_of bytes start end count reads = record {
   line = take (end - start) (drop start bytes);
@@ -22,7 +22,7 @@ lines_of bytes start end count reads = record {
   reads = reads;
 }
 
--- The invariant of the buffer: the line is inside it, and the counts fit the number of reads.
+-- The invariant of the buffer: the line lies inside it, and the counts fit the number of reads.
 pub record AreLinesKept (chunk have start end count read : ℕ) : Type 0 where
   pub room : chunk ≡ 65536
   pub order : start ≤ end

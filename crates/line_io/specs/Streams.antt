@@ -1,15 +1,15 @@
--- What readers and writers state about their calls, and what must have happened when reading or writing stops.
+-- Statements of readers and writers about their calls, and what follows when reading or writing stops.
 use Rattle.std.specs.Prelude.{◌≡◌, ◌≢◌, ℕ, zero, suc, ◌-◌, ◌^◌, ◌≤◌, ◌⊎◌, Result, Ok, Err}
 use Rattle.line_io.specs.declared.missed.Missed.{Missed}
 use Rattle.line_io.specs.declared.missed.Missed.TheVariants.{Interrupted, Failed}
 
--- A read, judged by its answer: it failed, or it didn't.
+-- The step that a read states by its answer: `fails` if it failed, `reads` if not.
 abbrev pub TellsRead : {S : Type 0} → (reads fails : S → S → Type 0) → Result ℕ Missed → S → S → Type 0
 TellsRead reads fails (Ok count) old new = reads old new
 TellsRead reads fails (Err Interrupted) old new = reads old new
 TellsRead reads fails (Err Failed) old new = fails old new
 
--- A write, judged by its answer: it failed or took no bytes, or it didn't.
+-- The step that a write states by its answer: `fails` if it failed or took no bytes, `writes` if not.
 abbrev pub TellsWrite : {S : Type 0} → (writes fails : S → S → Type 0) → Result ℕ Missed → S → S → Type 0
 TellsWrite writes fails (Ok count) old new = (count ≢ 0 → writes old new) × (count ≡ 0 → fails old new)
 TellsWrite writes fails (Err Interrupted) old new = writes old new
@@ -20,18 +20,18 @@ abbrev pub CallsLead : {S : Type 0} → (S → S → Type 0) → ℕ → S → S
 CallsLead calls zero old new = new ≡ old
 CallsLead {S} calls (suc n) old new = (mid : S) × CallsLead calls n old mid × calls mid new
 
--- Whether the state is the result of such a call.
+-- Whether some call led to the state.
 abbrev pub IsLeft : {S : Type 0} → (S → S → Type 0) → S → Type 0
 IsLeft {S} calls now = (before : S) × calls before now
 
--- Whether `n` calls, and then a last one of another sort, lead from the first state to the second.
+-- Whether `n` calls of one sort and a last one of another lead from the first state to the second.
 abbrev pub IsLastBehind : {S : Type 0} → (calls last : S → S → Type 0) → ℕ → S → S → Type 0
 IsLastBehind {S} calls last n old new = (mid : S) × CallsLead calls n old mid × last mid new
 
--- The reads that ended in a fault: the last one failed after some that didn't; or 2^32 were made, and none failed.
+-- Whether the reads ended in a fault: only the last one failed, or 2^32 were made and none failed.
 abbrev pub HasFailedRead : {R : Type 0} → (reads fails : R → R → Type 0) → (old new : R) → Type 0
 HasFailedRead reads fails old new = (n : ℕ) × (IsLastBehind reads fails n old new ⊎ ((n ≡ 2 ^ 32) × CallsLead reads n old new))
 
--- The writes that ended in a fault: the last one failed; or at least 2^64 - 1 were made, and none failed.
+-- Whether the writes ended in a fault: the last one failed, or at least 2^64 - 1 were made and none failed.
 abbrev pub HasFailedWrite : {W : Type 0} → (writes fails : W → W → Type 0) → W → Type 0
 HasFailedWrite {W} writes fails now = IsLeft fails now ⊎ ((first : W) × (n : ℕ) × (2 ^ 64 - 1 ≤ n) × CallsLead writes n first now)

@@ -1,4 +1,4 @@
--- The effect of a read on the reader and the buffer, and texts of which a prefix is written.
+-- The effect of a read on the reader and the buffer, and of a write that stops early.
 use Rattle.std.specs.Prelude.{◌≡◌, ℕ, ◌≤◌, List, [], ◌++◌, length, take, Option}
 use Rattle.std.specs.Io.KnownBytes.{Appends, Consumes, IsAtEnd}
 use Rattle.line_io.specs.declared.transfer.Filled.{Filled}
@@ -13,7 +13,7 @@ Fills Interrupted from to before after = Consumes from to [] × (after ≡ befor
 Fills Failed from to before after = Consumes from to [] × (after ≡ before)
 Fills NoRoom from to before after = (bytes : List ℕ) × Consumes from to bytes × (after ≡ before)
 
--- The outcome, in terms of the reader: `Failed` if its read failed.
+-- The step of the reader by the outcome: `fails` if it is `Failed`, `reads` for any other.
 abbrev pub FillsBy : {R : Type 0} → (reads fails : R → R → Type 0) → Filled → (old new : R) → Type 0
 FillsBy reads fails Failed old new = fails old new
 FillsBy reads fails _ old new = reads old new

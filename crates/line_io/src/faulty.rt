@@ -1,4 +1,4 @@
-//! A reader and a writer in memory that fail at one call, for tests.
+//! A reader and a writer for tests. Each works in memory and can fail at one call.
 
 ghost use Rattle.std.specs.Prelude.{◌≡◌, ◌≢◌, ◌+◌, ◌%◌, ◌^◌, [], Some};
 
@@ -7,7 +7,7 @@ use crate::streams::{Sink, Source};
 use std::alloc::Global;
 use std::io::{self, ErrorKind, Read, Write};
 
-/// A fake reader for tests: it delivers the bytes of a text, and fails at one call.
+/// A fake reader for tests. It delivers the bytes of a text, and fails at one call.
 #[derive(Drop)]
 pub struct FailRead<'a> {
     rest: &'a [u8],
@@ -17,8 +17,8 @@ pub struct FailRead<'a> {
 }
 
 impl<'a> FailRead<'a> {
-    /// Returns a reader of the text that delivers at most `most` bytes a call, but at least one. Call number
-    /// `fail_at`, counted from 1, fails; with 0, none does.
+    /// Returns a reader of the text that delivers at most `most` bytes a call, or one if `most` is 0. The call with number
+    /// `fail_at`, from 1 on, fails; with 0, no call fails.
     pub fn new(text: &'a [u8], fail_at: u32, most: usize) -> FailRead<'a>
         ensures text { result.rest.now ≡ text.now }
         ensures call { (result.fail_at ≡ fail_at) × (result.calls ≡ 0) }
@@ -62,7 +62,7 @@ impl Read for FailRead<'_> {
     }
 }
 
-/// A fake writer for tests: it keeps the bytes that it gets, and fails at one call.
+/// A fake writer for tests. It keeps the bytes that it gets, and fails at one call.
 #[derive(Drop)]
 pub struct FailWrite {
     written: Vec<u8>,
@@ -72,8 +72,8 @@ pub struct FailWrite {
 }
 
 impl FailWrite {
-    /// Returns a writer that takes at most `most` bytes a call. Call number `fail_at`, counted from 1, fails; with 0,
-    /// none does. With `most` 0, each call takes no bytes.
+    /// Returns a writer that takes at most `most` bytes a call, which may be 0. The call with number `fail_at`, from 1 on,
+    /// fails; with 0, no call fails.
     pub fn new(alloc: Global, fail_at: u32, most: usize) -> FailWrite
         ensures written { result.written.items ≡ [] }
         ensures call { (result.fail_at ≡ fail_at) × (result.calls ≡ 0) }
@@ -86,7 +86,7 @@ impl FailWrite {
         }
     }
 
-    /// Returns what was written so far.
+    /// Returns the bytes that were written so far.
     pub fn written(&self) -> &[u8]
         ensures { result.now ≡ self.now.written.items }
     {

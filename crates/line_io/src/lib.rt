@@ -1,8 +1,8 @@
 //! Reads an input line by line, and writes texts to a writer.
 //!
-//! The caller moves to the next line while a whole one is buffered, and otherwise reads once more. So it decides what
-//! to do before each read. The last line may lack its newline. Readers and writers may state which bytes they hold
-//! and which of their calls fail; those of std state their bytes.
+//! The caller moves from line to line while whole ones are buffered, and then reads once more. So it decides what to do
+//! before each read. The last line may lack its newline. The traits for readers and writers let a type state which bytes
+//! it has, and which of its calls fail. Those of std state their bytes.
 #![tactic(auto)]
 
 mod faulty;

@@ -1,4 +1,4 @@
-//! Lines, as a reader delivers them.
+//! The lines of an input that a reader delivers in pieces.
 
 ghost use Rattle.std.specs.Prelude.{◌≡◌, ◌<◌, ◌≤◌, ◌^◌, [], true, false, suc, IfOk, OnErr};
 ghost use Rattle.line_io.specs.Lines.{IsUnbroken};
@@ -19,8 +19,8 @@ const READS: u64 = 4294967296;
 
 /// The lines of an input: the current line, the bytes read after it, the count of lines and the count of reads.
 ///
-/// The caller moves to the next line while a whole one is buffered, and otherwise reads once more. So it decides what
-/// to do before each read. The last line may lack its newline.
+/// The caller moves from line to line while whole ones are buffered, and then reads once more. So it decides what to do
+/// before each read. The last line may lack its newline.
 #[derive(Drop)]
 pub struct Lines {
     chunk: Vec<u8>,
@@ -43,7 +43,7 @@ impl Model for Lines {
 }
 
 impl Lines {
-    /// Returns the lines of an input of which nothing was read yet.
+    /// Returns the lines of an input before anything of it was read. Fails only if memory runs out.
     pub fn new(alloc: Global) -> Result<Lines, AllocError>
         ensures { IfOk result (λ lines. lines ≡ no_lines) }
     {
@@ -58,7 +58,7 @@ impl Lines {
         })
     }
 
-    /// Moves to the next line, if its end was read. Returns whether it was.
+    /// Moves to the next line, if it was read to its end. Returns whether it was.
     pub fn next(&mut self) -> bool
         ensures found { result ≡ true → GoesToNext self.old self.new }
         ensures none { result ≡ false → IsUnbroken self.old.rest }
@@ -75,7 +75,7 @@ impl Lines {
         true
     }
 
-    /// Whether fewer than 2^32 reads were made.
+    /// Returns whether another read is allowed: fewer than 2^32 were made.
     pub fn may_read(&self) -> bool
         ensures more { result ≡ true → self.now.reads < 2 ^ 32 }
         ensures all { result ≡ false → self.now.reads ≡ 2 ^ 32 }
@@ -99,8 +99,8 @@ impl Lines {
         fill(reader, self.chunk.as_mut_slice(), &mut self.bytes)
     }
 
-    /// Moves to the last line, which lacks its newline, and appends the newline. Returns whether there was such a
-    /// line. `Err` if memory runs out for the newline.
+    /// Moves to the last line, if it lacks its newline, and appends the newline. Returns whether there was such a line.
+    /// Fails only if memory runs out for the newline.
     pub fn last(&mut self) -> Result<bool, AllocError>
         requires { IsUnbroken self.old.rest }
         ensures found { IfOk result (λ some. some ≡ true → GoesToLast self.old self.new) }
@@ -118,7 +118,7 @@ impl Lines {
         Ok(true)
     }
 
-    /// Returns the current line, with its newline; it is empty after a read.
+    /// Returns the current line, with its newline. After a read it is empty.
     pub fn line(&self) -> &[u8]
         ensures { result.now ≡ self.now.line }
     {
@@ -132,7 +132,7 @@ impl Lines {
         &self.bytes[self.end..]
     }
 
-    /// Returns how many lines were reached.
+    /// Returns the number of lines that were reached.
     pub fn count(&self) -> u64
         ensures value { result ≡ self.now.count }
         ensures limit { result ≤ 2 ^ 49 }

@@ -1,10 +1,10 @@
-//! Why a call of a reader or a writer did nothing.
+//! The error of a call of a reader or a writer.
 
 /// Why a read returned nothing, or a write took nothing.
 #[derive(Clone, Copy, Debug, PartialEq, Eq)]
 pub enum Missed {
-    /// A signal interrupted it; the next call may succeed.
+    /// A signal interrupted the call. The next one may succeed.
     Interrupted,
-    /// It failed.
+    /// The call failed.
     Failed,
 }

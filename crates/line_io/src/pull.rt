@@ -20,14 +20,14 @@ pub enum Pulled {
     Long,
     /// No line is left.
     End,
-    /// The reader failed, or was read 2^32 times.
+    /// The reader failed, or was called 2^32 times.
     ReadFault,
     /// Out of memory for the line.
     NoRoom,
 }
 
 impl Lines {
-    /// Moves to the next line, reading until its end is there or it is too long. The last line may lack its newline.
+    /// Moves to the next line. Reads until the line is whole, or too long. The last line may lack its newline.
     pub fn pull<R: Source>(&mut self, reader: &mut R) -> Pulled
         ensures pulls { Pulls result (left self.old (R.remaining reader.old)) (left self.new (R.remaining reader.new)) self.old self.new }
         ensures told { PulledBy R.Source result reader.old reader.new self.old.reads self.new.reads }
@@ -49,7 +49,7 @@ impl Lines {
         self.judged()
     }
 
-    // Judges the current line's length.
+    // Returns Line or Long, by the current line's length.
     fn judged(&self) -> Pulled
         ensures { IsJudged result self.now.line }
     {
@@ -60,7 +60,7 @@ impl Lines {
         }
     }
 
-    // Moves to the last line, if any: there is no more to read.
+    // Moves to the last line, if any, once there is no more to read.
     fn ended(&mut self) -> Pulled
         requires { IsUnbroken self.old.rest }
         ensures ends { ComesToEnd result self.old self.new }

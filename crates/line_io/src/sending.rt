@@ -26,7 +26,7 @@ pub fn send_full<W: Sink>(writer: &mut W, output: &mut Vec<u8>) -> Result<(), Wr
     }
 }
 
-/// Writes the output and clears it. If the writer fails, it has a prefix of the output.
+/// Writes the output and clears it. If the writer fails, it has taken a prefix of the output.
 pub fn send<W: Sink>(writer: &mut W, output: &mut Vec<u8>) -> Result<(), WriteFailed>
     ensures ok { OnOk result (Appends (W.contents writer.old) (W.contents writer.new) output.old.items × (output.new.items ≡ [])) }
     ensures err { OnErr result (WritesPart (W.contents writer.old) (W.contents writer.new) output.old.items) }

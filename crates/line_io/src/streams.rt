@@ -1,4 +1,4 @@
-//! What lines are read from, and what texts are written to.
+//! Sources of lines, and sinks of texts.
 
 ghost use Rattle.std.specs.Prelude.{ℕ, List, Option, None};
 ghost use Rattle.std.specs.Io.{ReadsAtMost, WritesAtMost};
@@ -28,7 +28,7 @@ pub trait Source {
 
 /// A sink of bytes: a writer that may state which bytes it holds, and which of its writes fail.
 pub trait Sink {
-    // The bytes that it holds, if they are known.
+    // The bytes that the sink has, if they are known.
     ghost contents: { Self → Option (List ℕ) } = { λ _. None };
 
     // A write that didn't fail may lead from the first state to the second.
@@ -37,7 +37,7 @@ pub trait Sink {
     // A write that failed, or took no bytes, may lead from the first state to the second.
     ghost fails: { Self → Self → Type 0 } = { λ _ _. Unit {0} };
 
-    /// Writes once, and returns the count of bytes that were taken. A write that takes none has failed.
+    /// Writes once, and returns the count of bytes that were taken. A write that takes no bytes has failed.
     fn write(&mut self, buf: &[u8]) -> Result<usize, Missed>
         ensures bound { WritesAtMost result buf.now }
         ensures bytes { WriteAppends (contents self.old) (contents self.new) result buf.now }
@@ -70,7 +70,7 @@ impl<W: Write> Sink for Plain<W> {
     }
 }
 
-// Whether the call was only interrupted.
+// Returns Interrupted if a signal interrupted the call, else Failed.
 fn missed(fault: &io::Error) -> Missed {
     if fault.kind() == ErrorKind::Interrupted {
         Missed::Interrupted

@@ -1,4 +1,4 @@
-//! Bytes from a reader and to a writer.
+//! Single reads, and writes of a whole text.
 
 ghost use Rattle.std.specs.Prelude.{◌≡◌, ◌≤◌, ◌<◌, ◌+◌, [], IfOk, OnOk, OnErr, length, drop, vec_len};
 ghost use Rattle.std.specs.Io.KnownBytes.{Appends};
@@ -13,9 +13,9 @@ use crate::streams::{Sink, Source};
 pub enum Filled {
     /// Some bytes were read.
     More,
-    /// The reader has no more.
+    /// The input ended.
     End,
-    /// A signal interrupted it. Nothing was read, and the next read may succeed.
+    /// A signal interrupted the read. Nothing was read, and the next read may succeed.
     Interrupted,
     /// The reader failed.
     Failed,
@@ -42,11 +42,11 @@ pub(crate) fn fill<R: Source>(reader: &mut R, chunk: &mut [u8], pending: &mut Ve
     }
 }
 
-/// The writer failed, or took no bytes.
+/// The error when a writer fails or takes no bytes.
 #[derive(Clone, Copy, Debug, PartialEq, Eq)]
 pub struct WriteFailed;
 
-/// Writes all of the text. If the writer fails, it has a prefix of the text.
+/// Writes all of the text. If the writer fails, it has taken a prefix of the text.
 pub fn write_out<W: Sink>(writer: &mut W, text: &[u8]) -> Result<(), WriteFailed>
     ensures ok { OnOk result (Appends (W.contents writer.old) (W.contents writer.new) text.now) }
     ensures err { OnErr result (WritesPart (W.contents writer.old) (W.contents writer.new) text.now) }
@@ -65,7 +65,7 @@ pub fn write_out<W: Sink>(writer: &mut W, text: &[u8]) -> Result<(), WriteFailed
     Err(WriteFailed)
 }
 
-// Writes once, and returns the count of bytes that were taken: 0 if a signal interrupted it.
+// Writes once, and returns the count of bytes that were taken, which is 0 if a signal interrupted the write.
 fn write_once<W: Sink>(writer: &mut W, text: &[u8]) -> Result<usize, WriteFailed>
     ensures ok { IfOk result (λ count. WritesFront (W.contents writer.old) (W.contents writer.new) count text.now) }
     ensures err { OnErr result (Appends (W.contents writer.old) (W.contents writer.new) []) }
@@ -80,7 +80,7 @@ fn write_once<W: Sink>(writer: &mut W, text: &[u8]) -> Result<usize, WriteFailed
     }
 }
 
-// Returns the rest after the first `count` bytes.
+// Returns the text after its first `count` bytes.
 fn behind(text: &[u8], count: usize) -> &[u8]
     requires { count ≤ length text.now }
     ensures { result.now ≡ drop count text.now }

@@ -22,7 +22,7 @@ reply_lines_if (Some (Some reply)) = reply_lines AsMerge reply larger
 reply_lines_if (Some None) = []
 reply_lines_if None = []
 
--- Each action's line, followed by the store's reply.
+-- The lines of actions, each followed by the store's reply.
 abbrev pub acted_lines : List Action → List (Option Reply) → List ℕ
 acted_lines [] replies = []
 acted_lines (action ∷ actions) [] = action_line action ++ acted_lines actions []

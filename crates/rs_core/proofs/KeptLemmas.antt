@@ -197,7 +197,7 @@ fewer_up states at within rest =
     omega (arith, was, sum_by-set (λ s. one (is_up s)) states at (Up up) Down within, count_by-le-length is_up (set states at (Up up)), length-set states at (Up up))
   where
     up : Running
-    up = record { endpoint = record { generation = 0; slot = 0 }; beat = 0; ping = 0; failures = 0 }
+    up = record { endpoint = record { generation = 0; slot = 0 }; since = 0; beat = 0; ping = 0; failures = 0 }
 
     was : one (is_up (get_or states at Down)) ≡ 0
     was = ap one rest

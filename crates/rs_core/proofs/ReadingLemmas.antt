@@ -25,7 +25,7 @@ use Rattle.rs_core.specs.declared.state.Pause.{Pause}
 use Rattle.rs_core.specs.Action.{stop_actions}
 use Rattle.rs_core.specs.State.{RsRecord, state_at, service_at, no_service}
 use Rattle.rs_core.specs.Finding.{is_sought, first_sought, service_place, when_up, when_waiting}
-use Rattle.rs_core.specs.Machine.{asked, due, failed, plan, state_after, actions_of}
+use Rattle.rs_core.specs.Machine.{asked, due, failed, failures_left, plan, state_after, actions_of}
 use Rattle.rs_core.specs.Step.{RsStep, IsCarriedOut}
 use Rattle.rs_core.specs.Reading.{is_due, any_due, is_from, IsFrom, TicksActWhenDue, gives_up, given_up, given_up_in, StepsGiveUp}
 use Rattle.rs_core.proofs.SaysLemmas.{written}
@@ -220,7 +220,7 @@ gave_up_failed limit tick k e = by (nat_lt limit k) refl _ e
     by false q p f = absurd (let n : Waiting p ≡ GaveUp = f in cc)
 
 -- a state after a deed in which the service is given up was one before, or the deed gives it up
-gives_up_then : (s : RsRecord) (tick : ℕ) (service : Service) (state : State) (deed : Deed) → state_after s tick service state deed ≡ GaveUp → (state ≡ GaveUp) ⊎ (gives_up deed service state ≡ true)
+gives_up_then : (s : RsRecord) (tick : ℕ) (service : Service) (state : State) (deed : Deed) → state_after s tick service state deed ≡ GaveUp → (state ≡ GaveUp) ⊎ (gives_up tick deed service state ≡ true)
 gives_up_then s tick service GaveUp deed e = inl refl
 gives_up_then s tick service Down Begin e = absurd (let n : Up _ ≡ GaveUp = e in cc)
 gives_up_then s tick service Down deed e = absurd (let n : Down ≡ GaveUp = e in cc)
@@ -228,15 +228,15 @@ gives_up_then s tick service (Waiting p) Resume e = absurd (let n : Up _ ≡ Gav
 gives_up_then s tick service (Waiting p) Forget e = absurd (let n : Down ≡ GaveUp = e in cc)
 gives_up_then s tick service (Waiting p) deed e = absurd (let n : Waiting p ≡ GaveUp = e in cc)
 gives_up_then s tick service (Up r) Replace e = absurd (let n : Up _ ≡ GaveUp = e in cc)
-gives_up_then s tick service (Up r) (Lose kill) e = inr (gave_up_failed service.limit tick (r.failures + 1) e)
+gives_up_then s tick service (Up r) (Lose kill) e = inr (gave_up_failed service.limit tick (failures_left service.forget tick r + 1) e)
 gives_up_then s tick service (Up r) Hear e = absurd (let n : Up _ ≡ GaveUp = e in cc)
 gives_up_then s tick service (Up r) Ping e = absurd (let n : Up _ ≡ GaveUp = e in cc)
 gives_up_then s tick service (Up r) Halt e = absurd (let n : Down ≡ GaveUp = e in cc)
 gives_up_then s tick service (Up r) deed e = absurd (let n : Up r ≡ GaveUp = e in cc)
 
 -- the deed gives up a service whose instance runs
-gives_up_now : (s : RsRecord) (tick : ℕ) (service : Service) (state : State) (deed : Deed) → gives_up deed service state ≡ true → Runs state × (state_after s tick service state deed ≡ GaveUp)
-gives_up_now s tick service (Up r) (Lose kill) e = ((r, refl), failed_gives_up service.limit tick (r.failures + 1) e)
+gives_up_now : (s : RsRecord) (tick : ℕ) (service : Service) (state : State) (deed : Deed) → gives_up tick deed service state ≡ true → Runs state × (state_after s tick service state deed ≡ GaveUp)
+gives_up_now s tick service (Up r) (Lose kill) e = ((r, refl), failed_gives_up service.limit tick (failures_left service.forget tick r + 1) e)
 gives_up_now s tick service Down (Lose kill) e = false_true e
 gives_up_now s tick service (Waiting p) (Lose kill) e = false_true e
 gives_up_now s tick service GaveUp (Lose kill) e = false_true e
@@ -257,7 +257,7 @@ up_not_given_up : (r : Running) (state : State) → state ≡ Up r → state ≢
 up_not_given_up r state e = λ f. absurd (let n : Up r ≡ GaveUp = sym e ∙ f in cc)
 
 pub steps_give_up : StepsGiveUp
-steps_give_up s t event tick actions (None, free, is, h) i = (λ e. absurd (let n : None ≡ Some i = sym (ap (given_up_in s) is) ∙ e in cc), λ gone. absurd (gone.1 (sym (ap (λ (z : RsRecord). state_at z i) h.after) ∙ gone.0)))
+steps_give_up s t event tick actions (None, free, is, h) i = (λ e. absurd (let n : None ≡ Some i = sym (ap (given_up_in s tick) is) ∙ e in cc), λ gone. absurd (gone.1 (sym (ap (λ (z : RsRecord). state_at z i) h.after) ∙ gone.0)))
 steps_give_up s t event tick actions (Some p, free, is, h) i = (onward, back)
   where
     service : Service
@@ -269,16 +269,16 @@ steps_give_up s t event tick actions (Some p, free, is, h) i = (onward, back)
     then_at : (k : ℕ) → state_at t k ≡ get_or (set s.states p.place after) k Down
     then_at k = ap (λ (z : RsRecord). state_at z k) h.after
 
-    given : given_up s event tick ≡ cond (gives_up p.deed service (state_at s p.place)) (Some p.place) None
-    given = ap (given_up_in s) is
+    given : given_up s event tick ≡ cond (gives_up tick p.deed service (state_at s p.place)) (Some p.place) None
+    given = ap (given_up_in s tick) is
 
-    tested : (b : Bool) → gives_up p.deed service (state_at s p.place) ≡ b → cond b (Some p.place) None ≡ Some i → (p.place ≡ i) × (gives_up p.deed service (state_at s p.place) ≡ true)
+    tested : (b : Bool) → gives_up tick p.deed service (state_at s p.place) ≡ b → cond b (Some p.place) None ≡ Some i → (p.place ≡ i) × (gives_up tick p.deed service (state_at s p.place) ≡ true)
     tested true q e = (same_Some p.place i e, q)
     tested false q e = absurd (let n : None ≡ Some i = e in cc)
 
     onward : given_up s event tick ≡ Some i → (state_at t i ≡ GaveUp) × (state_at s i ≢ GaveUp)
     onward e =
-        let test = tested (gives_up p.deed service (state_at s p.place)) refl (sym given ∙ e) in
+        let test = tested (gives_up tick p.deed service (state_at s p.place)) refl (sym given ∙ e) in
         let now = gives_up_now s tick service (state_at s p.place) p.deed test.1 in
         let within = runs_within s.states p.place now.0.0 now.0.1 in
         let gone : state_at t p.place ≡ GaveUp = then_at p.place ∙ get_or-set_same s.states p.place after Down within ∙ now.1 in
@@ -290,6 +290,6 @@ steps_give_up s t event tick actions (Some p, free, is, h) i = (onward, back)
       | inr here ↦ by here.0 (gives_up_then s tick service (state_at s p.place) p.deed (sym here.1 ∙ sym (then_at i) ∙ gone.0))
     ]
       where
-        by : i ≡ p.place → (state_at s p.place ≡ GaveUp) ⊎ (gives_up p.deed service (state_at s p.place) ≡ true) → given_up s event tick ≡ Some i
+        by : i ≡ p.place → (state_at s p.place ≡ GaveUp) ⊎ (gives_up tick p.deed service (state_at s p.place) ≡ true) → given_up s event tick ≡ Some i
         by e (inl was) = absurd (gone.1 (ap (state_at s) e ∙ was))
         by e (inr does) = given ∙ ap (λ (b : Bool). cond b (Some p.place) None) does ∙ ap (λ (k : ℕ). Some k) (sym e)

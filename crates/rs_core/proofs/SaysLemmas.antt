@@ -24,7 +24,7 @@ use Rattle.rs_core.specs.declared.finding.Sought.TheVariants as sought
 use Rattle.rs_core.specs.Action.{IsActionInPlace, label_put, start_actions, stop_actions}
 use Rattle.rs_core.specs.State.{RsRecord, state_at, service_at, no_service}
 use Rattle.rs_core.specs.Finding.{first_sought}
-use Rattle.rs_core.specs.Machine.{asked, failed, state_after, actions_of, next_after, new_endpoint, same_slot, started_at}
+use Rattle.rs_core.specs.Machine.{asked, failed, failures_left, state_after, actions_of, next_after, new_endpoint, same_slot, started_at}
 use Rattle.rs_core.specs.Judging.{order, against, refusal, takes_generation, has_actions, asks}
 use Rattle.rs_core.specs.Run.{offers}
 use Rattle.rs_core.specs.Says.{Begun, begun_at, label_at, IsNextAfter, IsPutOf, IsGoneOf, RanOrBegan, StepsSay, QuietStepsAreEmpty, LabelsAreFound}
@@ -46,10 +46,10 @@ record DeedSays (s : RsRecord) (place : ℕ) (state : State) (actions : List Act
 
 module _ (s : RsRecord) (place : ℕ) where
   -- an instance begins under this endpoint
-  begins : (state : State) (actions : List Action) (e : EndpointRecord) (tick failures : ℕ) → length actions ≤ 5 → AllByRecursion IsActionInPlace actions → e.generation ≡ s.next → s.next ≤ 2097151
+  begins : (state : State) (actions : List Action) (e : EndpointRecord) (tick startup failures : ℕ) → length actions ≤ 5 → AllByRecursion IsActionInPlace actions → e.generation ≡ s.next → s.next ≤ 2097151
       → In (label_put (label_at s place) e) (offers actions) → ((c : ChangeRecord) → In c (offers actions) → (c ≡ label_put (label_at s place) e) ⊎ IsGoneOf s c)
-      → DeedSays s place state actions (s.next + 1) (started_at e tick failures)
-  begins state actions e tick failures few own g left there all = record {
+      → DeedSays s place state actions (s.next + 1) (started_at e tick startup failures)
+  begins state actions e tick startup failures few own g left there all = record {
     few = few;
     in_place = own;
     begun = Some (begun_at place e);
@@ -113,14 +113,14 @@ module _ (s : RsRecord) (place : ℕ) where
 
   deed_says : (tick : ℕ) (state : State) → state_at s place ≡ state → (deed : Deed) → (takes_generation deed ≡ true → s.next ≤ 2097151)
       → DeedSays s place state (actions_of s (service_at s place) state deed) (next_after s state deed) (state_after s tick (service_at s place) state deed)
-  deed_says tick Down here Begin left = begins Down _ (new_endpoint s) tick 0 (omega arith) (tt, (tt, tt)) refl (left refl) (inl refl) (only_put (new_endpoint s))
-  deed_says tick GaveUp here Begin left = begins GaveUp _ (new_endpoint s) tick 0 (omega arith) (tt, (tt, tt)) refl (left refl) (inl refl) (only_put (new_endpoint s))
-  deed_says tick (Waiting p) here Resume left = begins (Waiting p) _ (new_endpoint s) tick p.failures (omega arith) (tt, (tt, tt)) refl (left refl) (inl refl) (only_put (new_endpoint s))
+  deed_says tick Down here Begin left = begins Down _ (new_endpoint s) tick (service_at s place).startup 0 (omega arith) (tt, (tt, tt)) refl (left refl) (inl refl) (only_put (new_endpoint s))
+  deed_says tick GaveUp here Begin left = begins GaveUp _ (new_endpoint s) tick (service_at s place).startup 0 (omega arith) (tt, (tt, tt)) refl (left refl) (inl refl) (only_put (new_endpoint s))
+  deed_says tick (Waiting p) here Resume left = begins (Waiting p) _ (new_endpoint s) tick (service_at s place).startup p.failures (omega arith) (tt, (tt, tt)) refl (left refl) (inl refl) (only_put (new_endpoint s))
   deed_says tick (Up r) here Replace left =
-      begins (Up r) _ (same_slot s r) tick r.failures (omega arith) (tt, (tt, (tt, (tt, (tt, tt))))) refl (left refl) (inr (inl refl)) (gone_and_put r (same_slot s r) here)
+      begins (Up r) _ (same_slot s r) tick (service_at s place).startup (failures_left (service_at s place).forget tick r) (omega arith) (tt, (tt, (tt, (tt, (tt, tt))))) refl (left refl) (inr (inl refl)) (gone_and_put r (same_slot s r) here)
   deed_says tick (Up r) here (Lose kill) left =
       rests (Up r) (stop_actions kill (label_at s place) r.endpoint) _ (few_stops kill (label_at s place) r.endpoint) (own_stops kill (label_at s place) r.endpoint) (only_gone kill r here)
-      (λ q up. absurd (none_runs (service_at s place).limit tick (r.failures + 1) q up))
+      (λ q up. absurd (none_runs (service_at s place).limit tick (failures_left (service_at s place).forget tick r + 1) q up))
   deed_says tick (Up r) here Halt left =
       rests (Up r) (stop_actions true (label_at s place) r.endpoint) _ (omega arith) (tt, (tt, (tt, tt))) (only_gone true r here) (λ q up. absurd (let n : Down ≡ Up q = up in cc))
   deed_says tick (Up r) here Hear left = rests (Up r) [] _ (omega arith) tt (λ c h. absurd h) (λ q up. (r, refl, ap (λ (z : Running). z.endpoint) (up_is _ q up)))

@@ -1,5 +1,5 @@
 -- The restart machine: what an event calls for, what is then done, and the state after it.
-use Rattle.std.specs.Prelude.{ℕ, ◌+◌, ◌-◌, ◌^◌, min, true, nat_lt, List, [], ◌∷◌, ◌++◌, Option, Some, None, option_map, Result, Ok, Err, if◌then◌else◌}
+use Rattle.std.specs.Prelude.{ℕ, ◌+◌, ◌-◌, ◌^◌, min, true, ◌&&◌, nat_le, nat_lt, List, [], ◌∷◌, ◌++◌, Option, Some, None, option_map, Result, Ok, Err, if◌then◌else◌}
 use Rattle.std.specs.Option.{option_or}
 use Rattle.ds_names.specs.Endpoint.{EndpointRecord, endpoint_of}
 use Rattle.rs_settings.specs.declared.service.Service.{Service}
@@ -77,9 +77,14 @@ failures_of (Waiting p) = p.failures
 failures_of Down = 0
 failures_of GaveUp = 0
 
--- The state of an instance that starts now.
-abbrev pub started_at : EndpointRecord → ℕ → ℕ → State
-started_at endpoint tick failures = Up (record { endpoint = endpoint; beat = tick; ping = tick; failures = failures })
+-- The failures in a row that still count when the instance ends: none, if it was up for `forget` ticks or more. 0 is never.
+abbrev pub failures_left : ℕ → ℕ → Running → ℕ
+failures_left forget tick r = if nat_lt 0 forget && nat_le forget (tick - r.since) then 0 else r.failures
+
+-- The state of an instance that starts now. Its first heartbeat period counts from the end of its time to start on.
+abbrev pub started_at : EndpointRecord → ℕ → ℕ → ℕ → State
+started_at endpoint tick startup failures =
+    Up (record { endpoint = endpoint; since = tick; beat = tick + startup; ping = tick; failures = failures })
 
 -- The endpoint of a start: the next generation, in the next slot.
 abbrev pub new_endpoint : RsRecord → EndpointRecord
@@ -91,11 +96,11 @@ same_slot s r = endpoint_of s.next r.endpoint.slot
 
 -- The state of a service after the deed. A deed that doesn't fit its state, which no event calls for, changes nothing.
 abbrev pub state_after : RsRecord → ℕ → Service → State → Deed → State
-state_after s tick service Down Begin = started_at (new_endpoint s) tick 0
-state_after s tick service GaveUp Begin = started_at (new_endpoint s) tick 0
-state_after s tick service (Waiting p) Resume = started_at (new_endpoint s) tick p.failures
-state_after s tick service (Up r) Replace = started_at (same_slot s r) tick r.failures
-state_after s tick service (Up r) (Lose kill) = failed service.limit tick (r.failures + 1)
+state_after s tick service Down Begin = started_at (new_endpoint s) tick service.startup 0
+state_after s tick service GaveUp Begin = started_at (new_endpoint s) tick service.startup 0
+state_after s tick service (Waiting p) Resume = started_at (new_endpoint s) tick service.startup p.failures
+state_after s tick service (Up r) Replace = started_at (same_slot s r) tick service.startup (failures_left service.forget tick r)
+state_after s tick service (Up r) (Lose kill) = failed service.limit tick (failures_left service.forget tick r + 1)
 state_after s tick service (Up r) Hear = Up (record r { beat = tick })
 state_after s tick service (Up r) Ping = Up (record r { ping = tick })
 state_after s tick service (Up r) Halt = Down

@@ -1,5 +1,5 @@
 -- What callers read from RS between events.
-use Rattle.std.specs.Prelude.{◌≡◌, ◌≢◌, ◌↔◌, ℕ, ◌+◌, ◌≤◌, ◌^◌, Bool, true, false, ◌||◌, nat_le, nat_lt, List, [], ◌∷◌, Option, Some, None, is_some, Result, Ok, Err, if◌then◌else◌}
+use Rattle.std.specs.Prelude.{◌≡◌, ◌≢◌, ◌↔◌, ℕ, ◌+◌, ◌≤◌, ◌^◌, Bool, true, false, ◌||◌, nat_le, nat_lt, List, [], ◌∷◌, Option, Some, None, is_some, Result, Ok, if◌then◌else◌}
 use Rattle.ds_names.specs.Endpoint.{EndpointRecord}
 use Rattle.ds_names.specs.declared.key.Key.{Key}
 use Rattle.rs_settings.specs.Dealing.{is_declared}
@@ -16,7 +16,7 @@ use Rattle.rs_core.specs.declared.state.State.{State}
 use Rattle.rs_core.specs.declared.state.State.TheVariants.{Up, GaveUp}
 use Rattle.rs_core.specs.State.{RsRecord, state_at, service_at}
 use Rattle.rs_core.specs.Finding.{is_sought, service_place}
-use Rattle.rs_core.specs.Machine.{asked, due}
+use Rattle.rs_core.specs.Machine.{asked, due, failures_left}
 use Rattle.rs_core.specs.Step.{RsStep}
 
 -- ---- what is due
@@ -49,18 +49,18 @@ TicksActWhenDue =
 -- ---- a service that is given up
 
 -- Whether the deed makes RS give up the service: its instance fails once more than its limit.
-abbrev pub gives_up : Deed → Service → State → Bool
-gives_up (Lose kill) service (Up r) = nat_lt service.limit (r.failures + 1)
-gives_up _ _ _ = false
+abbrev pub gives_up : ℕ → Deed → Service → State → Bool
+gives_up tick (Lose kill) service (Up r) = nat_lt service.limit (failures_left service.forget tick r + 1)
+gives_up tick _ _ _ = false
 
 -- The service that is given up by what an event calls for.
-abbrev pub given_up_in : RsRecord → Result (Option Plan) RsFault → Option ℕ
-given_up_in s (Ok (Some p)) = if gives_up p.deed (service_at s p.place) (state_at s p.place) then Some p.place else None
-given_up_in s _ = None
+abbrev pub given_up_in : RsRecord → ℕ → Result (Option Plan) RsFault → Option ℕ
+given_up_in s tick (Ok (Some p)) = if gives_up tick p.deed (service_at s p.place) (state_at s p.place) then Some p.place else None
+given_up_in s tick _ = None
 
 -- The index of the service that RS gives up at the event, if no fault applies to the event.
 abbrev pub given_up : RsRecord → Event → ℕ → Option ℕ
-given_up s event tick = given_up_in s (asked s event tick)
+given_up s event tick = given_up_in s tick (asked s event tick)
 
 -- A law: a step gives up exactly this service.
 abbrev pub StepsGiveUp : Type 0
@@ -72,6 +72,11 @@ StepsGiveUp = (s t : RsRecord) (event : Event) (tick : ℕ) (actions : List Acti
 -- The index of the service that runs under the endpoint.
 abbrev pub place_of_instance : RsRecord → EndpointRecord → Option ℕ
 place_of_instance s endpoint = service_place s (sought.Instance endpoint)
+
+-- Whether the one service may deal with the other, by a rule of the settings. If there is no such service, none may.
+abbrev pub deals_at : (Service → Service → Bool) → RsRecord → Option ℕ → Option ℕ → Bool
+deals_at may s (Some i) (Some j) = may (service_at s i) (service_at s j)
+deals_at may s _ _ = false
 
 -- Whether the service with this index declares the key.
 abbrev pub declares_at : RsRecord → Option ℕ → Key → Bool

@@ -37,7 +37,18 @@ state_at s i = slice_index_or s.states i Down
 
 -- A placeholder for a service past the end.
 abbrev pub no_service : Service
-no_service = record { label = []; class = Server; unit = None; period = 0; limit = 0; publishes = [] }
+no_service = record {
+  label = [];
+  class = Server;
+  unit = None;
+  period = 0;
+  limit = 0;
+  publishes = [];
+  complains = None;
+  connects = None;
+  forget = 0;
+  startup = 0;
+}
 
 -- The settings' service with this index.
 abbrev pub service_at : RsRecord → ℕ → Service

@@ -2,7 +2,7 @@
 
 ghost use Rattle.std.specs.Prelude.{◌≡◌, ◌<◌, ◌≤◌, ◌+◌, ◌^◌};
 ghost use Rattle.ds_names.specs.Endpoint.{endpoint_of};
-ghost use Rattle.rs_core.specs.Machine.{failed, pause};
+ghost use Rattle.rs_core.specs.Machine.{failed, failures_left, pause};
 ghost use Rattle.rs_core.specs.Kept.{IsAtRest};
 
 use ds_names::{Endpoint, Generation};
@@ -11,7 +11,9 @@ use ds_names::{Endpoint, Generation};
 #[derive(Clone, Copy, Debug, PartialEq, Eq)]
 pub struct Running {
     pub endpoint: Endpoint,
-    /// The tick of its last heartbeat, or of its start.
+    /// The tick of its start.
+    pub since: u64,
+    /// The tick of its last heartbeat. Before the first one, the tick at which its time to start is over.
     pub beat: u64,
     /// The tick of its last ping, or of its start.
     pub ping: u64,
@@ -36,6 +38,18 @@ pub enum State {
     Up(Running),
     Waiting(Pause),
     GaveUp,
+}
+
+// Returns the failures in a row that still count when the instance ends at a tick.
+pub(crate) fn failures_left(forget: u32, tick: u64, running: &Running) -> u32
+    ensures value { result ≡ failures_left forget tick running.now }
+    ensures few { result ≤ running.now.failures }
+{
+    if forget > 0 && u64::from(forget) <= tick.saturating_sub(running.since) {
+        0
+    } else {
+        running.failures
+    }
 }
 
 // Returns the ticks to wait after failure k in a row.

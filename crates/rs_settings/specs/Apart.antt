@@ -4,12 +4,12 @@ use Rattle.rs_settings.specs.declared.service.Service.{Service}
 use Rattle.rs_settings.specs.Shared.{share_label, share_unit, has_name, repeats}
 use Rattle.rs_settings.specs.Settings.{SettingsRecord, IsSettings}
 
--- No two of the services share it.
+-- No two of the services share what the test compares.
 abbrev pub AreDistinct : (Service → Service → Bool) → List Service → Type 0
 AreDistinct share services =
     (i j : ℕ) (d : Service) → i < j → j < length services → share (slice_index_or services j d) (slice_index_or services i d) ≡ false
 
--- Labels differ, units of one kind differ, and each name is published by one service, once.
+-- Labels differ, units of one kind differ, and only one service publishes a name, once.
 pub record AreApart (services : List Service) : Type 0 where
   pub labels : AreDistinct share_label services
   pub units : AreDistinct share_unit services
@@ -17,6 +17,6 @@ pub record AreApart (services : List Service) : Type 0 where
       has_name (slice_index_or services i d).publishes name ≡ true → has_name (slice_index_or services j d).publishes name ≡ false
   pub once : (i : ℕ) (d : Service) → i < length services → repeats [] (slice_index_or services i d).publishes ≡ false
 
--- A law: the services of settings share nothing.
+-- A law: the services of settings share no label, no unit and no published name.
 abbrev pub ServicesAreApart : Type 0
 ServicesAreApart = (s : SettingsRecord) → IsSettings s → AreApart s.services

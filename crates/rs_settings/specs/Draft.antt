@@ -1,5 +1,5 @@
 -- A judged service whose published names are still in the document.
-use Rattle.std.specs.Prelude.{ℕ, Bool, List, [], map, unwrap_or}
+use Rattle.std.specs.Prelude.{ℕ, Bool, List, [], map, option_map, unwrap_or}
 use Rattle.toml.specs.Data.{as_str}
 use Rattle.toml.specs.View.{view}
 use Rattle.toml.specs.declared.value.Value.{Value}
@@ -22,9 +22,13 @@ service_of_draft d = record {
   period = d.period;
   limit = d.limit;
   publishes = map text_in_value d.publishes.now;
+  complains = option_map (λ values. map text_in_value values.now) d.complains;
+  connects = option_map (λ values. map text_in_value values.now) d.connects;
+  forget = d.forget;
+  startup = d.startup;
 }
 
--- Whether the two services share the mark.
+-- Whether the two services share the field that the mark names.
 abbrev pub share_by : Mark → Service → Service → Bool
 share_by Label = share_label
 share_by Unit = share_unit

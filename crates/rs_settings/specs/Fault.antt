@@ -12,6 +12,6 @@ at_top cause = record { cause = cause; index = None }
 abbrev pub at_service : SettingsCause → ℕ → SettingsFault
 at_service cause index = record { cause = cause; index = Some index }
 
--- The fault of running out of memory.
+-- The fault when memory runs out.
 abbrev pub no_room : SettingsFault
 no_room = at_top NoRoom

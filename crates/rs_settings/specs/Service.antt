@@ -7,13 +7,14 @@ use Rattle.rs_settings.specs.declared.fault.SettingsCause.{SettingsCause}
 use Rattle.rs_settings.specs.declared.fault.SettingsCause.TheVariants.{UnknownField, Missing, OutOfRange}
 use Rattle.rs_settings.specs.declared.fault.SettingsFault.{SettingsFault}
 use Rattle.rs_settings.specs.Fault.{at_top, at_service}
-use Rattle.rs_settings.specs.Values.{is_same, keys_pass, number_or, label_in_data, names_or, class_in, is_server, unit_in}
+use Rattle.rs_settings.specs.Values.{is_same, keys_pass, number_or, label_in_data, names_or, names_if, class_in, is_server, unit_in}
 
--- Whether a service may have the field.
+-- Whether a service may have a field of this name.
 abbrev pub is_service_field : List ℕ → Bool
 is_service_field key =
     is_same key (codes "label") || is_same key (codes "class") || is_same key (codes "unit") || is_same key (codes "period") || is_same key
-    (codes "limit") || is_same key (codes "publishes")
+    (codes "limit") || is_same key (codes "publishes") || is_same key (codes "complains") || is_same key (codes "connects") || is_same key
+    (codes "forget") || is_same key (codes "startup")
 
 -- Whether there is a class, and it is `server`.
 abbrev pub is_server_class : Option Class → Bool
@@ -31,13 +32,25 @@ lacks_field fields =
     is_none (get_member (codes "label") fields) || is_none (get_member (codes "class") fields) ||
     (is_none (get_member (codes "unit") fields) && not (names_server (get_member (codes "class") fields)))
 
--- The service of these parts, if each of them could be read.
-abbrev pub service_of : Option (List ℕ) → Option Class → Option (Option ℕ) → Option ℕ → Option ℕ → Option (List (List ℕ)) → Option Service
-service_of (Some label) (Some class) (Some unit) (Some period) (Some limit) (Some publishes) =
-    Some (record { label = label; class = class; unit = unit; period = period; limit = limit; publishes = publishes })
-service_of _ _ _ _ _ _ = None
+-- The service with these parts, if each of them could be read.
+abbrev pub service_of : Option (List ℕ) → Option Class → Option (Option ℕ) → Option ℕ → Option ℕ → Option (List (List ℕ)) →
+    Option (Option (List (List ℕ))) → Option (Option (List (List ℕ))) → Option ℕ → Option ℕ → Option Service
+service_of (Some label) (Some class) (Some unit) (Some period) (Some limit) (Some publishes) (Some complains) (Some connects) (Some forget) (Some startup) =
+    Some (record {
+      label = label;
+      class = class;
+      unit = unit;
+      period = period;
+      limit = limit;
+      publishes = publishes;
+      complains = complains;
+      connects = connects;
+      forget = forget;
+      startup = startup;
+    })
+service_of _ _ _ _ _ _ _ _ _ _ = None
 
--- The service of these fields, if each value is in its range.
+-- The service that the fields describe, if each value is in its range.
 abbrev pub values_in : Members → Option Service
 values_in fields =
     let class = option_and_then class_in (get_member (codes "class") fields) in
@@ -48,8 +61,12 @@ values_in fields =
     (number_or 0 0 1000000 (get_member (codes "period") fields))
     (number_or 0 0 1000 (get_member (codes "limit") fields))
     (names_or (get_member (codes "publishes") fields))
+    (names_if (get_member (codes "complains") fields))
+    (names_if (get_member (codes "connects") fields))
+    (number_or 0 0 1000000000 (get_member (codes "forget") fields))
+    (number_or 0 0 1000000 (get_member (codes "startup") fields))
 
--- The service of these fields, or the first fault: an unknown field, then a missing one, then a bad value.
+-- The service that the fields describe, or the first fault: an unknown field, then a missing one, then a bad value.
 abbrev pub service_in : Members → Result Service SettingsCause
 service_in fields =
     if not (keys_pass is_service_field fields) then Err UnknownField
@@ -61,7 +78,7 @@ abbrev pub indexed : ℕ → Result Service SettingsCause → Result Service Set
 indexed index (Ok service) = Ok service
 indexed index (Err cause) = Err (at_service cause index)
 
--- The service of an item of the array. The top has already judged that each item is a table.
+-- The service that an item of the array describes. Each item is known to be a table by then.
 abbrev pub service_from : ℕ → Option Members → Result Service SettingsFault
 service_from index None = Err (at_top OutOfRange)
 service_from index (Some fields) = indexed index (service_in fields)
@@ -71,7 +88,7 @@ abbrev pub go_on : (Service → Result (List Service) SettingsFault) → Result 
 go_on rest (Ok service) = rest service
 go_on rest (Err fault) = Err fault
 
--- The services read before and those of these items, or the fault of the first bad one.
+-- The services read so far and those of these items, or the fault of the first bad item.
 abbrev pub services_in : List Service → Items → Result (List Service) SettingsFault
 services_in before no_items = Ok before
 services_in before (item value rest) =

@@ -1,5 +1,5 @@
 -- The settings of a text, or its first fault, as a function of the document that `toml` reads.
-use Rattle.std.specs.Prelude.{◌≡◌, ◌≢◌, ℕ, ◌≤◌, Bool, true, false, not, ◌&&◌, ◌||◌, nat_le, All, List, [], length, codes, Option, Some, None, option_and_then, Result, Ok, Err, if◌then◌else◌}
+use Rattle.std.specs.Prelude.{◌≡◌, ◌≢◌, ℕ, ◌≤◌, Bool, true, false, not, ◌&&◌, ◌||◌, nat_le, All, List, [], length, codes, Option, Some, None, IfSome, option_and_then, Result, Ok, Err, if◌then◌else◌}
 use Rattle.std.specs.Str.{IsUtf8, is_utf8}
 use Rattle.toml.specs.Data.{Data, Items, no_items, Members, get_member, as_array}
 use Rattle.toml.specs.Text.{are_tables}
@@ -19,7 +19,7 @@ pub record SettingsRecord : Type 0 where
   pub slots : ℕ
   pub services : List Service
 
--- The settings of these slots and services.
+-- The settings with these slots and services.
 abbrev pub settings : ℕ → List Service → SettingsRecord
 settings slots services = record { slots = slots; services = services }
 
@@ -27,15 +27,15 @@ settings slots services = record { slots = slots; services = services }
 unfoldable pub document : List ℕ → Option Members
 document text = if is_utf8 text then parse_document text else None
 
--- Whether the field may be at the top.
+-- Whether a field of this name may be at the top.
 abbrev pub is_top_field : List ℕ → Bool
 is_top_field key = is_same key (codes "slots") || is_same key (codes "service")
 
--- The items, if they are at most 64 tables.
+-- The items, if they are at most 64 and each is a table.
 abbrev pub tables_of : Items → Option Items
 tables_of items = if nat_le (item_count items) 64 && are_tables items then Some items else None
 
--- The tables of an array, or none if there is no such field.
+-- The tables of an array. A missing field has no tables.
 abbrev pub tables_or : Option Data → Option Items
 tables_or None = Some no_items
 tables_or (Some value) = option_and_then tables_of (as_array value)
@@ -50,7 +50,7 @@ abbrev pub with_services : ℕ → Result (List Service) SettingsFault → Resul
 with_services slots (Ok services) = unless_shared slots services (shared_fault services)
 with_services slots (Err fault) = Err fault
 
--- The settings of these slots and the services in these tables.
+-- The settings with these slots and the services in these tables, or the first fault.
 abbrev pub settings_from : ℕ → Items → Result SettingsRecord SettingsFault
 settings_from slots tables = with_services slots (services_in [] tables)
 
@@ -67,7 +67,7 @@ settings_in doc =
     if not (keys_pass is_top_field doc) then Err (at_top UnknownField)
     else with_top (number_or 64 1 1008 (get_member (codes "slots") doc)) (tables_or (get_member (codes "service") doc))
 
--- The settings, or a fault, of which BadToml is the first.
+-- The settings of a document, or its first fault: BadToml if there is no document.
 abbrev pub settings_of_document : Option Members → Result SettingsRecord SettingsFault
 settings_of_document None = Err (at_top BadToml)
 settings_of_document (Some doc) = settings_in doc
@@ -78,12 +78,12 @@ settings_of text = settings_of_document (document text)
 
 -- ---- what takes memory
 
--- The settings take memory for their services, if they have any.
+-- The result is settings with a service, which take memory.
 abbrev pub TakesMemory : Result SettingsRecord SettingsFault → Type 0
 TakesMemory (Ok s) = s.services ≢ []
 TakesMemory (Err fault) = ⊥
 
--- The settings of these slots and tables take memory.
+-- The settings with these slots and tables take memory.
 abbrev pub TablesTakeMemory : ℕ → Items → Type 0
 TablesTakeMemory slots tables = TakesMemory (settings_from slots tables)
 
@@ -91,14 +91,14 @@ TablesTakeMemory slots tables = TakesMemory (settings_from slots tables)
 abbrev pub MayTakeMemory : List ℕ → Type 0
 MayTakeMemory text = IsUtf8 text × (¬ IsBlank text)
 
--- ---- what settings keep
+-- ---- what is true of all settings
 
 -- A server has no unit; any other service has one of 0 to 255.
 abbrev pub HasUnit : Bool → Option ℕ → Type 0
 HasUnit server None = server ≡ true
 HasUnit server (Some n) = (server ≡ false) × (n ≤ 255)
 
--- At most 64 names.
+-- The list has at most 64 elements, and each is a name.
 pub record ArePublished (names : List (List ℕ)) : Type 0 where
   pub count : length names ≤ 64
   pub each : All IsName names
@@ -111,6 +111,10 @@ pub record IsService (s : Service) : Type 0 where
   pub period : s.period ≤ 1000000
   pub limit : s.limit ≤ 1000
   pub publishes : ArePublished s.publishes
+  pub complains : IfSome s.complains ArePublished
+  pub connects : IfSome s.connects ArePublished
+  pub forget : s.forget ≤ 1000000000
+  pub startup : s.startup ≤ 1000000
 
 -- Each part of the settings is in its range, and the services share nothing.
 pub record IsSettings (s : SettingsRecord) : Type 0 where

@@ -10,14 +10,14 @@ use Rattle.rs_settings.specs.declared.fault.SettingsFault.{SettingsFault}
 use Rattle.rs_settings.specs.Fault.{at_service}
 use Rattle.rs_settings.specs.Values.{is_same}
 
--- Whether the class's units are ports. Those of block and character services are majors.
+-- Whether the class's units are ports. The units of block and character services are major numbers.
 abbrev pub is_network : Class → Bool
 is_network Network = true
 is_network Block = false
 is_network Character = false
 is_network Server = false
 
--- Whether both have the same number. A server has none.
+-- Whether both are the same number. Two servers, which have none, don't share one.
 abbrev pub is_same_number : Option ℕ → Option ℕ → Bool
 is_same_number (Some m) (Some n) = m == n
 is_same_number _ _ = false
@@ -28,11 +28,11 @@ is_same_bool true b = b
 is_same_bool false true = false
 is_same_bool false false = true
 
--- Whether the two have the same label.
+-- Whether the two services have the same label.
 abbrev pub share_label : Service → Service → Bool
 share_label s t = is_same s.label t.label
 
--- Whether the two have the same major, or the same port.
+-- Whether the two services have the same major number, or the same port.
 abbrev pub share_unit : Service → Service → Bool
 share_unit s t = is_same_bool (is_network s.class) (is_network t.class) && is_same_number s.unit t.unit
 
@@ -45,7 +45,7 @@ first_clash share before (s ∷ rest) = if list_any (share s) before then Some (
 abbrev pub has_name : List (List ℕ) → List ℕ → Bool
 has_name names name = list_any (is_same name) names
 
--- Whether one of the names is among those before it.
+-- Whether one of the names is among the names before it.
 abbrev pub repeats : List (List ℕ) → List (List ℕ) → Bool
 repeats before [] = false
 repeats before (name ∷ rest) = has_name before name || repeats (before ++ name ∷ []) rest

@@ -1,4 +1,4 @@
-//! Services that are judged while their names are still in the document.
+//! Services that are judged while the names in their lists are still in the document.
 
 ghost use Rattle.std.specs.Prelude.{◌≡◌, ◌≢◌, ◌≤◌, [], All, map, Ok, Err, length, codes, option_map, IfOk, IfErr, IfSome};
 ghost use Rattle.std.specs.Option.{option_and_then};
@@ -13,13 +13,13 @@ ghost use Rattle.rs_settings.specs.Draft.{service_of_draft};
 use crate::class::Class;
 use crate::fault::{SettingsCause, SettingsFault};
 use crate::value::{
-    class, field, has_service_fields, label, names_field, number_field, unit_field,
+    class, field, has_service_fields, label, names_field, names_if_field, number_field, unit_field,
 };
 use arrayvec::ArrayVec;
 use ds_names::Name;
 use toml::{Table, Value};
 
-/// A judged service. Its published names are still in the document; each is a name.
+/// A service that was judged. The names in its lists are still values of the document; each is the text of a name.
 #[derive(Clone, Copy)]
 pub(crate) struct Draft<'a> {
     pub label: Name,
@@ -28,6 +28,10 @@ pub(crate) struct Draft<'a> {
     pub period: u32,
     pub limit: u32,
     pub publishes: &'a [Value],
+    pub complains: Option<&'a [Value]>,
+    pub connects: Option<&'a [Value]>,
+    pub forget: u32,
+    pub startup: u32,
 }
 
 impl Default for Draft<'_> {
@@ -39,6 +43,10 @@ impl Default for Draft<'_> {
             period: 0,
             limit: 0,
             publishes: &[],
+            complains: None,
+            connects: None,
+            forget: 0,
+            startup: 0,
         }
     }
 }
@@ -60,7 +68,7 @@ fn names_server(table: &Table) -> bool
     }
 }
 
-// Returns whether a required field is missing.
+// Returns whether the label, the class or a unit that the class needs is missing.
 fn lacks_field(table: &Table) -> bool
     ensures { result ≡ lacks_field (table_view table.now) }
 {
@@ -88,7 +96,7 @@ fn label_field(table: &Table) -> Option<Name>
     }
 }
 
-// Returns the service of the fields, if each value is in its range.
+// Returns the service that the table's fields describe, if each value is in its range.
 fn values(table: &Table) -> Option<Draft<'_>>
     ensures value { option_map service_of_draft result ≡ values_in (table_view table.now) }
     ensures service { IfSome result (λ draft. IsService (service_of_draft draft)) }
@@ -99,6 +107,10 @@ fn values(table: &Table) -> Option<Draft<'_>>
     let period = number_field(table, "period", 0, 0, 1000000)?;
     let limit = number_field(table, "limit", 0, 0, 1000)?;
     let publishes = names_field(table, "publishes")?;
+    let complains = names_if_field(table, "complains")?;
+    let connects = names_if_field(table, "connects")?;
+    let forget = number_field(table, "forget", 0, 0, 1000000000)?;
+    let startup = number_field(table, "startup", 0, 0, 1000000)?;
     Some(Draft {
         label,
         class,
@@ -106,10 +118,14 @@ fn values(table: &Table) -> Option<Draft<'_>>
         period,
         limit,
         publishes,
+        complains,
+        connects,
+        forget,
+        startup,
     })
 }
 
-// Returns the service of a table, or its first fault.
+// Returns the service that a table describes, or the table's first fault.
 fn draft_of(table: &Table) -> Result<Draft<'_>, SettingsCause>
     ensures read { IfOk result (λ draft. service_in (table_view table.now) ≡ Ok (service_of_draft draft)) }
     ensures refused { IfErr result (λ cause. service_in (table_view table.now) ≡ Err cause) }
@@ -128,7 +144,7 @@ fn draft_of(table: &Table) -> Result<Draft<'_>, SettingsCause>
     }
 }
 
-// Returns the service of an item with this index, or its first fault.
+// Returns the service that an item of the array describes, or its first fault, with the item's index.
 fn draft_at(index: usize, item: &Value) -> Result<Draft<'_>, SettingsFault>
     ensures read { IfOk result (λ draft. service_from index (as_table (view item.now)) ≡ Ok (service_of_draft draft)) }
     ensures refused { IfErr result (λ fault. service_from index (as_table (view item.now)) ≡ Err fault) }

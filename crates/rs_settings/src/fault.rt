@@ -9,8 +9,8 @@ use thiserror::Error;
 ///
 /// BadToml, and then UnknownField and OutOfRange without an index, are judged for the whole text. UnknownField, Missing
 /// and OutOfRange with an index are judged for each service, in order. TwoLabels, TwoUnits and SharedName are judged
-/// for all services together. NoRoom comes last; but memory for reading the TOML may also run out in the place of
-/// BadToml.
+/// for all services together. NoRoom comes last. Exception: memory may run out while the TOML is read, before any cause
+/// is judged.
 #[derive(Clone, Copy, Debug, PartialEq, Eq, Error)]
 pub enum SettingsCause {
     /// The text isn't a TOML document in UTF-8.
@@ -44,8 +44,8 @@ pub enum SettingsCause {
 #[error("{cause}")]
 pub struct SettingsFault {
     pub cause: SettingsCause,
-    /// The service with the fault, counted from 0 in the order of the text. For a fault between two services, the
-    /// second one.
+    /// The index of the service with the fault, from 0 in the order of the text. A fault between two services has the
+    /// index of the second one.
     pub index: Option<usize>,
 }
 

@@ -1,8 +1,8 @@
 //! Settings: what an administrator tells the reincarnation server (RS) about its services.
 //!
-//! MINIX 3's RS is given, for each driver and server, its label, what it drives, how often to check that it is alive,
-//! and how often to restart it (Tanenbaum and Woodhull, third edition; Herder and others, DSN 2007). The TOML document,
-//! its fields and their ranges are of this project. A document is read whole, or refused by its first fault.
+//! For each driver and server, MINIX 3's RS gets its label, what it drives, how often to check that it is alive, and how
+//! often to restart it (Tanenbaum and Woodhull, third edition; Herder and others, DSN 2007). The TOML document, its
+//! fields and their ranges are this project's. A document is read whole, or refused with its first fault.
 #![tactic(auto)]
 
 mod class;

@@ -1,4 +1,4 @@
-//! Lists of names.
+//! Lists of names that a service may publish.
 
 ghost use Rattle.std.specs.Prelude.{◌≡◌, ◌++◌, ◌∷◌, [], length, slice_get, OnOk, IfErr, OnErr, IfOk};
 ghost use Rattle.std.specs.Option.{option_copied};
@@ -8,7 +8,7 @@ use ds_names::{Name, NoRoom};
 use std::alloc::{AllocFailed, Global};
 use std::marker::Model;
 
-/// Names in order.
+/// A list of names.
 #[derive(Debug, Drop)]
 pub struct Names {
     names: Vec<Name>,
@@ -41,7 +41,7 @@ impl Names {
         self.names.push(name)
     }
 
-    /// Returns how many names there are.
+    /// Returns the number of names.
     pub fn len(&self) -> usize
         ensures { result ≡ length self.now }
     {
@@ -55,7 +55,7 @@ impl Names {
         self.names.get(index)
     }
 
-    /// Returns whether the name is among them.
+    /// Returns whether the list has the name.
     pub(crate) fn has(&self, name: &Name) -> bool
         ensures { result ≡ has_name self.now name.now }
     {

@@ -1,4 +1,4 @@
-//! The names published so far, in order, so that a lookup is a binary search.
+//! The names published so far, in ascending order. A lookup is a binary search.
 
 ghost use Rattle.std.specs.Prelude.{◌≡◌, ℕ, List, ◌≤◌, ◌<◌, ◌+◌, [], ◌∷◌, ◌||◌, not, length};
 ghost use Rattle.rs_settings.specs.Values.{is_same};
@@ -10,7 +10,7 @@ use std::marker::Model;
 /// The most names that 64 services can publish, 64 each.
 pub(crate) const MOST: usize = 4096;
 
-/// Distinct names in ascending order, kept in place: no call takes memory.
+/// Distinct names in ascending order. They are kept in place, so no call takes memory.
 #[derive(Drop)]
 pub(crate) struct Seen<'a> {
     names: ArrayVec<&'a str, 4096>,

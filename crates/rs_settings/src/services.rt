@@ -1,4 +1,4 @@
-//! Lists of services.
+//! Lists of services of the settings.
 
 ghost use Rattle.std.specs.Prelude.{◌≡◌, ◌++◌, ◌∷◌, [], length, slice_get, OnOk, IfErr, OnErr, IfOk};
 ghost use Rattle.std.specs.Option.{option_copied};
@@ -8,7 +8,7 @@ use ds_names::NoRoom;
 use std::alloc::{AllocFailed, Global};
 use std::marker::Model;
 
-/// Services in order.
+/// A list of services.
 #[derive(Debug, Drop)]
 pub struct Services {
     services: Vec<Service>,
@@ -42,7 +42,7 @@ impl Services {
         self.services.push(service)
     }
 
-    /// Returns how many services there are.
+    /// Returns the number of services.
     pub fn len(&self) -> usize
         ensures { result ≡ length self.now }
     {

@@ -1,4 +1,4 @@
-//! Settings, and how they are read.
+//! Settings, and the functions that read them.
 
 ghost use Rattle.std.specs.Prelude.{◌≡◌, ◌≢◌, ◌≤◌, ◌&&◌, All, IsTrue, IsOk, IfOk, IfErr, OnErr};
 ghost use Rattle.std.specs.Prelude.{IfSome, Ok, Err, [], nat_le, length, map, option_map};
@@ -86,7 +86,7 @@ fn are_tables(items: &Array) -> bool
     items.iter().all(|item| item.is_table())
 }
 
-// Returns whether these are at most 64 tables.
+// Returns whether the array has at most 64 items, and each is a table.
 fn are_few_tables(items: &Array) -> bool
     ensures value { result ≡ (nat_le (item_count (array_view items.now)) 64 && are_tables (array_view items.now)) }
     ensures count { IsTrue result → length items.now.items ≤ 64 }
@@ -94,7 +94,7 @@ fn are_few_tables(items: &Array) -> bool
     items.len() <= 64 && are_tables(items)
 }
 
-// Returns the tables of an array of at most 64 tables.
+// Returns the array in the value, if it has at most 64 items, and each is a table.
 fn tables(value: &Value) -> Option<&Array>
     ensures value { option_map (λ v. array_view v.now) result ≡ option_and_then tables_of (as_array (view value.now)) }
     ensures count { IfSome result (λ v. length v.now.items ≤ 64) }
@@ -111,7 +111,7 @@ fn tables(value: &Value) -> Option<&Array>
     }
 }
 
-// Returns the name of a text that is one.
+// Reads a text that is known to be a name.
 fn name_of(text: &str) -> Name
     requires { IsName text.now }
     ensures { result ≡ text.now }
@@ -122,7 +122,7 @@ fn name_of(text: &str) -> Name
     }
 }
 
-// Returns the names in the items.
+// Reads the names in the items. Fails only if memory runs out.
 fn names(alloc: Global, items: &[Value]) -> Result<Names, NoRoom>
     requires { All IsName (map text_in_value items.now) }
     ensures { IfOk result (λ names. names ≡ map text_in_value items.now) }
@@ -134,7 +134,18 @@ fn names(alloc: Global, items: &[Value]) -> Result<Names, NoRoom>
     Ok(names)
 }
 
-// Copies a draft's service out of the document.
+// Returns the names in the items, if there are items.
+fn names_if(alloc: Global, items: Option<&[Value]>) -> Result<Option<Names>, NoRoom>
+    requires { IfSome items (λ items. All IsName (map text_in_value items.now)) }
+    ensures { IfOk result (λ names. names ≡ option_map (λ items. map text_in_value items.now) items.entry) }
+{
+    match items {
+        Some(items) => Ok(Some(names(alloc, items)?)),
+        None => Ok(None),
+    }
+}
+
+// Copies a draft's service out of the document. Fails only if memory runs out.
 fn service(alloc: Global, draft: &Draft<'_>) -> Result<Service, NoRoom>
     requires { IsService (service_of_draft draft.now) }
     ensures { IfOk result (λ service. service ≡ service_of_draft draft.now) }
@@ -146,6 +157,10 @@ fn service(alloc: Global, draft: &Draft<'_>) -> Result<Service, NoRoom>
         period: draft.period,
         limit: draft.limit,
         publishes: names(alloc, draft.publishes)?,
+        complains: names_if(alloc, draft.complains)?,
+        connects: names_if(alloc, draft.connects)?,
+        forget: draft.forget,
+        startup: draft.startup,
     })
 }
 
@@ -161,7 +176,7 @@ fn services(alloc: Global, drafts: &[Draft<'_>]) -> Result<Services, NoRoom>
     Ok(services)
 }
 
-// Returns the settings of the services in the tables. All faults are judged before memory is taken.
+// Reads settings with these slots and the services in the tables. Judges every fault before it takes memory.
 fn of_tables(alloc: Global, slots: u32, tables: &[Value]) -> Result<Settings, SettingsFault>
     requires some { 1 ≤ slots }
     requires slots { slots ≤ 1008 }
@@ -183,8 +198,8 @@ fn of_tables(alloc: Global, slots: u32, tables: &[Value]) -> Result<Settings, Se
     }
 }
 
-/// Reads the settings of a TOML document, or finds its first fault. NoRoom comes only if the document has no fault and
-/// at least one service; it has no index.
+/// Reads the settings of a TOML document, or returns its first fault. Returns NoRoom, without an index, only if the
+/// document has no other fault and at least one service.
 pub fn read_table(alloc: Global, table: &Table) -> Result<Settings, SettingsFault>
     ensures read { IfOk result (λ settings. settings_in (table_view table.now) ≡ Ok settings) }
     ensures refused { IfErr result (λ fault. fault.cause ≢ SettingsCause.NoRoom → settings_in (table_view table.now) ≡ Err fault) }
@@ -208,7 +223,7 @@ pub fn read_table(alloc: Global, table: &Table) -> Result<Settings, SettingsFaul
     of_tables(alloc, slots, items)
 }
 
-// Reads the settings of a UTF-8 text, or finds its first fault.
+// Reads the settings of a UTF-8 text, or returns its first fault.
 fn read_text(alloc: Global, text: &str) -> Result<Settings, SettingsFault>
     ensures read { IfOk result (λ settings. settings_of text.now ≡ Ok settings) }
     ensures refused { IfErr result (λ fault. fault.cause ≢ SettingsCause.NoRoom → settings_of text.now ≡ Err fault) }
@@ -227,11 +242,11 @@ fn read_text(alloc: Global, text: &str) -> Result<Settings, SettingsFault>
     }
 }
 
-/// Reads the settings of a text, or finds its first fault.
+/// Reads the settings of a text, or returns its first fault.
 ///
-/// The result depends only on the text, which has to be one TOML document in UTF-8, and on memory. Memory for reading
-/// the TOML may run out in the place of BadToml; memory for the settings runs out only after every other fault. NoRoom
-/// has no index. It never comes for bytes that aren't UTF-8, nor for a text of only white space and comments.
+/// The text must be one TOML document in UTF-8. Memory may run out while the TOML is read, before any fault is judged,
+/// or for the settings, after every other fault. NoRoom has no index. Bytes that aren't UTF-8 never run out of memory,
+/// nor does a text of only white space and comments.
 pub fn read(alloc: Global, text: &[u8]) -> Result<Settings, SettingsFault>
     ensures read { IfOk result (λ settings. settings_of text.now ≡ Ok settings) }
     ensures refused { IfErr result (λ fault. fault.cause ≢ SettingsCause.NoRoom → settings_of text.now ≡ Err fault) }

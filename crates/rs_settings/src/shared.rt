@@ -12,7 +12,7 @@ use crate::seen::Seen;
 use crate::value::text_of;
 use toml::Value;
 
-/// What tells services apart, besides the names that they publish.
+/// A field that no two services share: the label, or the unit.
 #[derive(Clone, Copy)]
 pub(crate) enum Mark {
     Label,
@@ -29,7 +29,7 @@ fn is_same_number(a: Option<u8>, b: Option<u8>) -> bool
 }
 
 impl Mark {
-    // Returns whether the two services share it.
+    // Returns whether the two services share the field.
     fn is_shared(self, a: &Draft<'_>, b: &Draft<'_>) -> bool
         ensures { result ≡ share_by self (service_of_draft a.now) (service_of_draft b.now) }
     {
@@ -41,14 +41,14 @@ impl Mark {
         }
     }
 
-    // Returns whether the service shares it with one before it.
+    // Returns whether the service shares the field with one before it.
     fn clashes(self, draft: &Draft<'_>, before: &[Draft<'_>]) -> bool
         ensures { result ≡ list_any (λ d. share_by self (service_of_draft draft.now) (service_of_draft d)) before.now }
     {
         before.iter().any(|other| self.is_shared(draft, other))
     }
 
-    // Returns the first service that shares it with one before it.
+    // Returns the index of the first service that shares the field with one before it.
     fn first_clash(self, drafts: &[Draft<'_>]) -> Option<usize>
         ensures { result ≡ first_clash (share_by self) [] (map service_of_draft drafts.now) }
     {
@@ -61,7 +61,7 @@ impl Mark {
     }
 }
 
-// Adds the names up to the first that is already there, and returns whether there is one.
+// Adds the names up to the first one that was seen before, and returns whether there was one.
 fn repeats<'a>(seen: &mut Seen<'a>, names: &'a [Value]) -> bool
     requires { length seen.old + length names.now ≤ 4096 }
     ensures value { result ≡ repeats seen.old (map text_in_value names.now) }
@@ -76,7 +76,7 @@ fn repeats<'a>(seen: &mut Seen<'a>, names: &'a [Value]) -> bool
     false
 }
 
-// Returns the first service that publishes a name published before.
+// Returns the index of the first service that publishes a name published before.
 fn first_repeat(drafts: &[Draft<'_>]) -> Option<usize>
     requires count { length drafts.now ≤ 64 }
     requires each { All IsService (map service_of_draft drafts.now) }

@@ -1,11 +1,11 @@
-//! Single values of a document, judged in place: nothing here takes memory.
+//! Single values of a document, judged in place. Nothing here takes memory.
 
 ghost use Rattle.std.specs.Prelude.{◌≡◌, ◌≢◌, ◌≤◌, All, IsTrue, Some, None, map, option_map, if◌then◌else◌, IfSome};
 ghost use Rattle.toml.specs.Data.{get_member, as_array};
 ghost use Rattle.toml.specs.View.{view, table_view, items_view, array_view};
 ghost use Rattle.ds_names.specs.Name.{IsName, rs_name};
 ghost use Rattle.rs_settings.specs.Values.{keys_pass, within, number_in, number_or, name_read, name_in, label_in_data};
-ghost use Rattle.rs_settings.specs.Values.{each_of, names_of, names_or, class_named, class_in, unit_in, is_server};
+ghost use Rattle.rs_settings.specs.Values.{each_of, names_of, names_or, names_if, class_named, class_in, unit_in, is_server};
 ghost use Rattle.rs_settings.specs.Service.{is_service_field};
 ghost use Rattle.rs_settings.specs.Settings.{is_top_field, HasUnit, ArePublished};
 ghost use Rattle.rs_settings.specs.Draft.{text_in_value};
@@ -15,7 +15,7 @@ use ds_names::Name;
 use toml::value::Array;
 use toml::{Table, Value};
 
-// Returns the value of a field.
+// Returns the value of a field, if the table has the field.
 pub(crate) fn field<'a>(table: &'a Table, name: &str) -> Option<&'a Value>
     ensures { option_map (λ v. view v.now) result ≡ get_member name.now (table_view table.now) }
 {
@@ -27,7 +27,16 @@ fn is_service_field(key: &str) -> bool
 {
     matches!(
         key,
-        "label" | "class" | "unit" | "period" | "limit" | "publishes"
+        "label"
+            | "class"
+            | "unit"
+            | "period"
+            | "limit"
+            | "publishes"
+            | "complains"
+            | "connects"
+            | "forget"
+            | "startup"
     )
 }
 
@@ -37,14 +46,14 @@ fn is_top_field(key: &str) -> bool
     key == "slots" || key == "service"
 }
 
-// Returns whether a service may have each of the fields.
+// Returns whether a service may have every field of the table.
 pub(crate) fn has_service_fields(table: &Table) -> bool
     ensures { result ≡ keys_pass is_service_field (table_view table.now) }
 {
     table.keys().all(|key| is_service_field(key.as_str()))
 }
 
-// Returns whether each of the fields may be at the top.
+// Returns whether each of the fields may be at the top of the document.
 pub(crate) fn has_top_fields(table: &Table) -> bool
     ensures { result ≡ keys_pass is_top_field (table_view table.now) }
 {
@@ -64,7 +73,7 @@ fn number_within(number: i64, low: u32, high: u32) -> Option<u32>
     None
 }
 
-// Returns an integer from `low` to `high`.
+// Returns the value, if it is an integer from `low` to `high`.
 fn number(value: &Value, low: u32, high: u32) -> Option<u32>
     ensures value { result ≡ number_in low high (view value.now) }
     ensures range { IfSome result (λ n. (low ≤ n) × (n ≤ high)) }
@@ -102,7 +111,7 @@ fn name_of(text: &str) -> Option<Name>
     }
 }
 
-// Returns the name in a string.
+// Returns the value's name, if it is a string that is one.
 pub(crate) fn name(value: &Value) -> Option<Name>
     ensures value { result ≡ name_in (view value.now) }
     ensures name { IfSome result IsName }
@@ -113,7 +122,7 @@ pub(crate) fn name(value: &Value) -> Option<Name>
     }
 }
 
-// Returns the name in a string, unless it is `rs`.
+// Returns the value's name, if it is a string that is a name other than `rs`.
 pub(crate) fn label(value: &Value) -> Option<Name>
     ensures value { result ≡ label_in_data (view value.now) }
     ensures name { IfSome result IsName }
@@ -139,7 +148,7 @@ fn are_names(items: &[Value]) -> bool
     items.iter().all(|item| name(item).is_some())
 }
 
-// Returns the names of an array of at most 64.
+// Returns the items of the array, if they are at most 64 and each is a name.
 fn names_of(items: &Array) -> Option<&[Value]>
     ensures value { option_map (λ names. map text_in_value names.now) result ≡ names_of (array_view items.now) }
     ensures names { IfSome result (λ names. ArePublished (map text_in_value names.now)) }
@@ -154,7 +163,7 @@ fn names_of(items: &Array) -> Option<&[Value]>
     }
 }
 
-// Returns a field's names, at most 64, in place, or none if there is no such field.
+// Returns the names in a field, at most 64, without a copy. A missing field has no names.
 pub(crate) fn names_field<'a>(table: &'a Table, name: &str) -> Option<&'a [Value]>
     ensures value { option_map (λ names. map text_in_value names.now) result ≡ names_or (get_member name.now (table_view table.now)) }
     ensures names { IfSome result (λ names. ArePublished (map text_in_value names.now)) }
@@ -168,7 +177,32 @@ pub(crate) fn names_field<'a>(table: &'a Table, name: &str) -> Option<&'a [Value
     }
 }
 
-// Returns the text of a string, or an empty text for any other value.
+// Returns a field's names, at most 64, in place, or `Some(None)` if there is no such field.
+pub(crate) fn names_if_field<'a>(table: &'a Table, name: &str) -> Option<Option<&'a [Value]>>
+    ensures value { option_map (option_map (λ names. map text_in_value names.now)) result ≡ names_if (get_member name.now (table_view table.now)) }
+    ensures names { IfSome result (λ list. IfSome list (λ names. ArePublished (map text_in_value names.now))) }
+{
+    match field(table, name) {
+        Some(value) => match value.as_array() {
+            Some(items) => names_in(items),
+            None => None,
+        },
+        None => Some(None),
+    }
+}
+
+// Returns the names of an array of at most 64, as a list that there is.
+fn names_in(items: &Array) -> Option<Option<&[Value]>>
+    ensures value { option_map (option_map (λ names. map text_in_value names.now)) result ≡ option_map Some (names_of (array_view items.now)) }
+    ensures names { IfSome result (λ list. IfSome list (λ names. ArePublished (map text_in_value names.now))) }
+{
+    match names_of(items) {
+        Some(names) => Some(Some(names)),
+        None => None,
+    }
+}
+
+// Returns the text of a string, and an empty text for any other value.
 pub(crate) fn text_of(value: &Value) -> &str
     ensures { result.now ≡ text_in_value value.now }
 {
@@ -190,7 +224,7 @@ fn class_of(word: &str) -> Option<Class>
     }
 }
 
-// Returns the class that a string names.
+// Returns the class, if the value is a string that names one.
 pub(crate) fn class(value: &Value) -> Option<Class>
     ensures { result ≡ class_in (view value.now) }
 {
@@ -200,7 +234,7 @@ pub(crate) fn class(value: &Value) -> Option<Class>
     }
 }
 
-// Returns the unit of a service of the class.
+// Returns the unit of a service of the class, if the field is in its range. A server must have none.
 pub(crate) fn unit_field(table: &Table, name: &str, class: Class) -> Option<Option<u8>>
     ensures value { result ≡ unit_in class (get_member name.now (table_view table.now)) }
     ensures unit { IfSome result (HasUnit (is_server class)) }

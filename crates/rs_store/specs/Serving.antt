@@ -39,12 +39,12 @@ ClientTurn services old command _ new = ⊥
 
 -- ---- a beginning
 
--- RS just after its beginning: every service is down, the first start has the generation `next`, and its slots begin at
--- `first`.
+-- The state of RS just after it begins: every service is down, the first start gets the generation `next`, and its slots
+-- begin at `first`.
 abbrev pub begun_from : SettingsRecord → ℕ → ℕ → RsRecord
 begun_from settings next first = rs_of settings (replicate (length settings.services) Down) 0 next (new_slots first)
 
--- RS begins; or it doesn't, since a number is out of range, or memory runs out for settings with a service.
+-- Whether RS begins, or doesn't because a number is out of range, or memory runs out for settings with a service.
 abbrev pub BeginsFirst : SettingsRecord → ℕ → ℕ → RsReply → Option RsRecord → Type 0
 BeginsFirst settings next first (Begun services slots) new =
     (¬ IsOutOfRange settings.slots next first) × (services ≡ length settings.services) × (slots ≡ settings.slots)
@@ -54,7 +54,7 @@ BeginsFirst settings next first (NotBegun new_faults.NoRoom) new =
     (¬ IsOutOfRange settings.slots next first) × (settings.services ≢ []) × (new ≡ None)
 BeginsFirst settings next first _ new = ⊥
 
--- Once RS has begun, every further beginning is refused.
+-- The effect of a beginning. Once RS has begun, every further one is refused.
 abbrev pub BeginTurn : Option RsRecord → SettingsRecord → ℕ → ℕ → RsReply → Option RsRecord → Type 0
 BeginTurn None settings next first reply new = BeginsFirst settings next first reply new
 BeginTurn (Some rs) settings next first reply new = (reply ≡ Exists) × (new ≡ Some rs)
@@ -93,8 +93,8 @@ abbrev pub RsRefuses : RsRecord → Event → ℕ → RsFault → Type 0
 RsRefuses rs event tick NoRoom = (refusal rs event tick ≡ None) × (asks has_actions (asked rs event tick) ≡ true)
 RsRefuses rs event tick fault = refusal rs event tick ≡ Some fault
 
--- RS steps, the store takes its turns for the actions, and the reply names the service that RS gave up; or RS refuses
--- the event, and nothing changes.
+-- The effect of an event. RS steps, the store gets the actions, and the reply has the service that RS gave up. If RS
+-- refuses the event, nothing changes.
 abbrev pub RsServes : Event → ℕ → RsRecord → ContentRecord → RsReply → Option RsRecord → ContentRecord → Type 0
 RsServes event tick rs old (Acted actions replies given) after new =
     ((t : RsRecord) × RsStep rs event tick actions t × (after ≡ Some t)) × TurnsFor old actions replies new ×

@@ -33,12 +33,15 @@ pub fn ask(services: &Option<Rs>, store: &mut Store, command: Command) -> RsRepl
     RsReply::Replied(turn(store, command))
 }
 
-/// Begins RS with settings: every service is down, the first start has the generation `next`, and its slots begin at
-/// `first`. A system with one RS uses 1 and 16. A later run continues at the earlier run's next generation. Two hosts
-/// that exchange entries use disjoint slots.
+/// Begins RS with settings: every service is down, the first start gets the generation `next`, and the slots begin at
+/// `first`.
 ///
-/// Refusals in order: Exists if RS has begun; OutOfRange if `next` isn't 1 to 2097152, `first` is below 16, or the last
-/// slot is above 1023; NoRoom, only if the settings have a service. A refused beginning changes nothing.
+/// A system with one RS uses 1 and 16. A later run continues at the earlier run's next generation. Two hosts that exchange
+/// entries use disjoint slots.
+///
+/// Refuses as Exists if RS has begun, then as OutOfRange if `next` isn't 1 to 2097152, `first` is below 16, or the last
+/// slot is above 1023. Then reports NoRoom if memory runs out, which only settings with a service take. A refusal changes
+/// nothing.
 pub fn begin(
     alloc: Global,
     services: &mut Option<Rs>,
@@ -66,9 +69,9 @@ pub fn begin(
 
 /// Passes an event to RS at a tick, and its label changes and sweeps to the store, in order.
 ///
-/// A refused event changes neither RS nor the store. NoRoom comes after every other fault, and only for an event that
-/// has actions. Before RS has begun an event finds no service: a label is unknown, an endpoint is old, and a tick has
-/// no actions.
+/// A refused event changes neither RS nor the store. NoRoom is reported after every other fault, and only for an event with
+/// actions. Before RS has begun, an event finds no service: a label is unknown, an endpoint is old, and a tick has no
+/// actions.
 pub fn serve(
     alloc: Global,
     services: &mut Option<Rs>,
@@ -99,8 +102,8 @@ pub fn serve(
     }
 }
 
-// Returns a list with room for the replies to an event's actions; `None` if memory runs out. It is reserved before RS
-// steps, since nothing may be lost after the step. An event without actions takes no memory.
+// Allocates a list for the replies to an event's actions, or returns `None` if memory runs out. This is done before RS
+// steps, since no reply may be lost after the step. An event without actions takes no memory.
 fn room_for(alloc: Global, rs: &Rs, event: &Event, tick: u64) -> Option<Vec<Option<Reply>>>
     ensures room { IfSome result (λ replies. HasRoomFor rs.now event.now tick replies.items (vec_capacity replies)) }
     ensures wanted { IfNone result (asks has_actions (asked rs.now event.now tick) ≡ true) }

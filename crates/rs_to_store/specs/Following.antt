@@ -31,7 +31,7 @@ abbrev pub taking : DriverTable → List ℕ → Option (Option EndpointRecord) 
 taking t label None = ([], t)
 taking t label (Some state) = as_round t (changing t label state)
 
--- Memory ran out at a label that has a round, and the follow ended before that label.
+-- Whether memory ran out at a label that has a round, and the follow ended before that label.
 pub record EndsForRoom (t : DriverTable) (round : List (List Move)) (rounds : List (List Move)) (fault : Option TableFault)
     (u : DriverTable) : Type 0 where
   pub some : round ≢ []
@@ -39,8 +39,8 @@ pub record EndsForRoom (t : DriverTable) (round : List (List Move)) (rounds : Li
   pub fault_is : fault ≡ Some NoRoom
   pub table_is : u ≡ t
 
--- A table takes the news of each label, from a map that holds these items: the first label's round, if it has one,
--- comes before the rounds of the others; or memory runs out.
+-- Whether the table takes the state of each label from a map that holds these items. The first label's round, if it has
+-- one, comes before the rounds of the others. Memory may run out.
 abbrev pub Follows : List Item → List (List ℕ) → DriverTable → List (List Move) → Option TableFault → DriverTable → Type 0
 Follows held [] t rounds fault u = (rounds ≡ []) × (fault ≡ None) × (u ≡ t)
 Follows held (label ∷ labels) t rounds fault u =
@@ -48,8 +48,8 @@ Follows held (label ∷ labels) t rounds fault u =
     Follows held labels (taking t label (news_of held t label)).1 later fault u)
     ⊎ EndsForRoom t (taking t label (news_of held t label)).0 rounds fault u
 
--- The table followed a map that holds these items: its rounds are appended to those before, and `fault` is what ended
--- it, if anything did; either way the new value stands for the table that took these rounds.
+-- Whether the table followed a map that holds these items. Its rounds are appended to those before, and `fault` ended the
+-- follow, if there is one. The new value stands for the table that took these rounds.
 abbrev pub HasFollowed : List Item → TableRecord → TableRecord → List (List Move) → List (List Move) → Option TableFault → Type 0
 HasFollowed held old new before after fault =
     (t : DriverTable) → TableStands old t →

@@ -22,21 +22,21 @@ pub record IsRunOf (labels : List (List ℕ)) (t : DriverTable) (rounds : List (
   pub rounds_are : rounds ≡ map (λ (entry : Entry). moves_in entry.answer) entries
   pub of_labels : AllByRecursion (IsOfLabels labels) entries
 
--- Every follow is such a run, however it ended.
+-- A law: every follow is such a run, however it ended.
 abbrev pub FollowsAreRuns : Type 0
 FollowsAreRuns =
     (held : List Item) (labels : List (List ℕ)) (t u : DriverTable) (rounds : List (List Move)) (fault : Option TableFault) →
     Follows held labels t rounds fault u →
     IsRunOf labels t rounds u
 
--- No follow changes the units or the requests.
+-- A law: no follow changes the units or the requests.
 abbrev pub FollowsKeepUnits : Type 0
 FollowsKeepUnits =
     (held : List Item) (labels : List (List ℕ)) (t u : DriverTable) (rounds : List (List Move)) (fault : Option TableFault) →
     Follows held labels t rounds fault u →
     (u.units ≡ t.units) × (u.requests ≡ t.requests)
 
--- Memory ran out at a label that has a round, and the labels before it were followed to their end.
+-- Whether memory ran out at a label that has a round, and the labels before it were followed to their end.
 pub record EndsAtLabel (held : List Item) (labels : List (List ℕ)) (t : DriverTable) (rounds : List (List Move))
     (u : DriverTable) : Type 0 where
   pub before : List (List ℕ)
@@ -46,7 +46,7 @@ pub record EndsAtLabel (held : List Item) (labels : List (List ℕ)) (t : Driver
   pub followed : Follows held before t rounds None u
   pub round : (taking u label (news_of held u label)).0 ≢ []
 
--- Nothing else ends a follow, and what was followed is kept.
+-- A law: only out-of-memory ends a follow early, and the rounds before that are kept.
 abbrev pub FollowsEndForRoom : Type 0
 FollowsEndForRoom =
     (held : List Item) (labels : List (List ℕ)) (t u : DriverTable) (rounds : List (List Move)) (fault : TableFault) →

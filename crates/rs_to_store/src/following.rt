@@ -7,14 +7,12 @@ use crate::news::told;
 use driver_tables::{Drivers, Moves, TableFault};
 use ds_submap::SubMap;
 
-/// Follows a map: the table takes what the map tells of its labels, in order of assignment of its units. Each label of
-/// which it takes a state adds one round, the moves that follow, to `rounds`. Returns what ended the follow early, if
-/// anything did.
+/// Follows a map: the table takes the state of each of its labels from the map, in the order in which units were assigned.
+/// Each state that it takes adds one round of moves to `rounds`. Returns the fault that ended the follow early, if any.
 ///
-/// Passes over a label of which the map holds no change, a tombstone whose epoch is below the newest generation that
-/// the table knows of the label, and a state that is an OldEndpoint. Any other tombstone means that the label has no
-/// driver now. Only NoRoom ends a follow, at a label that has a round; the earlier rounds are kept, and the table has
-/// taken them.
+/// The follow skips a label of which the map holds no change, a tombstone whose epoch is below the newest generation that
+/// the table knows of the label, and a state that is an OldEndpoint. Any other tombstone means that the label has no driver
+/// now. Only NoRoom ends a follow, at a label that has a round. The rounds before it are kept, and the table has taken them.
 pub fn follow<T: Drivers>(
     table: &mut T,
     map: &SubMap,

@@ -11,7 +11,9 @@ mod asked;
 mod following;
 mod laws;
 mod news;
+mod submitting;
 
 pub use asked::{asking, command_of};
 pub use following::follow;
 pub use laws::follows_keep_tables;
+pub use submitting::follow_and_submit;

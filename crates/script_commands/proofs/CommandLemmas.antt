@@ -52,7 +52,7 @@ text_is word = refl
 word_is : (command : ScriptCommand) → list_all is_ascii_alphanumeric (word_of command) ≡ true
 word_is command = text_is (command_word command)
 
--- a text that is no command's word is at the front of no command's line
+-- a text that isn't a command's word isn't at the front of any command's line
 pub other_word_only : (line text rest : List ℕ) → list_all is_ascii_alphanumeric text ≡ true → Begins is_ascii_alphanumeric line text rest
     → ((w : CommandWord) → text ≢ text_of w) → (w : CommandWord) (more : List ℕ) → ¬ Begins is_ascii_alphanumeric line (text_of w) more
 other_word_only line text rest is begins other w more h = other w (part_one Word line text (text_of w) rest more is (text_is w) begins h).0

@@ -65,7 +65,7 @@ other_too text spelled ws same i d is lt others spells tells differs =
     subst (λ (l : List Word). All (IsOther text) (take (i + 1) l)) is (All-more (IsOther text) ws i d lt
     (subst (λ (l : List Word). All (IsOther text) (take i l)) (sym is) others) other)
 
--- a text that is none of the words is no word's
+-- a text that isn't one of the words isn't any word's
 pub none_is : (text : List ℕ) (ws : List Word) (n : ℕ) → ws ≡ all_words → length ws ≤ n → All (IsOther text) (take n all_words)
     → (w : Word) → text ≢ text_of w
 none_is text ws n is le others w =

@@ -48,7 +48,7 @@ row_for (Follow map) = (words.Follow, (map, tt))
 row_for (Submit server id unit map) = (words.Submit, (server, (id, (unit, (map, tt)))))
 row_for (Reply server endpoint id) = (words.Reply, (server, (endpoint, (id, tt))))
 
--- Its word.
+-- The word of a command.
 abbrev pub command_word : ScriptCommand → CommandWord
 command_word command = (row_for command).0
 

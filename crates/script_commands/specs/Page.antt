@@ -8,7 +8,7 @@ use Rattle.ds_line.specs.Spelling.{space}
 use Rattle.ds_line.specs.Piece.{Piece}
 use Rattle.script_commands.specs.Key.{key_parts}
 
--- `-` for no key.
+-- The text `-`, which means that there is no key.
 abbrev pub no_key : List ℕ
 no_key = codes "-"
 

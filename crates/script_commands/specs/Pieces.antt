@@ -16,12 +16,12 @@ use Rattle.ds_line.specs.Piece.{Piece, Found, IsValueOf}
 use Rattle.line_io.specs.Lines.{IsUnbroken}
 use Rattle.script_commands.specs.Key.{key_parts, version_parts}
 
--- `over` if the value overwrites, else `new`.
+-- The word of a mode: `over` if the value overwrites, else `new`.
 abbrev pub mode_word : Bool → List ℕ
 mode_word true = codes "over"
 mode_word false = codes "new"
 
--- `first` for a subscription that is shown what is already held, else `later`.
+-- The word of a subscription: `first` if it is shown what is held already, else `later`.
 abbrev pub initial_word : Bool → List ℕ
 initial_word true = codes "first"
 initial_word false = codes "later"
@@ -34,7 +34,7 @@ pub record IsVersion (version : Version) : Type 0 where
 abbrev pub an_endpoint : Piece
 an_endpoint = record { Of = EndpointRecord; Can = IsEndpoint; parts = λ (e : EndpointRecord). space ∷ part Endpoint (endpoint_text e) ∷ [] }
 
--- `new`, or `over`.
+-- The piece of a mode, `new` or `over`.
 abbrev pub a_mode : Piece
 a_mode = record {
   Of = Bool;
@@ -42,7 +42,7 @@ a_mode = record {
   parts = λ (overwrite : Bool). space ∷ part AWord (mode_word overwrite) ∷ [];
 }
 
--- `first`, or `later`.
+-- The piece `first` or `later` of a subscription.
 abbrev pub an_initial : Piece
 an_initial = record {
   Of = Bool;
@@ -85,7 +85,7 @@ a_kinds = record { Of = ℕ; Can = λ (n : ℕ). (0 < n) × (n ≤ 15); parts = 
 abbrev pub a_pattern : Piece
 a_pattern = record { Of = List ℕ; Can = IsUnbroken; parts = λ (text : List ℕ). space ∷ part Quoted (quoted text) ∷ [] }
 
--- `=`, a value of the kind, and the newline.
+-- The piece of `=`, a value of the kind, and the newline.
 abbrev pub a_value : Kind → Piece
 a_value kind = record { Of = Value; Can = IsValueOf kind; parts = λ (value : Value). space ∷ body_parts (Put value) }
 

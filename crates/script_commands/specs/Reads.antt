@@ -14,7 +14,7 @@ pub record Reading (Wants : Type 0) (p : Piece) (bytes : List ℕ) (result : Res
   pub stop : IfErr result (λ (stop : PartFault). StopsIn p stop bytes)
   pub room : IfErr result (λ (stop : PartFault). stop ≡ NoRoom → Wants)
 
--- `Reading`, folded, so that the readers of lines needn't look into it.
+-- Like `Reading`, but folded, so that proofs about the readers of lines needn't look into it.
 unfoldable pub ReadsOr : Type 0 → (p : Piece) → List ℕ → Result p.Of PartFault → List ℕ → Type 0
 ReadsOr Wants p bytes result rest = Reading Wants p bytes result rest
 

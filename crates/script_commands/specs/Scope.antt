@@ -7,7 +7,7 @@ use Rattle.ds_machine.specs.declared.command.Scope.{Scope}
 use Rattle.ds_machine.specs.declared.command.Scope.TheVariants.{All, Under}
 use Rattle.script_commands.specs.Query.{IsQuery, IsWrittenText, query_parts, written_query}
 
--- `*` for all keys, else the query.
+-- The parts of a scope: `*` for all keys, else those of the query.
 abbrev pub scope_parts : Scope → List Part
 scope_parts All = byte 42 ∷ []
 scope_parts (Under query) = query_parts query

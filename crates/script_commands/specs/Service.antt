@@ -12,19 +12,19 @@ use Rattle.script_commands.specs.declared.service.Request.TheVariants.{Up, Down,
 use Rattle.script_commands.specs.declared.service.Server.{Server}
 use Rattle.script_commands.specs.declared.service.Server.TheVariants as servers
 
--- `up`, `down`, `refresh` or `restart`.
+-- The word of a request: `up`, `down`, `refresh` or `restart`.
 abbrev pub request_word : Request → List ℕ
 request_word Up = codes "up"
 request_word Down = codes "down"
 request_word Refresh = codes "refresh"
 request_word Restart = codes "restart"
 
--- `file` or `net`.
+-- The word of a server: `file` or `net`.
 abbrev pub server_word : Server → List ℕ
 server_word servers.File = codes "file"
 server_word servers.Net = codes "net"
 
--- `block` or `character`.
+-- The word of a class: `block` or `character`.
 abbrev pub class_word : FileClass → List ℕ
 class_word Block = codes "block"
 class_word Character = codes "character"
@@ -35,11 +35,11 @@ device_parts (devices.File major class) =
     part Word (server_word servers.File) ∷ space ∷ part Number (decimal major) ∷ space ∷ part Word (class_word class) ∷ []
 device_parts (devices.Net port) = part Word (server_word servers.Net) ∷ space ∷ part Number (decimal port) ∷ []
 
--- Its number is at most 255.
+-- Whether the device's number is at most 255.
 abbrev pub IsDevice : Device → Type 0
 IsDevice (devices.File major class) = major ≤ 255
 IsDevice (devices.Net port) = port ≤ 255
 
--- One part for each byte of a text that extends to the end of its line: any byte can be read.
+-- The parts of a text that extends to the end of its line: one for each byte, since any byte can be read.
 abbrev pub text_parts : List ℕ → List Part
 text_parts text = map byte text

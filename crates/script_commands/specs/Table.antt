@@ -96,7 +96,7 @@ abbrev pub kind_after : (k : Kind) (s : Slot) → (piece_of k s).Of → Kind
 kind_after k slots.Key key = key.kind
 kind_after k s x = k
 
--- One piece, followed by another, which may depend on the first.
+-- The piece of one piece and then another, which may depend on the first.
 abbrev pub and_then : (p : Piece) → (p.Of → Piece) → Piece
 and_then p q = record {
   Of = (a : p.Of) × (q a).Of;

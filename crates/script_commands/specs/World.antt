@@ -16,7 +16,7 @@ abbrev pub IsHolder : Holder → Type 0
 IsHolder (Store side) = Unit {0}
 IsHolder (Map map) = map < 2 ^ 64
 
--- `*`, or the number of items.
+-- The part of a count: `*`, or the number of items.
 abbrev pub count_part : Option ℕ → Part
 count_part None = byte 42
 count_part (Some n) = part Number (decimal n)

@@ -11,8 +11,9 @@ use Rattle.rs_to_store.specs.Following.{labels_of, Follows, HasFollowed}
 use Rattle.script_commands.specs.declared.service.Server.{Server}
 use Rattle.script_commands.specs.declared.service.Server.TheVariants.{File, Net}
 use Rattle.script_services.specs.Servers.{Servers, ServersRecord, ServersStand, ServersLead, servers_of}
-use Rattle.script_services.specs.Tables.{AnswersCall, AnswersFollow, AnswersSubmit, BothFollow, FollowsNext, FollowsAndTakes, all_in, ended_by, moves_text}
-use Rattle.script_services.specs.Kept.{FollowedNext, BothFollowed, FollowedAndTaken}
+use Rattle.rs_to_store.specs.Submitting.{FollowsAndTakes, FollowedAndTaken, all_in}
+use Rattle.script_services.specs.Tables.{AnswersCall, AnswersFollow, AnswersSubmit, BothFollow, FollowsNext, ended_by, moves_text}
+use Rattle.script_services.specs.Kept.{FollowedNext, BothFollowed}
 
 -- ---- calls
 
@@ -75,14 +76,3 @@ module _ (services : Option RsRecord) (file net new : TableRecord) (held : List 
         (rounds, own, done.0, subst (λ (l : List (List Move)). FollowsAndTakes held id unit s.net l own done.0) (sym done.2) done.3, refl, refl),
         record { services = stands.services; file = stands.file; net = done.4 },
       )
-
--- a follow that ended early, so that the request isn't taken; and a complete one
-pub ended_before : (held : List Item) (id unit : ℕ) (old new : TableRecord) (before after : List (List Move)) (fault : TableFault) → HasFollowed held old new before after (Some fault) → FollowedAndTaken held id unit old new before after (Err fault)
-ended_before held id unit old new before after fault followed t stands =
-    let f = followed t stands in (f.0, f.1, f.2, record { mid = f.0; stop = Some fault; follows = f.3; takes = (refl, refl) }, f.4)
-
-pub taken_behind : (held : List Item) (id unit : ℕ) (old mid new : TableRecord) (before after : List (List Move)) (own : Result (List Move) TableFault) → HasFollowed held old mid before after None
-    → ((t : DriverTable) → TableStands mid t → (u : DriverTable) × TableStep t (Submit id unit) own u × TableStands new u) → FollowedAndTaken held id unit old new before after own
-taken_behind held id unit old mid new before after own followed takes t stands =
-    let f = followed t stands in
-    let done = takes f.0 f.4 in (done.0, f.1, f.2, record { mid = f.0; stop = None; follows = f.3; takes = done.1 }, done.2)

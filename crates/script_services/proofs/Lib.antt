@@ -1,5 +1,4 @@
 pub mod ListLemmas
-pub mod CallLemmas
 pub mod ActionLemmas
 pub mod AskLemmas
 pub mod MoveLemmas

@@ -5,8 +5,10 @@ use Rattle.std.proofs.lemmas.List.Concat.{flat_map-append}
 use Rattle.driver_tables.specs.declared.moves.Move.{Move}
 use Rattle.driver_tables.specs.declared.moves.Move.TheVariants.{Start, Send, Answer, Held}
 use Rattle.service_answers.specs.Moves.{move_line}
-use Rattle.script_services.specs.Tables.{all_in, move_lines}
+use Rattle.rs_to_store.specs.Submitting.{all_in}
+use Rattle.script_services.specs.Tables.{move_lines}
 use Rattle.rs_to_store.proofs.ListLemmas.{next_taken}
+use Rattle.rs_to_store.proofs.SubmitLemmas.{all_more}
 
 -- ---- one more move
 
@@ -19,10 +21,6 @@ lines_next moves i x start now new at before one =
     ∙ ap (λ (l : List ℕ). start ++ l) (sym (lines_more (take i moves) x)) ∙ ap (λ (l : List Move). start ++ move_lines l) (next_taken moves i x at)
 
 -- one more round
-pub all_more : (rounds : List (List Move)) (i : ℕ) (round : List Move) → slice_get rounds i ≡ Some round → all_in (take (i + 1) rounds) ≡ all_in (take i rounds) ++ round
-all_more rounds i round at =
-    ap all_in (sym (next_taken rounds i round at)) ∙ flat_map-append (λ (l : List Move). l) (take i rounds) (round ∷ []) ∙ ap (λ (l : List Move). all_in (take i rounds) ++ l) (append-nil round)
-
 pub rounds_next : (rounds : List (List Move)) (i : ℕ) (round : List Move) (start now new : List ℕ) → slice_get rounds i ≡ Some round → now ≡ start ++ move_lines (all_in (take i rounds)) → new ≡ now ++ move_lines round → new ≡ start ++ move_lines (all_in (take (i + 1) rounds))
 rounds_next rounds i round start now new at before one =
     one ∙ ap (λ (l : List ℕ). l ++ move_lines round) before ∙ append_assoc start (move_lines (all_in (take i rounds))) (move_lines round)

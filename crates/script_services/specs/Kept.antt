@@ -6,7 +6,6 @@ use Rattle.driver_tables.specs.declared.moves.Move.{Move}
 use Rattle.driver_tables.specs.DriverTable.{DriverTable}
 use Rattle.driver_tables.specs.Stands.{TableRecord, TableStands}
 use Rattle.rs_to_store.specs.Following.{HasFollowed}
-use Rattle.script_services.specs.Tables.{FollowsAndTakes}
 
 -- Unless something ended earlier, a table followed a map, and its rounds were appended.
 abbrev pub FollowedNext : Option TableFault → List Item → (old new : TableRecord) → (before after : List (List Move)) → Option TableFault → Type 0
@@ -17,9 +16,3 @@ FollowedNext (Some stop) held old new before after fault = (after ≡ before) ×
 abbrev pub BothFollowed : List Item → (file_old file_new net_old net_new : TableRecord) → (before after : List (List Move)) → Option TableFault → Type 0
 BothFollowed held file_old file_new net_old net_new before after fault =
     (mid : List (List Move)) × (stop : Option TableFault) × HasFollowed held file_old file_new before mid stop × FollowedNext stop held net_old net_new mid after fault
-
--- A table followed, and then took a request.
-abbrev pub FollowedAndTaken : List Item → ℕ → ℕ → (old new : TableRecord) → (before after : List (List Move)) → Result (List Move) TableFault → Type 0
-FollowedAndTaken held id unit old new before after own =
-    (t : DriverTable) → TableStands old t →
-    (u : DriverTable) × (rounds : List (List Move)) × (after ≡ before ++ rounds) × FollowsAndTakes held id unit t rounds own u × TableStands new u

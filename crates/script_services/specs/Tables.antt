@@ -15,6 +15,7 @@ use Rattle.driver_tables.specs.Run as calls
 use Rattle.ds_held.specs.Held.{held_items}
 use Rattle.ds_submap.specs.Map.{SubMapRecord}
 use Rattle.rs_to_store.specs.Following.{labels_of, Follows}
+use Rattle.rs_to_store.specs.Submitting.{all_in, FollowsAndTakes}
 use Rattle.service_answers.specs.Moves.{assigned_line, move_line, move_count_line, table_fault_line}
 use Rattle.service_answers.specs.Refusal.{refusal_line}
 use Rattle.script_commands.specs.declared.service.Device.{Device}
@@ -72,10 +73,6 @@ own_moves (Err fault) = Err fault
 
 -- ---- follow, and submit
 
--- The moves of rounds, in order.
-abbrev pub all_in : List (List Move) → List Move
-all_in rounds = flat_map (λ (moves : List Move). moves) rounds
-
 -- The moves and their number; a refusal after some moves takes the place of their number.
 abbrev pub moves_text : List Move → Result (List Move) TableFault → List ℕ
 moves_text moves (Ok own) = move_lines (moves ++ own) ++ move_count_line (length (moves ++ own))
@@ -113,18 +110,6 @@ abbrev pub AnswersFollow : Option (List Item) → Servers → List ℕ → Serve
 AnswersFollow None s out t = (t ≡ s) × (out ≡ nomap_line)
 AnswersFollow (Some held) s out t =
     (rounds : List (List Move)) × (fault : Option TableFault) × BothFollow held s rounds fault t × (out ≡ moves_text (all_in rounds) (ended_by fault))
-
--- Unless something ended earlier, a table takes a call.
-abbrev pub CallsNext : Option TableFault → Call → DriverTable → Result (List Move) TableFault → DriverTable → Type 0
-CallsNext None call t answer u = TableStep t call answer u
-CallsNext (Some stop) call t answer u = (answer ≡ Err stop) × (u ≡ t)
-
--- A table follows the map, and then takes a request.
-pub record FollowsAndTakes (held : List Item) (id unit : ℕ) (t : DriverTable) (rounds : List (List Move)) (own : Result (List Move) TableFault) (u : DriverTable) : Type 0 where
-  pub mid : DriverTable
-  pub stop : Option TableFault
-  pub follows : Follows held (labels_of t) t rounds stop mid
-  pub takes : CallsNext stop (calls.Submit id unit) mid own u
 
 -- Without a map nothing happens; else the moves of the follow come before the request's own move, or before its
 -- refusal.

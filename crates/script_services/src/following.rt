@@ -5,7 +5,8 @@ ghost use Rattle.std.specs.Option.{option_copied};
 ghost use Rattle.ds_held.specs.Held.{held_items};
 ghost use Rattle.driver_tables.specs.Run.{one_move};
 ghost use Rattle.script_services.specs.Tables.{ended_by, map_items, nomap_line, own_moves, AnswersFollow, AnswersSubmit};
-ghost use Rattle.script_services.specs.Kept.{BothFollowed, FollowedAndTaken};
+ghost use Rattle.rs_to_store.specs.Submitting.{FollowedAndTaken};
+ghost use Rattle.script_services.specs.Kept.{BothFollowed};
 ghost use Rattle.script_services.specs.Waiting.{AppendsLed};
 
 use crate::moves::append_moves;
@@ -14,7 +15,7 @@ use driver_tables::{Drivers, FileTable, Move, Moves, NetTable, TableFault};
 use ds_line::append_all;
 use ds_names::NoRoom;
 use ds_submap::SubMap;
-use rs_to_store::follow;
+use rs_to_store::{follow, follow_and_submit};
 use script_commands::Server;
 use std::alloc::Global;
 
@@ -126,8 +127,5 @@ fn submits<T: Drivers>(
     ensures { FollowedAndTaken (held_items map.now.held) id unit (T.kept table.old) (T.kept table.new)
         rounds.old.items rounds.new.items (own_moves result) }
 {
-    match follow(table, map, rounds) {
-        None => own_move(table.submit(id, unit)),
-        Some(fault) => Err(fault),
-    }
+    own_move(follow_and_submit(table, map, id, unit, rounds))
 }

@@ -1,7 +1,8 @@
 //! Moves, and their number.
 
 ghost use Rattle.std.specs.Prelude.{◌≡◌, ◌≤◌, ◌++◌, length, vec_len, IfOk, OnOk, OnErr};
-ghost use Rattle.script_services.specs.Tables.{all_in, move_lines, moves_text, own_moves};
+ghost use Rattle.rs_to_store.specs.Submitting.{all_in};
+ghost use Rattle.script_services.specs.Tables.{move_lines, moves_text, own_moves};
 ghost use Rattle.script_services.specs.Waiting.{AppendsSome};
 
 use driver_tables::{Move, Moves, TableFault};

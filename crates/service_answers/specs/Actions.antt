@@ -12,11 +12,11 @@ use Rattle.rs_core.specs.declared.fault.RsFault.{RsFault}
 use Rattle.rs_core.specs.declared.fault.RsFault.TheVariants as faults
 use Rattle.service_answers.specs.Refusal.{refusal_line}
 
--- `offer`, and the line of the change.
+-- The line of an offer: `offer`, and the line of the change.
 abbrev pub offer_line : ChangeRecord → List ℕ
 offer_line change = texts (part Word (codes "offer") ∷ space ∷ change_parts change)
 
--- `sweep`, the owner, and the generation.
+-- The line of a sweep: `sweep`, the owner, and the generation.
 abbrev pub sweep_line : Floor → List ℕ
 sweep_line floor =
     texts (part Word (codes "sweep") ∷ space ∷ part Name floor.owner ∷ space ∷ part Number (decimal floor.generation) ∷ newline ∷ [])
@@ -30,7 +30,7 @@ action_line (Ping endpoint) = texts (part Word (codes "ping") ∷ space ∷ part
 action_line (Offer change) = offer_line change
 action_line (Sweep floor) = sweep_line floor
 
--- `actions`, and their number.
+-- The line with `actions` and their number.
 abbrev pub action_count_line : ℕ → List ℕ
 action_count_line count = texts (part Word (codes "actions") ∷ space ∷ part Number (decimal count) ∷ newline ∷ [])
 
@@ -47,6 +47,6 @@ rs_fault_word faults.GenerationsSpent = codes "generationsspent"
 rs_fault_word faults.NoSlot = codes "noslot"
 rs_fault_word faults.NoRoom = codes "noroom"
 
--- RS's refusal of an event.
+-- The line of RS's refusal of an event.
 abbrev pub rs_fault_line : RsFault → List ℕ
 rs_fault_line fault = refusal_line (rs_fault_word fault)

@@ -34,7 +34,7 @@ move_line (Answer id ending) =
     ∷ newline ∷ [])
 move_line (Held id) = texts (part Word (codes "held") ∷ space ∷ part Number (decimal id) ∷ newline ∷ [])
 
--- `moves`, and their number.
+-- The line with `moves` and their number.
 abbrev pub move_count_line : ℕ → List ℕ
 move_count_line count = texts (part Word (codes "moves") ∷ space ∷ part Number (decimal count) ∷ newline ∷ [])
 

@@ -7,7 +7,7 @@ use Rattle.rs_settings.specs.declared.fault.SettingsCause.{SettingsCause}
 use Rattle.rs_settings.specs.declared.fault.SettingsCause.TheVariants as causes
 use Rattle.service_answers.specs.Refusal.{refusal_line}
 
--- `services` and their number, `slots` and their number.
+-- The line of settings: `services` and their number, `slots` and their number.
 abbrev pub settings_line : ℕ → ℕ → List ℕ
 settings_line services slots =
     texts (part Word (codes "services") ∷ space ∷ part Number (decimal services) ∷ space ∷ part Word (codes "slots") ∷ space

@@ -40,7 +40,7 @@ outcome_lines wording (Refused fault) limits = with_newline (codes "refused " ++
 abbrev pub ring_line : ℕ → List ℕ
 ring_line ring = with_newline (codes "ring " ++ decimal ring)
 
--- `a` or `b`.
+-- The word of a side: `a` or `b`.
 abbrev pub side_word : Side → List ℕ
 side_word A = codes "a"
 side_word B = codes "b"

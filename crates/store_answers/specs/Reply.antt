@@ -60,7 +60,7 @@ refusal_rest _ = []
 abbrev pub refusal_words : Refusal → List ℕ
 refusal_words refusal = refusal_word refusal ++ refusal_rest refusal
 
--- `refused`, and the words.
+-- The text of a refusal: `refused`, and the words of its cause.
 abbrev pub refused : Refusal → List ℕ
 refused refusal = codes "refused " ++ refusal_words refusal
 

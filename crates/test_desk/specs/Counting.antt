@@ -1,4 +1,4 @@
--- What a counter does with each command.
+-- The answers of a counter.
 use Rattle.std.specs.Prelude.{◌≡◌, ℕ, ◌+◌, ◌%◌, ◌^◌}
 use Rattle.test_desk.specs.declared.counter.Count.{Count}
 use Rattle.test_desk.specs.declared.counter.Count.TheVariants.{Add, Read, Watch}
@@ -10,7 +10,7 @@ counted_after s (Watch watchers) = record { total = s.total; watchers = watchers
 counted_after s (Add amount) = record { total = (s.total + amount) % 2 ^ 64; watchers = s.watchers }
 counted_after s Read = s
 
--- An addition owes a notice to the watching subscriptions.
+-- The reply to a command. An addition owes a notice to the watching subscriptions.
 abbrev pub answer : Counter → Count → Counted
 answer s (Watch watchers) = record { total = s.total; owed = 0 }
 answer s (Add amount) = record { total = (s.total + amount) % 2 ^ 64; owed = s.watchers }

@@ -1,4 +1,4 @@
-//! Does what a line says, and prints the result.
+//! Carries out lines of the section.
 
 use crate::counter::Counter;
 use crate::labels::{Labels, publish_labels};
@@ -16,7 +16,7 @@ use std::sync::Wait;
 use std::thread::Threads;
 use test_kit::Failure;
 
-/// Does what a line says, and prints the result.
+/// Carries out a line, and prints the result.
 pub(crate) fn answer_line<R: Print + Threads + Wait + Sync>(
     rt: &R,
     alloc: Global,
@@ -46,7 +46,7 @@ pub(crate) fn answer_line<R: Print + Threads + Wait + Sync>(
     }
 }
 
-// Has two passes take the steps of each row.
+// Plays the steps of each row by two passes.
 fn play_rows<R: Print + Wait>(rt: &R, alloc: Global, rows: &[Row]) -> Result<(), Failure> {
     for row in rows {
         play::<Box<Store>, R>(rt, alloc, row)?;
@@ -54,7 +54,7 @@ fn play_rows<R: Print + Wait>(rt: &R, alloc: Global, rows: &[Row]) -> Result<(),
     Ok(())
 }
 
-// Prints what is left of labels that were changed.
+// Prints the labels that are left after the changes.
 fn tell_labels(rt: &impl Print, labels: Option<Labels>) -> Result<(), Failure> {
     let labels = labels.ok_or(Failure::NoRoom)?;
     tell(
@@ -68,13 +68,13 @@ fn tell_labels(rt: &impl Print, labels: Option<Labels>) -> Result<(), Failure> {
     )
 }
 
-// Prints a count of what was only done.
+// Prints the count of calls that were only made.
 fn tell_sum(rt: &impl Print, count: Option<u64>) -> Result<(), Failure> {
     let sum = count.ok_or(Failure::NoRoom)?;
     tell(rt, &[("sum ", u128::from(sum))], "\n")
 }
 
-// Prints how threads were answered; of a machine that takes memory also how many calls were refused because memory ran out.
+// Prints how the threads' replies compare. For a machine that takes memory, also prints how many calls ran out of memory.
 fn tell_review(
     rt: &impl Print,
     threads: u32,

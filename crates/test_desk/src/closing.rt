@@ -13,7 +13,7 @@ use desk::{CloseStop, Closed, Desk, Note, Pass, Passes};
 use std::alloc::Global;
 use test_kit::Failure;
 
-/// Closes the desk with both passes, and prints what is left, with the row of a subscription; or why it stays open.
+/// Closes the desk with both passes. Prints the machine's position and the row of a subscription, or why the desk stays open.
 pub(crate) fn close_both<M: Followed + Drop, R: Print>(
     rt: &R,
     alloc: Global,
@@ -33,7 +33,7 @@ where
     close(rt, alloc, desk, passes, sub)
 }
 
-/// Asks to close with a note out, then with a pass out, and then with neither.
+/// Tries to close the desk with a note that isn't learnt, then with a pass missing, and then with both passes.
 pub(crate) fn close_when_learnt<M: Followed + Drop, R: Print>(
     rt: &R,
     alloc: Global,
@@ -58,7 +58,7 @@ where
     }
 }
 
-// Has the second pass learn the note, and asks to close with the first pass alone, and then with both.
+// Lets the second pass learn the note. Then tries to close with the first pass alone, and then with both.
 fn close_with_pass_out<M: Followed + Drop, R: Print>(
     rt: &R,
     alloc: Global,
@@ -82,7 +82,7 @@ where
     }
 }
 
-// Asks to close with a pass that was out.
+// Closes with the pass that was missing.
 fn close_with_pass_back<M: Followed + Drop, R: Print>(
     rt: &R,
     alloc: Global,
@@ -102,7 +102,7 @@ where
     close(rt, alloc, stop.desk, stop.passes, 0)
 }
 
-// Learns a note, and looks.
+// Learns a note, and then looks.
 fn learn<M: Followed + Drop, R: Print>(
     rt: &R,
     desk: &Desk<M>,
@@ -122,7 +122,7 @@ where
     look(rt, desk, pass)
 }
 
-// The two passes of a desk. Returns `None` if memory runs out.
+// Returns a list of the two passes of a desk, or `None` if memory runs out.
 fn list_of<M: Followed + Drop>(alloc: Global, one: Pass<M>, two: Pass<M>) -> Option<Passes<M>>
 where
     M::Command: Drop,
@@ -133,7 +133,7 @@ where
     Some(Passes::<M>::of(passes))
 }
 
-// Closes the desk with these passes, and prints what is left, with the row of a subscription; or why it stays open.
+// Closes the desk with these passes. Prints the machine's position and the row of a subscription, or why the desk stays open.
 fn close<M: Followed + Drop, R: Print>(
     rt: &R,
     alloc: Global,
@@ -152,7 +152,7 @@ where
     }
 }
 
-// Prints how far a machine came, and the row of a subscription.
+// Prints the machine's position, and the row of a subscription.
 fn tell_closed<M: Followed, R: Print>(
     rt: &R,
     closed: &Closed<M>,

@@ -1,4 +1,4 @@
-//! The commands to a store.
+//! Commands to a store.
 
 use ds_entry::{Body, Change, Floor, Item, Items, Value};
 use ds_machine::Command;
@@ -13,7 +13,7 @@ pub(crate) struct Driver {
     endpoint: Endpoint,
 }
 
-/// The driver of a label. Returns `None` if there is no such label, generation or slot.
+/// Returns the driver with a label and an endpoint, or `None` if one of the parts is out of its range.
 pub(crate) fn driver_of(label: &[u8], generation: u32, slot: u16) -> Option<Driver> {
     let key = Key {
         name: Name::read(label).ok()?,
@@ -23,23 +23,23 @@ pub(crate) fn driver_of(label: &[u8], generation: u32, slot: u16) -> Option<Driv
     Some(Driver { key, endpoint })
 }
 
-/// What is asked of a driver.
+/// The commands about a driver.
 #[derive(Clone, Copy)]
 pub(crate) enum Asked {
-    /// RS publishes its label, over that of an earlier generation.
+    /// RS publishes the driver's label, over that of an earlier generation.
     Start,
-    /// RS deletes its label, of this generation or an earlier one.
+    /// RS deletes the driver's label, of this generation or an earlier one.
     Delete,
-    /// RS ends what it published up to this generation.
+    /// RS sweeps what the driver published up to this generation.
     Sweep,
-    /// The value of its label is asked for.
+    /// A Retrieve of the driver's label.
     Retrieve,
-    /// Its name is asked for.
+    /// A NameOf of the driver's endpoint.
     NameOf,
 }
 
 impl Driver {
-    /// The command.
+    /// Returns the command.
     pub(crate) fn ask(&self, asked: Asked) -> Command {
         let Driver { key, endpoint } = *self;
         let caller = Endpoint::rs();
@@ -68,7 +68,7 @@ impl Driver {
     }
 }
 
-/// A subscription to all that comes later, over one of this number. Returns `None` if memory runs out.
+/// Returns a Subscribe to all that comes later, in place of any subscription of this number. `None` if memory runs out.
 pub(crate) fn follow(alloc: Global, sub: u32) -> Option<Command> {
     let kinds = Kinds::of(15)?;
     let text = PatternText::of(alloc, b".*").ok()?;
@@ -80,8 +80,8 @@ pub(crate) fn follow(alloc: Global, sub: u32) -> Option<Command> {
     })
 }
 
-/// Another holder gives what it has of a driver: a floor under half of its generations, and a number that it published in the
-/// last one. Returns `None` if memory runs out.
+/// Returns a Merge of two items of a driver: a floor under half of its generations, and a number that it published in the last one.
+/// `None` if memory runs out.
 pub(crate) fn merge(alloc: Global, driver: &Driver, number: u32) -> Option<Command> {
     let mut items = Items::new(alloc);
     add_items(&mut items, driver, number)?;
@@ -102,7 +102,7 @@ fn add_items(items: &mut Items, driver: &Driver, number: u32) -> Option<()> {
     items.push(Item::Change(change)).ok()
 }
 
-/// The label of the driver of a number, with its last twelve digits: 64 threads make fewer calls than these can tell apart.
+/// Returns the label of the driver of a number, with the number's last twelve digits. 64 threads make fewer calls than these digits count.
 pub(crate) fn label_of(number: u64) -> [u8; 18] {
     let mut label = *b"driver000000000000";
     let mut rest = number;

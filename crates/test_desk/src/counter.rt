@@ -1,6 +1,6 @@
-//! A counter that threads share at a desk: it adds, and owes a notice to those who watch it.
+//! A counter that threads share at a desk. It adds numbers, and owes a notice to those that watch it.
 //!
-//! It shows that a desk knows nothing of the machine that it holds.
+//! With it, the tests use a desk over another machine than a store.
 
 ghost use Rattle.std.specs.Prelude.{◌≡◌};
 
@@ -9,11 +9,11 @@ use history::Machine;
 /// A command to a counter.
 #[derive(Clone, Copy)]
 pub(crate) enum Count {
-    /// Tell these subscriptions, and no others, from now on: bit 8 s + k is that of subscription k of server s.
+    /// Sends notices to exactly these subscriptions from now on. Bit 8 s + k is subscription k of server s.
     Watch(u128),
-    /// Add this to the sum, modulo 2^64.
+    /// Adds a number to the sum, modulo 2^64.
     Add(u64),
-    /// Say the sum.
+    /// Returns the sum.
     Read,
 }
 
@@ -22,11 +22,11 @@ pub(crate) enum Count {
 pub(crate) struct Counted {
     /// The sum.
     pub total: u64,
-    /// Who is owed a notice.
+    /// The mask of the subscriptions that are owed a notice.
     pub owed: u128,
 }
 
-/// A sum, and the subscriptions that are told when it is added to.
+/// A sum, and the subscriptions that are owed a notice at each addition.
 #[derive(Clone, Copy, PartialEq, Eq)]
 pub(crate) struct Counter {
     /// The sum.
@@ -36,7 +36,7 @@ pub(crate) struct Counter {
 }
 
 impl Counter {
-    /// A sum that nobody watches.
+    /// Returns a counter without subscriptions.
     pub(crate) fn new(total: u64) -> Counter
         ensures { (result.total ≡ total) × (result.watchers ≡ 0) }
     {
@@ -80,7 +80,7 @@ impl Machine for Counter {
 }
 
 impl Counter {
-    // The sum, with who is owed a notice.
+    // Returns the sum, with this mask of subscriptions that are owed a notice.
     fn answer(&self, owed: u128) -> Counted
         ensures { (result.total ≡ self.now.total) × (result.owed ≡ owed) }
     {

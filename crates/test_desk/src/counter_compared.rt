@@ -1,4 +1,4 @@
-//! The commands of threads to a counter.
+//! The threads' commands to a counter.
 
 use crate::compared::Compared;
 use crate::counter::{Count, Counted, Counter};
@@ -11,7 +11,7 @@ impl Compared for Counter {
         Some(Counter::new(0))
     }
 
-    /// Now and then a thread says who is to be told, or reads, and else it adds.
+    /// Returns an addition in most turns. In some turns the thread sets the subscriptions, or reads.
     fn command_of(_alloc: Global, _seen: u64, turn: u32) -> Option<Count> {
         Some(match turn % 8 {
             0 => Count::Watch((1u128 << (turn % 128)) | 1),
@@ -20,7 +20,7 @@ impl Compared for Counter {
         })
     }
 
-    /// A counter is asked of no items.
+    /// Returns the command as it is, since a counter has no items.
     fn first_of(command: Count, _items: usize) -> Option<Count> {
         Some(command)
     }

@@ -1,15 +1,16 @@
-//! Replies of a store, in few bytes.
+//! Digests of a store's replies.
 
 use ds_machine::{Refusal, Reply};
 use std::alloc::Global;
 use test_crews::Kept;
 
-// FNV-1a of 64 bits: what it begins with, and what each byte multiplies by (Fowler, Noll and Vo).
+// FNV-1a of 64 bits: the value at the beginning, and the factor of each byte (Fowler, Noll and Vo).
 const BEGINNING: u64 = 0xcbf2_9ce4_8422_2325;
 
 const FACTOR: u64 = 0x0100_0000_01b3;
 
-/// What is kept of a reply: of one that wants no memory the hash of its whole text. Returns `None` if memory runs out for the text.
+/// Returns the digest of a reply, with the hash of its whole text unless the reply is out of memory. `None` if memory runs out for the
+/// text.
 pub(crate) fn kept_of(alloc: Global, reply: &Reply) -> Option<Kept> {
     match reply {
         Reply::Refused(Refusal::NoRoom) => Some(Kept::NoRoom),
@@ -28,7 +29,7 @@ pub(crate) fn kept_of(alloc: Global, reply: &Reply) -> Option<Kept> {
     }
 }
 
-// The hash of a reply's text. Returns `None` if memory runs out for the text.
+// Returns the hash of a reply's text, or `None` if memory runs out for the text.
 fn hash_of(alloc: Global, reply: &Reply) -> Option<u64> {
     let text = format!(in alloc; "{reply:?}").ok()?;
     let mut hash = BEGINNING;

@@ -1,4 +1,4 @@
-//! What the machine of a closed desk says of the labels that two threads published.
+//! The labels that two threads published, in the machine of the closed desk.
 
 use crate::commands::label_of;
 use crate::followed::Followed;
@@ -9,19 +9,19 @@ use std::alloc::Global;
 use std::sync::Wait;
 use std::thread::Threads;
 
-/// What is left of so many changes by each of two threads.
+/// The result of many changes by each of two threads.
 #[derive(Clone, Copy)]
 pub(crate) struct Labels {
-    /// How far the machine's position went.
+    /// The number of items that took effect.
     pub changes: u64,
-    /// The generation that the first thread's label names.
+    /// The generation of the endpoint under the first thread's label.
     pub first: u32,
-    /// And the second one's.
+    /// The generation of the endpoint under the second thread's label.
     pub second: u32,
 }
 
-/// Has two threads change a label each, so often, and asks the machine that is left. Returns `None` if memory runs out, or if a label
-/// is missing.
+/// Lets two threads change one label each, `calls` times, and then reads the machine of the closed desk. Returns `None` if memory runs
+/// out, or if a label is missing.
 pub(crate) fn publish_labels<M, R>(rt: &R, alloc: Global, calls: u32) -> Option<Labels>
 where
     M: Followed + Send + Drop,

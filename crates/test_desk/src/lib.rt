@@ -1,13 +1,13 @@
 //! A section of the program for tests: threads that share a counter or a data store at a desk, compared with one thread alone, and
-//! two passes in turn.
+//! two passes of one thread.
 //!
-//! Each line asks for one thing, and what is printed is the same however the threads took turns:
+//! Each line is one test. The output doesn't depend on the order of the threads' turns:
 //! - `counter THREADS CALLS`, `store THREADS CALLS`: 1 to 64 threads, each in a thread of its own where one can be made, make
-//!   that many calls of one desk. Then every reply is compared with that of a machine of one thread which is given the calls in
-//!   the order of their places, and the account of the notices with what the threads counted themselves.
-//! - `labels COUNT`: two threads change a label each so often, and what the closed desk's store says of it is printed.
-//! - `notice`, `last`, `bits`, `none`: two passes of one desk call a store in turn (`rows`).
-//! - `overwrite THREADS CALLS`, `front COUNT`, `take COUNT`, to be measured from outside: calls of a store that are only made,
+//!   CALLS calls of one desk. Then every reply is compared with that of a single thread's machine, which gets the calls in the order of
+//!   their places, and the account of the notices with the threads' own counts.
+//! - `labels COUNT`: two threads change one label each, COUNT times, and both labels of the closed desk's store are printed.
+//! - `notice`, `last`, `bits`, `none`: two passes of one desk call a store (`rows`).
+//! - `overwrite THREADS CALLS`, `front COUNT`, `take COUNT`, for measurements from outside: calls of a store without a comparison, and
 //!   looks and takes of one pass.
 #![tactic(auto)]
 
@@ -40,7 +40,7 @@ use std::sync::Wait;
 use std::thread::Threads;
 use test_kit::Failure;
 
-/// Answers the lines in order, up to the first that can't be read.
+/// Answers the lines in order, up to the first one that can't be read.
 pub fn answer<R: Print + AllocGlobal + Threads + Wait + Sync>(
     rt: &R,
     lines: &str,

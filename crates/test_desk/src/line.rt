@@ -2,28 +2,28 @@
 
 use crate::rows::{BITS, LAST, NOTICE, Row};
 
-/// What a line says to do.
+/// The test of a line.
 #[derive(Clone, Copy)]
 pub(crate) enum Line {
-    /// Calls of a counter by threads, to be compared with one thread's.
+    /// Calls of a counter by threads, compared with one thread's.
     Counter(Sizes),
-    /// Calls of a store by threads, to be compared with one thread's.
+    /// Calls of a store by threads, compared with one thread's.
     Store(Sizes),
-    /// Overwrites of a store's labels by threads, which are only made.
+    /// Overwrites of a store's labels by threads, without a comparison.
     Overwrite(Sizes),
-    /// So many overwrites of a label by each of two threads.
+    /// Overwrites of one label by each of two threads, this number of times.
     Labels(u32),
-    /// So many looks how far a history goes.
+    /// Looks of one pass, this number of times.
     Front(u32),
-    /// So many takes.
+    /// Takes of one pass, this number of times.
     Take(u32),
-    /// Two passes that call a store in turn, row by row.
+    /// Two passes that call a store, row by row.
     Rows(&'static [Row]),
-    /// Calls that open no desk.
+    /// Desks that can't be opened.
     NoDesk,
 }
 
-/// How many threads there are, 1 to 64, and how many calls each makes.
+/// The number of threads, 1 to 64, and the number of calls that each makes.
 #[derive(Clone, Copy)]
 pub(crate) struct Sizes {
     pub threads: u32,

@@ -1,4 +1,4 @@
-//! Calls of a machine that are only made.
+//! Calls of a machine, for measurements.
 
 ghost use Rattle.std.specs.Prelude.{◌≡◌};
 ghost use Rattle.desk.specs.Desk.{identity};
@@ -14,7 +14,7 @@ use std::sync::Wait;
 use std::thread::Threads;
 use test_crews::{Board, Crew, DeskName, Task, Worker, run_crew};
 
-/// So many overwrites of a label that no other thread overwrites: it has the number of the thread's subscription.
+/// The overwrites of one thread. Its label has the number of the thread's subscription, so no other thread overwrites it.
 #[derive(Clone, Copy)]
 pub(crate) struct Overwrite {
     pub calls: u32,
@@ -42,7 +42,7 @@ where
     }
 }
 
-// Follows everything, and gives the stamp of the subscription.
+// Subscribes to everything, and returns the stamp of the subscription.
 fn subscribe<M: Followed + Drop, R: Wait>(
     rt: &R,
     alloc: Global,
@@ -59,7 +59,7 @@ where
     M::stamp_in(&answer.reply)
 }
 
-// Has RS start the driver of the label in a later generation.
+// Publishes the label in a later generation, as RS.
 fn start_again<M: Followed + Drop, R: Wait>(
     rt: &R,
     desk: &Desk<M>,
@@ -79,8 +79,7 @@ where
     Some(())
 }
 
-/// Has so many threads overwrite a label each of one new machine, which each of them follows. Returns `None` if memory or
-/// places run out.
+/// Lets threads overwrite one label each at one new machine, which each thread follows. Returns `None` if memory or places run out.
 pub(crate) fn overwrite_by_crew<M, R>(rt: &R, alloc: Global, sizes: Sizes) -> Option<Crew<M>>
 where
     M: Followed + Send + Drop,
@@ -93,7 +92,7 @@ where
     run_crew(rt, alloc, machine, threads, Overwrite { calls })
 }
 
-/// How many bits they raised.
+/// Returns the number of bits that the threads raised.
 pub(crate) fn overwrite_labels<M, R>(rt: &R, alloc: Global, sizes: Sizes) -> Option<u64>
 where
     M: Followed + Send + Drop,

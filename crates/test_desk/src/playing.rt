@@ -1,4 +1,4 @@
-//! Two passes of one desk, which call in turn.
+//! Two passes of one desk, step by step.
 
 ghost use Rattle.std.specs.Prelude.{◌≡◌};
 ghost use Rattle.desk.specs.Desk.{identity};
@@ -14,7 +14,7 @@ use std::alloc::Global;
 use std::sync::Wait;
 use test_kit::Failure;
 
-/// Opens a desk, has its two passes do what the row says, and closes it. What they are answered is printed.
+/// Opens a desk, plays the row's steps by its two passes, closes the desk, and prints the answers.
 pub(crate) fn play<M: Followed + Drop, R: Print + Wait>(
     rt: &R,
     alloc: Global,
@@ -121,7 +121,7 @@ fn tell_answer<M: Followed, R: Print>(rt: &R, answer: &Answer<M::Reply>) -> Resu
     )
 }
 
-/// Looks how far the history goes, and prints the first place after what the pass has then seen.
+/// Looks, and prints the first place after the history that the pass has then seen.
 pub(crate) fn look<M: Followed, R: Print>(
     rt: &R,
     desk: &Desk<M>,
@@ -134,7 +134,7 @@ pub(crate) fn look<M: Followed, R: Print>(
     tell(rt, &[("front ", u128::from(front))], "\n")
 }
 
-// Takes what a server is owed, and prints it.
+// Takes a server's notices, and prints them.
 fn take<M: Followed, R: Print>(
     rt: &R,
     desk: &Desk<M>,

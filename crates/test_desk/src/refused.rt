@@ -1,4 +1,4 @@
-//! Calls that open no desk.
+//! Desks that can't be opened.
 
 use crate::followed::Followed;
 use crate::rows::NO_DESK;
@@ -6,7 +6,7 @@ use desk::{Desk, DeskFault};
 use std::alloc::Global;
 use test_kit::Failure;
 
-/// Asks to open desks that there aren't, and prints why not, and the position of each machine that comes back.
+/// Tries to open desks that can't be opened. Prints each refusal, and the position of the machine that comes back.
 pub(crate) fn refuse_desks<M: Followed + Drop, R: Print>(
     rt: &R,
     alloc: Global,
@@ -24,7 +24,7 @@ where
     Ok(())
 }
 
-// Why there is no such desk, and where the machine is that comes back. Returns `None` if memory runs out, or if a desk was opened.
+// Returns the refusal, and the position of the machine that comes back. `None` if memory runs out, or if a desk was opened.
 fn refusal_of<M: Followed + Drop>(
     alloc: Global,
     passes: u32,

@@ -1,4 +1,4 @@
-//! Whether the threads were answered as one thread would be.
+//! Compares the threads' replies with those to one thread.
 
 use crate::compared::Compared;
 use crate::line::Sizes;
@@ -8,24 +8,24 @@ use std::sync::Wait;
 use std::thread::Threads;
 use test_crews::{Crew, Kept, Said, run_crew};
 
-/// How threads were answered, beside one thread.
+/// The result of a comparison with one thread.
 #[derive(Clone, Copy)]
 pub(crate) struct Review {
-    /// How many calls they made.
+    /// The number of calls that the threads made.
     pub entries: u64,
-    /// Whether each place is of one call, after all that its thread had seen, and one machine that is given the commands in
-    /// the order of their places answers each as it was answered, and comes as far; and whether who learnt a note looked as far
-    /// as its maker.
+    /// Whether the replies are those of one legal history. Each place has one call, after all that its thread had seen. A single machine
+    /// that gets the commands in the order of their places gives the same replies, and reaches the same position. A pass that learnt a note
+    /// has seen as much as the note's pass.
     pub legal: bool,
-    /// How many calls were refused or stopped because memory ran out, and so changed nothing beside what they say.
+    /// The number of calls that were refused or stopped because memory ran out.
     pub noroom: u64,
-    /// Whether in each row of the account raises are takes and what is pending, and all rows together are what the threads
-    /// counted.
+    /// Whether in each row of the account the raises are the takes, plus one if the bit is pending, and the rows agree with the threads'
+    /// own counts.
     pub exact: bool,
 }
 
-/// Has so many threads share a new machine, by so many calls each, and compares them with one thread. Returns `None` if memory runs out,
-/// or where there are not 1 to 64 threads.
+/// Lets threads share a new machine, by a number of calls each, and compares them with one thread. Returns `None` if memory runs out, or
+/// if there aren't 1 to 64 threads.
 pub(crate) fn share_and_compare<M, R>(rt: &R, alloc: Global, sizes: Sizes) -> Option<Review>
 where
     M: Compared + Send + Drop,
@@ -38,8 +38,8 @@ where
     review_of(alloc, &crew)
 }
 
-// Gives one machine the commands in the order of their places, but for those that were refused because memory ran out, and of one
-// that was stopped so what was done. Returns `None` if memory runs out here.
+// Sends one machine the commands in the order of their places, and compares. Leaves out those that were refused because memory ran out,
+// and of one that was stopped so takes only the part that was done. Returns `None` if memory runs out here.
 fn review_of<M: Compared + Drop>(alloc: Global, crew: &Crew<M>) -> Option<Review>
 where
     M::Reply: Drop,
@@ -56,7 +56,7 @@ where
     Some(review)
 }
 
-// Has the machine answer all calls, in turn.
+// Sends the machine all calls in order, and compares each reply.
 fn answer_alone<M: Compared>(
     alloc: Global,
     alone: &mut M,
@@ -74,7 +74,7 @@ where
 }
 
 impl Review {
-    /// The end of the line that tells of it.
+    /// Returns the end of the line that is printed.
     pub(crate) fn verdict(&self) -> &'static str {
         match (self.legal, self.exact) {
             (true, true) => " history legal account exact\n",
@@ -84,7 +84,7 @@ impl Review {
         }
     }
 
-    // Adds the call of the next place, which was answered as one machine answers it, or was not.
+    // Adds the call of the next place. `same` says whether the single machine gave the same reply.
     fn add(&mut self, one: &Said, same: bool) {
         let place = self.entries;
         self.legal &= same && one.place == place && one.seen <= place;
@@ -93,7 +93,7 @@ impl Review {
     }
 }
 
-// Whether the machine answers the call so. Returns `None` if memory runs out here.
+// Returns whether the machine gives the same reply to the call, or `None` if memory runs out here.
 fn is_answered_so<M: Compared>(alloc: Global, alone: &mut M, one: &Said) -> Option<bool>
 where
     M::Reply: Drop,
@@ -105,7 +105,7 @@ where
     }
 }
 
-// Of a call that stopped because memory ran out the machine is given what was done: whether it owes so.
+// Sends the machine the part of a stopped call that was done, and returns whether it owes the same notices.
 fn does_first<M: Compared>(
     alloc: Global,
     alone: &mut M,

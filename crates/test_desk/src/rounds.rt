@@ -1,4 +1,4 @@
-//! Long rounds of looks and takes, to be measured from outside.
+//! Long rounds of looks and takes, for measurements from outside.
 
 ghost use Rattle.std.specs.Prelude.{◌≡◌};
 ghost use Rattle.desk.specs.Desk.{identity};
@@ -11,7 +11,7 @@ use desk::{Desk, Pass};
 use history::Machine;
 use std::alloc::Global;
 
-/// Looks so often how far the history of a desk goes. What it saw, added up; Returns `None` if memory runs out.
+/// Looks `count` times how far the history of a desk goes, and returns the sum of the places. `None` if memory runs out.
 pub(crate) fn look<M: Followed + Drop>(alloc: Global, count: u32) -> Option<u64>
 where
     M::Command: Drop,
@@ -31,7 +31,7 @@ fn look_often<M: Machine>(desk: &Desk<M>, pass: &mut Pass<M>, count: u32) -> u64
     seen
 }
 
-/// Takes the notices of a server so often. What it took, added up; Returns `None` if memory runs out.
+/// Takes the notices of a server `count` times, and returns the sum of what it took. `None` if memory runs out.
 pub(crate) fn take<M: Followed + Drop>(alloc: Global, count: u32) -> Option<u64>
 where
     M::Command: Drop,

@@ -1,24 +1,24 @@
-//! What two passes of one desk do, which call in turn.
+//! The rows: the steps of two passes of one desk.
 
-/// The first place of a desk, and the first position of a store, that there isn't.
+/// The end of places and positions: the first one that no desk and no store has.
 pub(crate) const END: u64 = 1 << 62;
 
-/// What one of the passes does.
+/// A step of one of the passes.
 #[derive(Clone, Copy)]
 pub(crate) enum Step {
     /// The first pass follows everything, by a subscription of this number.
     Follow(u32),
-    /// The first pass has RS start the driver of a label in a slot.
+    /// The first pass publishes a driver's label with a slot, as RS.
     Start(&'static [u8], u16),
-    /// So does the second one.
+    /// The second pass publishes a driver's label with a slot, as RS.
     StartBySecond(&'static [u8], u16),
     /// The first pass looks how far the history goes.
     Look,
-    /// The first pass takes what a server is owed.
+    /// The first pass takes a server's notices.
     Take(u32),
 }
 
-/// A new desk, what its two passes do, and which row of the account is printed when it is closed.
+/// A row: a new desk, the steps of its two passes, and the row of the account that is printed when the desk is closed.
 #[derive(Clone, Copy)]
 pub(crate) struct Row {
     /// The first place of the desk.
@@ -26,15 +26,15 @@ pub(crate) struct Row {
     /// The position of the store.
     pub position: u64,
     pub steps: &'static [Step],
-    /// Whether the desk is asked to close with a note out, and with a pass out, before it is closed.
+    /// Whether the row first tries to close the desk with a note that isn't learnt, and with a pass missing.
     pub learns: bool,
     /// The number of the subscription whose row is printed.
     pub sub: usize,
 }
 
-/// A follower's bit is raised by one pass, and found pending by the other. It is taken once, by a pass that sees the other's call
-/// by the take's own look. A note that isn't learnt and a pass that is out keep the desk open; who learns the note looks at least
-/// as far as the note's pass did.
+/// One pass raises a follower's bit, and the other pass finds it pending. The bit is taken once, and the take sees the other pass's call.
+/// A note that isn't learnt keeps the desk open, and so does a missing pass. The pass that learns the note sees at least as much as the
+/// note's pass did.
 pub(crate) const NOTICE: [Row; 1] = [Row {
     place: 0,
     position: 0,
@@ -49,7 +49,7 @@ pub(crate) const NOTICE: [Row; 1] = [Row {
     sub: 0,
 }];
 
-/// The last place of a desk is used, and it is Worn; at another desk, which isn't, the store's last position is.
+/// A desk's last place is used, and the next call is Worn. At another desk, the store's last position is used.
 pub(crate) const LAST: [Row; 2] = [
     Row {
         place: END - 1,
@@ -71,8 +71,8 @@ pub(crate) const LAST: [Row; 2] = [
     },
 ];
 
-/// The subscription 127 is owed a notice, which is bit 7 of server 15's word. There is no server 16. Who follows looks one place
-/// further after the other's call than before it.
+/// Subscription 127 is owed a notice, which is bit 7 of server 15's word. There is no server 16. After the other pass's call, the follower
+/// looks one place further than before.
 pub(crate) const BITS: [Row; 1] = [Row {
     place: 0,
     position: 0,
@@ -89,5 +89,5 @@ pub(crate) const BITS: [Row; 1] = [Row {
     sub: 127,
 }];
 
-/// No pass, one more than there may be, and a first place too far: how many passes, and the first place, where no desk is opened.
+/// The numbers of passes and the first places with which no desk is opened: no pass, one pass too many, and a first place above the end.
 pub(crate) const NO_DESK: [(u32, u64); 3] = [(0, 0), (65, END + 1), (1, END + 1)];

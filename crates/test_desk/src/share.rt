@@ -1,4 +1,4 @@
-//! Calls to be compared with one thread's.
+//! The calls of threads that are compared with one thread's.
 
 ghost use Rattle.std.specs.Prelude.{◌≡◌};
 ghost use Rattle.desk.specs.Desk.{identity};
@@ -10,10 +10,10 @@ use std::alloc::Global;
 use std::sync::Wait;
 use test_crews::{Board, DeskName, Said, Task, Worker};
 
-/// So many calls, every fourth of which is followed by a take of a server, and every eighth by a note for another thread.
+/// The calls of one thread. A take follows every fourth call, and a note for another thread every eighth.
 #[derive(Clone, Copy)]
 pub(crate) struct Share {
-    /// How many calls each thread makes.
+    /// The number of calls of each thread.
     pub calls: u32,
 }
 
@@ -43,7 +43,7 @@ where
     }
 }
 
-// Makes the call of a turn, and keeps what it was answered.
+// Makes the call of a turn, and keeps the answer.
 fn call_once<M: Compared + Drop, R: Wait>(
     rt: &R,
     alloc: Global,
@@ -63,7 +63,7 @@ where
     keep::<M>(alloc, &mut worker.said, seen, turn, &answer)
 }
 
-// Keeps what a call was answered. Returns `None` if memory runs out.
+// Keeps a call's answer. Returns `None` if memory runs out.
 fn keep<M: Compared>(
     alloc: Global,
     said: &mut Vec<Said>,

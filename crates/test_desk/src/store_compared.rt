@@ -1,4 +1,4 @@
-//! The commands of threads to a store.
+//! The threads' commands to a store.
 
 use crate::commands::{Asked, driver_of, follow, merge};
 use crate::compared::Compared;
@@ -19,8 +19,8 @@ impl Compared for Box<Store> {
         store_at(alloc, FIRST)
     }
 
-    /// In each round of 16 turns a thread asks each command that there is, and most often publishes a label, of which others may
-    /// know a later generation.
+    /// Returns each command at least once in a round of 16 turns. Most of them publish a label, of which another thread may have published
+    /// a later generation.
     fn command_of(alloc: Global, seen: u64, turn: u32) -> Option<Command> {
         let round = turn / 16;
         let generation = 1 + (seen % 1_000_000) as u32;
@@ -79,7 +79,7 @@ fn merge_of(items: Items) -> Command {
     Command::Merge { items }
 }
 
-// The first so many items. Returns `None` if there are fewer, or if memory runs out.
+// Returns the first `count` items, or `None` if there are fewer, or if memory runs out.
 fn first_items(mut all: Items, count: usize) -> Option<Items> {
     if count > all.len() {
         return None;

@@ -1,4 +1,4 @@
-//! A store that is followed.
+//! Stores as followed machines.
 
 use crate::commands::{Asked, driver_of, follow};
 use crate::followed::Followed;
@@ -51,7 +51,7 @@ impl Followed for Box<Store> {
     }
 }
 
-// The generation of the endpoint that a label has.
+// Returns the generation in the reply of a label's Retrieve.
 fn found_in(reply: &Reply) -> Option<u32> {
     match reply {
         Reply::Found(Value::Label(endpoint)) => Some(endpoint.generation().number()),

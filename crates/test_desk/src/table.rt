@@ -8,7 +8,7 @@ use crate::followed::Followed;
 use desk::{Desk, Pass};
 use std::alloc::Global;
 
-/// A desk, and its two passes.
+/// A desk with its two passes.
 #[derive(Drop)]
 pub(crate) struct Table<D, P> {
     pub desk: D,
@@ -16,7 +16,7 @@ pub(crate) struct Table<D, P> {
     pub two: P,
 }
 
-/// A desk whose first place is this one, over a new machine that begins at this position. Returns `None` if memory runs out.
+/// Opens a desk with this first place over a new machine that begins at this position. Returns `None` if memory runs out.
 pub(crate) fn open_table<M: Followed + Drop>(
     alloc: Global,
     place: u64,

@@ -1,12 +1,15 @@
 //! A section of the program for tests: calls that no other section makes, or not in this way, with enough memory.
 //!
-//! A contract can't say that memory is available, so a body that always gives up could be proved; here memory is
-//! available. The section has no input. It prints a line once a world's events, run at once, had the right outcomes;
-//! for each reading of a store whose driver keeps publishing, the names of the items that were read, or why the reader
-//! gave up; what a journal of two returns from a cursor; endpoints; lines that were parsed, copied and written again;
-//! which items cover which; the text of replies; a line once a trace and a forged one are judged, and one once each
-//! read of a trace has failed; a line once each read of some scripts has failed, and one once each write has; and, at
-//! the end, the results of calls that allocate nothing. The rows of one kind are printed by one write.
+//! A contract can't say that memory is available, so a body that always gives up could be proved. Here memory is
+//! available. The section has no input. It prints, each kind of row by one write:
+//! - a line after a world's events, run at once, had the right outcomes;
+//! - for each reading of a store whose driver keeps publishing, the names of the items, or why the reader gave up;
+//! - the answers of a journal of two items to a cursor;
+//! - endpoints, and lines that were parsed, copied and written again;
+//! - the items that cover each other, and the text of replies;
+//! - a line after a trace and a forged one were judged, and one after each read of a trace has failed;
+//! - a line after each read of some scripts has failed, and one after each write has;
+//! - the results of calls that take no memory.
 #![tactic(auto)]
 
 mod copies;

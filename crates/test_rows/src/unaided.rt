@@ -38,7 +38,7 @@ fn slot_of(text: &[u8]) -> u16 {
     }
 }
 
-// Whether a number may have a change with this sequence number.
+// Returns whether a number may have a change with this sequence number.
 fn is_made(seq: u32) -> bool {
     match change_of(seq) {
         Some(change) => change.version().seq == seq,

@@ -71,7 +71,7 @@ fn deliver(message: usize) -> Event {
     }
 }
 
-// Whether each event has its outcome.
+// Returns whether each event has its outcome.
 fn are_wanted(outcomes: &Outcomes) -> bool {
     for event in 0..4 {
         match outcomes.get(event) {

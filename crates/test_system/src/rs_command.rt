@@ -25,9 +25,13 @@ pub(crate) enum Command {
     Service(usize),
     /// `instance ENDPOINT`: the index of the service that runs under the endpoint.
     Instance(Endpoint),
-    /// `publishes ENDPOINT NAME`: whether this instance may publish a number under this name; `labels`: whether a
-    /// label.
+    /// `publishes ENDPOINT NAME`: whether this instance may publish a number under this name. `labels ENDPOINT NAME`:
+    /// whether it may publish a label.
     Publishes(Endpoint, Key),
+    /// `complains ENDPOINT LABEL`: whether this instance may complain of this service.
+    Complains(Endpoint, Name),
+    /// `connects ENDPOINT LABEL`: whether this instance may connect to this service.
+    Connects(Endpoint, Name),
     /// `numbers GENERATION SEQ`: a numberer begins.
     Numbers { generation: Generation, seq: u32 },
     /// `number`: the numberer's next number.
@@ -48,6 +52,8 @@ pub(crate) fn read_command(line: &str) -> Option<Command> {
         "instance" => Some(Command::Instance(read_endpoint(&mut words)?)),
         "publishes" => read_publishes(Kind::U32, &mut words),
         "labels" => read_publishes(Kind::Label, &mut words),
+        "complains" => Some(Command::Complains(read_endpoint(&mut words)?, name_at(&mut words)?)),
+        "connects" => Some(Command::Connects(read_endpoint(&mut words)?, name_at(&mut words)?)),
         "number" => Some(Command::Number),
         "rows" => Some(Command::Rows),
         "numbers" => read_numbers(&mut words),

@@ -4,6 +4,7 @@ use crate::rs_command::{Command, read_command};
 use crate::rs_rows::tell_rows;
 use crate::rs_telling::{tell_new_fault, tell_settings_fault, tell_state, tell_version};
 use crate::words::{tell, tell_index, tell_number, tell_numbers};
+use ds_line::append_all;
 use ds_names::{Name, NoRoom};
 use rs_core::{Actions, Event, Numberer, Rs};
 use rs_settings::read;
@@ -92,9 +93,20 @@ impl Session {
                 "instance ",
                 rs.place_of_instance(endpoint),
             ),
-            Command::Publishes(endpoint, key) => tell_publishes(
+            Command::Publishes(endpoint, key) => tell_may(
                 text,
                 rs.may_publish(endpoint, &key),
+                b"publish",
+            ),
+            Command::Complains(endpoint, label) => tell_may(
+                text,
+                rs.may_complain(endpoint, &label),
+                b"complain",
+            ),
+            Command::Connects(endpoint, label) => tell_may(
+                text,
+                rs.may_connect(endpoint, &label),
+                b"connect",
             ),
             _ => tell_numbers(text, &[("key ", rs.next_key() as u64)]),
         }
@@ -132,15 +144,9 @@ fn tell_service(text: &mut Vec<u8>, rs: &Option<Rs>, label: &Name) -> Result<(),
     }
 }
 
-fn tell_publishes(text: &mut Vec<u8>, may: bool) -> Result<(), NoRoom> {
-    tell(
-        text,
-        if may {
-            b"may publish"
-        } else {
-            b"may not publish"
-        },
-    )
+fn tell_may(text: &mut Vec<u8>, may: bool, verb: &[u8]) -> Result<(), NoRoom> {
+    let word: &[u8] = if may { b"may " } else { b"may not " };
+    append_all(text, &[word, verb, b"\n"])
 }
 
 fn tell_event(

@@ -1,4 +1,4 @@
-//! The commands to a store.
+//! Commands to a store.
 
 use ds_entry::Value;
 use ds_machine::Command;
@@ -12,16 +12,16 @@ const LABELS: [&[u8]; 4] = [b"disk", b"eth0", b"inet", b"tty"];
 /// A command of a row.
 #[derive(Clone, Copy)]
 pub(crate) enum Asked<'a> {
-    /// RS publishes that a label of this generation is in this slot, over an earlier one.
+    /// RS publishes a label with this generation and this slot, over an earlier one.
     Start(&'a [u8], u32, u16),
-    /// RS ends what was published by a label's generations up to this one.
+    /// RS sweeps what a label's generations up to this one published.
     Sweep(&'a [u8], u32),
     /// Another program replaces this subscription.
     TakeOver(u32),
 }
 
 impl Asked<'_> {
-    /// The command. Returns `None` if a part of it is malformed, or if memory runs out.
+    /// Returns the command, or `None` if a part of it is malformed, or if memory runs out.
     pub(crate) fn command(self, alloc: Global) -> Option<Command> {
         match self {
             Asked::Start(name, generation, slot) => start(name, generation, 0, slot),
@@ -36,8 +36,9 @@ impl Asked<'_> {
     }
 }
 
-/// What a writer asks at a turn of its own, as RS: most often it publishes a label in a later generation than it did before, and now
-/// and then it deletes the label or sweeps what its driver left. Other writers may know a later generation. `None` never: all parts fit.
+/// Returns a writer's command at one of its turns, as RS. Most often it publishes a label in a later generation than the writer did before.
+/// Now and then it deletes the label, or sweeps what its driver published. Another writer may have published a later generation. Never
+/// returns `None`, since all parts fit.
 pub(crate) fn command_of(writer: u64, turn: u32) -> Option<Command> {
     let name = LABELS[(turn / 8 % 4) as usize];
     let generation = 1 + turn % 1_000_000;
@@ -49,7 +50,7 @@ pub(crate) fn command_of(writer: u64, turn: u32) -> Option<Command> {
     }
 }
 
-// RS publishes that a label of this version is in this slot, over an earlier one. Returns `None` if a part is malformed.
+// Returns the command by which RS publishes a label with this version and this slot, over an earlier one. `None` if a part is malformed.
 fn start(name: &[u8], generation: u32, seq: u32, slot: u16) -> Option<Command> {
     let epoch = Generation::of(generation)?;
     Some(Command::Publish {
@@ -61,7 +62,7 @@ fn start(name: &[u8], generation: u32, seq: u32, slot: u16) -> Option<Command> {
     })
 }
 
-// RS deletes a label by this version. Returns `None` if a part is malformed.
+// Returns the command by which RS deletes a label with this version. `None` if a part is malformed.
 fn delete(name: &[u8], generation: u32, seq: u32) -> Option<Command> {
     let epoch = Generation::of(generation)?;
     Some(Command::Delete {
@@ -71,7 +72,7 @@ fn delete(name: &[u8], generation: u32, seq: u32) -> Option<Command> {
     })
 }
 
-// RS ends what was published by a label's generations up to this one. Returns `None` if a part is malformed.
+// Returns the command by which RS sweeps what a label's generations up to this one published. `None` if a part is malformed.
 fn sweep(name: &[u8], generation: u32) -> Option<Command> {
     Some(Command::Sweep {
         caller: Endpoint::rs(),
@@ -80,7 +81,7 @@ fn sweep(name: &[u8], generation: u32) -> Option<Command> {
     })
 }
 
-// The key of a label. Returns `None` if there is no such name.
+// Returns the key of a label, or `None` if the bytes aren't a name.
 fn label(name: &[u8]) -> Option<Key> {
     Some(Key {
         name: Name::read(name).ok()?,
@@ -88,7 +89,7 @@ fn label(name: &[u8]) -> Option<Key> {
     })
 }
 
-/// A query of all kinds. Returns `None` if memory runs out.
+/// Returns a query of all kinds, or `None` if memory runs out.
 pub(crate) fn query(alloc: Global, pattern: &[u8]) -> Option<Query> {
     Some(Query {
         text: PatternText::of(alloc, pattern).ok()?,

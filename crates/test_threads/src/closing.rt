@@ -1,4 +1,4 @@
-//! What the stores and the map hold at the end.
+//! The contents of the stores and the map at the end.
 
 ghost use Rattle.test_threads.specs.World.{IsSide, IsWorld};
 
@@ -13,7 +13,7 @@ use ds_store::Store;
 use std::alloc::Global;
 use test_kit::Failure;
 
-/// What the first store held, what the follower's map has, and what the second store held. Each is `None` if memory ran out.
+/// The items of the first store, of the follower's map, and of the second store. Each list is `None` if memory ran out.
 #[derive(Drop)]
 pub(crate) struct Held {
     first: Option<Items>,
@@ -38,7 +38,7 @@ pub(crate) fn close_world(alloc: Global, world: World, pattern: &[u8]) -> Held
     }
 }
 
-/// Prints whether the first store held what the map of a row that ends so has, or the second store. NoRoom if memory ran out.
+/// Prints whether the first store held the same as the map or as the second store, as the row's end says. Fails if memory ran out.
 pub(crate) fn tell_end(rt: &impl Print, end: End, held: &Held) -> Result<(), Failure> {
     let (Some(first), Some(mapped), Some(second)) = (&held.first, &held.mapped, &held.second) else {
         return Err(Failure::NoRoom);
@@ -50,7 +50,7 @@ pub(crate) fn tell_end(rt: &impl Print, end: End, held: &Held) -> Result<(), Fai
     }
 }
 
-// Closes a desk, and returns what its store then holds under the pattern. Returns `None` if memory runs out.
+// Closes a desk, and returns what its store holds under the pattern, or `None` if memory runs out.
 fn held_at_end(alloc: Global, side: Side, pattern: &[u8]) -> Option<Items>
     requires { IsSide side }
 {
@@ -64,7 +64,7 @@ fn held_at_end(alloc: Global, side: Side, pattern: &[u8]) -> Option<Items>
     held_under(alloc, &mut closed.machine, pattern)
 }
 
-// Returns what a store holds under the pattern. Returns `None` if memory runs out.
+// Returns what a store holds under the pattern, or `None` if memory runs out.
 fn held_under(alloc: Global, store: &mut Store, pattern: &[u8]) -> Option<Items> {
     let scope = Scope::Under(query(alloc, pattern)?);
     match store.apply(Command::Snapshot { scope }) {

@@ -1,4 +1,4 @@
-//! What comes of runs at gates, row by row.
+//! Runs of threads at gates.
 
 use crate::hold::Hold;
 use crate::shut::Shut;
@@ -9,7 +9,7 @@ use std::sync::Wait;
 use std::thread::Threads;
 use test_kit::Failure;
 
-/// Each row.
+/// Makes all runs, and prints their results.
 pub(crate) fn run_at_gates<R: Runtime + Threads + Wait + Sync>(
     rt: &R,
     alloc: Global,
@@ -19,7 +19,7 @@ pub(crate) fn run_at_gates<R: Runtime + Threads + Wait + Sync>(
     some_sizes_are_none(rt, alloc)
 }
 
-// Publisher 0 is held until publisher 1 was answered, and the other way round: so both are at work at once.
+// Holds publisher 0 until publisher 1 has had an answer, and in another run the other way round. So both are at work at once.
 fn one_waits_for_another<R: Runtime + Threads + Wait + Sync>(
     rt: &R,
     alloc: Global,
@@ -29,7 +29,7 @@ fn one_waits_for_another<R: Runtime + Threads + Wait + Sync>(
     tell_run(rt, alloc, &Hold::new(1, 0), sizes)
 }
 
-// Each worker is turned away before its first turn; the last alone is, after its last.
+// Turns each worker away before its first turn, and in another run only the last worker, after its last turn.
 fn some_are_turned_away<R: Runtime + Threads + Wait + Sync>(
     rt: &R,
     alloc: Global,
@@ -40,7 +40,7 @@ fn some_are_turned_away<R: Runtime + Threads + Wait + Sync>(
     tell_run(rt, alloc, &Shut { from: 3, turn: 0 }, sizes)
 }
 
-// Each size below its range, and above it.
+// Tries each size below its range, and above it.
 fn some_sizes_are_none<R: Runtime + Threads + Wait + Sync>(
     rt: &R,
     alloc: Global,
@@ -67,7 +67,7 @@ fn sizes(publishers: u32, subscribers: u32, changes: u32) -> Sizes {
     }
 }
 
-// Prints what a run at a gate reports, or why it failed.
+// Prints the report of a run at a gate, or why the run failed.
 fn tell_run<R: Runtime + Threads + Wait + Sync, G: Gate + Sync>(
     rt: &R,
     alloc: Global,

@@ -1,4 +1,4 @@
-//! A gate that holds a worker until another was answered.
+//! A gate that holds a worker until another one has had an answer.
 
 use ds_live::Gate;
 use std::sync::atomic::{AtomicBool, Ordering};
@@ -7,7 +7,7 @@ use std::thread;
 // How often a worker that is held checks whether it may continue.
 const MOST_LOOKS: u32 = 100_000_000;
 
-/// A gate that holds a worker before its first turn until another had its first one, or turns it away if that takes too long.
+/// A gate that holds a worker before its first turn until another one has had its first turn. If that takes too long, turns it away.
 #[derive(Drop)]
 pub(crate) struct Hold {
     held: u32,
@@ -16,7 +16,7 @@ pub(crate) struct Hold {
 }
 
 impl Hold {
-    /// Makes the gate of two workers, at which nobody has arrived.
+    /// Returns the gate of two workers, before anybody has arrived.
     pub(crate) fn new(held: u32, other: u32) -> Hold {
         Hold {
             held,
@@ -25,7 +25,7 @@ impl Hold {
         }
     }
 
-    // Looks until the other was answered.
+    // Waits until the other worker has had an answer. Returns whether it has.
     fn wait(&self) -> bool {
         for _ in 0..MOST_LOOKS {
             if self.answered.load(Ordering::SeqCst) {

@@ -1,13 +1,14 @@
 //! A section of the program for tests: threads that follow a store while others change it, runs of threads at gates, and rows of a
 //! follower and of exchanges in one thread.
 //!
-//! A line is `WRITERS FOLLOWERS CALLS`, 1 to 64 threads in all: the writers make that many calls each, the followers are refreshed
-//! that often, and each map is compared with what a store holds that is given the history up to its place. Or it is `gates`:
-//! publishers, subscribers and one that exchanges run at gates that hold a worker or turn it away, and what each run reports is
-//! printed, or why it failed. Or it is `rows`: a follower that one pass refreshes while another changes the store, and what one desk's
-//! store has given to another's; what each refresh and each exchange answers is printed, a word and a number a line, what a store
-//! refuses, and at the end of a row whether what was told is what was held: 1, or 0. All that is printed is the same however the threads
-//! take turns.
+//! Each line is one test. The output doesn't depend on the order of the threads' turns.
+//! - `WRITERS FOLLOWERS CALLS`, 1 to 64 threads in all: each writer makes CALLS calls, and each follower is refreshed as often. Each map is
+//!   compared with a store that gets the history up to the map's place.
+//! - `gates`: publishers, subscribers and an exchanging worker run at gates, which hold a worker or turn it away. The output is each run's
+//!   report, or why it failed.
+//! - `rows`: one pass refreshes a follower while another pass changes the store, and one desk's store sends its items to another's. The
+//!   output has a word and a number for each result and each refusal. At the end of a row it has 1 if what was sent is what was held,
+//!   else 0.
 #![tactic(auto)]
 
 mod asked;
@@ -34,7 +35,7 @@ use std::sync::Wait;
 use std::thread::Threads;
 use test_kit::Failure;
 
-/// Answers the lines in order, up to the first that can't be read.
+/// Answers the lines in order, up to the first one that can't be read.
 pub fn answer<R: Runtime + AllocGlobal + Threads + Wait + Sync>(
     rt: &R,
     lines: &str,
@@ -45,7 +46,7 @@ pub fn answer<R: Runtime + AllocGlobal + Threads + Wait + Sync>(
     Ok(())
 }
 
-// Does what a line says.
+// Carries out a line, and prints the result.
 fn answer_line<R: Runtime + AllocGlobal + Threads + Wait + Sync>(
     rt: &R,
     line: &str,
@@ -58,7 +59,7 @@ fn answer_line<R: Runtime + AllocGlobal + Threads + Wait + Sync>(
     }
 }
 
-// Has threads change and follow a store, and prints how the maps compare.
+// Runs threads that change and follow a store, and prints how the maps compare.
 fn follow<R: Runtime + AllocGlobal + Threads + Wait + Sync>(
     rt: &R,
     sizes: Sizes,

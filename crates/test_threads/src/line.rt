@@ -1,6 +1,6 @@
 //! The lines of the section.
 
-/// What a line says to do.
+/// The test of a line.
 #[derive(Clone, Copy)]
 pub(crate) enum Line {
     /// `WRITERS FOLLOWERS CALLS`
@@ -11,7 +11,7 @@ pub(crate) enum Line {
     Rows,
 }
 
-/// How many threads change the store, how many follow it, 1 to 64 together, and how often each does.
+/// The numbers of threads that change the store and that follow it, 1 to 64 together, and the number of calls of each.
 #[derive(Clone, Copy)]
 pub(crate) struct Sizes {
     pub writers: u32,

@@ -1,16 +1,16 @@
-//! Lists of entries, in few bytes.
+//! Digests of lists of entries.
 
 use ds_entry::{Change, Item, Items};
 use ds_line::append_change;
 use ds_store::Store;
 use std::alloc::Global;
 
-// FNV-1a of 64 bits: what it begins with, and what each byte multiplies by (Fowler, Noll and Vo).
+// FNV-1a of 64 bits: the value at the beginning, and the factor of each byte (Fowler, Noll and Vo).
 const BEGINNING: u64 = 0xcbf2_9ce4_8422_2325;
 
 const FACTOR: u64 = 0x0100_0000_01b3;
 
-/// The hash of the lines of what a map has. Returns `None` if memory runs out.
+/// Returns the hash of the lines of a map's entries, or `None` if memory runs out.
 pub(crate) fn mark_of_map(alloc: Global, entries: &Items) -> Option<u64> {
     let mut text = Vec::new(alloc);
     for index in 0..entries.len() {
@@ -21,7 +21,7 @@ pub(crate) fn mark_of_map(alloc: Global, entries: &Items) -> Option<u64> {
     Some(hash_of(&text))
 }
 
-/// The hash of the lines of the puts that a store holds. Returns `None` if memory runs out.
+/// Returns the hash of the lines of the puts that a store holds, or `None` if memory runs out.
 pub(crate) fn mark_of_store(alloc: Global, store: &Store) -> Option<u64> {
     let mut text = Vec::new(alloc);
     let held = store.held();

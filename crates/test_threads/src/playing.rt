@@ -18,7 +18,7 @@ pub(crate) fn play_rows<R: Print + Wait>(rt: &R, alloc: Global) -> Result<(), Fa
     Ok(())
 }
 
-// Takes the steps of a row in two new stores, closes their desks, and prints whether what is to be compared is equal.
+// Plays the steps of a row at two new stores, closes their desks, and prints the comparison at the row's end.
 fn play<R: Print + Wait>(rt: &R, alloc: Global, row: &Row) -> Result<(), Failure> {
     let Some(mut world) = World::new(alloc, row) else {
         return Err(Failure::NoRoom);

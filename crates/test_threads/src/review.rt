@@ -1,4 +1,4 @@
-//! Whether each map is what one store holds that was given the history up to the map's place.
+//! Compares each map with a store that gets the history up to the map's place.
 
 use crate::asked::command_of;
 use crate::line::Sizes;
@@ -11,17 +11,17 @@ use std::sync::atomic::AtomicU32;
 use std::thread::Threads;
 use test_crews::{Crew, Kept, Said, run_crew};
 
-/// How the maps compare.
+/// The result of the comparison.
 #[derive(Clone, Copy)]
 pub(crate) struct Review {
-    /// Whether each map that was brought up to date was what the store held at its place.
+    /// Whether each map that was brought up to date had what the store held at the map's place.
     pub equal: bool,
     /// Whether each follower was brought up to date at least once.
     pub all: bool,
 }
 
 impl Review {
-    /// What is printed of it.
+    /// Returns the text that is printed.
     pub(crate) fn verdict(self) -> &'static str {
         match (self.equal, self.all) {
             (true, true) => "each map is what the store held",
@@ -31,7 +31,7 @@ impl Review {
     }
 }
 
-/// Has threads change and follow a new store, and compares the maps. Returns `None` if memory runs out.
+/// Lets threads change and follow a new store, and compares the maps. Returns `None` if memory runs out.
 pub(crate) fn watch_and_compare<R: Threads + Wait + Sync>(
     rt: &R,
     alloc: Global,
@@ -53,13 +53,13 @@ pub(crate) fn watch_and_compare<R: Threads + Wait + Sync>(
     }
 }
 
-// A store that holds nothing. It is on the heap, since each turn takes it out of the desk's slot and puts it back.
+// Returns an empty store, on the heap, since each turn takes it out of the desk's slot and puts it back. `None` if memory runs out.
 fn new_store(alloc: Global) -> Option<Box<Store>> {
     let store = Store::open(alloc, 1, 0, 256).ok()?;
     Box::new(alloc, store).ok()
 }
 
-// Gives one store the writers' calls in the order of their places, and compares each map with it at its place.
+// Sends one store the writers' calls in the order of their places, and compares each map with it at the map's place.
 fn compare_each(alloc: Global, crew: &Crew<Box<Store>>) -> Option<bool> {
     let mut alone = new_store(alloc)?;
     let mut equal = true;
@@ -74,7 +74,7 @@ fn compare_each(alloc: Global, crew: &Crew<Box<Store>>) -> Option<bool> {
     Some(equal)
 }
 
-// Gives the store those of the calls, from one on, that stand below a place. The first that it wasn't given.
+// Sends the store the calls from an index on that are below a place. Returns the index of the first call that wasn't sent.
 fn catch_up(alone: &mut Store, said: &[Said], from: usize, place: u64) -> Option<usize> {
     for index in from..said.len() {
         let one = &said[index];
@@ -88,7 +88,7 @@ fn catch_up(alone: &mut Store, said: &[Said], from: usize, place: u64) -> Option
     Some(said.len())
 }
 
-// Whether each follower's number stands beside a map.
+// Returns whether each follower has a map that was brought up to date.
 fn are_all_refreshed(crew: &Crew<Box<Store>>, followers: u32) -> bool {
     let mut seen = 0u64;
     for one in &crew.said {

@@ -1,35 +1,35 @@
-//! The rows: what happens at two desks, step by step.
+//! The rows: the steps at two desks.
 
 use crate::asked::Asked;
 
-/// One step.
+/// A step of a row.
 #[derive(Clone, Copy)]
 pub(crate) enum Step {
-    /// The first store is asked.
+    /// Sends a command to the first store.
     Ask(Asked<'static>),
-    /// The second store is asked.
+    /// Sends a command to the second store.
     AskSecond(Asked<'static>),
-    /// RS starts the drivers of these numbers at the first store, from the one up to below the other.
+    /// Publishes the labels of drivers at the first store, as RS, from the first number up to below the second.
     StartMany(u32, u32),
-    /// How far the caller sees the first desk's history go is printed.
+    /// Prints how far the first desk's history goes.
     Look,
-    /// The follower is refreshed by at most this many calls.
+    /// Refreshes the follower by at most this many calls.
     Refresh(u32),
-    /// The follower's notices are taken.
+    /// Takes the follower's notices.
     Take,
-    /// The generation of the endpoint that the follower's map has of a label is printed.
+    /// Prints the generation of a label's endpoint in the follower's map.
     TellLabel(&'static [u8]),
-    /// The follower is made lost.
+    /// Makes the follower lost.
     Lose,
-    /// What the first store has is given to the second one, from where the last such exchange ended.
+    /// Makes an exchange from the first store to the second, from the cursor of the last such exchange on.
     Give,
-    /// What the second store has is given to the first one, all of it.
+    /// Makes an exchange of all that the second store holds to the first.
     GiveBack,
-    /// Where the last exchange ended is forgotten.
+    /// Forgets the cursor of the last exchange.
     Forget,
 }
 
-/// What is compared when all steps were taken, and the desks are closed.
+/// The comparison after all steps, when the desks are closed.
 #[derive(Clone, Copy)]
 pub(crate) enum End {
     /// Nothing.
@@ -43,11 +43,11 @@ pub(crate) enum End {
 /// A row.
 #[derive(Clone, Copy)]
 pub(crate) struct Row {
-    /// How many items the first store's journal keeps.
+    /// The number of items that the first store's journal keeps.
     pub ring: u32,
     /// The number of the follower's subscription.
     pub sub: u32,
-    /// The pattern that it follows, and under which is compared at the end.
+    /// The pattern that the follower has, which is also that of the comparison.
     pub pattern: &'static [u8],
     pub steps: &'static [Step],
     pub end: End,
@@ -62,8 +62,8 @@ pub(crate) const ROWS: [Row; 5] = [
     EXCHANGE_MANY,
 ];
 
-// A follower of `eth.*` learns where a driver is. A limit of 1 is none, and loses it; a later generation owes it a notice; another
-// replaces its subscription, which the next Check shows; it is made lost, and begins again.
+// A follower of `eth.*` learns a driver's endpoint. A limit of 1 is refused, and the follower is lost. A later generation owes it a notice.
+// Another program replaces its subscription, which the next Check shows. The follower is made lost, and begins again.
 const FOLLOW_A_DRIVER: Row = Row {
     ring: 256,
     sub: 0,
@@ -89,8 +89,8 @@ const FOLLOW_A_DRIVER: Row = Row {
     end: End::Map,
 };
 
-// A label is given to an empty store, and what that one has then is known already. Where the two know it in one version and in two
-// slots, the exchange is stopped.
+// A label is sent to an empty store. What that store then sends back is known already. When both stores have the label with one version
+// and two slots, the exchange is stopped.
 const EXCHANGE_ONE: Row = Row {
     ring: 256,
     sub: 0,
@@ -108,8 +108,8 @@ const EXCHANGE_ONE: Row = Row {
     end: End::Open,
 };
 
-// A journal of two doesn't reach back to a cursor that is three calls old. Without one all is given, a floor before the changes; given
-// again, nothing of it is new.
+// A journal of two items doesn't reach back to a cursor that is three calls old. Without a cursor everything is sent, a floor before the
+// changes. When it is sent again, nothing of it is new.
 const EXCHANGE_BEHIND: Row = Row {
     ring: 2,
     sub: 0,
@@ -128,7 +128,7 @@ const EXCHANGE_BEHIND: Row = Row {
     end: End::Stores,
 };
 
-// A follower of 300 labels has to check twice, and so to refresh twice, by two calls each.
+// A follower of 300 labels must check twice, and so it must refresh twice, by two calls each.
 const FOLLOW_MANY: Row = Row {
     ring: 256,
     sub: 8,
@@ -137,7 +137,7 @@ const FOLLOW_MANY: Row = Row {
     end: End::Map,
 };
 
-// 300 labels are given by two pages, and what is published after them by the journal, 256 of it at once.
+// 300 labels are sent by two pages, and what is published after them by the journal, 256 items at a time.
 const EXCHANGE_MANY: Row = Row {
     ring: 4096,
     sub: 0,

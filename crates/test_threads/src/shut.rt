@@ -2,12 +2,12 @@
 
 use ds_live::Gate;
 
-/// A gate that turns away every worker from a number on, before a turn or after the last.
+/// A gate that turns away every worker from a number on, before a turn or after the last one.
 #[derive(Clone, Copy)]
 pub(crate) struct Shut {
     /// The first worker that is turned away.
     pub from: u32,
-    /// Before which turn.
+    /// The turn before which a worker is turned away.
     pub turn: u32,
 }
 

@@ -1,4 +1,4 @@
-//! The steps of the passes of a desk.
+//! The steps of a desk's passes.
 
 ghost use Rattle.std.specs.Prelude.{◌≡◌};
 ghost use Rattle.desk.specs.Desk.{identity};
@@ -23,7 +23,7 @@ use std::alloc::Global;
 use std::sync::Wait;
 use test_kit::Failure;
 
-/// A pass calls, and what the store refuses is printed.
+/// Sends a command by a pass, and prints the store's refusal, if any.
 pub(crate) fn call<R: Print + Wait>(
     rt: &R,
     alloc: Global,
@@ -43,7 +43,7 @@ pub(crate) fn call<R: Print + Wait>(
     }
 }
 
-// Prints what a store refuses.
+// Prints a store's refusal, if the reply is one.
 fn tell_refusal(rt: &impl Print, reply: &Reply) -> Result<(), Failure> {
     if let Reply::Refused(refusal) = reply {
         println!(rt; "refused: {refusal}")?;
@@ -51,7 +51,7 @@ fn tell_refusal(rt: &impl Print, reply: &Reply) -> Result<(), Failure> {
     Ok(())
 }
 
-/// RS starts the drivers of these numbers, from the one up to below the other. Each name has a letter and three digits.
+/// Publishes the labels of drivers, as RS, from the first number up to below the second. Each name has a letter and three digits.
 pub(crate) fn start_many<R: Print + Wait>(
     rt: &R,
     alloc: Global,
@@ -75,7 +75,7 @@ pub(crate) fn start_many<R: Print + Wait>(
     Ok(())
 }
 
-/// Takes the notices of server 0, and prints them with the first place after what the pass has then seen.
+/// Takes the notices of server 0, and prints them with the first place after the history that the pass has then seen.
 pub(crate) fn take<R: Print>(
     rt: &R,
     desk: &Desk<Box<Store>>,
@@ -137,7 +137,7 @@ fn tell_fresh(
     }
 }
 
-/// Prints the generation of the endpoint that the map has of a label, 0 where it has none.
+/// Prints the generation of a label's endpoint in the map, or 0 if it has none.
 pub(crate) fn tell_label(rt: &impl Print, follower: &Follower, name: &[u8]) -> Result<(), Failure> {
     let generation = match Name::read(name) {
         Ok(name) => match follower.map().label(&name) {
@@ -161,7 +161,8 @@ pub(crate) fn look<R: Print>(
     tell(rt, &[("front", u128::from(desk.front(pass)))])
 }
 
-/// Gives what one store has to the other, and prints the result. `from` is then the cursor of the next exchange, None after a fault.
+/// Makes an exchange from one store to the other, and prints the result. `from` becomes the cursor of the next exchange, or `None` after a
+/// fault.
 pub(crate) fn exchange<R: Print + Wait>(
     rt: &R,
     a: &mut Side,
@@ -184,7 +185,7 @@ pub(crate) fn exchange<R: Print + Wait>(
     }
 }
 
-// Gives what the store of the first desk has to the store of the second.
+// Makes an exchange from the first desk's store to the second's.
 fn exchange_at<W: Wait>(
     rt: &W,
     first: &Desk<Box<Store>>,
@@ -206,7 +207,7 @@ fn exchange_at<W: Wait>(
     told
 }
 
-// Prints what an exchange did.
+// Prints the result of an exchange.
 fn tell_exchanged(rt: &impl Print, exchanged: Exchanged) -> Result<(), Failure> {
     tell(
         rt,

@@ -1,4 +1,4 @@
-//! The work of each thread.
+//! The work of the threads that follow or change a store.
 
 ghost use Rattle.std.specs.Prelude.{◌≡◌};
 ghost use Rattle.desk.specs.Desk.{identity};
@@ -19,10 +19,10 @@ use std::sync::Wait;
 use std::sync::atomic::{AtomicU32, Ordering};
 use test_crews::{Board, DeskName, Kept, Said, Task, Worker};
 
-/// The turn of what is kept of a refresh: no writer has so many.
+/// The turn with which a refresh is kept. No writer has as many turns.
 pub(crate) const REFRESHED: u32 = u32::MAX;
 
-/// The first threads that begin follow the store, the others change it.
+/// The work of one thread: the first threads that begin follow the store, and the others change it.
 #[derive(Drop)]
 pub(crate) struct Watch {
     pub sizes: Sizes,
@@ -47,7 +47,7 @@ impl Task<Box<Store>> for Watch {
     }
 }
 
-// A writer's calls, each kept with its place.
+// Makes a writer's calls, and keeps each with its place.
 fn change<R: Wait>(
     rt: &R,
     desk: &Desk<Box<Store>>,
@@ -65,7 +65,7 @@ fn change<R: Wait>(
     Some(())
 }
 
-// What is kept of an answer to a writer.
+// Returns the record of an answer to a writer.
 fn said_of(writer: u64, turn: u32, answer: Answer<Reply>) -> Said {
     let kept = match answer.reply {
         Reply::Refused(Refusal::NoRoom) => Kept::NoRoom,
@@ -79,7 +79,7 @@ fn said_of(writer: u64, turn: u32, answer: Answer<Reply>) -> Said {
     }
 }
 
-// A new follower's refreshes.
+// Refreshes a new follower several times.
 fn follow<R: Wait>(
     rt: &R,
     alloc: Global,
@@ -97,7 +97,7 @@ fn follow<R: Wait>(
     follow_often(rt, alloc, desk, worker, &mut follower, calls)
 }
 
-// In each sixteenth turn the follower is lost, and begins again.
+// Refreshes a follower in each turn. In every sixteenth one the follower is made lost, and begins again.
 fn follow_often<R: Wait>(
     rt: &R,
     alloc: Global,
@@ -119,7 +119,7 @@ fn follow_often<R: Wait>(
     Some(())
 }
 
-// One refresh. If it reached a place, the place is kept with what the map then has; if memory ran out, nothing is kept.
+// Makes one refresh. If it reached a place, keeps the place with the map's entries. If memory ran out, keeps nothing.
 fn follow_once<R: Wait>(
     rt: &R,
     alloc: Global,
@@ -145,7 +145,7 @@ fn follow_once<R: Wait>(
     }
 }
 
-// What is kept of a map that was brought up to a place. Returns `None` if memory runs out.
+// Returns the record of a map that was brought up to a place, or `None` if memory runs out.
 fn view_of(alloc: Global, follower: &Follower, place: u64) -> Option<Said> {
     let entries = follower.map().entries(alloc).ok()?;
     let mark = mark_of_map(alloc, &entries)?;

@@ -1,4 +1,4 @@
-//! Two desks, and the passes that call there.
+//! Two desks with their passes.
 
 ghost use Rattle.std.specs.Prelude.{IfSome};
 ghost use Rattle.test_threads.specs.World.{IsSide, IsWorld};
@@ -11,7 +11,7 @@ use ds_refresh::Follower;
 use ds_store::Store;
 use std::alloc::Global;
 
-/// A desk over a store, and its two passes.
+/// A store's desk with its two passes.
 #[derive(Drop)]
 pub(crate) struct Side {
     pub desk: Desk<Box<Store>>,
@@ -19,7 +19,7 @@ pub(crate) struct Side {
     pub reader: Pass<Box<Store>>,
 }
 
-/// Two desks. At each a pass calls; at the first one the other pass refreshes a follower.
+/// Two desks with two passes each. One pass of each desk calls. The other pass of the first desk refreshes a follower.
 #[derive(Drop)]
 pub(crate) struct World {
     pub first: Side,
@@ -30,7 +30,7 @@ pub(crate) struct World {
 }
 
 impl World {
-    /// Makes the desks of a row: empty stores of incarnations 1 and 2. Returns `None` if memory runs out.
+    /// Opens the desks of a row, over empty stores of incarnations 1 and 2. Returns `None` if memory runs out.
     pub(crate) fn new(alloc: Global, row: &Row) -> Option<World>
         ensures { IfSome result IsWorld }
     {
@@ -46,7 +46,7 @@ impl World {
     }
 }
 
-// Opens a desk of an empty store of this incarnation, whose journal has a ring of this length. Returns `None` if memory runs out.
+// Opens a desk over an empty store of this incarnation, whose journal keeps `ring` items. Returns `None` if memory runs out.
 fn open(alloc: Global, incarnation: u64, ring: u32) -> Option<Side>
     ensures { IfSome result IsSide }
 {

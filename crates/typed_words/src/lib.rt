@@ -4,7 +4,9 @@
 #![tactic(auto)]
 
 mod known;
+mod meant;
 mod shown;
 
 pub use known::{IfNear, Search, nearest};
+pub use meant::{COMMANDS, Meant};
 pub use shown::Plain;

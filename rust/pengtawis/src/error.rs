@@ -6,7 +6,7 @@ use std::fmt;
 
 macro_rules! refusals {
     ($($name:ident $word:literal $number:literal $said:literal;)*) => {
-        /// Why a store or a map refused a call, in the order in which a store judges.
+        /// Why a store, a map or a table refused a call, in the order in which a store judges, and after them those of a table.
         #[derive(Clone, Copy, Debug, PartialEq, Eq)]
         #[non_exhaustive]
         pub enum Refusal {
@@ -68,6 +68,11 @@ refusals! {
     NoRoom "noroom" 20 "out of memory, or the pattern compiles to too much";
     BadRing "badring" 21 "a journal keeps 1 to 4096 items";
     BadFirst "badfirst" 22 "the first position is at most 2^62";
+    OldEndpoint "oldendpoint" 30 "the request was last sent to another endpoint";
+    Assigned "assigned" 40 "the unit has a driver already";
+    TwoIds "twoids" 41 "the request's number isn't above all that were accepted";
+    NoDevice "nodevice" 42 "the unit has no driver";
+    NotPending "notpending" 43 "no such request waits for a reply";
 }
 
 impl fmt::Display for Refusal {

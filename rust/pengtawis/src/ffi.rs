@@ -2,7 +2,7 @@
 
 use std::ffi::c_void;
 
-/// `struct ds_handle` and `struct ds_map`: null is closed.
+/// `struct ds_handle`, `struct ds_map` and `struct ds_table`: null is closed.
 pub type Handle = *mut c_void;
 
 /// `struct ds_request`.
@@ -61,6 +61,17 @@ pub struct Given {
     pub stop: u32,
 }
 
+/// `struct ds_move`.
+#[repr(C)]
+#[derive(Clone, Copy, Default)]
+pub struct Move {
+    pub id: u64,
+    pub kind: u32,
+    pub generation: u32,
+    pub slot: u16,
+    pub unit: u8,
+}
+
 /// `enum ds_command`.
 pub mod command {
     pub const PUBLISH: u32 = 0;
@@ -104,6 +115,13 @@ extern "C" {
     pub fn ds_map_take(map: *mut Handle, lines: *const u8, length: usize, answer: *mut Answer) -> u32;
     pub fn ds_map_label(map: *mut Handle, name: *const u8, length: usize, answer: *mut Answer) -> u32;
     pub fn ds_map_close(map: *mut Handle) -> u32;
+    pub fn ds_table_new(table: *mut Handle, server: u32) -> u32;
+    pub fn ds_table_assign(table: *mut Handle, unit: u8, class: u8, label: *const u8, length: usize, answer: *mut Answer) -> u32;
+    pub fn ds_table_follow(table: *mut Handle, map: *mut Handle, answer: *mut Answer) -> u32;
+    pub fn ds_table_submit(table: *mut Handle, map: *mut Handle, id: u64, unit: u8, answer: *mut Answer) -> u32;
+    pub fn ds_table_reply(table: *mut Handle, generation: u32, slot: u16, id: u64, answer: *mut Answer) -> u32;
+    pub fn ds_table_moves(table: *mut Handle, first: usize, moves: *mut Move, count: usize, given: *mut usize) -> u32;
+    pub fn ds_table_close(table: *mut Handle) -> u32;
     pub fn ds_version() -> *const std::os::raw::c_char;
 }
 
@@ -121,7 +139,7 @@ impl Request {
 mod tests {
     use super::*;
 
-    /// A call on a closed handle is refused, and so is opening an open one. A `Store` and a `Map` make no such call.
+    /// A call on a closed handle is refused, and so is opening an open one. A `Store`, a `Map` and a `Table` make no such call.
     #[test]
     fn closed_and_open() {
         let (mut store, mut map, mut answer) = (std::ptr::null_mut(), std::ptr::null_mut(), Answer::default());
@@ -131,8 +149,13 @@ mod tests {
             assert_eq!(ds_map_take(&mut map, std::ptr::null(), 0, &mut answer), 23);
             assert_eq!((ds_open(&mut store, 1, 0, 1), ds_open(&mut store, 1, 0, 1)), (0, 24));
             assert_eq!((ds_map_new(&mut map, 1, b".".as_ptr(), 1), ds_map_new(&mut map, 1, b".".as_ptr(), 1)), (0, 24));
+            let mut table = std::ptr::null_mut();
+            assert_eq!(ds_table_follow(&mut table, &mut map, &mut answer), 23);
+            assert_eq!((ds_table_new(&mut table, 0), ds_table_new(&mut table, 0)), (0, 24));
             assert_eq!((ds_close(&mut store), ds_close(&mut store)), (0, 23));
             assert_eq!((ds_map_close(&mut map), ds_map_close(&mut map)), (0, 23));
+            assert_eq!(ds_table_submit(&mut table, &mut map, 1, 3, &mut answer), 23);
+            assert_eq!((ds_table_close(&mut table), ds_table_close(&mut table)), (0, 23));
         }
     }
 }

@@ -31,6 +31,7 @@ fn as_the_header() {
         count, taken, stale, before, after, pieces, word, refusal, epoch, seq, value, value_slot, kind, last, owed
     }));
     lines.extend(layout!("ds_given" ffi::Given { count, length, stop }));
+    lines.extend(layout!("ds_move" ffi::Move { id, kind, generation, slot, unit }));
     lines.push(format!("struct ds_handle {}", size_of::<ffi::Handle>()));
     lines.push(format!("number DS_MAX_PIECE {}", ffi::MAX_PIECE));
     for it in [("DS_PUBLISH", ffi::command::PUBLISH), ("DS_MERGE", ffi::command::MERGE), ("DS_STOPPED", ffi::word::STOPPED), ("DS_BADLINE", ffi::word::BADLINE)] {
@@ -39,6 +40,7 @@ fn as_the_header() {
     let is_recorded = |it: &str| recorded.lines().any(|line| line == it);
     assert_eq!(lines.iter().filter(|it| !is_recorded(it)).collect::<Vec<_>>(), Vec::<&String>::new());
     let members = |of: &str| recorded.lines().filter(|it| it.starts_with(&format!("member {of}."))).count();
-    assert_eq!(members("ds_request") + members("ds_answer") + members("ds_given"), lines.iter().filter(|it| it.starts_with("member")).count());
+    let of_all: usize = ["ds_request", "ds_answer", "ds_given", "ds_move"].iter().map(|it| members(it)).sum();
+    assert_eq!(of_all, lines.iter().filter(|it| it.starts_with("member")).count());
     assert_eq!(align_of::<ffi::Request>(), 8);
 }

@@ -1,7 +1,7 @@
 //! Pengtawis: where drivers are that crash and restart. `docs/guide/rust.md` is its page.
 //!
-//! A [`Store`] and a [`Map`] are in this process, over the library for C, which is proved; this crate around it is tested. Every refusal is a
-//! variant of [`Refusal`]. No call panics. If memory runs out, a call is refused as [`Refusal::NoRoom`], and nothing is lost.
+//! A [`Store`], a [`Map`] and a [`Table`] are in this process, over the library for C, which is proved; this crate around it is tested. Every
+//! refusal is a variant of [`Refusal`]. No call panics. If memory runs out, a call is refused as [`Refusal::NoRoom`], and nothing is lost.
 
 mod error;
 mod ffi;
@@ -11,6 +11,7 @@ mod layout;
 mod map;
 mod shown;
 mod store;
+mod table;
 mod values;
 
 pub use error::{Error, Refusal, Stopped};
@@ -18,6 +19,7 @@ pub use items::{Body, Change, Item, Items};
 pub use map::Map;
 pub use shown::Shown;
 pub use store::{Found, Store};
+pub use table::{Class, Move, Moves, Server, Table};
 pub use values::{Cursor, Done, Endpoint, Kind, Kinds, Merged, Owed, Scope, Subscribed, Swept, Value, Version, RS};
 
 /// The examples of the guide.

@@ -35,6 +35,11 @@ impl Map {
         }
     }
 
+    /// The handle, which is open.
+    pub(crate) fn handle(&mut self) -> *mut Handle {
+        &mut self.handle
+    }
+
     /// Takes items in order, up to the first that is refused. That one and those after it may be taken again later.
     pub fn take(&mut self, items: &Items) -> Result<Merged, Error> {
         let (mut answer, text) = (Answer::default(), items.text());

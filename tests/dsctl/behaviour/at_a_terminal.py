@@ -9,7 +9,7 @@ import terminal
 from .running import expect
 from .samples import GOOD
 
-NO_HEADER = b"line 1: a header was expected, `trace 2 INCARNATION FIRST RING SUBS KEYS`\n"
+NO_HEADER = b"dsctl: line 1: a header was expected, `trace 2 INCARNATION FIRST RING SUBS KEYS`, and the trace is empty\n"
 GREETING = b"dsctl: `help` shows the lines, ^D ends. Bad lines are skipped\n"
 
 
@@ -22,7 +22,7 @@ def greets_and_prompts(program):
 def points_at_the_place(program):
     """At a terminal a line that can't be read stands above what was expected, with a caret; without one it doesn't."""
     line = b'map "a" 16\n'
-    told = b"line 1, byte 8: KINDS was expected, 1 to 15 (label 1, u32 2, str 4, mem 8)\n"
+    told = b"dsctl: line 1, byte 8: KINDS was expected, 1 to 15 (label 1, u32 2, str 4, mem 8); `16` was found\n"
     ran = terminal.session(program, [], [line])
     wanted = b'> map "a" 16\nbadline 1 8\n  map "a" 16\n' + b" " * 10 + b"^\n" + told + b"> \n"
     assert ran.seen.endswith(wanted) and ran.status == 1, f"{ran}"
@@ -31,7 +31,7 @@ def points_at_the_place(program):
 
 def goes_on_at_a_terminal(program):
     """At a terminal a line that can't be read is answered, and the next one is asked for; with --keep-going too."""
-    told = b"line 1, byte 0: `shwo` isn't a command, the nearest is `show`: see help\n"
+    told = b"dsctl: line 1, byte 0: `shwo` isn't a command, the nearest is `show`: see help\n"
     wanted = b"> shwo\nbadline 1 0\n  shwo\n  ^\n" + told + b"> show\nshown 0\n> \n"
     for words in ([], ["replay"], ["replay", "--keep-going"]):
         ran = terminal.session(program, words, [b"shwo\n", b"show\n"])
@@ -41,23 +41,66 @@ def goes_on_at_a_terminal(program):
 def stops_where_it_is_asked_to(program):
     """With --stop a line that can't be read ends the script at a terminal, as it does elsewhere with and without it."""
     ran = terminal.session(program, ["replay", "--stop"], [b"show\n", b"shwo\n"])
-    told = b"line 2, byte 0: `shwo` isn't a command, the nearest is `show`: see help\n"
+    told = b"dsctl: line 2, byte 0: `shwo` isn't a command, the nearest is `show`: see help\n"
     wanted = b"> show\nshown 0\n> shwo\nbadline 2 0\n  shwo\n  ^\n" + told
     assert ran.seen.endswith(b"^D or a bad line ends\n" + wanted) and ran.status == 1, f"{ran}"
     expect(harness.run([program, "replay", "--stop"], b"show\nshwo\nshow\n"), b"shown 0\nbadline 2 0\n", 1)
 
 
 def takes_words_of_its_own_at_the_prompt(program):
-    """At the prompt an empty line is nothing, `help` and `?` show the lines, `quit` and `exit` end: none is a line of the script."""
+    """At the prompt an empty line and a comment are nothing, `help` and `?` show lines, `quit` and `exit` end: none is a line of the script."""
     lines = harness.run([program, "-h"], b"").output.partition(b"Lines of a script")[2]
-    for word in (b"help", b"?", b" help  ", b"HELP", b"help help"):
-        ran = terminal.session(program, [], [b"\n", b"  \n", word + b"\n", b"shwo\n"])
-        assert lines in ran.seen and b"badline 1 0" in ran.seen and ran.status == 1, f"{word}: {ran}"
+    for words, told in (((b"help", b"?", b" help  ", b"HELP", b"help help"), b"The commonest lines:\n"), ((b"help all", b"? ALL"), lines)):
+        for word in words:
+            ran = terminal.session(program, [], [b"\n", b"  \n", b"# a comment\n", word + b"\n", b"shwo\n"])
+            assert told in ran.seen and b"badline 1 0" in ran.seen and ran.status == 1, f"{word}: {ran}"
     for word in (b"quit", b"exit", b"Quit"):
         ran = terminal.session(program, [], [b"show\n", word + b"\n"])
         assert (ran.seen, ran.status) == (GREETING + b"> show\nshown 0\n> " + word + b"\n", 0), f"{ran}"
     for word in (b"help", b"help nocaller", b"?", b"quit", b"exit", b""):
         expect(harness.run([program], word + b"\n"), b"badline 1 0\n", 1)
+
+
+def shows_the_commonest_lines_on_one_screen(program):
+    """At the prompt `help` shows ten lines and three to begin with, which do what it says, in fewer rows and columns than a terminal has."""
+    said = said_at_the_prompt(program, b"help").decode()
+    rows = said.splitlines()
+    assert len(rows) < 24 and max(map(len, rows)) <= 80, said
+    known = {it.split()[0].decode() for it in GOOD}
+    told = [it.split()[0] for it in rows[1:11]]
+    assert len(set(told)) == 10 and set(told) <= known, told
+    first = [re.split(" {3,}", it.strip())[0] for it in rows if it.startswith("  ")][10:]
+    ran = harness.run([program], "".join(it + "\n" for it in first).encode())
+    assert len(first) == 3 and ran.output == b"taken\ntaken\nfound 1500\n", f"{first}: {ran}"
+
+
+# A line that is refused, and how the row of the help about it begins.
+REFUSED = [
+    (b"publish 3/17 new mtu u32 3.0 = 1500", b"nocaller: no live label has the endpoint CALLER: the caller is dead, or RS hasn't published it yet"),
+    (b"retrieve mtu u32", b"notfound: there is no such live entry, label or subscription"),
+    (b"death 3/17 1 5", b"oldendpoint: no service that is up is at ENDPOINT"),
+    (b"reply file 3/17 1", b"notpending: there is no such request, or it was answered"),
+    (b"settings slots = 0", b"outofrange: a value has the wrong type, or is out of range"),
+    (b"entries 0", b"nomap: there is no map J: `map` makes them, and counts from 0"),
+]
+
+
+def explains_refusals_at_the_prompt(program):
+    """At the prompt a refusal is followed by one line that says what it means; elsewhere it isn't."""
+    for line, told in REFUSED:
+        ran = terminal.session(program, [], [line + b"\n"])
+        answer = harness.run([program], line + b"\n")
+        assert answer.error == b"" and answer.output.startswith(b"refused " + told.split(b":")[0]), f"{line}: {answer}"
+        wanted = GREETING + b"> " + line + b"\n" + answer.output + b"dsctl: " + told + b"\n> \n"
+        assert (ran.seen, ran.status) == (wanted, 0), f"{line}: {ran}"
+    twice = terminal.session(program, [], [b"settings slots = 1\n"] * 2)
+    assert b"refused exists\ndsctl: exists: settings were accepted already: RS begins once\n" in twice.seen, f"{twice}"
+
+
+def reads_format_2_at_the_prompt(program):
+    """At the prompt `script 2` is taken as the first line, and answers nothing."""
+    ran = terminal.session(program, [], [b"script 2\n", b"# a comment\n", b"show\n"])
+    assert (ran.seen, ran.status) == (GREETING + b"> script 2\n> # a comment\n> show\nshown 0\n> \n", 0), f"{ran}"
 
 
 # What help says of a word at the prompt: what its rows begin with, and what they have.
@@ -76,9 +119,11 @@ EXPLAINED = [
 ]
 # What it says of a word that it doesn't have.
 UNEXPLAINED = [
-    (b"help nocallr", b"`nocallr` isn't a line, an answer, a refusal or a kind, the nearest is `nocaller`: see help\n"),
-    (b"help retreive", b"`retreive` isn't a line, an answer, a refusal or a kind, the nearest is `retrieve`: see help\n"),
-    (b"help xyzzy", b"`xyzzy` isn't a line, an answer, a refusal or a kind: see help\n"),
+    (b"help nocallr", b"dsctl: `nocallr` isn't a line, an answer, a refusal or a kind, the nearest is `nocaller`: see help\n"),
+    (b"help retreive", b"dsctl: `retreive` isn't a line, an answer, a refusal or a kind, the nearest is `retrieve`: see help\n"),
+    (b"help xyzzy", b"dsctl: `xyzzy` isn't a line, an answer, a refusal or a kind: see help\n"),
+    (b"help get", b"dsctl: `get` isn't a line, an answer, a refusal or a kind, here it is `retrieve`: see help\n"),
+    (b"help ret", b"dsctl: `ret` isn't a line, an answer, a refusal or a kind, it begins `retrieve`: see help\n"),
 ]
 
 
@@ -98,7 +143,8 @@ def explains_each_word_at_the_prompt(program):
     """At the prompt help explains each refusal that docs/reference/refusals.md has, and each line that its short help has."""
     document = (harness.DOCUMENTS / "reference" / "refusals.md").read_text()
     refusals = re.findall(r"`(\w+)`", "".join(re.findall("^## .*$", document, re.MULTILINE)))
-    typed = [f"help {it}\n".encode() for it in refusals] + [b"help %s\n" % it.split()[0] for it in GOOD]
+    lines = sorted({it.split()[0] for it in GOOD} - {b"all"})  # `help all` shows all lines
+    typed = [f"help {it}\n".encode() for it in refusals] + [b"help %s\n" % it for it in lines]
     ran = terminal.session(program, [], typed)
     assert ran.status == 0 and b"isn't" not in re.sub(rb"(?m)^ .*$", b"", ran.seen), f"{ran.seen[-600:]}"
     said = re.split(rb"^> help (\w+)\n", ran.seen, flags=re.MULTILINE)[1:]
@@ -132,7 +178,7 @@ def names_the_keys_of_a_terminal(program):
     """The bytes of a cursor key are told by its name, wherever they stand, and end nothing."""
     for bytes_, name, place in ((b"\x1b[A", b"Up", 0), (b"\x1bOB", b"Down", 0), (b"show\x1b[C", b"Right", 4), (b"nameof 3/1\x1b[D", b"Left", 10)):
         ran = terminal.session(program, [], [bytes_ + b"\n", b"show\n"])
-        told = b"line 1, byte %d: the %s key was found: `rlwrap dsctl` adds history and editing\n> show\nshown 0\n> \n" % (place, name)
+        told = b"dsctl: line 1, byte %d: the %s key was found: `rlwrap dsctl` adds history and editing\n> show\nshown 0\n> \n" % (place, name)
         assert ran.seen.endswith(told) and ran.status == 1, f"{name}: {ran}"
 
 
@@ -144,7 +190,7 @@ def greets_who_types_settings(program):
 
 def greets_who_types_a_trace(program):
     """Somebody who types a trace is told what is waited for, and sees no prompt, which would look like the beginning of an entry."""
-    for word, told in (("verify", b"badline 1\n" + NO_HEADER), ("upgrade", b"badline 1\n")):
+    for word, told in (("verify", b"badline 1\n" + NO_HEADER), ("upgrade", b"badline 1\n" + NO_HEADER)):
         ran = terminal.session(program, [word], [], prompt=b"ends\n")
         assert (ran.seen, ran.status) == (b"dsctl: a trace, as in dsctl verify --help, ^D ends\n" + told, 1), f"{word}: {ran}"
 
@@ -155,18 +201,21 @@ def greets_who_types_commands(program):
     assert (ran.seen, ran.status) == (b"dsctl: a command a line, as in dsctl record --help, ^D ends\ntrace 2 1 0 256 128 4096\n", 0), f"{ran}"
 
 
-def says_why_at_a_terminal(program):
-    """Behind `readfault` and `writefault` a terminal is told why; a file gets the word alone."""
-    seen = told_at_a_terminal(program, ["sh", "-c", '"$0" < /'])
-    assert seen == b"readfault\nthe input can't be read: Is a directory (os error 21)\n", seen
-    for word in ("settings", "verify", "upgrade", "record"):
+def says_why(program):
+    """After `readfault` and `writefault` the system's reason is told, at a terminal and elsewhere; a reader that went away is told nothing."""
+    unread = b"readfault\ndsctl: the input can't be read: Is a directory (os error 21)\n"
+    unwritten = b"writefault\ndsctl: the answers can't be written: No space left on device (os error 28)\n"
+    for word in ("", "settings", "verify", "upgrade", "record"):
         seen = told_at_a_terminal(program, ["sh", "-c", f'"$0" {word} < /'])
-        assert seen == b"readfault\nthe input can't be read: Is a directory (os error 21)\n", seen
-    seen = told_at_a_terminal(program, ["sh", "-c", '(sleep 0.3; echo show; echo show) | "$0" | true'])
-    assert seen == b"writefault\nnobody reads the answers any more\n", seen
+        assert seen == unread, seen
+        ran = harness.run(["sh", "-c", f'"$0" {word} < /', program], b"")
+        assert (ran.status, ran.error) == (3, unread), f"{ran}"
     seen = told_at_a_terminal(program, ["sh", "-c", 'echo show | "$0" > /dev/full'])
-    assert seen == b"writefault\nthe answers can't be written: No space left on device (os error 28)\n", seen
-    expect(harness.run(["sh", "-c", 'echo show | "$0" > /dev/full', program], b""), b"", 3, b"writefault\n")
+    assert seen == unwritten, seen
+    ran = harness.run(["sh", "-c", 'echo show | "$0" > /dev/full', program], b"")
+    assert (ran.status, ran.error) == (3, unwritten), f"{ran}"
+    seen = told_at_a_terminal(program, ["sh", "-c", '(sleep 0.3; echo show; echo show) | "$0" | true'])
+    assert seen == b"", seen
 
 
 def told_at_a_terminal(program, words):

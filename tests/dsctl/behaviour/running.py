@@ -27,7 +27,8 @@ def expect(ran, output, status, error=None):
         wrong = harness.unexplained(ran.output, ran.error)
         assert not wrong, wrong
     else:
-        assert ran.error == error, f"standard error is {ran.error[:200]!r}, wanted {error!r}"
+        wrong = harness.untold(ran.error, error)
+        assert not wrong, wrong
 
 
 def begin(program, words=(), limit=None, **streams):

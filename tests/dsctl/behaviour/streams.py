@@ -78,7 +78,7 @@ def waits_for_a_whole_line(program):
         answers(started, b"badline 3 0\n")
     finally:
         rest = end(started)
-    expect(rest, b"", 1, b"line 3, byte 0: `showx` isn't a command, the nearest is `show`: see --help\n")
+    expect(rest, b"", 1, b"dsctl: line 3, byte 0: `showx` isn't a command, the nearest is `show`: see --help\n")
 
 
 def judges_usage_before_input(program):
@@ -90,6 +90,45 @@ def judges_usage_before_input(program):
         started.kill()
         started.communicate()
     assert status == 2, f"status {status}"
+
+
+def ends_each_answer_before_the_next(program):
+    """With --ends an answer's end comes before the next line is read, and the answer before that."""
+    steps = [(PUT, b"taken\n", b"\n"), (b"show", b"eth0 label rs 3.0 = 3/17\n", b"shown 1\n", b"\n")]
+    for words, first in ((["replay", "--ends"], b""), (["replay", "-", "--ends"], b"script 2\n# a comment\n\n")):
+        started = begin(program, words)
+        try:
+            started.stdin.write(first)
+            for line, answer, *more in steps:
+                started.stdin.write(line + b"\n")
+                answers(started, answer, *more)
+        finally:
+            rest = end(started)
+        expect(rest, b"", 0, b"")
+
+
+def reads_a_file_by_its_name(program):
+    """Each subcommand reads a file that is named as it reads standard input, which it leaves alone then; `-` is standard input."""
+    examples = harness.EXAMPLES
+    rows = [([], "driver.ds"), (["replay"], "driver.ds"), (["settings"], "machine.toml"), (["verify"], "recorded.trace")]
+    rows += [(["upgrade"], "older.trace"), (["record"], "recorded.commands")]
+    for words, name in rows:
+        given = (examples / name).read_bytes()
+        wanted = harness.run([program, *words], given)
+        for how in ([str(examples / name)], ["-"]):
+            ran = harness.run([program, *words, *how], given if how == ["-"] else b"bad\n")
+            assert ran == wanted and wanted.output, f"{words} {how}: {ran}"
+
+
+def a_file_that_cannot_be_opened(program):
+    """A file that isn't there is told by its name and the system's reason, with status 2, and a word like a subcommand by that, too."""
+    rows = [([], "none.ds", b"dsctl: none.ds can't be opened: No such file or directory (os error 2)\n")]
+    rows += [(["verify"], "no/such.trace", b"dsctl: no/such.trace can't be opened: No such file or directory (os error 2)\n")]
+    rows += [([], "repaly", b"dsctl: `repaly` is neither a command, the nearest is `replay`, nor a file: No such file or directory (os error 2)\n")]
+    for words, name, told in rows:
+        expect(harness.run([program, *words, name], b"show\n"), b"", 2, told)
+    folder = str(harness.EXAMPLES)
+    expect(harness.run([program, folder], b""), b"", 3, b"readfault\n")
 
 
 # ---- reading and writing that fails ----
@@ -117,24 +156,24 @@ def a_writer_that_is_full(program):
 
 
 def a_writer_that_is_gone(program):
-    """A pipe whose reader has gone: a fault by name, and no signal."""
+    """A pipe whose reader has gone: the end, with the status that a shell gives the signal, and no signal and no message."""
     for script in (PUT + b"\n", PUT + b"\nbad\n", b"show\n" * 100000):
         reading, writing = os.pipe()
         os.close(reading)
         started = begin(program, stdout=writing)
         os.close(writing)
-        expect(end(started, script), None, 3, b"writefault\n")
+        expect(end(started, script), None, 141, b"")
 
 
 def a_writer_that_goes(program):
-    """A reader that goes after the first answer, while the input is still open."""
+    """A reader that goes after the first answer, while the input is still open: likewise."""
     started = begin(program)
     started.stdin.write(PUT + b"\n")
     answers(started, b"taken\n")
     started.stdout.close()
     started.stdout = None
     started.stdin.write(PUT + b"\n")
-    expect(end(started), None, 3, b"writefault\n")
+    expect(end(started), None, 141, b"")
 
 
 def a_writer_that_is_closed(program):
@@ -153,7 +192,7 @@ def a_reader_that_does_not_wait(program):
     finally:
         os.close(reader)
         os.close(writer)
-    assert (ran.stdout, ran.returncode, ran.stderr) == (b"", 3, b"readfault\n"), f"{ran}"
+    assert (ran.stdout, ran.returncode) == (b"", 3) and not harness.untold(ran.stderr, b"readfault\n"), f"{ran}"
 
 
 def a_writer_that_does_not_wait(program):
@@ -165,4 +204,4 @@ def a_writer_that_does_not_wait(program):
     finally:
         os.close(reader)
         os.close(writer)
-    assert (ran.returncode, ran.stderr) == (3, b"writefault\n"), f"{ran}"
+    assert ran.returncode == 3 and not harness.untold(ran.stderr, b"writefault\n"), f"{ran}"

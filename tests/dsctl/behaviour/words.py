@@ -130,21 +130,18 @@ def explains_each_refusal(program):
     assert len(told) == 41 and not missing, f"{len(told)} words; not explained: {missing}"
 
 
-def points_at_standard_input(program):
-    """Who names a file as a word is told how it is given, and who asks to go on before any word, where that stands; others aren't."""
-    settings = b"dsctl settings < TEXT"
-    tips = [(["script.ds"], b"dsctl < SCRIPT"), (["replay", "a/script"], b"dsctl < SCRIPT"), (["settings", "machine.toml"], settings)]
-    tips += [(["verify", "recorded.trace"], b"dsctl verify < TRACE"), (["verify", "a/trace"], b"dsctl verify < TRACE")]
-    tips += [(["upgrade", "older.trace"], b"dsctl upgrade < TRACE"), (["record", "recorded.commands"], b"dsctl record < COMMANDS > TRACE")]
-    tips += [(["live", "script.ds"], b"dsctl live reads nothing")]
-    tips += [(["--keep-going"], b"dsctl replay --keep-going"), (["--stop"], b"dsctl replay --keep-going")]
+def says_what_is_wrong_with_its_words(program):
+    """Who names two files, gives `live` one, or gives an option of `replay` without it, is told so; others aren't."""
+    tips = [(["a.ds", "b.ds"], b"dsctl: one file is read"), (["verify", "a.trace", "b.trace"], b"dsctl: one file is read")]
+    tips += [(["live", "script.ds"], b"dsctl: live reads nothing")]
+    tips += [([it], b"dsctl replay --ends") for it in ("--keep-going", "--stop", "--ends")]
     for words, tip in tips:
         ran = harness.run([program, *words], b"")
         assert (ran.status, ran.output) == (2, b"") and tip in ran.error, f"{words}: {ran}"
     others = [["--hlep"], ["repaly"], ["replay", "--keep"], ["replay", "--stop", "--keep-going"], ["record", "--format", "3"]]
     for words in [*others, *([name, "--hlep"] for name in NAMES)]:
         ran = harness.run([program, *words], b"")
-        assert (ran.status, ran.output) == (2, b"") and b"standard input" not in ran.error, f"{words}: {ran}"
+        assert (ran.status, ran.output) == (2, b"") and b"one file" not in ran.error, f"{words}: {ran}"
 
 
 def shows_help_by_a_word(program):

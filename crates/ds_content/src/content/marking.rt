@@ -17,11 +17,19 @@ use ds_index::Indexed;
 use ds_marked::Marked;
 use ds_names::NoRoom;
 use ds_pattern::{Asker, Filter};
+use ds_rows::Rows;
 use ds_watch::Masks;
 use std::alloc::Global;
 
-// Returns the masks at the index.
-fn nth(marks: &[Masks], index: usize) -> Option<Masks>
+// Returns the masks of the floor at the index.
+fn floor_masks(marks: &[Masks], index: usize) -> Option<Masks>
+    ensures { result ≡ slice_get marks.now index }
+{
+    marks.get(index).copied()
+}
+
+// Returns the masks of the change at the index.
+fn change_masks(marks: &Rows<Masks>, index: usize) -> Option<Masks>
     ensures { result ≡ slice_get marks.now index }
 {
     marks.get(index).copied()
@@ -34,19 +42,32 @@ fn masks_of(held: &Marked<Masks>, index: usize) -> Option<Masks>
 {
     let floors = held.floor_marks();
     if index < floors.len() {
-        nth(floors, index)
+        floor_masks(floors, index)
     } else {
-        nth(held.marks(), index - floors.len())
+        change_masks(held.marks(), index - floors.len())
     }
 }
 
-// Returns the index of the first masks at or after `from` whose item is still to be shown to subscription `sub`.
-fn next_mask(marks: &[Masks], from: usize, sub: usize) -> Option<usize>
+// Returns the index of the first masks at or after `from` whose floor is still to be shown to subscription `sub`.
+fn next_floor(marks: &[Masks], from: usize, sub: usize) -> Option<usize>
     requires { sub < 128 }
     ensures { IsNext (says_unseen sub) marks.now from result }
 {
     for index in from..marks.len() {
         if marks[index].is_unseen(sub) {
+            return Some(index);
+        }
+    }
+    None
+}
+
+// Returns the index of the first masks at or after `from` whose change is still to be shown to subscription `sub`.
+fn next_change(marks: &Rows<Masks>, from: usize, sub: usize) -> Option<usize>
+    requires { sub < 128 }
+    ensures { IsNext (says_unseen sub) marks.now from result }
+{
+    for index in from..marks.len() {
+        if marks.at(index).is_unseen(sub) {
             return Some(index);
         }
     }
@@ -59,11 +80,15 @@ pub(super) fn next_unseen(held: &Marked<Masks>, from: usize, sub: usize) -> Opti
     requires { sub < 128 }
     ensures { IsNext (is_to_show held.now sub) (held_items held.now.held) from result }
 {
+    let content = held.held();
+    let _keys = content.limits().keys();
+    let _floors = content.floor_count();
+    let _changes = content.len();
     let floors = held.floor_marks();
-    if let Some(index) = next_mask(floors, from, sub) {
+    if let Some(index) = next_floor(floors, from, sub) {
         return Some(index);
     }
-    let index = next_mask(held.marks(), from.saturating_sub(floors.len()), sub)?;
+    let index = next_change(held.marks(), from.saturating_sub(floors.len()), sub)?;
     Some(floors.len() + index)
 }
 
@@ -96,7 +121,10 @@ pub(super) fn show_first(held: &mut Indexed<Masks>, count: usize, sub: usize)
     ensures { AreRemarked held.old held.new count (λ k. shown_to sub) }
 {
     let mut passed = 0;
-    while let Some(index) = next_unseen(held.marked(), passed, sub) {
+    while passed < count {
+        let Some(index) = next_unseen(held.marked(), passed, sub) else {
+            return;
+        };
         if index >= count {
             return;
         }

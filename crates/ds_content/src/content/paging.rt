@@ -1,11 +1,11 @@
 //! Pages of what is held.
 
-ghost use Rattle.std.specs.Prelude.{◌≡◌, ◌++◌, [], cond, map, take, length, nat_le, is_none, IfOk, OnOk};
+ghost use Rattle.std.specs.Prelude.{◌≡◌, ◌++◌, [], cond, drop, map, take, length, nat_le, is_none, IfOk, OnOk};
 ghost use Rattle.std.specs.Option.{option_copied};
 ghost use Rattle.ds_entry.specs.Item.{passes};
-ghost use Rattle.ds_held.specs.Held.{change_item, held_floors};
+ghost use Rattle.ds_held.specs.Held.{change_item, held_changes, held_floors};
 ghost use Rattle.ds_held.specs.Kept.{floored};
-ghost use Rattle.ds_content.specs.Paging.{admitted, more_after, given_items};
+ghost use Rattle.ds_content.specs.Paging.{admitted, items_from, more_after, given_items};
 ghost use Rattle.ds_content.specs.Stands.{InEachState};
 ghost use Rattle.ds_content.specs.Given.{content_page, state_page};
 
@@ -56,24 +56,29 @@ fn add_change<S: KeyScope>(
     Ok(Some(left - 1))
 }
 
-// Appends the first `max` changes under the scope, and returns whether they were all.
+// Appends the first `max` changes under the scope, of those at the index `first` and after it, and returns whether they
+// were all.
 fn add_changes<S: KeyScope>(
     alloc: Global,
-    changes: &[Change],
+    held: &Held,
+    first: usize,
     scope: &mut S,
     max: u32,
     items: &mut Items,
 ) -> Result<bool, NoRoom>
-    ensures added { OnOk result (items.new ≡ items.old ++ map change_item (take max (admitted (S.keeps scope.old) changes.now))) }
-    ensures last { IfOk result (λ last. last ≡ nat_le (length (admitted (S.keeps scope.old) changes.now)) max) }
+    ensures added { OnOk result (items.new ≡ items.old ++ items_from (S.keeps scope.old) first max (held_changes held.now)) }
+    ensures last { IfOk result (λ last. last ≡ nat_le (length (admitted (S.keeps scope.old) (drop first (held_changes held.now)))) max) }
     ensures scope { S.keeps scope.new ≡ S.keeps scope.old }
 {
+    let _count = held.len();
     let mut left = max;
-    for change in changes {
+    let mut index = first;
+    while let Some(change) = held.at(index) {
         match add_change(alloc, scope, change, items, left)? {
             Some(more) => left = more,
             None => return Ok(false),
         }
+        index += 1;
     }
     Ok(true)
 }
@@ -94,8 +99,8 @@ impl Content {
     {
         let held = self.held.held();
         let mut items = first_floors(self.alloc, held, after.is_none())?;
-        let changes = held.changes_after(after.as_ref());
-        let last = add_changes(self.alloc, changes, scope, max, &mut items)?;
+        let first = held.begin_after(after.as_ref());
+        let last = add_changes(self.alloc, held, first, scope, max, &mut items)?;
         Ok(Page {
             items,
             last,

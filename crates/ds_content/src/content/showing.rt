@@ -19,7 +19,7 @@ use ds_names::NoRoom;
 use ds_watch::Masks;
 use std::alloc::Global;
 
-/// The items to show, and how many held items were passed to find them, from the first on.
+/// The items to show, and how many held items were passed, from the first on, to find the last of them.
 #[derive(Drop)]
 pub struct Shown {
     pub items: Items,
@@ -50,17 +50,13 @@ fn first_unseen(
 {
     let content = held.held();
     let _keys = content.limits().keys();
-    let floors = content.floor_count();
-    let changes = content.len();
-    let count = floors + changes;
+    let _floors = content.floor_count();
+    let _changes = content.len();
     let mut items = Items::new(alloc);
     let mut passed = 0;
     while items.len() < max {
         let Some(index) = next_unseen(held, passed, sub) else {
-            return Ok(Shown {
-                items,
-                passed: count,
-            });
+            return Ok(Shown { items, passed });
         };
         add_copy(alloc, &mut items, content, index)?;
         passed = index + 1;

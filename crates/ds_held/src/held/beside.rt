@@ -11,11 +11,12 @@ ghost use Rattle.ds_held.specs.Raise.{after_raise, RaiseAnswer};
 
 use super::Held;
 use crate::floors;
-use crate::list::put;
+use crate::list::{put, put_row};
 use crate::order::place_of;
 use crate::void::drop_beside;
 use ds_entry::{Change, Floor};
 use ds_names::{Key, Name, NoRoom};
+use ds_rows::Rows;
 
 impl Held {
     /// Searches for a key's change: `Ok` is its index in key order, `Err` the index at which it would be inserted.
@@ -41,7 +42,7 @@ impl Held {
         ensures change { IsChange change }
     {
         let _key = change.key();
-        let answer = put(&mut self.changes, place, change);
+        let answer = put_row(&mut self.changes, place, change);
         self.guesses.note_put(&self.changes, place, answer.is_ok());
         answer
     }
@@ -64,17 +65,17 @@ impl Held {
         &mut self,
         place: Result<usize, usize>,
         floor: Floor,
-        marks: &mut Vec<M>,
+        marks: &mut Rows<M>,
     ) -> Result<usize, NoRoom>
         requires place { IsFloorPlace (held_floors self.old) floor.owner place }
         requires taken { RaiseAnswer self.old floor (Ok Taken) }
-        requires beside { length marks.old.items ≡ length (held_changes self.old) }
+        requires beside { length marks.old ≡ length (held_changes self.old) }
         ensures after { OnOk result (self.new ≡ after_raise self.old floor (Ok Taken)) }
         ensures list { OnOk result (held_changes self.new ≡ left_by_floor floor (held_changes self.old)) }
-        ensures marks { OnOk result (marks.new.items ≡ marks_left floor (held_changes self.old) marks.old.items) }
+        ensures marks { OnOk result (marks.new ≡ marks_left floor (held_changes self.old) marks.old) }
         ensures count { IfOk result (λ count. count ≡ length (puts_void_by floor (held_changes self.old))) }
         ensures same { OnErr result (self.new ≡ self.old) }
-        ensures same_marks { OnErr result (marks.new.items ≡ marks.old.items) }
+        ensures same_marks { OnErr result (marks.new ≡ marks.old) }
         ensures new { OnErr result (floor_for self.old floor.owner ≡ None) }
         ensures sound { IsSound self.new }
     {

@@ -26,7 +26,7 @@ impl Held {
     {
         let is_void = self.is_void(change);
         match place {
-            Ok(i) => judge(&self.changes[i], is_void, change),
+            Ok(i) => judge(self.changes.at(i), is_void, change),
             Err(_) => judge_new(self.changes.len(), self.limits.keys(), is_void),
         }
     }

@@ -8,11 +8,12 @@ ghost use Rattle.ds_marked.specs.Beside.{IsBeside};
 
 use ds_entry::Change;
 use ds_held::Held;
+use ds_rows::Rows;
 
 // Returns the change at an index, and its mark.
-pub(super) fn pair_at<'a, M>(
+pub(super) fn pair_at<'a, M: Drop>(
     held: &'a Held,
-    marks: &'a [M],
+    marks: &'a Rows<M>,
     index: usize,
 ) -> Option<(&'a Change, &'a M)>
     requires { IsBeside held.now marks.now }

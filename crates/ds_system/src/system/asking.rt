@@ -1,28 +1,31 @@
 //! What reaches a store besides new changes: a change that is repeated, and the world's own events.
 
-ghost use Rattle.std.specs.Prelude.{◌≡◌, ◌∷◌, [], slice_get, IfOk};
+ghost use Rattle.std.specs.Prelude.{◌≡◌, slice_get, IfOk, OnErr};
 ghost use Rattle.std.specs.Option.{option_copied};
-ghost use Rattle.ds_entry.specs.Change.{IsChange};
+ghost use Rattle.ds_entry.specs.Change.{IsBodyInPlace, IsChange};
 ghost use Rattle.ds_entry.specs.declared.item.Item.TheVariants.{Change as Changed};
 ghost use Rattle.system_model.specs.Steps.{is_barred, is_bringing};
 ghost use Rattle.system_model.specs.declared.event.SystemEvent.TheVariants as events;
 ghost use Rattle.ds_system.specs.Stands.{SystemEventLeads};
 
 use crate::system::System;
-use ds_entry::{Change, Item, Items};
+use ds_entry::{Change, Item};
 use ds_machine::Command;
 use ds_names::NoRoom;
 use ds_replica::{Event, Side};
 use std::alloc::Global;
 use system_model::{SystemFault, SystemOutcome};
 
-fn alone(alloc: Global, change: &Change) -> Result<Items, NoRoom>
-    ensures alone { IfOk result (λ items. items ≡ Changed change.now ∷ []) }
+// Returns a copy of a change, as an item. Takes memory only for a text or a blob.
+fn item_of(alloc: Global, change: &Change) -> Result<Item, NoRoom>
+    ensures item { IfOk result (λ item. item ≡ Changed change.now) }
     ensures change { IsChange change.now }
+    ensures room { OnErr result (¬ IsBodyInPlace change.now.body) }
 {
-    let mut items = Items::new(alloc);
-    items.push(Item::Change(change.copy(alloc)?))?;
-    Ok(items)
+    match change.copy(alloc) {
+        Ok(copied) => Ok(Item::Change(copied)),
+        Err(NoRoom) => Err(NoRoom),
+    }
 }
 
 // Returns whether the command brings something in.
@@ -56,17 +59,19 @@ impl System {
         self.made.get(number)
     }
 
-    // Repeats a change that was made, as a Merge.
+    // Repeats a change that was made, as a Merge of it. If memory runs out for a copy of its text or blob, nothing
+    // happens.
     pub(super) fn again(&mut self, change: usize, side: Side) -> SystemOutcome
         ensures { SystemEventLeads (events.Again change side) result self.old self.new }
     {
         let Some(made) = self.made_at(change) else {
             return SystemOutcome::Refused(SystemFault::NoMessage);
         };
-        match alone(self.alloc, made) {
-            Ok(items) => SystemOutcome::Replied(self.world.reply(side, Command::Merge { items })),
-            Err(NoRoom) => SystemOutcome::Refused(SystemFault::NoRoom),
-        }
+        let Ok(item) = item_of(self.alloc, made) else {
+            return SystemOutcome::Refused(SystemFault::NoRoom);
+        };
+        let reply = self.world.fast_offer(side, &item);
+        SystemOutcome::Replied(reply)
     }
 
     // Passes an event to the world.

@@ -1,20 +1,22 @@
 //! RS's events.
 
-ghost use Rattle.std.specs.Prelude.{◌≡◌, ◌<◌, ◌≤◌, ◌+◌, ◌++◌, ◌∷◌, [], length, vec_len, vec_capacity};
+ghost use Rattle.std.specs.Prelude.{◌≡◌, ◌<◌, ◌≤◌, ◌+◌, ◌++◌, ◌∷◌, [], true, length, vec_len, vec_capacity, IfNone, IfSome};
 ghost use Rattle.std.specs.List.{AllByRecursion};
 ghost use Rattle.rs_core.specs.Action.{IsActionInPlace};
+ghost use Rattle.rs_core.specs.Judging.{asks, has_actions};
+ghost use Rattle.rs_core.specs.Machine.{asked};
 ghost use Rattle.rs_core.specs.Run.{offers};
 ghost use Rattle.rs_to_store.specs.Asked.{command_of as command_for, commands};
 ghost use Rattle.system_model.specs.declared.event.SystemEvent.TheVariants as events;
 ghost use Rattle.ds_system.specs.Stands.{SystemEventLeads};
-ghost use Rattle.ds_system.specs.Effects.{AskedIfAny, AllAsked};
+ghost use Rattle.ds_system.specs.Effects.{AskedIfAny, AllAsked, HasRoomToAct};
 
 use crate::system::System;
 use ds_entry::Change;
 use ds_machine::Reply;
 use ds_replica::Side;
 use ds_world::World;
-use rs_core::{Action, Actions, Event, RsFault};
+use rs_core::{Action, Actions, Event, Rs, RsFault, steps_say};
 use rs_to_store::command_of;
 use std::alloc::Global;
 use system_model::{Replies, SystemFault, SystemOutcome};
@@ -76,18 +78,42 @@ fn pass_on(
     }
 }
 
+// Makes room for the changes that an event's actions offer, and returns a list with room for the replies; `None` if
+// memory runs out. An event without actions takes no memory.
+fn room_for(
+    alloc: Global,
+    rs: &Rs,
+    made: &mut Vec<Change>,
+    event: &Event,
+    tick: u64,
+) -> Option<Vec<Reply>>
+    ensures room { IfSome result (λ replies. HasRoomToAct rs.now event.now tick replies.items (vec_capacity replies) (vec_len made.new) (vec_capacity made.new)) }
+    ensures wanted { IfNone result (asks has_actions (asked rs.now event.now tick) ≡ true) }
+    ensures made { made.new.items ≡ made.old.items }
+{
+    if !rs.acts(event, tick) {
+        return Some(Vec::new(alloc));
+    }
+    let Ok(()) = made.reserve(MOST_ACTIONS) else {
+        return None;
+    };
+    match Vec::with_capacity(alloc, MOST_ACTIONS) {
+        Ok(replies) => Some(replies),
+        Err(_) => None,
+    }
+}
+
 impl System {
-    // Passes an event to RS. If memory runs out, RS doesn't get it.
+    // Passes an event to RS. If memory runs out, which it does only for an event with actions, RS doesn't get it.
     pub(super) fn serve(&mut self, event: Event, tick: u64, side: Side) -> SystemOutcome
         ensures { SystemEventLeads (events.Service event tick side) result self.old self.new }
     {
+        steps_say();
         if let Some(fault) = self.rs.refusal(&event, tick) {
             return SystemOutcome::Refused(SystemFault::Service(fault));
         }
-        let Ok(()) = self.made.reserve(MOST_ACTIONS) else {
-            return SystemOutcome::Refused(SystemFault::Service(RsFault::NoRoom));
-        };
-        let Ok(mut replies) = Vec::with_capacity(self.alloc, MOST_ACTIONS) else {
+        let room = room_for(self.alloc, &self.rs, &mut self.made, &event, tick);
+        let Some(mut replies) = room else {
             return SystemOutcome::Refused(SystemFault::Service(RsFault::NoRoom));
         };
         match self.rs.event(event, tick) {

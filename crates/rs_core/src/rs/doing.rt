@@ -5,7 +5,7 @@ ghost use Rattle.rs_core.specs.Action.{start_actions, stop_actions};
 ghost use Rattle.rs_core.specs.State.{state_at, service_at, is_up, up_count};
 ghost use Rattle.rs_core.specs.Machine.{new_endpoint, plan};
 ghost use Rattle.rs_core.specs.Slots.{next_key};
-ghost use Rattle.rs_core.specs.Doing.{after_start, after_stop, after_replacement, after_note, failing, replacing};
+ghost use Rattle.rs_core.specs.Doing.{after_start, after_stop, after_replacement, after_note, failing, forgetting, replacing};
 ghost use Rattle.rs_core.specs.Judging.{lack_for, has_actions};
 ghost use Rattle.rs_core.specs.Step.{IsDone};
 ghost use Rattle.rs_core.specs.Kept.{IsAtRest};
@@ -13,7 +13,7 @@ ghost use Rattle.rs_core.specs.Kept.{IsAtRest};
 use crate::action::{Action, Actions, add_start, add_stop};
 use crate::deed::{Deed, Plan};
 use crate::rs::Rs;
-use crate::state::{Pause, Running, State, endpoint_at, failed};
+use crate::state::{Pause, Running, State, endpoint_at, failed, failures_left};
 use ds_names::NoRoom;
 
 impl Rs {
@@ -87,6 +87,24 @@ impl Rs {
         self.slots.first() + self.next_key() as u16
     }
 
+    // Returns the tick from which the first heartbeat period of an instance counts that starts now.
+    fn first_beat(&self, place: usize, tick: u64) -> u64
+        requires within { place < length self.now.states }
+        requires tick { tick ≤ 2 ^ 62 }
+        ensures { result ≡ tick + (service_at self.now place).startup }
+    {
+        tick + u64::from(self.service_at(place).startup)
+    }
+
+    // Returns the failures in a row that still count when the service's instance ends.
+    fn forgetting(&self, place: usize, tick: u64, running: &Running) -> u32
+        requires within { place < length self.now.states }
+        ensures value { result ≡ forgetting self.now place tick running.now }
+        ensures few { result ≤ running.now.failures }
+    {
+        failures_left(self.service_at(place).forget, tick, running)
+    }
+
     // Starts the service in the next slot.
     fn begin(&mut self, place: usize, tick: u64, failures: u32) -> Result<Actions, NoRoom>
         requires within { place < length self.old.states }
@@ -101,12 +119,14 @@ impl Rs {
     {
         let label = self.service_at(place).label;
         let endpoint = endpoint_at(self.next, self.next_slot());
+        let beat = self.first_beat(place, tick);
         let mut actions = Actions::new(self.alloc);
         add_start(&mut actions, label, endpoint)?;
         self.slots.give();
         self.states[place] = State::Up(Running {
             endpoint,
-            beat: tick,
+            since: tick,
+            beat,
             ping: tick,
             failures,
         });
@@ -154,14 +174,17 @@ impl Rs {
     {
         let label = self.service_at(place).label;
         let endpoint = endpoint_at(self.next, running.endpoint.slot());
+        let beat = self.first_beat(place, tick);
+        let failures = self.forgetting(place, tick, &running);
         let mut actions = Actions::new(self.alloc);
         add_stop(&mut actions, true, label, running.endpoint)?;
         add_start(&mut actions, label, endpoint)?;
         self.states[place] = State::Up(Running {
             endpoint,
-            beat: tick,
+            since: tick,
+            beat,
             ping: tick,
-            failures: running.failures,
+            failures,
         });
         self.next += 1;
         self.tick = tick;
@@ -184,7 +207,8 @@ impl Rs {
         ensures after { OnOk result (self.new ≡ after_stop self.old place tick running (failing self.old place tick running)) }
         ensures unchanged { OnErr result (self.new ≡ self.old) }
     {
-        let after = failed(self.service_at(place).limit, tick, running.failures + 1);
+        let failures = self.forgetting(place, tick, &running);
+        let after = failed(self.service_at(place).limit, tick, failures + 1);
         self.end(place, tick, kill, running, after)
     }
 
@@ -197,6 +221,7 @@ impl Rs {
     {
         self.states[place] = State::Up(Running {
             endpoint: running.endpoint,
+            since: running.since,
             beat,
             ping,
             failures: running.failures,

@@ -3,7 +3,9 @@
 ghost use Rattle.std.specs.Prelude.{◌≡◌, ◌<◌, ◌≤◌, ◌^◌, ℕ, nat_le, length, slice_get, is_some, IfSome};
 ghost use Rattle.rs_core.specs.Machine.{asked, due, failures_of};
 ghost use Rattle.rs_core.specs.Judging.{asks, has_actions};
-ghost use Rattle.rs_core.specs.Reading.{any_due, declares_at, given_up, gives_up, is_from, place_of_instance, IsFrom};
+ghost use Rattle.rs_core.specs.Reading.{any_due, deals_at, declares_at, given_up, gives_up, is_from, place_of_instance, IsFrom};
+ghost use Rattle.rs_core.specs.Says.{place_of_label};
+ghost use Rattle.rs_settings.specs.Dealing.{may_complain, may_connect};
 
 use crate::deed::Deed;
 use crate::due::first_due;
@@ -11,8 +13,8 @@ use crate::event::Event;
 use crate::finding::Sought;
 use crate::judging::has_actions;
 use crate::rs::Rs;
-use crate::state::State;
-use ds_names::{Endpoint, Key};
+use crate::state::{State, failures_left};
+use ds_names::{Endpoint, Key, Name};
 use rs_settings::Service;
 
 /// The last tick that RS accepts.
@@ -39,6 +41,7 @@ impl Rs {
             return None;
         };
         let gives_up = gives_up(
+            tick,
             plan.deed,
             self.service_at(plan.place),
             &self.state_at(plan.place),
@@ -86,6 +89,32 @@ impl Rs {
         }
     }
 
+    /// Returns whether the instance with the endpoint may complain of the service with the label: it runs, there is
+    /// such a service, and the settings let the one complain of the other.
+    pub fn may_complain(&self, endpoint: Endpoint, label: &Name) -> bool
+        ensures { result ≡ deals_at may_complain self.now (place_of_instance self.now endpoint) (place_of_label self.now label.now) }
+    {
+        match (self.place_of_instance(endpoint), self.place_of(label)) {
+            (Some(place), Some(other)) => self
+                .service_at(place)
+                .may_complain(self.service_at(other)),
+            _ => false,
+        }
+    }
+
+    /// Returns whether the instance with the endpoint may connect to the service with the label: it runs, there is such
+    /// a service, and the settings let the one connect to the other.
+    pub fn may_connect(&self, endpoint: Endpoint, label: &Name) -> bool
+        ensures { result ≡ deals_at may_connect self.now (place_of_instance self.now endpoint) (place_of_label self.now label.now) }
+    {
+        match (self.place_of_instance(endpoint), self.place_of(label)) {
+            (Some(place), Some(other)) => self
+                .service_at(place)
+                .may_connect(self.service_at(other)),
+            _ => false,
+        }
+    }
+
     // Returns the first tick at which something is due for any service; it may be below the last event's.
     fn first_due(&self) -> Option<u64>
         ensures { IsFrom (λ tick. any_due tick self.now.settings.services self.now.states) result }
@@ -110,13 +139,13 @@ impl Rs {
 }
 
 // Returns whether the deed makes RS give up the service.
-fn gives_up(deed: Deed, service: &Service, state: &State) -> bool
+fn gives_up(tick: u64, deed: Deed, service: &Service, state: &State) -> bool
     requires { failures_of state.now ≤ 1000 }
-    ensures { result ≡ gives_up deed service.now state.now }
+    ensures { result ≡ gives_up tick deed service.now state.now }
 {
     match deed {
         Deed::Lose(_) => match state {
-            State::Up(running) => service.limit < running.failures + 1,
+            State::Up(running) => service.limit < failures_left(service.forget, tick, running) + 1,
             _ => false,
         },
         _ => false,

@@ -5,7 +5,7 @@ use Rattle.c_line.specs.Line.{ReadsBytes}
 use Rattle.c_line.proofs.LineLemmas.{of_ended}
 use Rattle.c_line.proofs.reading.read_bytes.Goals as goal
 
--- more stands behind the newline
+-- there is more after the newline
 pub returns-then-place-bytes : goal.returns-then-place-bytes
 returns-then-place-bytes c =
     let bytes = c.args.bytes.now in

@@ -3,16 +3,15 @@ use Rattle.std.specs.Option.{IfSome}
 use Rattle.ds_entry.specs.Change.{IsChange}
 use Rattle.ds_held.specs.Kept.{IsPlace}
 use Rattle.ds_held.proofs.KeptLemmas.{change_there, change_none, valid_at}
-use Rattle.ds_held.proofs.ReadingLemmas.{found_at}
 use Rattle.ds_held.proofs.order.change_at.Goals as goal
 
 pub returns-in-Ok-clause-value : goal.returns-in-Ok-clause-value
 returns-in-Ok-clause-value c =
     let here : IsPlace c.args.changes.now c.args.key.now (Ok c.in-Ok.i) = c.in-Ok.ensures in
-    found_at c.args.changes.now c.in-Ok.i c.get.result c.get.ensures.lookup ∙ sym (change_there c.args.changes.now c.args.key.now c.in-Ok.i c.requires.rising here)
+    c.get.ensures ∙ sym (change_there c.args.changes.now c.args.key.now c.in-Ok.i c.requires.rising here)
 
 pub returns-in-Ok-clause-change : goal.returns-in-Ok-clause-change
-returns-in-Ok-clause-change c = subst (λ o. IfSome o IsChange) (sym (found_at c.args.changes.now c.in-Ok.i c.get.result c.get.ensures.lookup)) (valid_at c.args.changes.now c.in-Ok.i c.requires.valid)
+returns-in-Ok-clause-change c = subst (λ o. IfSome o IsChange) (sym (c.get.ensures)) (valid_at c.args.changes.now c.in-Ok.i c.requires.valid)
 
 pub returns-in-Err-clause-value : goal.returns-in-Err-clause-value
 returns-in-Err-clause-value c = sym (change_none c.args.changes.now c.args.key.now c.in-Err.field-0 c.in-Err.ensures)

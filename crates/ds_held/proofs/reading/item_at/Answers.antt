@@ -1,5 +1,5 @@
 use Rattle.std.proofs.Common.{Some, None}
-use Rattle.ds_held.proofs.ReadingLemmas.{found_at, floor_item_at, change_item_at}
+use Rattle.ds_held.proofs.ReadingLemmas.{floor_item_at, change_item_at}
 use Rattle.ds_held.proofs.reading.item_at.Goals as goal
 
 pub returns-then-index-floors : goal.returns-then-index-floors
@@ -9,8 +9,8 @@ returns-then-index-floors c =
 pub returns-in-Some : goal.returns-in-Some
 returns-in-Some c =
     change_item_at c.args.floors.now c.args.changes.now c.args.index (Some c.in-Some.change.now) c.if-index-floors.false
-    (found_at c.args.changes.now _ (Some c.in-Some.change) c.in-Some.ensures.lookup)
+    c.in-Some.ensures
 
 pub returns-in-None : goal.returns-in-None
 returns-in-None c =
-    change_item_at c.args.floors.now c.args.changes.now c.args.index None c.if-index-floors.false (found_at c.args.changes.now _ None c.in-None.ensures.lookup)
+    change_item_at c.args.floors.now c.args.changes.now c.args.index None c.if-index-floors.false c.in-None.ensures

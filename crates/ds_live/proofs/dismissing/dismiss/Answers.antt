@@ -6,7 +6,7 @@ use Rattle.ds_workers.specs.Workers.{IsOf, others_in}
 use Rattle.ds_live.proofs.JobLemmas.{length-last, longer_sum, no_length, other_of, popped, pushed}
 use Rattle.ds_live.proofs.dismissing.dismiss.Goals as goal
 
--- a job's worker, finished or as it was
+-- a job's worker, finished or unchanged
 pub collect-room-requires-clause-task : goal.collect-room-requires-clause-task
 collect-room-requires-clause-task g c = let a = identity c.args.desks.now.first in let b = identity c.args.desks.now.second in
     let was = (popped (λ j. IsOf a b j.worker) c.pop.new.self.items c.loop-job.jobs.items c.in-Some.job c.in-Some.ensures.items c.loop-job.invariant.left).1 in

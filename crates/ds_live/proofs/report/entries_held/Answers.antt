@@ -12,7 +12,7 @@ use Rattle.ds_submap.proofs.EntryLemmas.{held_puts, put_added, puts_of, tombston
 use Rattle.ds_live.proofs.report.entries_held.Goals as goal
 use Rattle.ds_live.proofs.report.entries_held.Goals.{In-Some, in-Put+in_ok-copy+in_ok-push, in_default-body}
 
--- a change stands at each index below the number of keys
+-- there is a change at each index below the number of keys
 pub unreachable-requires : goal.unreachable-requires
 unreachable-requires c =
     let held = held_changes c.args.held.now in

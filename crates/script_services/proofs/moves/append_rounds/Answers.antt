@@ -1,5 +1,5 @@
 use Rattle.std.proofs.Common.{◌≤◌, length, take, arith}
-use Rattle.script_services.specs.Tables.{all_in}
+use Rattle.rs_to_store.specs.Submitting.{all_in}
 use Rattle.script_services.proofs.ListLemmas.{some_more}
 use Rattle.service_answers.proofs.AppendLemmas.{on_each}
 use Rattle.script_services.proofs.MoveLemmas.{moves_few, moves_fit}

@@ -1,5 +1,6 @@
 use Rattle.std.proofs.Common.{◌≡◌, ◌++◌, length, take}
-use Rattle.script_services.specs.Tables.{all_in, move_lines}
+use Rattle.rs_to_store.specs.Submitting.{all_in}
+use Rattle.script_services.specs.Tables.{move_lines}
 use Rattle.script_services.proofs.moves.append_rounds.Given as goal
 
 abbrev pub invariant-loop-round : goal.invariant-loop-round

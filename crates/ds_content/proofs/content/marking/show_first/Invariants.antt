@@ -5,11 +5,11 @@ use Rattle.ds_content.specs.Marking.{AreRemarked}
 use Rattle.ds_content.proofs.content.marking.show_first.Given as goal
 
 -- the items so far were shown
-abbrev pub invariant-loop-index : goal.invariant-loop-index
-invariant-loop-index l = record {
+abbrev pub invariant-loop-passed : goal.invariant-loop-passed
+invariant-loop-passed l = record {
   shown : AreRemarked l.fn.held l.held l.passed (λ k. shown_to l.sub);
   within : l.passed ≤ l.count;
 }
 
-abbrev pub decreases-loop-index : goal.decreases-loop-index
-decreases-loop-index l = length (held_items l.held.held) - l.passed
+abbrev pub decreases-loop-passed : goal.decreases-loop-passed
+decreases-loop-passed l = length (held_items l.held.held) - l.passed

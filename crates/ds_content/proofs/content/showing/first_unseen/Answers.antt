@@ -5,9 +5,9 @@ use Rattle.ds_entry.specs.declared.item.Item.{Item}
 use Rattle.ds_entry.proofs.Members.{list_any-from_Contains}
 use Rattle.ds_held.specs.Held.{Holding, held_items, held_count, floor_count}
 use Rattle.ds_content.specs.Shown.{is_to_show}
-use Rattle.ds_content.proofs.FlagLemmas.{index_among, filter_more}
+use Rattle.ds_content.proofs.FlagLemmas.{index_among, filter_more, few_taken}
 use Rattle.ds_content.proofs.IndexLemmas.{few_items}
-use Rattle.ds_content.proofs.NextLemmas.{filter_past, items_counted}
+use Rattle.ds_content.proofs.NextLemmas.{filter_past}
 use Rattle.ds_content.proofs.OpenLemmas.{on_err}
 use Rattle.ds_content.proofs.content.showing.first_unseen.Goals as goal
 use Rattle.ds_content.proofs.content.showing.first_unseen.Goals.{After-len-changes}
@@ -27,26 +27,17 @@ few c =
     (omega (arith, c.len-changes.ensures.few, ap (λ (h : Holding). h.limits.keys) c.held-content.ensures.value))
     (c.floor_count-floors.ensures.count ∙ ap (λ (h : Holding). floor_count h) c.held-content.ensures.value) c.floor_count-floors.ensures.few
 
-all : (c : After-len-changes) → length (held_items c.args.held.now.held) ≡ c.floor_count-floors.result + c.len-changes.result
-all c = items_counted c.args.held.now.held c.len-changes.result c.floor_count-floors.result (c.len-changes.ensures.count ∙ ap held_count c.held-content.ensures.value)
-    (c.floor_count-floors.ensures.count ∙ ap (λ (h : Holding). floor_count h) c.held-content.ensures.value)
-
-pub overflow_add-count : goal.overflow_add-count
-overflow_add-count c = let d = (goal.at.overflow_add-count c).After-len-changes in omega (arith, few d, all d)
-
 -- where no more is to be shown, all of it is
 pub returns-in_default-clause-first : goal.returns-in_default-clause-first
 returns-in_default-clause-first c =
     let h = c.args.held.now in
     let hs = held_items h.held in
-    let within = c.loop-content.invariant.within in
-    let n = all (goal.at.returns-in_default-clause-first c).After-len-changes in
+    let p = is_to_show h c.args.sub in
     record {
-      shown = c.loop-content.invariant.shown ∙ sym
-          (filter_past (is_to_show h c.args.sub) c.loop-content.passed (c.floor_count-floors.result + c.len-changes.result) hs (omega (arith, within, n))
-          (λ k i e l below. c.in_default.ensures.none_before k i e l tt));
+      shown = c.loop-content.invariant.shown;
       few = c.loop-content.invariant.few;
-      enough = inr (omega (arith, n));
+      enough = inr (c.loop-content.invariant.shown ∙ sym (filter_past p c.loop-content.passed (length hs) hs c.loop-content.invariant.within (λ k i e l below. c.in_default.ensures.none_before k i e l tt))
+          ∙ ap (λ (l : List Item). filter p l) (few_taken (length hs) hs (omega arith)));
     }
 
 pub returns-clause-first : goal.returns-clause-first

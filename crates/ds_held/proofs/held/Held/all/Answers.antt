@@ -10,9 +10,9 @@ use Rattle.ds_held.proofs.held.Held.all.Goals as goal
 pub returns-clause-value : goal.returns-clause-value
 returns-clause-value c =
     subst (λ l. IfOk c.copy_all.result (λ items. items ≡ l))
-    (ap (λ fs. map floored fs ++ map change_item c.deref-2.result.now) c.deref.ensures.value ∙ ap (λ xs. map floored c.self.inside.floors.items ++ map change_item xs) c.deref-2.ensures.value
-    ∙ sym (items_are c.self.inside.floors.items c.self.inside.changes.items c.self.inside.limits c.self.invariant.owners c.self.invariant.keys) ∙ ap held_items c.self.view_is)
+    (ap (λ fs. map floored fs ++ map change_item c.self.inside.changes) c.deref.ensures.value
+    ∙ sym (items_are c.self.inside.floors.items c.self.inside.changes c.self.inside.limits c.self.invariant.owners c.self.invariant.keys) ∙ ap held_items c.self.view_is)
     c.copy_all.ensures
 
 pub returns-clause-changes : goal.returns-clause-changes
-returns-clause-changes c = subst (λ (h : Holding). All IsChange (held_changes h)) c.self.view_is (valid_changes c.self.inside.floors.items c.self.inside.changes.items c.self.inside.limits c.self.invariant)
+returns-clause-changes c = subst (λ (h : Holding). All IsChange (held_changes h)) c.self.view_is (valid_changes c.self.inside.floors.items c.self.inside.changes c.self.inside.limits c.self.invariant)

@@ -7,8 +7,7 @@ use Rattle.ds_held.proofs.held.Held.item_at.Goals as goal
 
 pub returns : goal.returns
 returns c =
-    c.item_at.ensures ∙ ap (λ l. slice_get (map floored l ++ map change_item c.deref-2.result.now) c.args.index) c.deref.ensures.value
-    ∙ ap (λ l. slice_get (map floored c.self.inside.floors.items ++ map change_item l) c.args.index) c.deref-2.ensures.value
+    c.item_at.ensures ∙ ap (λ l. slice_get (map floored l ++ map change_item c.self.inside.changes) c.args.index) c.deref.ensures.value
     ∙ ap (λ l. slice_get l c.args.index)
-    (sym (items_are c.self.inside.floors.items c.self.inside.changes.items c.self.inside.limits c.self.invariant.owners c.self.invariant.keys))
+    (sym (items_are c.self.inside.floors.items c.self.inside.changes c.self.inside.limits c.self.invariant.owners c.self.invariant.keys))
     ∙ ap (λ (h : Holding). slice_get (held_items h) c.args.index) c.self.view_is

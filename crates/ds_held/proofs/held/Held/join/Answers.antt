@@ -9,31 +9,31 @@ use Rattle.ds_held.proofs.held.Held.join.Goals as goal
 
 pub returns-clause-each : goal.returns-clause-each
 returns-clause-each c =
-    let items : map floored c.deref.result.now ++ map change_item c.deref-2.result.now ≡ held_items c.args.other.now =
-    ap (λ fs. map floored fs ++ map change_item c.deref-2.result.now) c.deref.ensures.value ∙ ap (λ xs. map floored c.other.inside.floors.items ++ map change_item xs) c.deref-2.ensures.value
-    ∙ sym (items_are c.other.inside.floors.items c.other.inside.changes.items c.other.inside.limits c.other.invariant.owners c.other.invariant.keys) ∙ ap held_items c.other.view_is in
+    let items : map floored c.deref.result.now ++ map change_item c.other.inside.changes ≡ held_items c.args.other.now =
+    ap (λ fs. map floored fs ++ map change_item c.other.inside.changes) c.deref.ensures.value
+    ∙ sym (items_are c.other.inside.floors.items c.other.inside.changes c.other.inside.limits c.other.invariant.owners c.other.invariant.keys) ∙ ap held_items c.other.view_is in
     subst (λ l. OnOk c.join_into.result (AreMerged c.args.self.now l c.join_into.new.held)) items c.join_into.ensures.merged
 
 pub returns-clause-stopped : goal.returns-clause-stopped
 returns-clause-stopped c =
-    let items : map floored c.deref.result.now ++ map change_item c.deref-2.result.now ≡ held_items c.args.other.now =
-    ap (λ fs. map floored fs ++ map change_item c.deref-2.result.now) c.deref.ensures.value ∙ ap (λ xs. map floored c.other.inside.floors.items ++ map change_item xs) c.deref-2.ensures.value
-    ∙ sym (items_are c.other.inside.floors.items c.other.inside.changes.items c.other.inside.limits c.other.invariant.owners c.other.invariant.keys) ∙ ap held_items c.other.view_is in
+    let items : map floored c.deref.result.now ++ map change_item c.other.inside.changes ≡ held_items c.args.other.now =
+    ap (λ fs. map floored fs ++ map change_item c.other.inside.changes) c.deref.ensures.value
+    ∙ sym (items_are c.other.inside.floors.items c.other.inside.changes c.other.inside.limits c.other.invariant.owners c.other.invariant.keys) ∙ ap held_items c.other.view_is in
     subst (λ l. IfErr c.join_into.result (IsJoinStopped c.args.self.now l c.join_into.new.held)) items c.join_into.ensures.stopped
 
 pub returns-clause-joined : goal.returns-clause-joined
 returns-clause-joined c =
-    let items : map floored c.deref.result.now ++ map change_item c.deref-2.result.now ≡ held_items c.args.other.now =
-    ap (λ fs. map floored fs ++ map change_item c.deref-2.result.now) c.deref.ensures.value ∙ ap (λ xs. map floored c.other.inside.floors.items ++ map change_item xs) c.deref-2.ensures.value
-    ∙ sym (items_are c.other.inside.floors.items c.other.inside.changes.items c.other.inside.limits c.other.invariant.owners c.other.invariant.keys) ∙ ap held_items c.other.view_is in
+    let items : map floored c.deref.result.now ++ map change_item c.other.inside.changes ≡ held_items c.args.other.now =
+    ap (λ fs. map floored fs ++ map change_item c.other.inside.changes) c.deref.ensures.value
+    ∙ sym (items_are c.other.inside.floors.items c.other.inside.changes c.other.inside.limits c.other.invariant.owners c.other.invariant.keys) ∙ ap held_items c.other.view_is in
     join_if_ok c.join_into.result c.args.self.now (held_items c.args.other.now) c.join_into.new.held c.len-count.ensures.sound
     (subst (λ l. OnOk c.join_into.result (AreMerged c.args.self.now l c.join_into.new.held)) items c.join_into.ensures.merged)
 
 pub returns-clause-kept : goal.returns-clause-kept
 returns-clause-kept c =
-    let items : map floored c.deref.result.now ++ map change_item c.deref-2.result.now ≡ held_items c.args.other.now =
-    ap (λ fs. map floored fs ++ map change_item c.deref-2.result.now) c.deref.ensures.value ∙ ap (λ xs. map floored c.other.inside.floors.items ++ map change_item xs) c.deref-2.ensures.value
-    ∙ sym (items_are c.other.inside.floors.items c.other.inside.changes.items c.other.inside.limits c.other.invariant.owners c.other.invariant.keys) ∙ ap held_items c.other.view_is in
+    let items : map floored c.deref.result.now ++ map change_item c.other.inside.changes ≡ held_items c.args.other.now =
+    ap (λ fs. map floored fs ++ map change_item c.other.inside.changes) c.deref.ensures.value
+    ∙ sym (items_are c.other.inside.floors.items c.other.inside.changes c.other.inside.limits c.other.invariant.owners c.other.invariant.keys) ∙ ap held_items c.other.view_is in
     join_if_stopped c.join_into.result c.args.self.now (held_items c.args.other.now) c.join_into.new.held c.len-count.ensures.sound
     (subst (λ l. IfErr c.join_into.result (IsJoinStopped c.args.self.now l c.join_into.new.held)) items c.join_into.ensures.stopped)
 

@@ -15,33 +15,33 @@ pub invariant_of-self : goal.invariant_of-self
 invariant_of-self c =
     let w = c.in-Ok-Taken.ensures.floors in
     let raised = subst (λ (m : Merge). c.raise.new.floors.items ≡ list_after c.self.inside.floors.items (put_at c.self.inside.floors.items w.0 c.args.floor) (Ok m)) c.in-Ok-Taken.field-0-is w.2 in
-    let taken = subst (λ (m : Merge). RaiseAnswer (holding_of c.self.inside.floors.items c.self.inside.changes.items c.self.inside.limits) c.args.floor (Ok m)) c.in-Ok-Taken.field-0-is c.in-Ok-Taken.ensures.answer in
-    (raised_over c.self.inside.floors.items c.self.inside.changes.items c.self.inside.limits c.self.invariant c.args.self.now c.self.view_is c.args.floor w.0 w.1 taken
-    c.raise.new.floors.items c.drop_void.new.changes.items raised c.drop_void.ensures).still
+    let taken = subst (λ (m : Merge). RaiseAnswer (holding_of c.self.inside.floors.items c.self.inside.changes c.self.inside.limits) c.args.floor (Ok m)) c.in-Ok-Taken.field-0-is c.in-Ok-Taken.ensures.answer in
+    (raised_over c.self.inside.floors.items c.self.inside.changes c.self.inside.limits c.self.invariant c.args.self.now c.self.view_is c.args.floor w.0 w.1 taken
+    c.raise.new.floors.items c.drop_void.new.changes raised c.drop_void.ensures).still
 
 pub returns-in-Ok-Taken-clause-after : goal.returns-in-Ok-Taken-clause-after
 returns-in-Ok-Taken-clause-after c =
     let w = c.in-Ok-Taken.ensures.floors in
     let raised = subst (λ (m : Merge). c.raise.new.floors.items ≡ list_after c.self.inside.floors.items (put_at c.self.inside.floors.items w.0 c.args.floor) (Ok m)) c.in-Ok-Taken.field-0-is w.2 in
-    let taken = subst (λ (m : Merge). RaiseAnswer (holding_of c.self.inside.floors.items c.self.inside.changes.items c.self.inside.limits) c.args.floor (Ok m)) c.in-Ok-Taken.field-0-is c.in-Ok-Taken.ensures.answer in
-    (raised_over c.self.inside.floors.items c.self.inside.changes.items c.self.inside.limits c.self.invariant c.args.self.now c.self.view_is c.args.floor w.0 w.1 taken
-    c.raise.new.floors.items c.drop_void.new.changes.items raised c.drop_void.ensures).after
+    let taken = subst (λ (m : Merge). RaiseAnswer (holding_of c.self.inside.floors.items c.self.inside.changes c.self.inside.limits) c.args.floor (Ok m)) c.in-Ok-Taken.field-0-is c.in-Ok-Taken.ensures.answer in
+    (raised_over c.self.inside.floors.items c.self.inside.changes c.self.inside.limits c.self.invariant c.args.self.now c.self.view_is c.args.floor w.0 w.1 taken
+    c.raise.new.floors.items c.drop_void.new.changes raised c.drop_void.ensures).after
 
 pub returns-in-Ok-Taken-clause-joined : goal.returns-in-Ok-Taken-clause-joined
 returns-in-Ok-Taken-clause-joined c =
     let w = c.in-Ok-Taken.ensures.floors in
     let raised = subst (λ (m : Merge). c.raise.new.floors.items ≡ list_after c.self.inside.floors.items (put_at c.self.inside.floors.items w.0 c.args.floor) (Ok m)) c.in-Ok-Taken.field-0-is w.2 in
-    let taken = subst (λ (m : Merge). RaiseAnswer (holding_of c.self.inside.floors.items c.self.inside.changes.items c.self.inside.limits) c.args.floor (Ok m)) c.in-Ok-Taken.field-0-is c.in-Ok-Taken.ensures.answer in
-    (raised_over c.self.inside.floors.items c.self.inside.changes.items c.self.inside.limits c.self.invariant c.args.self.now c.self.view_is c.args.floor w.0 w.1 taken
-    c.raise.new.floors.items c.drop_void.new.changes.items raised c.drop_void.ensures).joined
+    let taken = subst (λ (m : Merge). RaiseAnswer (holding_of c.self.inside.floors.items c.self.inside.changes c.self.inside.limits) c.args.floor (Ok m)) c.in-Ok-Taken.field-0-is c.in-Ok-Taken.ensures.answer in
+    (raised_over c.self.inside.floors.items c.self.inside.changes c.self.inside.limits c.self.invariant c.args.self.now c.self.view_is c.args.floor w.0 w.1 taken
+    c.raise.new.floors.items c.drop_void.new.changes raised c.drop_void.ensures).joined
 
 pub returns-in-Ok-Taken-clause-sound : goal.returns-in-Ok-Taken-clause-sound
 returns-in-Ok-Taken-clause-sound c =
     let w = c.in-Ok-Taken.ensures.floors in
     let raised = subst (λ (m : Merge). c.raise.new.floors.items ≡ list_after c.self.inside.floors.items (put_at c.self.inside.floors.items w.0 c.args.floor) (Ok m)) c.in-Ok-Taken.field-0-is w.2 in
-    let taken = subst (λ (m : Merge). RaiseAnswer (holding_of c.self.inside.floors.items c.self.inside.changes.items c.self.inside.limits) c.args.floor (Ok m)) c.in-Ok-Taken.field-0-is c.in-Ok-Taken.ensures.answer in
-    (raised_over c.self.inside.floors.items c.self.inside.changes.items c.self.inside.limits c.self.invariant c.args.self.now c.self.view_is c.args.floor w.0 w.1 taken
-    c.raise.new.floors.items c.drop_void.new.changes.items raised c.drop_void.ensures).still.sound
+    let taken = subst (λ (m : Merge). RaiseAnswer (holding_of c.self.inside.floors.items c.self.inside.changes c.self.inside.limits) c.args.floor (Ok m)) c.in-Ok-Taken.field-0-is c.in-Ok-Taken.ensures.answer in
+    (raised_over c.self.inside.floors.items c.self.inside.changes c.self.inside.limits c.self.invariant c.args.self.now c.self.view_is c.args.floor w.0 w.1 taken
+    c.raise.new.floors.items c.drop_void.new.changes raised c.drop_void.ensures).still.sound
 
 -- The same answer, in terms of the holding.
 answered : (old h : Holding) → old ≡ h → (f : Floor) (r : Result Merge JoinFault) → RaiseAnswer old f r → RaiseAnswer h f r
@@ -49,10 +49,10 @@ answered old h is f r a = subst (λ (g : Holding). RaiseAnswer g f r) is a
 
 pub returns-in_default : goal.returns-in_default
 returns-in_default c =
-    let old = holding_of c.self.inside.floors.items c.self.inside.changes.items c.self.inside.limits in
-    let new = holding_of c.raise.new.floors.items c.self.inside.changes.items c.self.inside.limits in
+    let old = holding_of c.self.inside.floors.items c.self.inside.changes c.self.inside.limits in
+    let new = holding_of c.raise.new.floors.items c.self.inside.changes c.self.inside.limits in
     let floors : c.raise.new.floors.items ≡ c.self.inside.floors.items = c.in_default.ensures.floors.2 ∙ search rules in
-    let same : new ≡ old = ap (λ l. holding_of l c.self.inside.changes.items c.self.inside.limits) floors in
+    let same : new ≡ old = ap (λ l. holding_of l c.self.inside.changes c.self.inside.limits) floors in
     record {
       answer = answered old c.args.self.now c.self.view_is c.args.floor (Ok _) c.in_default.ensures.answer;
       after = same ∙ c.self.view_is ∙ search rules;

@@ -4,9 +4,9 @@ use Rattle.ds_marked.proofs.marked.Marked.bounded.Goals as goal
 
 pub invariant_of-result : goal.invariant_of-result
 invariant_of-result g c = (
-  beside_nothing c.args.limits c.bounded.result c.new.result.items c.bounded.ensures c.new.ensures.items,
+  beside_nothing c.args.limits c.bounded.result c.new.result c.bounded.ensures c.new.ensures,
   floor_beside_nothing c.args.limits c.bounded.result c.bounded.ensures c.new-2.result.items c.new-2.ensures.items,
 )
 
 pub returns : goal.returns
-returns g c = nothing_is c.args.limits c.bounded.result c.bounded.ensures c.new.result.items c.new-2.result.items c.new.ensures.items c.new-2.ensures.items
+returns g c = nothing_is c.args.limits c.bounded.result c.bounded.ensures c.new.result c.new-2.result.items c.new.ensures c.new-2.ensures.items

@@ -1,5 +1,4 @@
 use Rattle.std.proofs.Common.{Ok, Err, sym, ap, subst, ◌∙◌}
-use Rattle.std.specs.List.{slice_get}
 use Rattle.ds_held.specs.Held.{held_changes, held_for}
 use Rattle.ds_held.specs.Kept.{IsPlace}
 use Rattle.ds_marked.specs.Marked.{mark_for}
@@ -16,8 +15,7 @@ pub returns-in-Ok-clause-mark : goal.returns-in-Ok-clause-mark
 returns-in-Ok-clause-mark g c = λ key at.
     let here : IsPlace (held_changes c.self.inside.held) key (Ok c.in-Ok.index) = subst (λ h. IsPlace (held_changes h.held) key (Ok c.in-Ok.index)) (sym c.self.view_is)
     (subst (λ p. IsPlace (held_changes c.args.self.now.held) key p) c.in-Ok.is at) in
-    c.pair_at.ensures.mark ∙ ap (λ l. slice_get l c.in-Ok.index) c.deref.ensures.value
-    ∙ sym (mark_found c.self.inside.held c.self.inside.marks.items c.self.invariant.0 key c.in-Ok.index here) ∙ ap (λ h. mark_for h key) c.self.view_is
+    c.pair_at.ensures.mark ∙ sym (mark_found c.self.inside.held c.self.inside.marks c.self.invariant.0 key c.in-Ok.index here) ∙ ap (λ h. mark_for h key) c.self.view_is
 
 pub returns-in-Err-clause-change : goal.returns-in-Err-clause-change
 returns-in-Err-clause-change g c = λ key at.
@@ -29,4 +27,4 @@ pub returns-in-Err-clause-mark : goal.returns-in-Err-clause-mark
 returns-in-Err-clause-mark g c = λ key at.
     let gap : IsPlace (held_changes c.self.inside.held) key (Err c.in-Err.field-0) = subst (λ h. IsPlace (held_changes h.held) key (Err c.in-Err.field-0)) (sym c.self.view_is)
     (subst (λ p. IsPlace (held_changes c.args.self.now.held) key p) c.in-Err.is at) in
-    sym (mark_missing c.self.inside.held c.self.inside.marks.items c.self.invariant.0 key c.in-Err.field-0 gap) ∙ ap (λ h. mark_for h key) c.self.view_is
+    sym (mark_missing c.self.inside.held c.self.inside.marks c.self.invariant.0 key c.in-Err.field-0 gap) ∙ ap (λ h. mark_for h key) c.self.view_is

@@ -8,6 +8,7 @@ use Rattle.ds_replica.specs.declared.event.Event.TheVariants.{Ask}
 use Rattle.ds_replica.specs.declared.outcome.Outcome.TheVariants as results
 use Rattle.ds_replica.specs.Happens.{gives_items}
 use Rattle.ds_world.specs.Run.{EventLeads}
+use Rattle.ds_world.specs.Told.{IsTold}
 use Rattle.rs_to_store.specs.Asked.{asking_for}
 use Rattle.system_model.specs.declared.outcome.SystemFault.TheVariants as refusals
 use Rattle.system_model.specs.declared.outcome.SystemOutcome.TheVariants.{Replied, Refused}
@@ -52,6 +53,8 @@ returns c =
     let change : IsChange (change_of key label number content) = subst (λ (b : Body). IsChange (change_of key label number b)) c.in-Ok-copy_with_room.ensures.copy c.entry.ensures.change in
     let leads : EventLeads (Ask side (asking_for it.running.endpoint key number content)) (results.Replied c.reply-reply.result) i.world c.reply-reply.new.self =
     subst (λ (x : Command). EventLeads (Ask side x) (results.Replied c.reply-reply.result) i.world c.reply-reply.new.self) c.asking-command.ensures c.reply-reply.ensures.leads in
+    let told : IsTold (Ask side (asking_for it.running.endpoint key number content)) (results.Replied c.reply-reply.result) i.world c.reply-reply.new.self =
+    subst (λ (x : Command). IsTold (Ask side x) (results.Replied c.reply-reply.result) i.world c.reply-reply.new.self) c.asking-command.ensures c.reply-reply.ensures.told in
     subst (λ (v : SystemRecord). SystemEventLeads (write_event label key content side) (Replied c.reply-reply.result) v (system_of i.rs (slice_set i.numberers.items it.place left) c.reply-reply.new.self i.file i.net c.push_reserved.new.self.items)) c.self.view_is
     (subst (λ (l : List ChangeRecord). SystemEventLeads (write_event label key content side) (Replied c.reply-reply.result) v (system_of i.rs (slice_set i.numberers.items it.place left) c.reply-reply.new.self i.file i.net l)) (sym made)
-    (wrote v label key side content it number left c.reply-reply.result c.reply-reply.new.self is drawn change leads))
+    (wrote v label key side content it number left c.reply-reply.result c.reply-reply.new.self is drawn change leads told))

@@ -1,14 +1,15 @@
-use Rattle.std.proofs.Common.{List, Bool, Option, None, false, map, length, get_or, ap, ◌∙◌, arith}
+use Rattle.std.proofs.Common.{List, Bool, Option, None, false, map, length, get_or, refl, ap, ◌∙◌, arith}
 use Rattle.std.proofs.lemmas.List.{length-replicate}
 use Rattle.ds_watch.specs.Mask.{padded}
 use Rattle.ds_watch.specs.Watching.{Watching, watches}
-use Rattle.ds_watch.proofs.PaddedLemmas.{padded_by_place, no_flag}
+use Rattle.ds_watch.proofs.PaddedLemmas.{padded_by_used, no_flag}
 use Rattle.ds_watch.proofs.subscriptions.Subscriptions.owed.Goals as goal
 
 pub returns : goal.returns
 returns c =
     let i = c.loop-i.invariant in
-    padded_by_place (watches c.args.key.now) None c.self.inside.count c.self.inside.places c.loop-i.owed i.long i.places (omega arith) (λ k l. i.done k (omega arith)) (λ k l. i.rest k (omega arith))
+    padded_by_used (watches c.args.key.now) None c.self.inside.count c.self.inside.used c.self.inside.places c.loop-i.owed i.long i.places c.self.invariant.1 c.self.invariant.2 refl c.self.invariant.3
+    (λ k l. i.done k (omega (arith, l, c.loop-i-test.false))) (λ k l. i.rest k (omega (arith, l, c.loop-i-test.false)))
     ∙ ap (λ (ws : List (Option Watching)). padded (map (watches c.args.key.now) ws)) c.self.view_is
 
 pub loop-i-init : goal.loop-i-init

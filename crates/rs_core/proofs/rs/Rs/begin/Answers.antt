@@ -13,7 +13,7 @@ pub invariant_of-self : goal.invariant_of-self
 invariant_of-self c =
     let s = c.self.inside in
     let r : Running =
-    record { endpoint = c.endpoint_at-endpoint.result; beat = c.args.tick; ping = c.args.tick; failures = c.args.failures } in
+    record { endpoint = c.endpoint_at-endpoint.result; since = c.args.tick; beat = c.first_beat-beat.result; ping = c.args.tick; failures = c.args.failures } in
     let within : c.args.place < length s.states.items =
     subst (λ (z : RsRecord). c.args.place < length z.states) (sym c.self.view_is) c.requires.within in
     let next : s.next ≤ 2097151 = subst (λ (z : RsRecord). z.next ≤ 2097151) (sym c.self.view_is) c.requires.next in

@@ -10,7 +10,7 @@ pub invariant_of-self : goal.invariant_of-self
 invariant_of-self c =
     let s = c.self.inside in
     let r = c.args.running in
-    let q : Running = record { endpoint = r.endpoint; beat = c.args.beat; ping = c.args.ping; failures = r.failures } in
+    let q : Running = record { endpoint = r.endpoint; since = r.since; beat = c.args.beat; ping = c.args.ping; failures = r.failures } in
     let within : c.args.place < length s.states.items =
     subst (λ (z : RsRecord). c.args.place < length z.states) (sym c.self.view_is) c.requires.within in
     let up : get_or s.states.items c.args.place Down ≡ Up r =

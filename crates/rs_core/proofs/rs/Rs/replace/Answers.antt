@@ -12,7 +12,7 @@ invariant_of-self c =
     let s = c.self.inside in
     let r = c.args.running in
     let e = c.endpoint_at-endpoint in
-    let q : Running = record { endpoint = e.result; beat = c.args.tick; ping = c.args.tick; failures = r.failures } in
+    let q : Running = record { endpoint = e.result; since = c.args.tick; beat = c.first_beat-beat.result; ping = c.args.tick; failures = c.forgetting-failures.result } in
     let within : c.args.place < length s.states.items =
     subst (λ (z : RsRecord). c.args.place < length z.states) (sym c.self.view_is) c.requires.within in
     let next : s.next ≤ 2097151 = subst (λ (z : RsRecord). z.next ≤ 2097151) (sym c.self.view_is) c.requires.next in
@@ -26,6 +26,6 @@ invariant_of-self c =
       given = omega (arith, generation, c.self.invariant.some);
       below = omega (arith, generation);
       slot = omega (arith, slot, was.slot);
-      failures = was.failures;
+      failures = omega (arith, c.forgetting-failures.ensures.few, was.failures);
     } in
     kept_by_change s.settings s.states.items s.tick c.args.tick s.next (s.next + 1) s.slots c.args.place r q c.self.invariant within c.requires.tick (omega arith) (omega (arith, next)) up here slot

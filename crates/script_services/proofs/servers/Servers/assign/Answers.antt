@@ -7,7 +7,7 @@ use Rattle.script_commands.specs.declared.service.Device.{Device}
 use Rattle.script_commands.specs.declared.service.Device.TheVariants as devices
 use Rattle.script_services.specs.Servers.{ServersRecord, ServersLead, servers_of}
 use Rattle.script_services.specs.Tables.{AnswersAssign, assign_text}
-use Rattle.script_services.proofs.CallLemmas.{assign_step}
+use Rattle.driver_tables.proofs.CallLemmas.{assign_step}
 use Rattle.script_services.proofs.LeadLemmas.{file_called, net_called}
 use Rattle.script_services.proofs.servers.Servers.assign.Goals as goal
 

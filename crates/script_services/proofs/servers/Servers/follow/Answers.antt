@@ -6,7 +6,8 @@ use Rattle.driver_tables.specs.declared.fault.TableFault.{TableFault}
 use Rattle.driver_tables.specs.declared.moves.Move.{Move}
 use Rattle.store_answers.proofs.ResultLemmas.{on_ok}
 use Rattle.script_services.specs.Servers.{ServersRecord, ServersLead, servers_of}
-use Rattle.script_services.specs.Tables.{AnswersFollow, all_in, ended_by, map_items, moves_text}
+use Rattle.rs_to_store.specs.Submitting.{all_in}
+use Rattle.script_services.specs.Tables.{AnswersFollow, ended_by, map_items, moves_text}
 use Rattle.script_services.specs.Kept.{BothFollowed}
 use Rattle.script_services.proofs.LeadLemmas.{both_lead}
 use Rattle.script_services.proofs.servers.Servers.follow.Goals as goal

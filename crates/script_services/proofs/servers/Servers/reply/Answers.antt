@@ -5,7 +5,7 @@ use Rattle.script_commands.specs.declared.service.Server.{Server}
 use Rattle.script_commands.specs.declared.service.Server.TheVariants.{File, Net}
 use Rattle.script_services.specs.Servers.{ServersRecord, ServersLead, servers_of}
 use Rattle.script_services.specs.Tables.{AnswersReply, answer_text}
-use Rattle.script_services.proofs.CallLemmas.{reply_step}
+use Rattle.driver_tables.proofs.CallLemmas.{reply_step}
 use Rattle.script_services.proofs.LeadLemmas.{file_called, net_called}
 use Rattle.script_services.proofs.servers.Servers.reply.Goals as goal
 

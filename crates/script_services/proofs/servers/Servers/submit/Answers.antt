@@ -7,8 +7,8 @@ use Rattle.store_answers.proofs.ResultLemmas.{on_ok}
 use Rattle.script_commands.specs.declared.service.Server.{Server}
 use Rattle.script_commands.specs.declared.service.Server.TheVariants.{File, Net}
 use Rattle.script_services.specs.Servers.{ServersRecord, ServersLead, servers_of}
-use Rattle.script_services.specs.Tables.{AnswersSubmit, all_in, map_items, moves_text, own_moves}
-use Rattle.script_services.specs.Kept.{FollowedAndTaken}
+use Rattle.rs_to_store.specs.Submitting.{FollowedAndTaken, all_in}
+use Rattle.script_services.specs.Tables.{AnswersSubmit, map_items, moves_text, own_moves}
 use Rattle.script_services.proofs.LeadLemmas.{file_led, net_led}
 use Rattle.script_services.proofs.servers.Servers.submit.Goals as goal
 

@@ -1,0 +1,5 @@
+pub mod Drivers
+pub mod Following
+pub mod Giving
+pub mod Answers
+pub mod Calls

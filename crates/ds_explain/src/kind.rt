@@ -1,0 +1,76 @@
+//! What a text is that was given where another kind is read.
+
+use ds_names::{is_name_byte, read_decimal};
+use std::fmt;
+use typed_words::COMMANDS;
+
+/// The kinds of texts that `dsctl` reads.
+#[derive(Clone, Copy, Debug, PartialEq, Eq)]
+pub(crate) enum TextKind {
+    Script,
+    Trace,
+    Settings,
+    Commands,
+}
+
+impl TextKind {
+    /// Returns the kind of the text that begins with this line, if that can be said.
+    pub(crate) fn of(line: &[u8]) -> Option<TextKind> {
+        let (word, rest) = word_at(line);
+        if word == b"trace".as_slice() && rest.starts_with(b" ") {
+            return Some(TextKind::Trace);
+        }
+        if is_command(word) {
+            return Some(TextKind::Script);
+        }
+        if begins_settings(line) {
+            return Some(TextKind::Settings);
+        }
+        match read_decimal(line, 63) {
+            Some((_, rest)) if has_command(rest) => Some(TextKind::Commands),
+            _ => None,
+        }
+    }
+}
+
+impl fmt::Display for TextKind {
+    fn fmt<W: fmt::Write>(&self, f: &mut fmt::Formatter<W>) -> fmt::Result {
+        f.write_str(match self {
+            TextKind::Script => "this is a script: `dsctl replay` answers it",
+            TextKind::Trace => "this is a trace: `dsctl verify` judges it",
+            TextKind::Settings => "these are settings: `dsctl settings` shows them",
+            TextKind::Commands =>
+                "these are commands: `dsctl record` writes the trace of their run",
+        })
+    }
+}
+
+// Returns the word at the front of a line, and what comes after it.
+fn word_at(line: &[u8]) -> (&[u8], &[u8]) {
+    let count = line.iter().take_while(|byte| is_name_byte(**byte)).count();
+    line.split_at(count)
+}
+
+fn is_command(word: &[u8]) -> bool {
+    COMMANDS.iter().any(|it| it.as_bytes() == word)
+}
+
+// Whether a space and a command come next.
+fn has_command(rest: &[u8]) -> bool {
+    match rest.strip_prefix(b" ") {
+        Some(text) => {
+            let (word, _) = word_at(text);
+            is_command(word)
+        }
+        None => false,
+    }
+}
+
+// Whether a line is the header of a table, or assigns a field.
+fn begins_settings(line: &[u8]) -> bool {
+    if line.starts_with(b"[") {
+        return true;
+    }
+    let (word, rest) = word_at(line);
+    !word.is_empty() && rest.trim_ascii().starts_with(b"=")
+}

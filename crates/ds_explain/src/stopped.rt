@@ -1,0 +1,138 @@
+//! Explains where a recording or an upgrade ended before its input did.
+
+use crate::bad_part::say_found_at;
+use crate::kind::TextKind;
+use crate::trace_fault::explain_trace;
+use crate::trace_line::{explain_asked, explain_command, explain_item};
+use ds_names::read_decimal;
+use line_io::LONGEST_LINE;
+use std::rt::Runtime;
+use trace_check::{Stands, UpgradeFault, Wanted, WrongLine};
+
+/// The greatest pass.
+const LAST_PASS: u64 = 63;
+
+/// How the lines of a store's commands begin.
+const COMMANDS: [&[u8]; 12] = [
+    b"publish ",
+    b"delete ",
+    b"sweep ",
+    b"retrieve ",
+    b"nameof ",
+    b"subscribe ",
+    b"check ",
+    b"since ",
+    b"snapshot ",
+    b"page ",
+    b"offer ",
+    b"merge ",
+];
+
+const ITEM_WANTED: &str =
+    "a command was expected, or after `merge N` an item, `+ CHANGE` or `+ FLOOR`";
+
+/// Writes to standard error which part of a line of commands can't be read. `text` is the line with its newline,
+/// if it was read. A failed write is ignored.
+pub fn explain_recorded(
+    rt: &(impl Runtime + AllocGlobal),
+    number: u64,
+    place: usize,
+    text: Option<&[u8]>,
+) {
+    let Some(text) = text else {
+        let _ = eprintln!(rt;
+            "dsctl: line {number}, byte {place}: an item was expected, `+ CHANGE` or `+ FLOOR`; the input ended"
+        );
+        return;
+    };
+    if place == 0 && text.starts_with(b"+") {
+        return say_found_at(rt, number, 0, ITEM_WANTED, text);
+    }
+    if place == 0 && text.len() <= LONGEST_LINE && is_command(text) {
+        let _ = eprintln!(rt;
+            "dsctl: line {number}, byte 0: a trace of this format has no such line here"
+        );
+        return;
+    }
+    match TextKind::of(text) {
+        Some(kind @ (TextKind::Trace | TextKind::Settings)) if number == 1 => {
+            let _ = eprintln!(rt; "dsctl: line 1, byte 0: a command was expected; {kind}");
+        }
+        _ if text.len() > LONGEST_LINE + 1 || !explain_line(rt, number, text) => {
+            let _ = eprintln!(rt;
+                "dsctl: line {number}, byte {place}: a trace's line has at most 4096 bytes"
+            );
+        }
+        _ => {}
+    }
+}
+
+// Whether a line begins as that of a command, perhaps after a pass.
+fn is_command(text: &[u8]) -> bool {
+    let line = match read_decimal(text, LAST_PASS) {
+        Some((_, rest)) => rest.strip_prefix(b" ").unwrap_or(text),
+        None => text,
+    };
+    COMMANDS.iter().any(|word| line.starts_with(word))
+}
+
+// Explains a line of commands: an item, or a command, perhaps after a pass. Returns whether a part of it is bad.
+fn explain_line(rt: &(impl Runtime + AllocGlobal), number: u64, text: &[u8]) -> bool {
+    if text.starts_with(b"+ ") {
+        return explain_item(rt, number, text);
+    }
+    if number == 1 && text.starts_with(b"ring") {
+        return explain_command(rt, number, text, 0, 0);
+    }
+    match read_decimal(text, LAST_PASS) {
+        Some((_, rest)) => match rest.strip_prefix(b" ") {
+            Some(command) => {
+                let before = text.len().saturating_sub(command.len());
+                explain_asked(rt, number, command, before)
+            }
+            None => explain_asked(rt, number, text, 0),
+        },
+        None => explain_asked(rt, number, text, 0),
+    }
+}
+
+/// Writes to standard error why a trace can't be upgraded; nothing if it can, or if memory, reading or writing failed.
+/// `text` is the line with its newline, if it was read. A failed write is ignored.
+pub fn explain_upgrade(
+    rt: &(impl Runtime + AllocGlobal),
+    fault: UpgradeFault,
+    text: Option<&[u8]>,
+) {
+    let (number, wanted) = match fault {
+        UpgradeFault::IllegalAt(number) => (number, Wanted::Reply),
+        UpgradeFault::BadLineAt(number) => (number, wanted_at(number, text)),
+        UpgradeFault::AlreadyTwo => {
+            let _ = rt.eprintln("dsctl: line 1: the trace is of format 2 already");
+            return;
+        }
+        _ => return,
+    };
+    let stands = match text {
+        Some(line) => Stands::Line(line),
+        None => Stands::Nothing,
+    };
+    explain_trace(
+        rt,
+        &WrongLine {
+            number,
+            wanted,
+            stands,
+            asked: &[],
+            reply: None,
+        },
+    );
+}
+
+// Returns the sort of line that was expected instead of a bad one.
+fn wanted_at(number: u64, text: Option<&[u8]>) -> Wanted {
+    match text {
+        _ if number == 1 => Wanted::Header,
+        Some(line) if line.starts_with(b"+") => Wanted::Item,
+        _ => Wanted::Entry,
+    }
+}

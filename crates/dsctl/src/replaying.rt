@@ -1,0 +1,141 @@
+//! Answers a script.
+
+use crate::stepped::{LineNumber, Stepped};
+use ds_explain::{Audience, explain};
+use ds_script::{BadLine, BadLines, ReplayFault, Replayed, Report, replay_reporting};
+use dsctl_cli::{Answers, Failure, Greeting, Input, LastLine, Replaying, Terminals, Typed, greet};
+use line_io::Plain;
+use script_notes::replay_without_notes;
+use std::io;
+use std::process::ExitCode;
+use std::rt::Runtime;
+
+// Returns what happens at bad lines: what the command line says, else a script ends there and a terminal continues.
+fn bad_lines(go_on: Option<bool>, terminals: Terminals) -> BadLines {
+    if go_on.unwrap_or(terminals.are_both()) {
+        BadLines::GoOn
+    } else {
+        BadLines::End
+    }
+}
+
+// Returns who reads the explanations of bad lines.
+fn audience(terminals: Terminals) -> Audience {
+    if terminals.are_both() {
+        Audience::Prompt
+    } else if terminals.error {
+        Audience::Terminal
+    } else {
+        Audience::File
+    }
+}
+
+// Returns the greeting for a script.
+fn greeting(bad_lines: BadLines) -> Greeting {
+    match bad_lines {
+        BadLines::End => Greeting::ScriptToStop,
+        BadLines::GoOn => Greeting::Script,
+    }
+}
+
+// Explains each bad line, and prints `badline` with its number and place if it ends the script.
+#[derive(Drop)]
+struct Explainer<'a, R> {
+    rt: &'a R,
+    audience: Audience,
+    bad_lines: BadLines,
+    // The line of the input, if lines are passed over: they have no number.
+    line: Option<&'a LineNumber>,
+    unwritten: Option<io::Error>,
+}
+
+impl<R: Runtime + AllocGlobal> Report for Explainer<'_, R> {
+    fn bad_line(&mut self, line: &BadLine<'_>) {
+        if self.bad_lines == BadLines::End {
+            let number = line.number;
+            let place = line.place;
+            if let Err(error) = println!(self.rt; "badline {number} {place}") {
+                self.unwritten = Some(error);
+                return;
+            }
+        }
+        let number = match self.line {
+            Some(line) => line.get(),
+            None => line.number,
+        };
+        explain(self.rt, self.audience, &BadLine { number, ..*line });
+    }
+}
+
+/// Answers a script, of either format. Greets and prompts a user at a terminal.
+pub(crate) fn replay_input<R: Runtime + AllocGlobal>(
+    rt: &R,
+    terminals: Terminals,
+    input: Input<R>,
+    replaying: Replaying,
+) -> Result<ExitCode, Failure> {
+    let bad_lines = bad_lines(replaying.go_on, terminals);
+    greet(rt, terminals, greeting(bad_lines));
+    let last = LastLine::new();
+    let line = LineNumber::new();
+    let typed = Typed::prompted(rt, input, terminals, &last);
+    let mut reader = Plain(Stepped::new(rt, typed, replaying.ends, &line));
+    let Ok(has_notes) = reader.0.take_header() else {
+        return Err(Failure::ReadFault(reader.0.reader.fault));
+    };
+    let mut writer = Plain(Answers::explained(rt, io::writer(rt), terminals, &last));
+    let mut explainer = Explainer {
+        rt,
+        audience: audience(terminals),
+        bad_lines,
+        line: has_notes.then_some(&line),
+        unwritten: None,
+    };
+    let replayed = if has_notes {
+        replay_without_notes(
+            rt.alloc(),
+            &mut reader,
+            &mut writer,
+            &mut explainer,
+            bad_lines,
+        )
+    } else {
+        replay_reporting(
+            rt.alloc(),
+            &mut reader,
+            &mut writer,
+            &mut explainer,
+            bad_lines,
+        )
+    };
+    let mut stepped = reader.0;
+    let status = outcome(
+        replayed,
+        explainer.unwritten.or(stepped.unwritten),
+        stepped.reader.fault,
+        writer.0.fault,
+    )?;
+    match stepped.end_answer() {
+        Ok(()) => Ok(status),
+        Err(error) => Err(Failure::WriteFault(Some(error))),
+    }
+}
+
+// Returns the exit status of a replay, or why printing a bad line's place, reading or answering failed.
+fn outcome(
+    replayed: Result<Replayed, ReplayFault>,
+    unwritten: Option<io::Error>,
+    unread: Option<io::Error>,
+    unanswered: Option<io::Error>,
+) -> Result<ExitCode, Failure> {
+    match replayed {
+        Ok(Replayed { bad: 0, .. }) => Ok(ExitCode::SUCCESS),
+        Err(ReplayFault::BadLine { .. } | ReplayFault::ReadFault) if unwritten.is_some() => {
+            Err(Failure::WriteFault(unwritten))
+        }
+        Ok(_) | Err(ReplayFault::BadLine { .. }) => Ok(ExitCode::from(1)),
+        Err(ReplayFault::ReadFault) => Err(Failure::ReadFault(unread)),
+        Err(ReplayFault::WriteFault) => Err(Failure::WriteFault(unanswered)),
+        Err(ReplayFault::NoRoom) => Err(Failure::NoRoom),
+    }
+}

@@ -1,0 +1,73 @@
+//! What a subcommand reads: standard input, or a file by its name.
+
+use std::fs;
+use std::io::{self, Read};
+use std::rt::Runtime;
+use typed_words::{IfNear, nearest};
+
+/// Standard input, or an open file.
+#[derive(Drop)]
+pub enum Input<R: Runtime> {
+    /// Standard input.
+    Standard(R::Reader),
+    /// A file that the command line names.
+    Named(R::File),
+}
+
+impl<R: Runtime> Input<R> {
+    /// Opens the file with this name; `-` and no name are standard input. `Err`: the file can't be opened, which standard
+    /// error says.
+    pub fn open(rt: &R, name: Option<&str>) -> Result<Input<R>, io::Error> {
+        match name {
+            None | Some("-") => Ok(Input::Standard(rt.reader())),
+            Some(name) => match fs::open(rt, name) {
+                Ok(file) => Ok(Input::Named(file)),
+                Err(error) => {
+                    tell_unopened(rt, name, error);
+                    Err(error)
+                }
+            },
+        }
+    }
+
+    /// Whether it is standard input.
+    pub(crate) fn is_standard(&self) -> bool {
+        match self {
+            Input::Standard(_) => true,
+            Input::Named(_) => false,
+        }
+    }
+}
+
+impl<R: Runtime> Read for Input<R> {
+    fn read(&mut self, buf: &mut [u8]) -> io::Result<usize> {
+        match self {
+            Input::Standard(reader) => reader.read(buf),
+            Input::Named(file) => file.read(buf),
+        }
+    }
+}
+
+/// The subcommands, as the command line has them.
+pub(crate) const SUBCOMMANDS: [&str; 7] = [
+    "replay", "settings", "verify", "upgrade", "record", "live", "help",
+];
+
+// Writes why a file can't be opened, with the nearest subcommand if its name may be one.
+fn tell_unopened(rt: &impl Runtime, name: &str, error: io::Error) {
+    let near = match name.contains('.') || name.contains('/') {
+        true => None,
+        false => nearest(name.as_bytes(), &SUBCOMMANDS),
+    };
+    match near {
+        Some(_) => {
+            let near = IfNear(near);
+            let _ = eprintln!(rt;
+                "dsctl: `{name}` is neither a command{near}, nor a file: {error}"
+            );
+        }
+        None => {
+            let _ = eprintln!(rt; "dsctl: {name} can't be opened: {error}");
+        }
+    }
+}

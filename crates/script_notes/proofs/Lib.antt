@@ -1,0 +1,4 @@
+pub mod LeftLemmas
+pub mod LineLemmas
+pub mod SourceLemmas
+pub mod ReplayLemmas

@@ -1,0 +1,19 @@
+use Rattle.std.proofs.Common.{ℕ, List}
+use Rattle.std.specs.Io.KnownBytes.{Appends}
+use Rattle.ds_script.specs.Replay.{IsReplayed}
+use Rattle.script_notes.proofs.ReplayLemmas.{answered_of, stopped_of}
+use Rattle.script_notes.proofs.replaying.replay_without_notes.Goals as goal
+
+pub returns-in-Ok-clause-answered : goal.returns-in-Ok-clause-answered
+returns-in-Ok-clause-answered g c =
+    let a = c.in-Ok.ensures.answered in
+    answered_of (g.R.Source.remaining c.args.reader.now) _ a.0
+    (λ plain. (output : List ℕ) × Appends (g.W.Sink.contents c.args.writer.now) (g.W.Sink.contents c.replay_reporting.new.writer) output
+    × IsReplayed c.args.bad_lines plain c.in-Ok.done.lines c.in-Ok.done.bad output)
+    a.2 a.3 (a.1, a.4, a.5)
+
+pub returns-in-Err-clause-stopped : goal.returns-in-Err-clause-stopped
+returns-in-Err-clause-stopped g c =
+    let a = c.in-Err.ensures.stopped in
+    stopped_of c.args.bad_lines c.in-Err.fault (g.R.Source.remaining c.args.reader.now) _ (g.W.Sink.contents c.args.writer.now)
+    (g.W.Sink.contents c.replay_reporting.new.writer) a.0 a.1 a.2 a.3 a.4

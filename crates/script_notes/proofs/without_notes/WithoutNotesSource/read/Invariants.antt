@@ -1,0 +1,12 @@
+use Rattle.std.proofs.Common.{◌≡◌, length, []}
+use Rattle.std.specs.Option.{option_map}
+use Rattle.std.specs.Io.KnownBytes.{Consumes}
+use Rattle.script_notes.specs.Left.{text_left}
+use Rattle.script_notes.proofs.without_notes.WithoutNotesSource.read.Given as goal
+
+abbrev pub invariant-loop-again : goal.invariant-loop-again
+invariant-loop-again g l = record {
+  same : length l.buf ≡ length l.fn.buf;
+  passed : Consumes (option_map (text_left l.fn.self.place) (g.R.Source.remaining l.fn.self.reader.now))
+      (option_map (text_left l.self.place) (g.R.Source.remaining l.self.reader.now)) [];
+}

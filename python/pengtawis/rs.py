@@ -1,0 +1,206 @@
+"""The reincarnation server (RS), beside a store in this process."""
+from __future__ import annotations
+
+import ctypes
+import enum
+import itertools
+import struct
+from ctypes import byref, c_char, c_uint8, c_uint16, c_uint32, c_uint64
+from typing import Any, FrozenSet, Iterator, List, NamedTuple, Optional, Union, cast
+
+from .library import packed
+from .refusals import NUMBERED, NotAllowed, NotFound, Refused
+from .store import Pair, Store
+from .values import KINDS, Endpoint
+
+Cause = enum.IntEnum("Cause", "EXIT EXCEPTION KILLED SILENT COMPLAINT UPDATE", start=1)  # why an instance died
+Class = enum.IntEnum("Class", "BLOCK CHARACTER NETWORK SERVER", start=0)
+State = enum.IntEnum("State", "DOWN UP WAITING GIVENUP", start=0)
+Kind = enum.IntEnum("Kind", "UP DOWN REFRESH RESTART DEATH BEAT TICK", start=0)  # of an event
+EVENT = struct.Struct("@Q3IHB64s0Q")  # struct ds_rs_event
+INSTANCE = struct.Struct("@IH")  # a generation and a slot
+NEVER, WHOLE_TEXT = 2**64 - 1, 2**32 - 1
+REFUSED = 12  # of enum ds_word
+
+# What a supervisor carries out: it kills and starts processes, and asks them for heartbeats.
+Kill = NamedTuple("Kill", [("endpoint", Endpoint)])
+Start = NamedTuple("Start", [("label", str), ("endpoint", Endpoint)])
+Ping = NamedTuple("Ping", [("endpoint", Endpoint)])
+# What RS changed in the store: where a label is (None: taken back), and up to which generation a service is swept. `refused` is the
+# exception by which the store refused it, or None.
+Offer = NamedTuple("Offer", [("label", str), ("endpoint", Optional[Endpoint]), ("refused", Optional[Refused])])
+Sweep = NamedTuple("Sweep", [("label", str), ("generation", int), ("refused", Optional[Refused])])
+# The service failed too often. It is down until an event starts it.
+GiveUp = NamedTuple("GiveUp", [("label", str)])
+Action = Union[Kill, Start, Ping, Offer, Sweep, GiveUp]
+Acted = NamedTuple("Acted", [("actions", List[Action]), ("owed", FrozenSet[int])])
+
+
+class Service(NamedTuple):
+    """A service: its settings, and its state. What the state doesn't have is None."""
+
+    label: str
+    service_class: Class
+    unit: Optional[int]  # its major number or port; a server has none
+    period: int
+    limit: int
+    state: State
+    failures: int
+    endpoint: Optional[Endpoint]  # of its instance, if it is up
+    until: Optional[int]  # the tick of its next start, if it waits
+
+
+class ActionOfC(ctypes.Structure):
+    _fields_ = [
+        *[(it, c_uint32) for it in ("kind", "generation", "word", "refusal")],
+        *[("slot", c_uint16), ("gone", c_uint8), ("label_length", c_uint8), ("label", c_char * 64)],
+    ]
+
+
+class ServiceOfC(ctypes.Structure):
+    _fields_ = [
+        ("until", c_uint64),
+        *[(it, c_uint32) for it in ("state", "generation", "failures", "period", "limit")],
+        ("slot", c_uint16),
+        *[(it, c_uint8) for it in ("service_class", "has_unit", "unit", "label_length")],
+        ("label", c_char * 64),
+    ]
+
+
+class FaultOfC(ctypes.Structure):
+    _fields_ = [("line", c_uint64), ("cause", c_uint32), ("service", c_uint32)]
+
+
+class Rs(Store):
+    """A store with RS beside it, which decides which services run, and under which endpoints. Every service begins as down.
+
+    A supervisor reports events, and carries out the actions that each returns, in order. RS publishes labels in the store, takes them
+    back and sweeps it by itself; a publication by another caller that passes for RS is refused by NotAllowed. Ticks are the
+    supervisor's: no event has one below that of the last event.
+
+    `settings` is the whole text of a TOML file (docs/reference/settings.md). A refused text has the service that is at fault in
+    `service` of the exception, counted from 0, and the line in `line` if it isn't TOML. Keep `next_generation` for the next run, and
+    pass it as `next`, so that no generation comes twice.
+
+    >>> with Rs('[[service]]\\nlabel = "eth0"\\nclass = "network"\\nunit = 0\\nlimit = 3\\n') as rs:
+    ...     acted = rs.up("eth0", tick=0)
+    ...     where = rs.retrieve("eth0", Endpoint)
+    ...     dead = rs.death(where, Cause.KILLED, tick=5)
+    ...     str(where), rs.services()[0].state.name, rs.due
+    ('1/16', 'WAITING', 6)
+    """
+
+    def __init__(self, settings: str, next: int = 1, slot: int = 16, **words: Any) -> None:
+        super().__init__(**words)
+        text, fault = settings.encode(), FaultOfC()
+        packed(INSTANCE, next, slot)  # which refuses what is out of range
+        try:
+            self._call("ds_rs_open", text, len(text), next, slot, byref(fault))
+        except Refused as refused:
+            refused.line = fault.line or None
+            refused.service = None if not fault.cause or fault.service == WHOLE_TEXT else fault.service
+            raise
+
+    def up(self, label: str, tick: int) -> Acted:
+        """Starts a service that is down or was given up."""
+        return self._event(tick, Kind.UP, label=label)
+
+    def down(self, label: str, tick: int) -> Acted:
+        """Stops a service."""
+        return self._event(tick, Kind.DOWN, label=label)
+
+    def refresh(self, label: str, tick: int) -> Acted:
+        """Stops a service that is up, and starts it at once."""
+        return self._event(tick, Kind.REFRESH, label=label)
+
+    def restart(self, label: str, tick: int) -> Acted:
+        """Starts a service that waits or was given up."""
+        return self._event(tick, Kind.RESTART, label=label)
+
+    def death(self, endpoint: Pair, cause: int, tick: int) -> Acted:
+        """Reports that an instance died."""
+        return self._event(tick, Kind.DEATH, cause, endpoint)
+
+    def beat(self, endpoint: Pair, tick: int) -> Acted:
+        """Reports that an instance is alive."""
+        return self._event(tick, Kind.BEAT, 0, endpoint)
+
+    def tick(self, tick: int) -> Acted:
+        """Reports that time passed. Report it again at the same tick until it has no actions."""
+        return self._event(tick, Kind.TICK)
+
+    @property
+    def due(self) -> Optional[int]:
+        """The first tick at which `tick` has actions, or None if there is none until another event."""
+        tick = c_uint64()
+        self._call("ds_rs_due", byref(tick))
+        return None if tick.value == NEVER else tick.value
+
+    @property
+    def next_generation(self) -> int:
+        """The generation of the next start."""
+        generation = c_uint32()
+        self._call("ds_rs_next", byref(generation))
+        return generation.value
+
+    def services(self) -> List[Service]:
+        """Returns what RS knows of each service, in the order of the settings."""
+        return list(self._services())
+
+    def may_publish(self, endpoint: Pair, name: str, kind: type) -> bool:
+        """Returns whether an instance is up and its settings let it publish under this key. Only RS publishes labels."""
+        return self._may("ds_rs_may_publish", endpoint, name.encode(), KINDS[kind])
+
+    def may_complain(self, endpoint: Pair, label: str) -> bool:
+        """Returns whether an instance is up and may complain of a service, so that a supervisor reports its death by COMPLAINT."""
+        return self._may("ds_rs_may_complain", endpoint, label.encode())
+
+    def may_connect(self, endpoint: Pair, label: str) -> bool:
+        """Returns whether an instance is up and may connect to a service."""
+        return self._may("ds_rs_may_connect", endpoint, label.encode())
+
+    def _may(self, call: str, endpoint: Pair, spelled: bytes, *kind: int) -> bool:
+        packed(INSTANCE, *endpoint)
+        try:
+            self._call(call, *endpoint, *kind, spelled, len(spelled))
+        except NotAllowed:
+            return False
+        return True
+
+    def _event(self, tick: int, kind: Kind, cause: int = 0, endpoint: Pair = (0, 0), label: str = "") -> Acted:
+        spelled = label.encode()
+        answer = self._ask("ds_rs_event", packed(EVENT, tick, kind, cause, *endpoint, len(spelled), spelled))
+        return Acted([self._action(at) for at in range(answer.count)], answer.subscriptions())
+
+    def _action(self, index: int) -> Action:
+        """Returns an action of the last answer."""
+        told = ActionOfC()
+        self._call("ds_rs_action", index, byref(told))
+        label, endpoint = label_of(told), Endpoint(told.generation, told.slot)
+        refused = NUMBERED[told.refusal]() if told.word == REFUSED else None
+        made = (
+            lambda: Kill(endpoint), lambda: Start(label, endpoint), lambda: Ping(endpoint),
+            lambda: Offer(label, None if told.gone else endpoint, refused), lambda: Sweep(label, told.generation, refused),
+            lambda: GiveUp(label),
+        )  # in the order of enum ds_rs_action_kind
+        return cast(Action, made[told.kind]())
+
+    def _services(self) -> Iterator[Service]:
+        told = ServiceOfC()
+        for at in itertools.count():
+            try:
+                self._call("ds_rs_service", at, byref(told))
+            except NotFound:
+                return
+            yield service_of(told)
+
+
+def label_of(told: Union[ActionOfC, ServiceOfC]) -> str:
+    return str(told.label[: told.label_length], "ascii")
+
+
+def service_of(told: ServiceOfC) -> Service:
+    state, unit = State(told.state), told.unit if told.has_unit else None
+    endpoint = Endpoint(told.generation, told.slot) if state is State.UP else None
+    until = told.until if state is State.WAITING else None
+    return Service(label_of(told), Class(told.service_class), unit, told.period, told.limit, state, told.failures, endpoint, until)

@@ -1,0 +1,108 @@
+"""Driver tables: what a file server and a network server know of their drivers, and the requests that aren't answered yet."""
+from __future__ import annotations
+
+import ctypes
+import struct
+from ctypes import POINTER, byref, c_size_t, c_uint8, c_uint16, c_uint32, c_uint64
+from typing import List, NamedTuple, Optional, Union
+
+from .library import Handle, packed
+from .map import Map
+from .refusals import NUMBERED, Refused
+from .rs import Class
+from .store import Pair
+from .values import Endpoint
+
+REQUEST, INSTANCE = struct.Struct("@QB"), struct.Struct("@IHQ")  # an id and a unit; an endpoint and an id
+
+# What a server has to do. A port is started anew with the driver at an endpoint.
+StartPort = NamedTuple("StartPort", [("unit", int), ("endpoint", Endpoint)])
+Send = NamedTuple("Send", [("id", int), ("endpoint", Endpoint)])  # send the request there, for the first time or again
+Finish = NamedTuple("Finish", [("id", int)])  # the driver replied: answer the request
+Fail = NamedTuple("Fail", [("id", int)])  # the driver is gone, and nobody knows how far it got: answer by an error
+Hold = NamedTuple("Hold", [("id", int)])  # there is no driver now: keep the request, a later move sends it
+Move = Union[StartPort, Send, Finish, Fail, Hold]
+
+
+class Moved(NamedTuple):
+    """Moves, to be carried out in order, and why the call did no more: None, NoRoom of a follow, or why a request wasn't accepted."""
+
+    moves: List[Move]
+    refused: Optional[Refused] = None
+
+
+class MoveOfC(ctypes.Structure):
+    _fields_ = [("id", c_uint64), ("kind", c_uint32), ("generation", c_uint32), ("slot", c_uint16), ("unit", c_uint8)]
+
+    def read(self) -> Move:
+        endpoint = Endpoint(self.generation, self.slot)
+        made = (StartPort(self.unit, endpoint), Send(self.id, endpoint), Finish(self.id), Fail(self.id), Hold(self.id))
+        return made[self.kind]  # which are in the order of enum ds_move_kind
+
+
+class Table(Handle):
+    """Follows a map, and says where each request goes: to the driver that the map names, and never to an older one.
+
+    A request to a block driver that dies is sent again to the next one, so none is lost; one to a character or a network driver fails.
+    Each is finished once at most. The table is open until the end of its `with`.
+    """
+
+    def __init__(self, server: int, library: Optional[str] = None) -> None:
+        super().__init__(library, "ds_table_close")
+        self._call("ds_table_new", server)
+
+    def assign(self, unit: int, service_class: Class, label: str) -> None:
+        """Assigns a unit to the driver with a label: a block or a character driver in a FileTable, a network driver in a NetworkTable."""
+        packed(REQUEST, 0, unit)
+        spelled = label.encode()
+        self._ask("ds_table_assign", unit, service_class, spelled, len(spelled))
+
+    def follow(self, drivers: Map) -> Moved:
+        """Takes what the map has of the labels of the units. Call it after each `take` of the map."""
+        return self._follow("ds_table_follow", drivers)
+
+    def submit(self, drivers: Map, id: int, unit: int) -> Moved:
+        """Follows the map, and submits a request to a unit. Its id is above that of every request that was accepted."""
+        packed(REQUEST, id, unit)
+        return self._follow("ds_table_submit", drivers, id, unit)
+
+    def reply(self, endpoint: Pair, id: int) -> Moved:
+        """Takes a driver's reply to a request: the move finishes it. An answer of an older instance raises OldEndpoint."""
+        packed(INSTANCE, *endpoint, id)
+        self._ask("ds_table_reply", *endpoint, id)
+        return Moved(self._moves())
+
+    def _follow(self, call: str, drivers: Map, *words: int) -> Moved:
+        self._call(call, drivers._at, *words, self._answer_at)
+        refused = NUMBERED[self._answer.refusal]() if self._answer.refusal else None
+        return Moved(self._moves(), refused)
+
+    def _moves(self) -> List[Move]:
+        """Returns the moves of the last answer."""
+        count = self._answer.count
+        moves = (MoveOfC * count)()
+        self._call("ds_table_moves", 0, ctypes.cast(moves, POINTER(MoveOfC)), count, byref(c_size_t()))
+        return [it.read() for it in moves]
+
+
+class FileTable(Table):
+    """The table of a file server, whose units are major devices.
+
+    >>> with Map() as drivers, FileTable() as table:
+    ...     table.assign(3, Class.BLOCK, "disk")
+    ...     _ = drivers.take(Items(b"disk label rs 4.0 = 4/16\\n"))
+    ...     sent = table.submit(drivers, id=1, unit=3)
+    ...     _ = drivers.take(Items(b"disk label rs 5.0 = 5/16\\n"))
+    ...     sent.moves, table.follow(drivers).moves
+    ([Send(id=1, endpoint=Endpoint(generation=4, slot=16))], [Send(id=1, endpoint=Endpoint(generation=5, slot=16))])
+    """
+
+    def __init__(self, library: Optional[str] = None) -> None:
+        super().__init__(0, library)
+
+
+class NetworkTable(Table):
+    """The table of a network server, whose units are ports."""
+
+    def __init__(self, library: Optional[str] = None) -> None:
+        super().__init__(1, library)

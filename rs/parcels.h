@@ -1,0 +1,25 @@
+/* Descriptors that are sent to a peer, each with an answer or a notice of dsrs. */
+#ifndef DSRS_PARCELS_H
+#define DSRS_PARCELS_H
+
+#include "text.h"
+#include <stdbool.h>
+#include <stddef.h>
+
+enum { PARCELS = 2 /* that wait for one peer here; the kernel keeps a few hundred */ };
+
+struct parcels {
+    size_t count;
+    struct { size_t at; int file; } parcel[PARCELS]; /* at: the place of its lines in what waits to be sent */
+};
+
+/* Takes a descriptor over, which goes with the lines from a place on, up to an empty one. Fewer than PARCELS wait already, and
+ * none of them for a later place. */
+void parcels_take(struct parcels *parcels, size_t at, int file);
+/* Sends what it can of the text without waiting, and drops that. Returns false, with errno, if nothing can be sent. Where too many
+ * descriptors are under way, the lines go without theirs. */
+bool parcels_send(struct parcels *parcels, struct text *text, int socket);
+/* Closes what waits. */
+void parcels_drop(struct parcels *parcels);
+
+#endif

@@ -1,0 +1,106 @@
+"""What a supervisor does when a call fails: for memory, a process, a socket, a descriptor, a file. One after another is refused."""
+import concurrent.futures
+import os
+import pathlib
+import signal
+import subprocess
+import time
+
+from scenes import scene
+from supervisors import Gone, Host, Skipped, equal, lives, until
+
+HERE = pathlib.Path(__file__).resolve().parent
+AT_ONCE = 6
+LIVES = "#!/bin/sh\nexec sleep 1000\n"
+
+
+def build(room):
+    made = room / "refuse.so"
+    subprocess.run([os.environ.get("CC", "cc"), "-std=c11", "-D_GNU_SOURCE", "-O1", "-w", "-shared", "-fPIC", "-o", made, HERE / "refuse.c", "-ldl"], check=True)
+    return made
+
+
+def run(host, library, number, count):
+    """A short life of a supervisor, of which some calls fail. Returns whether one did."""
+    made = host.home / "refused"
+    host.words = ["env", f"LD_PRELOAD={library}", f"REFUSE={number}", f"REFUSALS={count}", f"REFUSED={made}", *host.words]
+    host.start({"a": ({"limit": 9}, LIVES), "b": ({"limit": 9}, LIVES)}, tick=1, options=("--grace", "100"))
+    try:
+        asked(host, "status")
+    except Ended:
+        host.ended(3)  # it said why, and left nothing
+        assert "ERROR" in host.log(), host.log()
+        equal(host.processes(), [])
+        return made.exists()
+    for label in "ab":  # one that memory lacked for at the start isn't started, and the log says so
+        if host.has_logged(f"noroom {label}"):
+            asked(host, f"service up {label}")
+    until(lambda: both_are_up(host), lambda: f"both are up: {host.log()}")
+    first = processes(host)[0]
+    os.kill(first, signal.SIGKILL)
+    until(lambda: both_are_up(host) and processes(host)[0] != first, lambda: f"it is back: {host.log()}")
+    assert not lives(first)
+    asked(host, "service refresh b")
+    until(lambda: both_are_up(host), lambda: f"it is replaced: {host.log()}")
+    host.process.send_signal(signal.SIGTERM)
+    host.ended(0)  # the folder of sockets may be left, if it couldn't be listed
+    equal(host.processes(), [])
+    return made.exists()
+
+
+class Ended(Exception):
+    """The supervisor doesn't run."""
+
+
+def asked(host, line):
+    """An answer, also where the supervisor hung up on a client for which memory ran out."""
+    for _ in range(40):
+        try:
+            return host.ask(line)
+        except (Gone, OSError):
+            host.clients.clear()
+            time.sleep(0.02)
+            if host.process.poll() is not None:
+                raise Ended from None
+    raise AssertionError(f"it hangs up on everybody: {host.log()[-500:]}")
+
+
+def processes(host):
+    """Of each service that is up its process."""
+    rows = [it.split() for it in asked(host, "status").splitlines()[:-1]]
+    return [int(it[3]) for it in rows if it[1] == "up" and it[3] != "-"]
+
+
+def both_are_up(host):
+    return len(processes(host)) == 2 and all(map(lives, processes(host)))
+
+
+def refused_in_turn(host, count):
+    """Lives of supervisors: in each some calls fail from another one on, until none is left."""
+    if b"__asan_init" in pathlib.Path(host.words[0]).read_bytes():
+        raise Skipped("sanitizers take the calls for memory themselves")
+    library = build(host.home)
+
+    def work(number):
+        with Host(host.words, host.room) as one:
+            try:
+                return run(one, library, number, count)
+            except AssertionError as wrong:
+                raise AssertionError(f"call {number}: {wrong}") from None
+
+    with concurrent.futures.ThreadPoolExecutor(AT_ONCE) as pool:
+        number = 0
+        while any(list(pool.map(work, range(number, number + AT_ONCE * 4)))):  # each result is looked at
+            number += AT_ONCE * 4
+    assert number, "no call is refused"
+
+
+@scene
+def one_call_after_another_is_refused(host):
+    """Whichever call fails, either it doesn't start, or all services run, restart and end as ever."""
+    refused_in_turn(host, 1)
+
+
+@scene
+def some_calls_at_once_are_refused(host):
+    refused_in_turn(host, 12)

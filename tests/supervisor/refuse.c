@@ -1,0 +1,65 @@
+/* A library that is preloaded into a supervisor: REFUSALS calls from number REFUSE on fail, of those below. What the supervisor
+ * starts isn't touched. The file REFUSED is made once a call failed. */
+#include <dlfcn.h>
+#include <errno.h>
+#include <fcntl.h>
+#include <stdlib.h>
+#include <sys/epoll.h>
+#include <sys/signalfd.h>
+#include <sys/socket.h>
+#include <sys/stat.h>
+#include <sys/timerfd.h>
+#include <unistd.h>
+
+static long left, more; /* calls until the first that fails; how many fail then */
+static char made[4096];
+
+void *__libc_malloc(size_t), *__libc_calloc(size_t, size_t), *__libc_realloc(void *, size_t);
+
+__attribute__((constructor)) static void begin(void) {
+    const char *number = getenv("REFUSE"), *file = getenv("REFUSED");
+    for (size_t i = 0; file && file[i] && i + 1 < sizeof made; i++) made[i] = file[i];
+    left = number ? atol(number) : 0;
+    more = number ? atol(getenv("REFUSALS")) : 0;
+    unsetenv("LD_PRELOAD");
+    unsetenv("REFUSE");
+    unsetenv("REFUSED");
+    unsetenv("REFUSALS");
+}
+
+static int refuses(int error) {
+    if (!more || left-- > 0) return 0;
+    left = 0;
+    more--;
+    int file = open(made, O_WRONLY | O_CREAT | O_CLOEXEC, 0600);
+    if (file >= 0) close(file);
+    errno = error;
+    return 1;
+}
+
+void *malloc(size_t size) { return refuses(ENOMEM) ? NULL : __libc_malloc(size); }
+void *calloc(size_t count, size_t size) { return refuses(ENOMEM) ? NULL : __libc_calloc(count, size); }
+void *realloc(void *old, size_t size) { return refuses(ENOMEM) ? NULL : __libc_realloc(old, size); }
+
+/* Passes a call on, unless it is the one. */
+#define PASSED(type, name, error, parameters, arguments)                                                                     \
+    type name parameters {                                                                                                   \
+        type (*real) parameters = (type(*) parameters)dlsym(RTLD_NEXT, #name);                                               \
+        return refuses(error) ? -1 : real arguments;                                                                         \
+    }
+
+PASSED(pid_t, fork, EAGAIN, (void), ())
+PASSED(int, socketpair, EMFILE, (int domain, int type, int protocol, int pair[2]), (domain, type, protocol, pair))
+PASSED(int, socket, EMFILE, (int domain, int type, int protocol), (domain, type, protocol))
+PASSED(int, bind, EADDRINUSE, (int file, const struct sockaddr *address, socklen_t length), (file, address, length))
+PASSED(int, listen, EMFILE, (int file, int backlog), (file, backlog))
+PASSED(int, pipe2, EMFILE, (int pair[2], int flags), (pair, flags))
+PASSED(int, epoll_create1, EMFILE, (int flags), (flags))
+PASSED(int, epoll_ctl, ENOSPC, (int file, int operation, int of, struct epoll_event *event), (file, operation, of, event))
+PASSED(int, signalfd, EMFILE, (int file, const sigset_t *set, int flags), (file, set, flags))
+PASSED(int, timerfd_create, EMFILE, (int clock, int flags), (clock, flags))
+PASSED(int, accept4, EMFILE, (int file, struct sockaddr *address, socklen_t *length, int flags), (file, address, length, flags))
+PASSED(int, mkdir, ENOSPC, (const char *path, mode_t mode), (path, mode))
+PASSED(int, chmod, EPERM, (const char *path, mode_t mode), (path, mode))
+PASSED(int, setsockopt, ENOMEM, (int file, int level, int name, const void *value, socklen_t length), (file, level, name, value, length))
+PASSED(ssize_t, pwrite, ENOSPC, (int file, const void *bytes, size_t length, off_t at), (file, bytes, length, at))
