@@ -4,9 +4,6 @@
 #define MACHINE_TABLE_H
 
 #include "ds.h"
-#ifdef PLAIN_TABLES
-#include "ds_table.h"
-#endif
 #include <stdbool.h>
 
 /* Opens the table of a file server or a network server, and a map of the labels that a pattern matches. */
