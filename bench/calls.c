@@ -1,5 +1,6 @@
-/* calls WHAT COUNT: makes COUNT calls of a kind to a store with 16 drivers, each with its label, a number and 1024 bytes. A line- comes with its
- * newline, and a bare- without; memory retrieves the bytes. calls.rs and calls.py do the same. See bench/README.md. */
+/* calls WHAT COUNT: makes COUNT calls of a kind to a store with 16 drivers, each with its label, a number and 1024 bytes. line-WHAT makes them
+ * by lines, told-WHAT also fetches the text of each answer, and bare-WHAT does so for lines without a newline. memory retrieves the bytes.
+ * calls.rs and calls.py make the calls that aren't lines. See bench/README.md. */
 #include "ds.h"
 #include <stdio.h>
 #include <stdlib.h>
@@ -7,9 +8,12 @@
 
 enum { DRIVERS = 16, BYTES = 1024 };
 
+/* A driver's line. In a `publish`, `digit` is the place of the last digit of the change's number; elsewhere it is 0. */
+struct line { char text[64]; size_t length, digit; };
+
 static struct ds_handle store = DS_CLOSED;
 static struct ds_request asks[DRIVERS];
-static char lines[DRIVERS][64];
+static struct line lines[DRIVERS];
 
 static struct ds_request label(uint32_t d) {
     struct ds_request it = {.command = DS_PUBLISH, .slot = 2, .kinds = DS_LABEL, .epoch = d + 1, .value = d + 1, .value_slot = (uint16_t)(16 + d)};
@@ -44,44 +48,74 @@ static unsigned long fetched(const struct ds_request *ask) {
     return (unsigned char)room[BYTES - 1];
 }
 
-/* A line, and its answer fetched. */
-static unsigned long told(const char *line, size_t length) {
+/* A line without its newline. Numbers of changes begin at 100000, so that they keep their width. */
+static struct line line_of(const char *what, uint32_t d) {
+    struct line it = {.length = 0};
+    if (strstr(what, "publish")) {
+        it.length = (size_t)sprintf(it.text, "publish %u/%u over d%u.mtu u32 %u.100000", d + 1, 16 + d, d, d + 1);
+        it.digit = it.length - 1;
+        it.length += (size_t)sprintf(it.text + it.length, " = 1500");
+    }
+    if (strstr(what, "retrieve")) it.length = (size_t)sprintf(it.text, "retrieve d%u.mtu u32", d);
+    if (strstr(what, "nameof")) it.length = (size_t)sprintf(it.text, "nameof %u/%u", d + 1, 16 + d);
+    return it;
+}
+
+/* The next number of the driver's changes. */
+static void step(char *digit) {
+    while (*digit == '9') *digit-- = '0';
+    ++*digit;
+}
+
+static unsigned long called_by(const struct line *line) {
     struct ds_answer said;
+    if (ds_call_line(&store, line->text, line->length, &said) || said.word >= DS_STOPPED) exit(1);
+    return said.value;
+}
+
+/* The text of the last answer. */
+static unsigned long told(void) {
     struct ds_given given;
     char room[128];
-    if (ds_call_line(&store, line, length, &said) || said.word >= DS_STOPPED) exit(1);
     if (ds_text(&store, 0, room, sizeof room, &given) || given.stop != DS_WHOLE) exit(1);
     return given.length;
 }
 
-int main(int count, char **given) {
-    if (count != 3 || ds_open(&store, 1, 0, 256)) return 2;
-    const char *what = given[1];
-    int ended = !strncmp(what, "line-", 5), by_line = ended || !strncmp(what, "bare-", 5), publishes = strstr(what, "publish") != NULL;
-    unsigned long calls = strtoul(given[2], NULL, 10), sum = 0;
+/* Opens the store, and writes what its drivers published. */
+static int prepare(const char *what, int fetches) {
     static const char bytes[BYTES];
     struct ds_answer said;
-    int fetches = !strcmp(what, "memory");
+    if (ds_open(&store, 1, 0, 256)) return 0;
     for (uint32_t d = 0; d < DRIVERS; d++) {
         struct ds_request ask = label(d);
         called(&ask);
         ask = memory(d);
-        if (ds_call(&store, &ask, bytes, sizeof bytes, &said) || said.word != DS_CHANGED) return 1;
+        if (ds_call(&store, &ask, bytes, sizeof bytes, &said) || said.word != DS_CHANGED) return 0;
         asks[d] = fetches ? ask : number(d);
         if (fetches) asks[d].command = DS_RETRIEVE, asks[d].text_length = 0;
         else called(&asks[d]);
         if (!strcmp(what, "retrieve")) asks[d].command = DS_RETRIEVE;
         if (!strcmp(what, "nameof")) asks[d].command = DS_NAMEOF;
-        if (by_line && strstr(what, "retrieve")) sprintf(lines[d], "retrieve d%u.mtu u32\n", d);
-        if (by_line && strstr(what, "nameof")) sprintf(lines[d], "nameof %u/%u\n", d + 1, 16 + d);
+        lines[d] = line_of(what, d);
+        if (strncmp(what, "bare-", 5)) lines[d].text[lines[d].length++] = '\n';
     }
+    return 1;
+}
+
+int main(int count, char **given) {
+    if (count != 3) return 2;
+    const char *what = given[1];
+    int by_line = strchr(what, '-') != NULL, is_told = by_line && strncmp(what, "line-", 5), fetches = !strcmp(what, "memory");
+    unsigned long calls = strtoul(given[2], NULL, 10), sum = 0;
+    if (!prepare(what, fetches)) return 1;
     for (unsigned long i = 1; i <= calls; i++) {
         uint32_t d = i % DRIVERS;
         if (by_line) {
-            if (publishes) sprintf(lines[d], "publish %u/%u over d%u.mtu u32 %u.%lu = %lu\n", d + 1, 16 + d, d, d + 1, i, i);
-            sum += told(lines[d], strlen(lines[d]) - !ended);
+            if (lines[d].digit) step(lines[d].text + lines[d].digit);
+            sum += called_by(&lines[d]);
+            if (is_told) sum += told();
         } else {
-            if (publishes) asks[d].seq = asks[d].value = (uint32_t)i;
+            if (asks[d].command == DS_PUBLISH) asks[d].seq = asks[d].value = (uint32_t)i;
             sum += fetches ? fetched(&asks[d]) : called(&asks[d]);
         }
     }
