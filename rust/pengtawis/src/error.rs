@@ -91,7 +91,7 @@ pub enum Error {
     Refused(Refusal),
     /// A merge, or a take of a map, stopped at an item that was refused. The items before it are done.
     Stopped(Stopped),
-    /// A name, a number or a line of items is malformed, or out of range. Nothing changed.
+    /// A name, a value, a number or a line of items is malformed, too long or out of range. Nothing changed.
     NoRequest,
     /// The line can't be read from this byte on. Nothing changed.
     BadLine(u64),

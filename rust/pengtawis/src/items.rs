@@ -45,7 +45,7 @@ impl Items {
     }
 }
 
-/// Keeps the lines unchecked: the store or map that takes them reads them, and may refuse them.
+/// Keeps the lines, each with its newline, unchecked: the store or map that takes them reads them, and may refuse them.
 impl From<Vec<u8>> for Items {
     fn from(text: Vec<u8>) -> Items {
         Items { text }
@@ -56,7 +56,7 @@ impl From<Vec<u8>> for Items {
 #[derive(Clone, Debug, PartialEq, Eq)]
 pub enum Item<'a> {
     Change(Change<'a>),
-    /// What the owner published up to this generation is void.
+    /// What the owner published up to this generation is void. It is shown under every scope, in place of what was dropped.
     Floor { owner: &'a str, generation: u32 },
 }
 

@@ -25,7 +25,7 @@ pub struct Map {
 unsafe impl Send for Map {}
 
 impl Map {
-    /// Makes an empty map for names of some kinds that a pattern matches whole.
+    /// Makes an empty map for names of some kinds that a pattern matches whole. Only its labels can be read.
     pub fn new(pattern: &str, kinds: impl Into<Kinds>) -> Result<Map, Refusal> {
         let mut handle = std::ptr::null_mut();
         // SAFETY: the handle begins as null, and the length is the pattern's.
@@ -48,7 +48,7 @@ impl Map {
         Error::of(&answer).map_or_else(|| Ok(merged(&answer)), Err)
     }
 
-    /// Returns where the label is now.
+    /// Returns where the label is now, or [`NotFound`](crate::Refusal::NotFound).
     pub fn label(&mut self, name: &str) -> Result<Endpoint, Error> {
         let mut answer = Answer::default();
         // SAFETY: the handle is open, and the length is the name's.

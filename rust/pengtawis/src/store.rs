@@ -50,7 +50,7 @@ impl Store {
         }
     }
 
-    /// Puts a value under a key, over a live entry only with `overwrite`.
+    /// Puts a value under a key, over a live entry only with `overwrite`. A name has 1 to 64 ASCII letters, digits, `.`, `_` and `-`.
     pub fn publish<'a>(
         &mut self, caller: Endpoint, name: &str, value: impl Into<Value<'a>>, version: Version, overwrite: bool,
     ) -> Result<Done, Error> {
@@ -60,12 +60,12 @@ impl Store {
         self.ask_done(keyed(request, name, value.kind())?, text)
     }
 
-    /// Ends a live entry, and leaves a tombstone.
+    /// Ends a live entry, and leaves a tombstone. When a driver dies, RS ends its label, and then [sweeps](Store::sweep) its entries.
     pub fn delete(&mut self, caller: Endpoint, name: &str, kind: Kind, version: Version) -> Result<Done, Error> {
         self.ask_done(keyed(of(command::DELETE, caller, version), name, kind)?, &[])
     }
 
-    /// Raises the floor of a dead owner, which drops the entries that it published up to this generation.
+    /// Raises the floor of a dead owner, which drops the entries that it published up to this generation. Its label stays.
     pub fn sweep(&mut self, caller: Endpoint, owner: &str, generation: u32) -> Result<Swept, Error> {
         let request = Request { value: generation, ..of(command::SWEEP, caller, Version::default()) };
         let answer = self.ask(named(request, owner)?, &[])?;
@@ -84,19 +84,22 @@ impl Store {
         Ok(text_of(self.piece(LONGEST_NAME)?)?)
     }
 
-    /// Makes the subscription `sub`, 0 to 127, to a scope. With `initial` the first check shows what is held already.
+    /// Makes the subscription `sub`, 0 to 127, to a scope. With `initial` the first check shows what is held already. With `overwrite` it
+    /// replaces the subscription of this number.
     pub fn subscribe(&mut self, sub: u32, scope: Scope<'_>, initial: bool, overwrite: bool) -> Result<Subscribed, Error> {
         let request = Request { sub, initial: initial.into(), overwrite: overwrite.into(), ..Request::new(command::SUBSCRIBE) };
         let answer = self.ask(Request { kinds: scope.kinds.0, ..request }, scope.pattern.as_bytes())?;
         Ok(Subscribed { stamp: answer.after, owed: Owed(answer.owed) })
     }
 
-    /// Shows the first `most` items, 1 to 256, that the subscription wasn't shown yet. If it shows `most` items, there may be more.
+    /// Shows the first `most` items, 1 to 256, that the subscription wasn't shown yet. If it shows `most` items, there may be more. Floors
+    /// are shown first, under every scope; then changes, by name.
     pub fn check(&mut self, sub: u32, most: u32) -> Result<Shown<'_>, Error> {
         self.show(Request { sub, max: most, ..Request::new(command::CHECK) }, None)
     }
 
-    /// Shows the first `most` items, 1 to 256, that took effect after a cursor. Without a scope, of all keys.
+    /// Shows the first `most` items, 1 to 256, that took effect after a cursor, in that order. Floors are under every scope. Without a
+    /// scope, shows all keys. If it shows `most` items, there may be more.
     pub fn since(&mut self, cursor: Cursor, scope: Option<Scope<'_>>, most: u32) -> Result<Shown<'_>, Error> {
         let Cursor { incarnation, position } = cursor;
         self.show(Request { incarnation, position, max: most, ..Request::new(command::SINCE) }, scope)

@@ -33,7 +33,7 @@ pub enum Move {
     Start { unit: u8, endpoint: Endpoint },
     /// Sends a request to a driver, for the first time or again.
     Send { request: u64, endpoint: Endpoint },
-    /// Answers a request: its driver replied.
+    /// Answers a request: its driver replied. No call here returns it, since [`Table::reply`] returns `Ok` in its place.
     Done { request: u64 },
     /// Answers a request by an error: its driver is gone, and nobody knows how far it got.
     Fault { request: u64 },
@@ -77,7 +77,7 @@ impl Table {
         }
     }
 
-    /// Assigns a unit to the driver with a label.
+    /// Assigns a unit to the driver with a label. A class of another server is [`Error::NoRequest`].
     pub fn assign(&mut self, unit: u8, class: Class, label: &str) -> Result<(), Error> {
         let mut answer = Answer::default();
         // SAFETY: the handle is open, and the length is the label's.
@@ -101,7 +101,8 @@ impl Table {
         Moves::new(self, &answer)
     }
 
-    /// Takes the reply of the driver at an endpoint, which ends the request.
+    /// Takes the reply of the driver at an endpoint, which ends the request. It is refused as [`Refusal::NotPending`] if the request was
+    /// answered already, or as [`Refusal::OldEndpoint`] if it was last sent to another endpoint.
     pub fn reply(&mut self, endpoint: Endpoint, request: u64) -> Result<(), Error> {
         let mut answer = Answer::default();
         // SAFETY: the handle is open.
@@ -117,7 +118,8 @@ impl Drop for Table {
     }
 }
 
-/// The moves of a call, which takes no memory to fetch. It borrows the table, so no other call can replace them.
+/// The moves of a call, which takes no memory to fetch. It borrows the table, so no other call can replace them. Moves that are dropped
+/// are lost. Loop over `&mut moves` to ask [`refused`](Moves::refused) afterwards.
 #[must_use = "a server carries out each move"]
 pub struct Moves<'table> {
     table: &'table mut Table,

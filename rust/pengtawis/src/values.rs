@@ -25,7 +25,7 @@ impl fmt::Display for Endpoint {
     }
 }
 
-/// An owner's generation, and a number that it counts.
+/// An owner's generation, and a number that it counts. A label's is the generation of its endpoint, and 0, or 1 for its deletion.
 #[derive(Clone, Copy, Debug, Default, PartialEq, Eq, PartialOrd, Ord, Hash)]
 pub struct Version {
     pub epoch: u32,
@@ -92,7 +92,7 @@ impl<K: Into<Kinds>> BitOr<K> for Kinds {
     }
 }
 
-/// A value to be published. A string has at most 256 printable bytes of ASCII, memory at most 1024 bytes.
+/// A value to be published. A string has at most 256 printable bytes of ASCII, memory at most 1024 bytes. An array is passed as `&mac[..]`.
 #[derive(Clone, Copy, Debug, PartialEq, Eq)]
 pub enum Value<'a> {
     Label(Endpoint),
@@ -197,7 +197,7 @@ pub struct Swept {
     pub owed: Owed,
 }
 
-/// The stamp of a subscription.
+/// The stamp of a subscription, a number that rises with each subscription and each check that shows something.
 #[derive(Clone, Copy, Debug, PartialEq, Eq)]
 pub struct Subscribed {
     pub stamp: u64,
