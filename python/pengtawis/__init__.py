@@ -1,7 +1,7 @@
 """Pengtawis: where drivers are that crash and restart. docs/guide/python.md is its page.
 
 A `Store`, an `Rs`, a `Map` and the driver tables are in this process, over libds. A `Client` and an `AsyncClient` send lines to a dsfleet.
-Every refusal is an exception.
+Every refusal is an exception. Beside actions of RS and moves of a table it is their `refused`, and isn't raised.
 """
 from .client import AsyncClient, Client
 from .map import Map

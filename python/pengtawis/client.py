@@ -134,6 +134,9 @@ class AsyncClient:
 
     A call may be cancelled, also by asyncio.wait_for. Later calls still get their own answers. ConnectionError means that dsfleet
     hung up.
+
+        async with AsyncClient("socket") as client:
+            print(await client.ask("nameof 3/16"))
     """
 
     def __init__(self, path: str) -> None:

@@ -87,7 +87,7 @@ def packed(layout: struct.Struct, *parts: Any) -> bytes:
     try:
         return layout.pack(*parts)
     except struct.error as wrong:
-        raise ValueError(f"out of range: {wrong}") from None
+        raise ValueError(f"of the wrong type or out of range: {wrong}") from None
 
 
 class Handle:
@@ -101,7 +101,7 @@ class Handle:
         except OSError as fault:
             if path != NAME:
                 raise
-            raise FileNotFoundError(f"there is no {NAME}: name it, set PENGTAWIS_LIBRARY, or install {PLACES[0]}") from fault
+            raise FileNotFoundError(f"there is no {NAME}: pass `library`, set PENGTAWIS_LIBRARY, or install {PLACES[0]}") from fault
         self._answer, self._handle = Answer(), c_void_p()
         self._at, self._answer_at = byref(self._handle), byref(self._answer)
 
@@ -139,7 +139,8 @@ def fault_of(answer: Answer, malformed: Type[ValueError] = ValueError) -> Option
     if answer.word == BAD_LINE:
         return BadLine(f"the line can't be read from byte {answer.count} on")
     if answer.word == NO_REQUEST:
-        return malformed("no store is asked this way: docs/reference/lines.md says what names, values and lines may be")
+        what = "the line isn't for one store" if malformed is BadLine else "an argument is malformed or out of range"
+        return malformed(f"{what}: see docs/reference/lines.md")
     if answer.refusal:
         refused = NUMBERED[answer.refusal]
         version = Version(answer.epoch, answer.seq) if refused is Clash else None

@@ -29,7 +29,7 @@ class Map(Handle):
         return Merged(answer.count, answer.taken, answer.stale, frozenset())
 
     def label(self, name: str) -> Endpoint:
-        """Returns where the label is now."""
+        """Returns where the label is now. If it was deleted, or never taken, raises NotFound."""
         spelled = name.encode()
         answer = self._ask("ds_map_label", spelled, len(spelled))
         return Endpoint(answer.value, answer.value_slot)

@@ -9,6 +9,8 @@ from .values import Version
 class Refused(Exception):
     """Says that a call was refused. It changed nothing. Exception: a merge and a take keep the first `done` items.
 
+    `version` is that of a Clash; `service` and `line` are the place of a fault in settings, or None.
+
     >>> NotFound.word
     'notfound'
     """
@@ -38,7 +40,7 @@ class BadKind(Refused, ValueError): """The kinds aren't a sum of 1 for label, 2 
 class BadLabel(Refused, ValueError): """A label's epoch is its generation, its number 0 for a put and 1 for an end; none is named rs."""
 class BadVersion(Refused, ValueError): """The epoch is the caller's generation, and the number is below 4294967295."""
 class NoCaller(Refused): """The caller's endpoint is neither a live label's nor that of RS."""
-class NotAllowed(Refused): """Only RS publishes labels and sweeps."""
+class NotAllowed(Refused): """Only RS publishes labels, deletes them and sweeps; an `Rs` does so by itself."""
 class NotOwner(Refused): """The key belongs to another owner."""
 class Clash(Refused): """This version is held already, with another value."""
 class Stale(Refused): """A greater version is held, or a floor of the owner made the change void."""
@@ -51,16 +53,16 @@ class Full(Refused): """4096 keys are held, or floors of 64 owners."""
 class Worn(Refused): """The store's positions are used up."""
 class NoRoom(Refused, MemoryError): """Out of memory, or the pattern compiles to too much."""
 class BadRing(Refused, ValueError): """A journal keeps 1 to 4096 items."""
-class BadFirst(Refused, ValueError): """The first position is at most 2^62."""
-class IsClosed(Refused, ValueError): """The store or the map is closed."""
+class BadFirst(Refused, ValueError): """The first position is at most 2^62. Of an `Rs`, `next` is 1 to 2097152, and slots are 16 to 1023."""
+class IsClosed(Refused, ValueError): """The store, the map or the table is closed."""
 class IsOpen(Refused, ValueError): """The handle is open already."""
 # Those of an event of RS, and of its settings.
 class TickBack(Refused, ValueError): """The tick is below that of the last event that RS took."""
 class UnknownLabel(Refused, LookupError): """No service of RS has the label."""
 class BadCause(Refused, ValueError): """A cause of death is 1 to 6."""
 class AlreadyUp(Refused): """The service is up, or waits for its next start."""
-class NotUp(Refused): """The service isn't up."""
-class OldEndpoint(Refused): """No instance that is up has the endpoint."""
+class NotUp(Refused): """The service isn't up. A restart needs one that waits or was given up."""
+class OldEndpoint(Refused): """No instance that is up has the endpoint, or the request wasn't last sent there."""
 class GenerationsSpent(Refused): """RS has no generation left for a start."""
 class NoSlot(Refused): """RS has no slot left for a start."""
 class Toml(Refused, ValueError): """The settings aren't TOML."""

@@ -13,27 +13,35 @@ from .refusals import NUMBERED, NotAllowed, NotFound, Refused
 from .store import Pair, Store
 from .values import KINDS, Endpoint
 
-Cause = enum.IntEnum("Cause", "EXIT EXCEPTION KILLED SILENT COMPLAINT UPDATE", start=1)  # why an instance died
+Cause = enum.IntEnum("Cause", "EXIT EXCEPTION KILLED SILENT COMPLAINT UPDATE", start=1)
+Cause.__doc__ = "Why an instance died. EXIT includes a panic, SILENT is a missing heartbeat, UPDATE a dynamic update."
 Class = enum.IntEnum("Class", "BLOCK CHARACTER NETWORK SERVER", start=0)
+Class.__doc__ = "The class of a service, as in its settings."
 State = enum.IntEnum("State", "DOWN UP WAITING GIVENUP", start=0)
+State.__doc__ = "What a service is. One that waits starts at `until`; one that was given up, at an `up` or a `restart`."
 Kind = enum.IntEnum("Kind", "UP DOWN REFRESH RESTART DEATH BEAT TICK", start=0)  # of an event
 EVENT = struct.Struct("@Q3IHB64s0Q")  # struct ds_rs_event
 INSTANCE = struct.Struct("@IH")  # a generation and a slot
 NEVER, WHOLE_TEXT = 2**64 - 1, 2**32 - 1
 REFUSED = 12  # of enum ds_word
 
-# What a supervisor carries out: it kills and starts processes, and asks them for heartbeats.
+# What a supervisor carries out.
 Kill = NamedTuple("Kill", [("endpoint", Endpoint)])
 Start = NamedTuple("Start", [("label", str), ("endpoint", Endpoint)])
 Ping = NamedTuple("Ping", [("endpoint", Endpoint)])
-# What RS changed in the store: where a label is (None: taken back), and up to which generation a service is swept. `refused` is the
-# exception by which the store refused it, or None.
+Kill.__doc__ = "Ends an instance, if it hasn't ended."
+Start.__doc__ = "Starts an instance of a service, under this endpoint."
+Ping.__doc__ = "Asks an instance for a heartbeat, which `Rs.beat` reports."
+# What RS changed in the store.
 Offer = NamedTuple("Offer", [("label", str), ("endpoint", Optional[Endpoint]), ("refused", Optional[Refused])])
 Sweep = NamedTuple("Sweep", [("label", str), ("generation", int), ("refused", Optional[Refused])])
-# The service failed too often. It is down until an event starts it.
+Offer.__doc__ = "Reports that RS published a label, or deleted it (None). `refused` is why the store refused it, or None."
+Sweep.__doc__ = "Reports that RS swept a service up to a generation. `refused` is why the store refused it, or None."
 GiveUp = NamedTuple("GiveUp", [("label", str)])
+GiveUp.__doc__ = "Reports that a service failed too often. It is down until an `up` or a `restart`."
 Action = Union[Kill, Start, Ping, Offer, Sweep, GiveUp]
 Acted = NamedTuple("Acted", [("actions", List[Action]), ("owed", FrozenSet[int])])
+Acted.__doc__ = "Actions, to be carried out in order, and the subscriptions that are owed a notice."
 
 
 class Service(NamedTuple):
@@ -80,7 +88,7 @@ class Rs(Store):
 
     `settings` is the whole text of a TOML file (docs/reference/settings.md). A refused text has the service that is at fault in
     `service` of the exception, counted from 0, and the line in `line` if it isn't TOML. Keep `next_generation` for the next run, and
-    pass it as `next`, so that no generation comes twice.
+    pass it as `next`, so that no generation comes twice. `slot` is the first process slot. The other arguments are a Store's.
 
     >>> with Rs('[[service]]\\nlabel = "eth0"\\nclass = "network"\\nunit = 0\\nlimit = 3\\n') as rs:
     ...     acted = rs.up("eth0", tick=0)
@@ -106,7 +114,7 @@ class Rs(Store):
         return self._event(tick, Kind.UP, label=label)
 
     def down(self, label: str, tick: int) -> Acted:
-        """Stops a service."""
+        """Stops a service that is up or waits."""
         return self._event(tick, Kind.DOWN, label=label)
 
     def refresh(self, label: str, tick: int) -> Acted:

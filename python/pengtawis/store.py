@@ -44,7 +44,10 @@ class Store(Handle):
         self._call("ds_open", *opening)
 
     def publish(self, caller: Pair, name: str, value: Value, version: Pair, overwrite: bool = False) -> Done:
-        """Puts a value under a key, over a live entry only with `overwrite`. `changed` is False if it was held already."""
+        """Puts a value under a key, over a live entry only with `overwrite`. `changed` is False if it was held already.
+
+        RS publishes a label by version (its generation, 0).
+        """
         return done(self._request(Command.PUBLISH, *publication(caller, value, version), name, overwrite=overwrite))
 
     def publish_all(
@@ -73,11 +76,11 @@ class Store(Handle):
         return [fault_of(it) or done(it) for it in answers]
 
     def delete(self, caller: Pair, name: str, kind: type, version: Pair) -> Done:
-        """Ends a live entry, and leaves a tombstone."""
+        """Ends a live entry, and leaves a tombstone. RS deletes a label by version (its generation, 1)."""
         return done(self._request(Command.DELETE, b"", caller, version, kinds=KINDS[kind], name=name))
 
     def sweep(self, caller: Pair, owner: str, generation: int) -> Swept:
-        """Raises the floor of a dead owner, which drops the entries that it published up to this generation."""
+        """Raises the floor of a dead owner, which drops the entries that it published up to this generation. Its label stays: delete it."""
         answer = self._request(Command.SWEEP, b"", caller, number=generation, name=owner)
         return Swept(answer.count, answer.subscriptions())
 

@@ -15,12 +15,17 @@ from .values import Endpoint
 
 REQUEST, INSTANCE = struct.Struct("@QB"), struct.Struct("@IHQ")  # an id and a unit; an endpoint and an id
 
-# What a server has to do. A port is started anew with the driver at an endpoint.
+# What a server has to do.
 StartPort = NamedTuple("StartPort", [("unit", int), ("endpoint", Endpoint)])
-Send = NamedTuple("Send", [("id", int), ("endpoint", Endpoint)])  # send the request there, for the first time or again
-Finish = NamedTuple("Finish", [("id", int)])  # the driver replied: answer the request
-Fail = NamedTuple("Fail", [("id", int)])  # the driver is gone, and nobody knows how far it got: answer by an error
-Hold = NamedTuple("Hold", [("id", int)])  # there is no driver now: keep the request, a later move sends it
+Send = NamedTuple("Send", [("id", int), ("endpoint", Endpoint)])
+Finish = NamedTuple("Finish", [("id", int)])
+Fail = NamedTuple("Fail", [("id", int)])
+Hold = NamedTuple("Hold", [("id", int)])
+StartPort.__doc__ = "Starts a port anew, with the driver at an endpoint."
+Send.__doc__ = "Sends a request to an endpoint, for the first time or again."
+Finish.__doc__ = "Answers a request: the driver replied."
+Fail.__doc__ = "Answers a request by an error: the driver is gone, and nobody knows how far it got."
+Hold.__doc__ = "Keeps a request: there is no driver now, and a later move sends it."
 Move = Union[StartPort, Send, Finish, Fail, Hold]
 
 
@@ -62,7 +67,10 @@ class Table(Handle):
         return self._follow("ds_table_follow", drivers)
 
     def submit(self, drivers: Map, id: int, unit: int) -> Moved:
-        """Follows the map, and submits a request to a unit. Its id is above that of every request that was accepted."""
+        """Follows the map, and submits a request to a unit. Its id is above that of every request that was accepted.
+
+        If it isn't accepted, `refused` is TwoIds or NoDevice; nothing is raised.
+        """
         packed(REQUEST, id, unit)
         return self._follow("ds_table_submit", drivers, id, unit)
 
@@ -88,6 +96,8 @@ class Table(Handle):
 class FileTable(Table):
     """The table of a file server, whose units are major devices.
 
+    A request to a block driver that dies is sent again to the next one. One to a character driver fails.
+
     >>> with Map() as drivers, FileTable() as table:
     ...     table.assign(3, Class.BLOCK, "disk")
     ...     _ = drivers.take(Items(b"disk label rs 4.0 = 4/16\\n"))
@@ -102,7 +112,7 @@ class FileTable(Table):
 
 
 class NetworkTable(Table):
-    """The table of a network server, whose units are ports."""
+    """The table of a network server, whose units are ports. A request to a driver that dies fails."""
 
     def __init__(self, library: Optional[str] = None) -> None:
         super().__init__(1, library)
