@@ -4,7 +4,7 @@ from __future__ import annotations
 from typing import Iterable, Optional
 
 from .library import Handle
-from .values import Endpoint, Items, Merged, mask_of
+from .values import Endpoint, Items, Merged, lines_of, mask_of
 
 
 class Map(Handle):
@@ -25,7 +25,8 @@ class Map(Handle):
 
     def take(self, items: Items) -> Merged:
         """Takes items in order, up to the first that is refused. That one and those after it may be taken again later."""
-        answer = self._ask("ds_map_take", items.text, len(items.text))
+        text = lines_of(items)
+        answer = self._ask("ds_map_take", text, len(text))
         return Merged(answer.count, answer.taken, answer.stale, frozenset())
 
     def label(self, name: str) -> Endpoint:

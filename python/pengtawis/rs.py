@@ -11,7 +11,7 @@ from typing import Any, FrozenSet, Iterator, List, NamedTuple, Optional, Union, 
 from .library import packed
 from .refusals import NUMBERED, NotAllowed, NotFound, Refused
 from .store import Pair, Store
-from .values import KINDS, Endpoint
+from .values import Endpoint, bit_of
 
 Cause = enum.IntEnum("Cause", "EXIT EXCEPTION KILLED SILENT COMPLAINT UPDATE", start=1)
 Cause.__doc__ = "Why an instance died. EXIT includes a panic, SILENT is a missing heartbeat, UPDATE a dynamic update."
@@ -157,7 +157,7 @@ class Rs(Store):
 
     def may_publish(self, endpoint: Pair, name: str, kind: type) -> bool:
         """Returns whether an instance is up and its settings let it publish under this key. Only RS publishes labels."""
-        return self._may("ds_rs_may_publish", endpoint, name.encode(), KINDS[kind])
+        return self._may("ds_rs_may_publish", endpoint, name.encode(), bit_of(kind))
 
     def may_complain(self, endpoint: Pair, label: str) -> bool:
         """Returns whether an instance is up and may complain of a service, so that a supervisor reports its death by COMPLAINT."""

@@ -8,7 +8,9 @@ from typing import Any, Dict, Iterable, Iterator, List, Optional, Tuple, Type, T
 
 from .library import CHANGED, OPENING, PIECE, REQUEST, ROOM, WANTING, WHOLE, Answer, Command, Given, Handle, fault_of, packed
 from .refusals import NoRoom, Refused
-from .values import KINDS, Cursor, Done, Endpoint, Items, Merged, Page, Reading, Subscribed, Swept, Value, kind_of, mask_of
+from .values import (
+    KINDS, Cursor, Done, Endpoint, Items, Merged, Page, Reading, Subscribed, Swept, Value, bit_of, kind_of, lines_of, mask_of,
+)
 
 MOST = 256  # items of one answer, but for a snapshot's, and of one merge
 V = TypeVar("V", Endpoint, int, str, bytes)
@@ -77,7 +79,7 @@ class Store(Handle):
 
     def delete(self, caller: Pair, name: str, kind: type, version: Pair) -> Done:
         """Ends a live entry, and leaves a tombstone. RS deletes a label by version (its generation, 1)."""
-        return done(self._request(Command.DELETE, b"", caller, version, kinds=KINDS[kind], name=name))
+        return done(self._request(Command.DELETE, b"", caller, version, kinds=bit_of(kind), name=name))
 
     def sweep(self, caller: Pair, owner: str, generation: int) -> Swept:
         """Raises the floor of a dead owner, which drops the entries that it published up to this generation. Its label stays: delete it."""
@@ -86,7 +88,7 @@ class Store(Handle):
 
     def retrieve(self, name: str, kind: Type[V]) -> V:
         """Returns the value of a live entry."""
-        answer = self._request(Command.RETRIEVE, kinds=KINDS[kind], name=name)
+        answer = self._request(Command.RETRIEVE, kinds=bit_of(kind), name=name)
         if kind is int or kind is Endpoint:
             found: Any = answer.value if kind is int else Endpoint(answer.value, answer.value_slot)
         else:
@@ -145,7 +147,7 @@ class Store(Handle):
         ...     first.is_last, list(store.page((last.name, last.kind)).items)[0].name
         (False, 'eth2')
         """
-        name, mask = ("", 0) if after is None else (after[0], KINDS[after[1]])
+        name, mask = ("", 0) if after is None else (after[0], bit_of(after[1]))
         (items, cursor), is_last = self._reading(Command.PAGE, pattern, kinds, name=name, behind=mask, most=most), self._answer.last
         return Page(items, cursor, bool(is_last))
 
@@ -169,13 +171,13 @@ class Store(Handle):
 
     def merge(self, items: Items) -> Merged:
         """Merges the items of other stores, 256 at a time, up to the first that is refused."""
-        total, at = Merged(0, 0, 0, frozenset()), 0
-        while at < len(items.text):
+        text, total, at = lines_of(items), Merged(0, 0, 0, frozenset()), 0
+        while at < len(text):
             end = at
             for _ in range(MOST):
-                end = items.text.find(b"\n", end) + 1 or len(items.text)
+                end = text.find(b"\n", end) + 1 or len(text)
             try:
-                answer = self._request(Command.MERGE, items.text, text_at=at, text_length=end - at)
+                answer = self._request(Command.MERGE, text, text_at=at, text_length=end - at)
             except Refused as refused:
                 refused.done, refused.owed = refused.done + total.done, refused.owed | total.owed
                 raise

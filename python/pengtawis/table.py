@@ -60,7 +60,7 @@ class Table(Handle):
         """Assigns a unit to the driver with a label: a block or a character driver in a FileTable, a network driver in a NetworkTable."""
         packed(REQUEST, 0, unit)
         spelled = label.encode()
-        self._ask("ds_table_assign", unit, service_class, spelled, len(spelled))
+        self._ask("ds_table_assign", unit, Class(service_class), spelled, len(spelled))
 
     def follow(self, drivers: Map) -> Moved:
         """Takes what the map has of the labels of the units. Call it after each `take` of the map."""
@@ -81,6 +81,8 @@ class Table(Handle):
         return Moved(self._moves())
 
     def _follow(self, call: str, drivers: Map, *words: int) -> Moved:
+        if not isinstance(drivers, Map):
+            raise TypeError(f"a table follows a Map, and not a {type(drivers).__name__}")
         self._call(call, drivers._at, *words, self._answer_at)
         refused = NUMBERED[self._answer.refusal]() if self._answer.refusal else None
         return Moved(self._moves(), refused)

@@ -90,5 +90,19 @@ def kind_of(value: Value) -> type:
     raise TypeError(f"a value is an Endpoint, an int, a str or bytes, and not {type(value).__name__}")
 
 
+def bit_of(kind: type) -> int:
+    """Returns the bit of a kind."""
+    if kind not in KINDS:
+        raise TypeError(f"a kind is Endpoint, int, str or bytes, and not {getattr(kind, '__name__', repr(kind))}")
+    return KINDS[kind]
+
+
 def mask_of(kinds: Iterable[type]) -> int:
-    return sum(KINDS[kind] for kind in set(kinds))
+    return sum(bit_of(kind) for kind in set(kinds))
+
+
+def lines_of(items: Items) -> bytes:
+    """Returns the text of items."""
+    if not isinstance(items, Items):
+        raise TypeError(f"Items are taken, and not a {type(items).__name__}; those of a Reading or a Page are its `items`")
+    return items.text

@@ -341,6 +341,19 @@ class Numbers(unittest.TestCase):
             for value in (1.5, None, [3, 17], bytearray(b"x"), (3, 17)):
                 self.assertRaises(TypeError, store.publish, ETH, "mtu", value, (3, 0))
 
+    def test_other_types_are_no_kinds(self):
+        with opened(LABEL) as store:
+            for kind in ("u32", float, bool, None):
+                for call in (lambda: store.retrieve("mtu", kind), lambda: store.delete(ETH, "mtu", kind, (3, 0)),
+                             lambda: store.subscribe(40, ".*", [kind]), lambda: store.page(("mtu", kind))):
+                    self.assertRaisesRegex(TypeError, "a kind is", call)
+
+    def test_other_types_are_no_items(self):
+        with opened(LABEL) as store, Map() as drivers:
+            for items in ([], b"", store.snapshot()):
+                self.assertRaisesRegex(TypeError, "Items are taken", store.merge, items)
+                self.assertRaisesRegex(TypeError, "Items are taken", drivers.take, items)
+
     def test_empty_values_and_spaces(self):
         with opened(LABEL) as store:
             store.publish(ETH, "name", "", (3, 0))

@@ -5,7 +5,7 @@ import unittest
 import support  # noqa: F401, I001: it finds the modules of tests/
 from model import tables
 from pengtawis import (
-    Class, Endpoint, Fail, FileTable, Finish, Hold, Items, Map, Moved, NetworkTable, Refused, Send, StartPort, refusals,
+    Class, Endpoint, Fail, FileTable, Finish, Hold, Items, Map, Moved, NetworkTable, Refused, Rs, Send, StartPort, refusals,
 )
 
 DRAWN = 30  # runs of drawn calls
@@ -108,6 +108,16 @@ class Tables(unittest.TestCase):
             for call in (lambda: table.assign(256, Class.BLOCK, "disk"), lambda: table.submit(drivers, 2**64, 0),
                          lambda: table.submit(drivers, 1, -1), lambda: table.reply((2**32, 0), 1)):
                 self.assertRaises(ValueError, call)
+
+    def test_only_a_map_is_followed(self):
+        with FileTable() as table, Rs("[[service]]\nlabel = 'disk'\nclass = 'block'\nunit = 3\nlimit = 1\n") as rs, Map() as drivers:
+            table.assign(3, Class.BLOCK, "disk")
+            rs.up("disk", 0)
+            for other in (rs, table, None):
+                self.assertRaises(TypeError, table.follow, other)
+                self.assertRaises(TypeError, table.submit, other, 1, 3)
+            self.assertEqual(table.submit(drivers, 1, 3).moves, [Hold(1)])
+            self.assertRaises(ValueError, table.assign, 3, "block", "disk")
 
     def test_after_a_close_nothing_is_known(self):
         table, drivers = FileTable(), Map()
