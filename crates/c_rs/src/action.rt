@@ -24,7 +24,7 @@ pub struct RsAction {
     pub word: u32,
     pub refusal: u32,
     pub slot: u16,
-    /// 1 if an offer takes the label back.
+    /// 1 if an offer ends the label.
     pub gone: u8,
     /// How many bytes the label has.
     pub label_length: u8,

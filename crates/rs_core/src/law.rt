@@ -5,7 +5,7 @@ ghost use Rattle.rs_core.specs.Says.{StepsSay, QuietStepsAreEmpty, LabelsAreFoun
 ghost use Rattle.rs_core.specs.Reading.{StepsGiveUp, TicksActWhenDue};
 ghost use Rattle.rs_core.specs.Numbering.{NumbersRise};
 
-/// A law: over any events, each start has a generation above those of all earlier starts.
+/// A law: whatever the events, each start has a generation above those of all earlier starts.
 pub fn starts_rise()
     ensures { StartsRise }
 {}

@@ -20,8 +20,8 @@ use script_commands::Server;
 use std::alloc::Global;
 
 impl Servers {
-    /// Follows a map with both tables: the file server's first and then, unless memory ran out for that, the network
-    /// server's. Appends their moves and the number of moves.
+    /// Follows a map with both tables: the file server's and then, unless memory runs out for the first, the network
+    /// server's. Appends all moves and their number; or, if memory runs out, the cause.
     pub fn follow(
         &mut self,
         alloc: Global,
