@@ -32,7 +32,7 @@ pub fn readings_hold()
     ensures given_up { StepsGiveUp }
 {}
 
-/// A law: a numberer never returns a number twice.
+/// A law: a `Numberer` never returns a number twice.
 pub fn numbers_rise()
     ensures { NumbersRise }
 {}

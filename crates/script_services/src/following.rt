@@ -40,7 +40,7 @@ impl Servers {
         append_moves(output, &rounds, &ended_by(ended))
     }
 
-    /// Follows a map with a server's table, which then takes a request to a unit by an id. Appends all moves and their
+    /// Follows a map with a server's table, which then takes request `id` to `unit`. Appends all moves and their
     /// number; if the request is refused, or memory runs out, the moves that were made and then the cause.
     pub fn submit(
         &mut self,
