@@ -72,7 +72,7 @@ impl RsSession {
     }
 }
 
-// Why a command is refused once RS is open: it opens RS again, or is in RS's name.
+// Returns why a command is refused once RS is open: it opens RS again, or is in RS's name.
 fn refusal_of(command: &ScriptCommand) -> Option<Refusal>
     ensures { result ≡ refusal_beside_rs command.now }
 {
