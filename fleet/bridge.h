@@ -1,5 +1,5 @@
 /* A bridge: the parts of a fleet, each a struct and an enum of states of its own. Their headers have a table each, of what becomes of a
- * state by an event. docs/design/bridge.md puts the tables together. Used within the library.
+ * state by an event. docs/design/bridge.md says which part asks next. Used within the library.
  *
  * The parts share one connection, the teller's, for one round of questions at a time. */
 #ifndef DS_FLEET_BRIDGE_H

@@ -17,22 +17,22 @@ use Rattle.c_values.specs.Answer.{answer_of}
 use Rattle.c_rs.specs.declared.action.RsAction.{RsAction}
 use Rattle.c_rs.specs.declared.session.RsSession.{RsSession}
 
--- the bytes of a name at the front of 64 zeros
+-- The bytes of a name at the front of 64 zeros.
 abbrev pub label_block : List ℕ → List ℕ
 label_block name = name ++ drop (length name) (replicate 64 0)
 
--- an action of a kind, and zeros
+-- The action of a kind, with zeros for the rest.
 abbrev pub blank : ℕ → RsAction
 blank kind = record { kind = kind; generation = 0; word = 0; refusal = 0; slot = 0; gone = 0; label_length = 0; label = replicate 64 0 }
 
--- with an endpoint, and with a label
+-- The action with an endpoint, and with a label.
 abbrev pub with_endpoint : RsAction → EndpointRecord → RsAction
 with_endpoint action endpoint = record action { generation = endpoint.generation; slot = endpoint.slot }
 
 abbrev pub with_label : RsAction → List ℕ → RsAction
 with_label action label = record action { label_length = length label; label = label_block label }
 
--- the slot of a label that is put, and whether the label is taken back
+-- The slot of a label that is put, and whether the label is taken back.
 abbrev pub slot_in : Body → ℕ
 slot_in (Put (Label endpoint)) = endpoint.slot
 slot_in _ = 0
@@ -41,14 +41,14 @@ abbrev pub gone_in : Body → ℕ
 gone_in (Put value) = 0
 gone_in Gone = 1
 
--- the offer of a change of a label, whose epoch is its endpoint's generation; the sweep of a floor
+-- The offer of a change of a label, whose epoch is its endpoint's generation; the sweep of a floor.
 abbrev pub told_change : ChangeRecord → RsAction
 told_change change = with_label (record (blank 3) { generation = change.version.epoch; slot = slot_in change.body; gone = gone_in change.body }) change.key.name
 
 abbrev pub told_floor : Floor → RsAction
 told_floor floor = with_label (record (blank 4) { generation = floor.generation }) floor.owner
 
--- an action
+-- The struct of an action.
 abbrev pub told_part : Action → RsAction
 told_part (Kill endpoint) = with_endpoint (blank 0) endpoint
 told_part (Start label endpoint) = with_label (with_endpoint (blank 1) endpoint) label
@@ -56,30 +56,30 @@ told_part (Ping endpoint) = with_endpoint (blank 2) endpoint
 told_part (Offer change) = told_change change
 told_part (Sweep floor) = told_floor floor
 
--- an action, and the word and the refusal of the store's reply to it, if there is one
+-- The struct of an action, with the word and the refusal of the store's reply to it, if there is one.
 abbrev pub told_action : Action → Option (Option Reply) → RsAction
 told_action action (Some (Some reply)) = record (told_part action) { word = (answer_of reply).word; refusal = (answer_of reply).refusal }
 told_action action (Some None) = told_part action
 told_action action None = told_part action
 
--- that a service is given up, by its index in the settings
+-- The action that reports which service is given up, by its index in the settings.
 abbrev pub given_up_action : Option RsRecord → Option ℕ → Option RsAction
 given_up_action (Some rs) (Some index) = option_map (λ service. with_label (blank 5) service.label) (slice_get rs.settings.services index)
 given_up_action (Some rs) None = None
 given_up_action None given = None
 
--- RS's own action, if there is one at the index; or the last one
+-- The action of RS at the index, if there is one; or the last one.
 abbrev pub action_or : Option Action → Option (Option Reply) → Option RsAction → Option RsAction
 action_or (Some action) reply last = Some (told_action action reply)
 action_or None reply last = last
 
--- the action of a reply at an index: RS's own in their order, and after them that a service is given up
+-- The action of a reply at an index: RS's own in their order, and then the one that reports a service given up.
 abbrev pub action_at : Option RsRecord → RsReply → ℕ → Option RsAction
 action_at services (Acted actions replies given) index =
     action_or (slice_get actions index) (slice_get replies index) (cond (index == length actions) (given_up_action services given) None)
 action_at services _ index = None
 
--- that of the last answer
+-- The action of the last answer at an index.
 abbrev pub action_if : Option RsRecord → Option RsReply → ℕ → Option RsAction
 action_if services (Some reply) index = action_at services reply index
 action_if services None index = None

@@ -3,15 +3,15 @@ use Rattle.std.specs.Prelude.{◌≡◌, ◌⊎◌, ℕ, ◌+◌, ◌==◌, ◌�
 use Rattle.rs_settings.specs.declared.fault.SettingsCause.{SettingsCause}
 use Rattle.rs_settings.specs.declared.fault.SettingsCause.TheVariants.{BadToml}
 
--- the line of the byte at a place, from 1: one more than there are newlines before it
+-- The line of the byte at a place, from 1: one more than there are newlines before it.
 abbrev pub line_at : List ℕ → ℕ → ℕ
 line_at text place = count_by (λ b. b == 10) (take place text) + 1
 
--- the line of some place in the text; 0 if memory runs out, or the text isn't UTF-8
+-- Whether this is the line of some place in the text; 0 if memory runs out, or the text isn't UTF-8.
 abbrev pub IsTomlLine : List ℕ → ℕ → Type 0
 IsTomlLine text line = (line ≡ 0) ⊎ ((place : ℕ) × (place ≤ length text) × (line ≡ line_at text place))
 
--- the line of a fault with this cause
+-- Whether this is the line of a fault with this cause.
 abbrev pub IsFaultLine : List ℕ → SettingsCause → ℕ → Type 0
 IsFaultLine text BadToml line = IsTomlLine text line
 IsFaultLine text cause line = line ≡ 0

@@ -17,27 +17,27 @@ use Rattle.c_line.specs.Line.{IsCommandIn, IsBadIn}
 use Rattle.c_rs.specs.declared.session.RsSession.{RsSession}
 use Rattle.c_rs.specs.Serving.{SessionDoes, RefusesCommand, ServesBy}
 
--- why the command is refused once RS is open: it opens RS again, or it is a command of the store whose caller is RS
+-- The refusal of a command once RS is open: it opens RS again, or it is a command of the store whose caller is RS.
 abbrev pub refusal_beside_rs : ScriptCommand → Option Refusal
 refusal_beside_rs (Settings text) = Some Exists
 refusal_beside_rs (Store command) = cond (is_by_rs command) (Some NotAllowed) None
 refusal_beside_rs _ = None
 
--- the command is carried out as a session does it
+-- Whether the command is carried out as a session does it.
 abbrev pub PassesOn : ScriptCommand → RsSession → Answer → RsSession → Type 0
 PassesOn command old answer new = SessionDoes (lines.CarriesOut command) old answer new
 
--- a command that isn't an event, once RS is open
+-- Whether a command that isn't an event is carried out so, once RS is open.
 abbrev pub CarriesOutBesideRs : ScriptCommand → RsSession → Answer → RsSession → Type 0
 CarriesOutBesideRs command old answer new =
     MatchOption (refusal_beside_rs command) (PassesOn command old answer new) (λ refusal. RefusesCommand refusal old answer new)
 
--- a command once RS is open: an event, or another one
+-- Whether a command, which may be an event, is carried out so, once RS is open.
 abbrev pub CarriesOutWithRs : ScriptCommand → RsSession → Answer → RsSession → Type 0
 CarriesOutWithRs command old answer new =
     MatchOption (service_event_of command) (CarriesOutBesideRs command old answer new) (λ event. ServesBy event.0 event.1 old answer new)
 
--- the command is carried out
+-- Whether the command is carried out.
 abbrev pub CarriesOutIf : Option RsRecord → ScriptCommand → RsSession → Answer → RsSession → Type 0
 CarriesOutIf None command old answer new = PassesOn command old answer new
 CarriesOutIf (Some rs) command old answer new = CarriesOutWithRs command old answer new
@@ -45,23 +45,23 @@ CarriesOutIf (Some rs) command old answer new = CarriesOutWithRs command old ans
 abbrev pub CarriesOutCommand : ScriptCommand → RsSession → Answer → RsSession → Type 0
 CarriesOutCommand command old answer new = CarriesOutIf old.services command old answer new
 
--- the bytes are the line of a command, which is carried out
+-- Whether the bytes are the line of a command, which is carried out.
 pub record CarriesOutLine (bytes : List ℕ) (old : RsSession) (answer : Answer) (new : RsSession) : Type 0 where
   pub command : ScriptCommand
   pub stands : IsCommandIn bytes command
   pub carried : CarriesOutCommand command old answer new
 
--- from the place that is answered on, they aren't a command's line
+-- Whether the bytes aren't a command's line, from the answered place on.
 abbrev pub LineIsBad : List ℕ → RsSession → Answer → RsSession → Type 0
 LineIsBad bytes old answer new =
     (place : ℕ) × IsBadIn bytes place × SessionDoes (λ s a t. Rests s (told_bad_line place) Nothing a t) old answer new
 
--- they are the line of a command, for which memory runs out
+-- Whether the bytes are the line of a command, and memory for it runs out.
 abbrev pub LineWantsRoom : List ℕ → RsSession → Answer → RsSession → Type 0
 LineWantsRoom bytes old answer new =
     ((command : ScriptCommand) × IsCommandIn bytes command × CommandTakesMemory command) × SessionDoes RestsForRoom old answer new
 
--- one of these
+-- Whether the bytes are carried out, or rejected by one of these two.
 abbrev pub CallsRsLine : List ℕ → RsSession → Answer → RsSession → Type 0
 CallsRsLine bytes old answer new =
     CarriesOutLine bytes old answer new ⊎ (LineIsBad bytes old answer new ⊎ LineWantsRoom bytes old answer new)

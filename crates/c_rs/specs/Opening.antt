@@ -13,18 +13,18 @@ use Rattle.c_rs.specs.declared.session.RsSession.{RsSession}
 use Rattle.c_rs.specs.Line.{IsFaultLine}
 use Rattle.c_rs.specs.Telling.{begun_word, cause_number}
 
--- the number of a service, of which there are 64 at most; that of the whole text
+-- The number of a service, of which there are 64 at most; or that of the whole text.
 abbrev pub service_number : Option ℕ → ℕ
 service_number None = 4294967295
 service_number (Some index) = cond (nat_lt index 64) index 4294967295
 
--- these are the numbers of a fault of the text
+-- Whether these are the numbers of a fault of the text.
 pub record TellsFault (text : List ℕ) (fault : SettingsFault) (told : SettingsRefusal) : Type 0 where
   pub line : IsFaultLine text fault.cause told.line
   pub cause : told.cause ≡ cause_number fault.cause
   pub service : told.service ≡ service_number fault.index
 
--- the text has settings, with which RS begins, or not, as the word says
+-- Whether the text has settings, with which RS begins, or not, as the word says.
 pub record TextBegins (text : List ℕ) (next first : ℕ) (before : SettingsRefusal) (word : ℕ) (fault : SettingsRefusal) (new : Option RsRecord) : Type 0 where
   pub settings : SettingsRecord
   pub read : settings_of text ≡ Ok settings
@@ -33,12 +33,12 @@ pub record TextBegins (text : List ℕ) (next first : ℕ) (before : SettingsRef
   pub word_is : word ≡ begun_word reply
   pub fault_is : fault ≡ before
 
--- the fault with this cause is the text's; or it is that memory to read the text runs out
+-- Whether the fault with this cause is the text's, or is that memory to read the text runs out.
 abbrev pub IsWhy : List ℕ → SettingsFault → SettingsCause → Type 0
 IsWhy text why NoRoom = MayTakeMemory text × (why ≡ no_room)
 IsWhy text why cause = settings_of text ≡ Err why
 
--- the text has a fault, or memory to read it runs out
+-- Whether the text has a fault, or memory to read it runs out.
 pub record TextIsRefused (text : List ℕ) (word : ℕ) (fault : SettingsRefusal) (new : Option RsRecord) : Type 0 where
   pub why : SettingsFault
   pub refused : IsWhy text why why.cause
@@ -46,12 +46,12 @@ pub record TextIsRefused (text : List ℕ) (word : ℕ) (fault : SettingsRefusal
   pub told : TellsFault text why fault
   pub none : new ≡ None
 
--- RS is opened, or refused, as the word says; once it is open, a further text is ignored
+-- Whether RS is opened, or refused, as the word says; once it is open, a further text is ignored.
 abbrev pub OpensIf : Option RsRecord → List ℕ → ℕ → ℕ → SettingsRefusal → ℕ → SettingsRefusal → Option RsRecord → Type 0
 OpensIf None text next first before word fault new = TextBegins text next first before word fault new ⊎ TextIsRefused text word fault new
 OpensIf (Some rs) text next first before word fault new = (word ≡ 13) × (fault ≡ before) × (new ≡ Some rs)
 
--- the store and the last answer are unchanged
+-- Whether RS is opened so beside the store; the store and the last answer are unchanged.
 pub record OpensRs (text : List ℕ) (next first : ℕ) (old : RsSession) (before : SettingsRefusal) (word : ℕ) (fault : SettingsRefusal) (new : RsSession) : Type 0 where
   pub opens : OpensIf old.services text next first before word fault new.services
   pub session : new.session ≡ old.session

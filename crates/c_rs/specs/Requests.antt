@@ -11,15 +11,15 @@ use Rattle.c_session.specs.Called.{Called, pieces_in as session_pieces}
 use Rattle.c_rs.specs.declared.session.RsSession.{RsSession}
 use Rattle.c_rs.specs.Serving.{SessionDoes, RefusesCommand}
 
--- whether the request is a Publish, a Delete or a Sweep whose caller is 0/2, RS
+-- Whether the request is a Publish, a Delete or a Sweep whose caller is 0/2, RS.
 abbrev pub is_rs_request : Request → Bool
 is_rs_request r = nat_le r.command 2 && (r.generation == 0 && r.slot == 2)
 
--- whether the request is refused, since RS alone sends such requests once it is open
+-- Whether the request is refused, since RS alone sends such requests once it is open.
 abbrev pub is_for_rs_alone : Option RsRecord → Request → Bool
 is_for_rs_alone services r = is_some services && is_rs_request r
 
--- such a request is refused; any other one is a session's
+-- Whether such a request is refused; any other one is a session's.
 abbrev pub CallsUnlessBarred : Bool → List ℕ → RsSession → Request → Answer → RsSession → Type 0
 CallsUnlessBarred true texts old r answer new = RefusesCommand NotAllowed old answer new
 CallsUnlessBarred false texts old r answer new = SessionDoes (λ s a t. Called s r (request_text r texts) a t) old answer new
@@ -27,7 +27,7 @@ CallsUnlessBarred false texts old r answer new = SessionDoes (λ s a t. Called s
 abbrev pub CallsRs : List ℕ → RsSession → Request → Answer → RsSession → Type 0
 CallsRs texts old r answer new = CallsUnlessBarred (is_for_rs_alone old.services r) texts old r answer new
 
--- the pieces of the last answer: one of RS has none
+-- The pieces of the last answer; an answer of RS has none.
 abbrev pub pieces_if : Session → Option RsReply → List (List ℕ)
 pieces_if session None = session_pieces session.last
 pieces_if session (Some reply) = []

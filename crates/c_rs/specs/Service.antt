@@ -10,14 +10,14 @@ use Rattle.rs_core.specs.declared.state.State.TheVariants.{Down, Up, Waiting, Ga
 use Rattle.c_rs.specs.declared.service.RsService.{RsService}
 use Rattle.c_rs.specs.Action.{label_block}
 
--- the number of a class
+-- The number of a class.
 abbrev pub class_number : Class → ℕ
 class_number Block = 0
 class_number Character = 1
 class_number Network = 2
 class_number Server = 3
 
--- a unit, and whether there is one
+-- Whether there is a unit, and the unit.
 abbrev pub has_unit : Option ℕ → ℕ
 has_unit None = 0
 has_unit (Some unit) = 1
@@ -26,7 +26,7 @@ abbrev pub unit_or_0 : Option ℕ → ℕ
 unit_or_0 None = 0
 unit_or_0 (Some unit) = unit
 
--- the settings of a service, and zeros for its state
+-- The struct of a service: its settings, and zeros for its state.
 abbrev pub with_settings : Service → RsService
 with_settings service = record {
   until = 0;
@@ -43,14 +43,14 @@ with_settings service = record {
   label = label_block service.label;
 }
 
--- a service in a state
+-- The struct of a service in a state.
 abbrev pub told_service : Service → State → RsService
 told_service service Down = with_settings service
 told_service service (Up r) = record (with_settings service) { state = 1; generation = r.endpoint.generation; slot = r.endpoint.slot; failures = r.failures }
 told_service service (Waiting p) = record (with_settings service) { state = 2; until = p.until; failures = p.failures }
 told_service service GaveUp = record (with_settings service) { state = 3 }
 
--- the service with the index: none past the last one, or if RS isn't open
+-- The struct of the service with the index; none past the end, or if RS isn't open.
 abbrev pub service_row : Option RsRecord → ℕ → Option RsService
 service_row None index = None
 service_row (Some rs) index =

@@ -14,19 +14,19 @@ use Rattle.c_session.specs.Called.{Rests}
 use Rattle.c_rs.specs.declared.session.RsSession.{RsSession}
 use Rattle.c_rs.specs.Telling.{told_answer}
 
--- an event is a turn of RS and its store, whose reply is answered and kept
+-- Whether an event is a turn of RS and its store, whose reply is answered and kept.
 pub record ServesBy (event : Event) (tick : ℕ) (old : RsSession) (answer : Answer) (new : RsSession) : Type 0 where
   pub reply : RsReply
   pub served : EventTurn event tick old.services old.session.store reply new.services new.session.store
   pub told_is : answer ≡ told_answer reply
   pub kept : new.told ≡ Some reply
 
--- the session changes so, and RS is unchanged
+-- Whether the session changes so, and RS is unchanged.
 pub record SessionDoes (does : Session → Answer → Session → Type 0) (old : RsSession) (answer : Answer) (new : RsSession) : Type 0 where
   pub done : does old.session answer new.session
   pub services : new.services ≡ old.services
   pub told : new.told ≡ None
 
--- a command is refused, and the store and RS are unchanged
+-- Whether a command is refused, and the store and RS are unchanged.
 abbrev pub RefusesCommand : Refusal → RsSession → Answer → RsSession → Type 0
 RefusesCommand refusal old answer new = SessionDoes (λ s a t. Rests s (answer_of (Refused refusal)) (Reply (Refused refusal) AsMerge) a t) old answer new

@@ -14,7 +14,7 @@ use Rattle.c_values.specs.declared.answer.Answer.{Answer}
 use Rattle.c_values.specs.declared.answer.Word.TheVariants as words
 use Rattle.c_values.specs.Answer.{no_request, worded}
 
--- the number of a fault: those that a store has too have the store's
+-- The number of a fault; faults that a store has too have the store's numbers.
 abbrev pub rs_fault_number : RsFault → ℕ
 rs_fault_number faults.TickBack = 25
 rs_fault_number faults.Worn = 19
@@ -27,7 +27,7 @@ rs_fault_number faults.GenerationsSpent = 31
 rs_fault_number faults.NoSlot = 32
 rs_fault_number faults.NoRoom = 20
 
--- the number of a cause for which a settings text is refused
+-- The number of a cause for which a settings text is refused.
 abbrev pub cause_number : SettingsCause → ℕ
 cause_number causes.BadToml = 33
 cause_number causes.UnknownField = 34
@@ -38,11 +38,11 @@ cause_number causes.TwoUnits = 38
 cause_number causes.SharedName = 39
 cause_number causes.NoRoom = 20
 
--- a refusal by the number of its cause
+-- The answer that refuses, by the number of its cause.
 abbrev pub told_cause : ℕ → Answer
 told_cause number = record (worded words.Refused) { refusal = number }
 
--- the number of actions, with that of a service that is given up; a list is never that long
+-- The number of actions, with that of a service that is given up; a list is never that long.
 abbrev pub action_count : List Action → Option ℕ → ℕ
 action_count actions None = length actions
 action_count actions (Some service) = min (length actions + 1) (2 ^ 64 - 1)
@@ -55,7 +55,7 @@ told_answer (replies.Acted actions given service) =
 told_answer (replies.Refused fault) = told_cause (rs_fault_number fault)
 told_answer _ = no_request
 
--- the word of a beginning: 0 for one that succeeds, else the number of the refusal; that of a start that is out of its range is BadFirst
+-- The word of a beginning: 0 if it succeeds, else the number of the refusal. A start that is out of its range is BadFirst.
 abbrev pub begun_word : RsReply → ℕ
 begun_word (replies.Begun services slots) = 0
 begun_word replies.Exists = 13

@@ -7,7 +7,7 @@ use Rattle.c_session.specs.declared.session.Session.{Session}
 use Rattle.c_line.specs.Text.{given_text}
 use Rattle.c_rs.specs.declared.session.RsSession.{RsSession}
 
--- the text of the last answer, which RS or the session has
+-- The text of the last answer, which is RS's or the session's.
 abbrev pub text_if : Session → Option RsReply → List ℕ
 text_if session None = given_text session.last
 text_if session (Some reply) = served_lines AsMerge reply

@@ -16,15 +16,15 @@ use rs_store::RsReply;
 #[repr(C)]
 #[derive(Clone, Copy)]
 pub struct RsAction {
-    /// From 0: kill, start, ping, offer, sweep, and that a service is given up.
+    /// 0 kill, 1 start, 2 ping, 3 offer, 4 sweep, 5 a service is given up.
     pub kind: u32,
-    /// With `slot`, an endpoint. Of a sweep, and of a label that is taken back, the generation.
+    /// With `slot`, an endpoint. Of a sweep, and of a label that ends, the generation.
     pub generation: u32,
-    /// What the store answered to an offer and to a sweep, as in `Answer`.
+    /// The store's answer to an offer or a sweep, as in `Answer`.
     pub word: u32,
     pub refusal: u32,
     pub slot: u16,
-    /// 1 if an offer takes the label back.
+    /// 1 if an offer ends the label.
     pub gone: u8,
     /// How many bytes the label has.
     pub label_length: u8,
@@ -32,8 +32,8 @@ pub struct RsAction {
 }
 
 impl RsSession {
-    /// Returns the action of the last answer at an index from 0: RS's own in their order, and after them that a service is given up.
-    /// `None` past the end.
+    /// Returns the action of the last answer at an index from 0: RS's own in order, and then that of a service given up, if there is
+    /// one. `None` past the end.
     pub fn action(&self, index: usize) -> Option<RsAction>
         ensures { result ≡ action_in self.now index }
     {
@@ -44,7 +44,7 @@ impl RsSession {
     }
 }
 
-// The action of a reply at an index.
+// Returns the action of a reply at an index.
 fn action_at(services: &Option<Rs>, reply: &RsReply, index: usize) -> Option<RsAction>
     ensures { result ≡ action_at services.now reply.now index }
 {
@@ -63,7 +63,7 @@ fn action_at(services: &Option<Rs>, reply: &RsReply, index: usize) -> Option<RsA
     }
 }
 
-// That a service is given up.
+// Returns the action that reports a service given up.
 fn given_up_action(services: &Option<Rs>, given_up: Option<usize>) -> Option<RsAction>
     ensures { result ≡ given_up_action services.now given_up }
 {
@@ -75,7 +75,7 @@ fn given_up_action(services: &Option<Rs>, given_up: Option<usize>) -> Option<RsA
     Some(with_label(blank(5), &service.label))
 }
 
-// An action, and what the store answered.
+// Returns the struct of an action, with the store's answer.
 fn told_action(action: &Action, reply: Option<&Option<Reply>>) -> RsAction
     ensures { result ≡ told_action action.now (option_copied reply.entry) }
 {
@@ -93,7 +93,7 @@ fn told_action(action: &Action, reply: Option<&Option<Reply>>) -> RsAction
     }
 }
 
-// An action.
+// Returns the struct of an action.
 fn told_part(action: &Action) -> RsAction
     ensures { result ≡ told_part action.now }
 {
@@ -106,7 +106,7 @@ fn told_part(action: &Action) -> RsAction
     }
 }
 
-// The offer of a change.
+// Returns the struct of an offer.
 fn told_change(change: &Change) -> RsAction
     ensures { result ≡ told_change change.now }
 {
@@ -124,7 +124,7 @@ fn told_change(change: &Change) -> RsAction
     with_label(action, &change.key().name)
 }
 
-// The sweep of a floor.
+// Returns the struct of a sweep.
 fn told_floor(floor: &Floor) -> RsAction
     ensures { result ≡ told_floor floor.now }
 {
@@ -135,7 +135,7 @@ fn told_floor(floor: &Floor) -> RsAction
     with_label(action, &floor.owner)
 }
 
-// An action of a kind, and zeros.
+// Returns an action of a kind, with zeros for the rest.
 fn blank(kind: u32) -> RsAction
     ensures { result ≡ blank kind }
 {
@@ -151,7 +151,7 @@ fn blank(kind: u32) -> RsAction
     }
 }
 
-// An action with this endpoint.
+// Returns the action with this endpoint.
 fn with_endpoint(action: RsAction, endpoint: Endpoint) -> RsAction
     ensures { result ≡ with_endpoint action endpoint }
 {
@@ -162,7 +162,7 @@ fn with_endpoint(action: RsAction, endpoint: Endpoint) -> RsAction
     }
 }
 
-// An action with this label.
+// Returns the action with this label.
 fn with_label(action: RsAction, label: &Name) -> RsAction
     ensures { result ≡ with_label action label.now }
 {

@@ -22,7 +22,7 @@ impl RsSession {
         self.session.call(alloc, request, texts, answer);
     }
 
-    // Whether RS is open, and the request is in its name.
+    // Returns whether RS is open and the request is in its name.
     fn is_barred(&self, request: &Request) -> bool
         ensures { result ≡ is_for_rs_alone self.now.services request.now }
     {
@@ -41,7 +41,7 @@ impl RsSession {
     }
 }
 
-// Whether the caller of a Publish, a Delete or a Sweep is RS.
+// Returns whether the request is a Publish, a Delete or a Sweep whose caller is RS.
 fn is_rs_request(request: &Request) -> bool
     ensures { result ≡ is_rs_request request.now }
 {

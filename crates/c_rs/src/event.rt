@@ -13,7 +13,7 @@ use std::alloc::Global;
 #[derive(Clone, Copy)]
 pub struct RsEvent {
     pub tick: u64,
-    /// From 0: up, down, refresh, restart, death, beat, tick.
+    /// 0 up, 1 down, 2 refresh, 3 restart, 4 death, 5 beat, 6 tick.
     pub kind: u32,
     /// The cause of a death.
     pub cause: u32,
@@ -26,8 +26,8 @@ pub struct RsEvent {
 }
 
 impl RsSession {
-    /// Gives RS the event of a struct, and passes the label changes and the sweeps of its actions to the store. Answers NoRequest, and
-    /// changes nothing, if no event has such parts.
+    /// Reports the event of a struct to RS, and passes the label changes and the sweeps of its actions to the store. Answers
+    /// NoRequest, and changes nothing, if the struct stands for no event.
     pub fn serve_event(&mut self, alloc: Global, event: &RsEvent, answer: &mut Answer)
         ensures { ServesEvent event.now self.old answer.new self.new }
     {
@@ -41,7 +41,7 @@ impl RsSession {
     }
 }
 
-// The event that a struct stands for.
+// Returns the event that a struct stands for.
 #[tactic(auto, unfolding(crate::specs::Event::event_of))]
 fn event_of(event: &RsEvent) -> Option<Event>
     ensures { result ≡ event_of event.now }
@@ -54,7 +54,7 @@ fn event_of(event: &RsEvent) -> Option<Event>
     }
 }
 
-// The event of a kind and a label.
+// Returns the event of a kind and a label.
 #[tactic(auto, unfolding(crate::specs::Event::of_label))]
 fn of_label(event: &RsEvent) -> Option<Event>
     ensures { result ≡ of_label event.now }
@@ -68,7 +68,7 @@ fn of_label(event: &RsEvent) -> Option<Event>
     }
 }
 
-// The event of a kind and an instance.
+// Returns the event of a kind and an instance.
 #[tactic(auto, unfolding(crate::specs::Event::of_instance))]
 fn of_instance(event: &RsEvent) -> Option<Event>
     ensures { result ≡ of_instance event.now }

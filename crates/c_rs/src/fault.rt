@@ -36,7 +36,7 @@ impl SettingsRefusal {
     }
 }
 
-// The number of a service, of which there are 64 at most.
+// Returns the number of a service, of which there are 64 at most.
 fn service_number(index: Option<usize>) -> u32
     ensures { result ≡ service_number index }
 {

@@ -7,7 +7,7 @@ ghost use Rattle.c_rs.specs.Line.{IsFaultLine, IsTomlLine, line_at};
 use rs_settings::{SettingsCause, SettingsFault};
 use std::alloc::Global;
 
-/// Returns the line of a fault, from 1: where TOML can't be read. 0 if the fault is another, or memory to read the text again runs out.
+/// Returns the line, from 1, where the text can't be read as TOML; 0 for another fault, or if memory to read the text again runs out.
 pub(crate) fn fault_line(alloc: Global, text: &[u8], fault: SettingsFault) -> u64
     ensures { IsFaultLine text.now fault.cause result }
 {
@@ -17,7 +17,7 @@ pub(crate) fn fault_line(alloc: Global, text: &[u8], fault: SettingsFault) -> u6
     }
 }
 
-// The line at which a text isn't TOML.
+// Returns the line at which a text isn't TOML.
 fn toml_line(alloc: Global, text: &[u8]) -> u64
     ensures { IsTomlLine text.now result }
 {
@@ -33,7 +33,7 @@ fn toml_line(alloc: Global, text: &[u8]) -> u64
     }
 }
 
-// The place of an error in the text. None if memory ran out.
+// Returns the place of an error in the text, or `None` if memory ran out.
 fn error_place(text: &[u8], error: &toml::de::Error) -> Option<usize>
     requires { IsWithin text.now error.now }
     ensures { IfSome result (λ place. place ≤ length text.now) }
@@ -44,7 +44,7 @@ fn error_place(text: &[u8], error: &toml::de::Error) -> Option<usize>
     }
 }
 
-// The line of the byte at a place, from 1.
+// Returns the line of the byte at a place, from 1.
 fn line_at(text: &[u8], place: usize) -> u64
     requires { place ≤ length text.now }
     ensures { result ≡ line_at text.now place }

@@ -14,9 +14,9 @@ use std::alloc::Global;
 impl RsSession {
     /// Carries out the command on a line, whose newline may be missing.
     ///
-    /// A command of the store is carried out as a session does it. Once RS is open, `service`, `death`, `beat` and `tick` are its events,
-    /// `settings` is refused as Exists, and a command of the store in RS's name as NotAllowed. Any other line is answered as no request, a
-    /// line that can't be read by the byte at which it is bad, and one for which memory runs out as a refusal: then nothing changes.
+    /// A command of the store is carried out as a session does it. Once RS is open, `service`, `death`, `beat` and `tick` are its events.
+    /// `settings` is then refused as Exists, and a store command from RS as NotAllowed. Any other command is answered as no request, a
+    /// bad line by its bad byte, and a line for which memory runs out as a refusal; then nothing changes.
     pub fn call_line(&mut self, alloc: Global, bytes: &[u8], answer: &mut Answer)
         ensures { CallsRsLine bytes.now self.old answer.new self.new }
     {
@@ -72,7 +72,7 @@ impl RsSession {
     }
 }
 
-// Why a command is refused once RS is open: it opens RS again, or is in RS's name.
+// Returns why a command is refused once RS is open: it opens RS again, or is in RS's name.
 fn refusal_of(command: &ScriptCommand) -> Option<Refusal>
     ensures { result ≡ refusal_beside_rs command.now }
 {

@@ -11,7 +11,7 @@ use ds_names::{Key, Name};
 use rs_core::Rs;
 
 impl RsSession {
-    /// Returns the first tick, from the last event's on, at which a tick has actions: 2^64 - 1 if none has until another event. `None` if
+    /// Returns the first tick, not before the last event's, that has actions; 2^64 - 1 if none has until another event. `None` if
     /// RS isn't open.
     pub fn due(&self) -> Option<u64>
         ensures { ReadsDue self.now.services result }
@@ -32,7 +32,7 @@ impl RsSession {
         }
     }
 
-    /// Returns whether the instance with an endpoint may publish under the key of a kind and a name: these are ones, RS is open, the
+    /// Returns whether the instance with an endpoint may publish under the key of a kind and a name: they are valid, RS is open, the
     /// instance is up, and its service declares the key.
     pub fn may_publish(&self, generation: u32, slot: u16, kind: u8, name: &[u8]) -> bool
         ensures { result ≡ may_publish_in self.now.services generation slot kind name.now }
@@ -49,7 +49,7 @@ impl RsSession {
         }
     }
 
-    /// Returns whether the instance with an endpoint may complain of the service with a label: these are ones, RS is open, the instance is
+    /// Returns whether the instance with an endpoint may complain of the service with a label: both are valid, RS is open, the instance is
     /// up, there is the service, and the settings let the one complain of the other.
     pub fn may_complain(&self, generation: u32, slot: u16, label: &[u8]) -> bool
         ensures { result ≡ may_deal_in may_complain self.now.services generation slot label.now }
@@ -66,7 +66,7 @@ impl RsSession {
         }
     }
 
-    /// Returns whether the instance with an endpoint may connect to the service with a label: these are ones, RS is open, the instance is
+    /// Returns whether the instance with an endpoint may connect to the service with a label: both are valid, RS is open, the instance is
     /// up, there is the service, and the settings let the one connect to the other.
     pub fn may_connect(&self, generation: u32, slot: u16, label: &[u8]) -> bool
         ensures { result ≡ may_deal_in may_connect self.now.services generation slot label.now }
@@ -84,7 +84,7 @@ impl RsSession {
     }
 }
 
-// The first tick at which a tick has actions, or the greatest number.
+// Returns the first tick that has actions, or the greatest number.
 fn due_tick(rs: &Rs) -> u64
     ensures { IsDueTick rs.now result }
 {
@@ -94,7 +94,7 @@ fn due_tick(rs: &Rs) -> u64
     }
 }
 
-// The key of a kind and a name.
+// Returns the key of a kind and a name.
 #[tactic(auto, unfolding(crate::specs::Reading::key_at))]
 fn key_at(bit: u8, name: &[u8]) -> Option<Key>
     ensures { result ≡ key_at bit name.now }
@@ -104,7 +104,7 @@ fn key_at(bit: u8, name: &[u8]) -> Option<Key>
     Some(Key { name, kind })
 }
 
-// The name that bytes are.
+// Returns the name with these bytes, if there is one.
 fn name_of_bytes(bytes: &[u8]) -> Option<Name>
     ensures { result ≡ name_of_bytes bytes.now }
 {

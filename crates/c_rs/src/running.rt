@@ -7,7 +7,7 @@ use c_values::{Answer, Request};
 use std::alloc::Global;
 
 impl RsSession {
-    /// Carries out requests in order, each as `call` does, and writes their answers. It ends after the first answer that has a text, so
+    /// Carries out requests in order, each as `call` does, and writes their answers. Ends after the first answer that has a text, so
     /// that this can be fetched, after the last request, or when `answers` is full. Returns how many were carried out.
     pub fn run(
         &mut self,
@@ -35,7 +35,7 @@ impl RsSession {
     }
 }
 
-/// The law of requests in order: they are turns of the store, one for each that is a command and isn't refused for RS's name.
+/// A law: requests in order are turns of the store, one for each that is a command and isn't refused because it has RS's name.
 pub fn calls_are_turns()
     ensures { CallsAreTurns }
 {}

@@ -48,7 +48,7 @@ impl RsSession {
     }
 }
 
-// A service in a state.
+// Returns the struct of a service in a state.
 fn told_service(service: &Service, state: State) -> RsService
     ensures { result ≡ told_service service.now state }
 {
@@ -72,7 +72,7 @@ fn told_service(service: &Service, state: State) -> RsService
     }
 }
 
-// The settings of a service, and zeros for its state.
+// Returns the struct of a service, with zeros for its state.
 fn with_settings(service: &Service) -> RsService
     ensures { result ≡ with_settings service.now }
 {

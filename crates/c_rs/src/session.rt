@@ -28,7 +28,7 @@ pub struct RsSession {
 }
 
 impl RsSession {
-    /// Opens a store of 128 subscriptions and 4096 keys, beside which RS isn't open. Refuses what the store refuses.
+    /// Opens a store of 128 subscriptions and 4096 keys; RS isn't open yet. Refuses what the store refuses.
     pub fn open(
         alloc: Global,
         incarnation: u64,
@@ -49,7 +49,7 @@ impl RsSession {
         })
     }
 
-    /// Gives RS an event at a tick, and passes the label changes and the sweeps of its actions to the store.
+    /// Reports an event at a tick to RS, and passes the label changes and the sweeps of its actions to the store.
     pub(crate) fn serve(&mut self, alloc: Global, event: Event, tick: u64, answer: &mut Answer)
         ensures { ServesBy event tick self.old answer.new self.new }
     {

@@ -8,7 +8,7 @@ use rs_core::{Actions, NewFault, RsFault};
 use rs_settings::SettingsCause;
 use rs_store::RsReply;
 
-// A refusal by the number of its cause.
+// Returns a refusal by the number of its cause.
 fn refused_by(number: u32) -> Answer
     ensures { result ≡ told_cause number }
 {
@@ -37,7 +37,7 @@ pub(crate) fn told(reply: &RsReply) -> Answer
     }
 }
 
-// How many actions there are, with that of a service that was given up.
+// Returns how many actions there are, with that of a service given up.
 fn action_count(actions: &Actions, given_up: Option<usize>) -> u64
     ensures { result ≡ action_count actions.now given_up }
 {
@@ -60,7 +60,7 @@ pub(crate) fn begun_word(reply: &RsReply) -> u32
     }
 }
 
-// The number of a fault of RS.
+// Returns the number of a fault of RS.
 fn rs_fault_number(fault: RsFault) -> u32
     ensures { result ≡ rs_fault_number fault }
 {

@@ -32,7 +32,7 @@ impl RsSession {
     }
 }
 
-// The text of a reply of RS.
+// Returns the text of a reply of RS.
 fn write_served(alloc: Global, reply: &RsReply) -> Result<Vec<u8>, NoRoom>
     ensures { IfOk result (λ text. text.items ≡ served_lines AsMerge reply.now) }
 {

@@ -7,7 +7,7 @@ use Rattle.c_values.specs.declared.answer.Answer.{Answer}
 use Rattle.c_values.specs.declared.answer.Word.TheVariants as words
 use Rattle.c_values.specs.Answer.{no_request, worded}
 
--- the number of a fault: those that a store or RS has too have theirs
+-- The number of a fault. Faults that a store or RS has too have the number that they have there.
 abbrev pub table_fault_number : TableFault → ℕ
 table_fault_number faults.Assigned = 40
 table_fault_number faults.TwoIds = 41
@@ -16,24 +16,24 @@ table_fault_number faults.NotPending = 43
 table_fault_number faults.OldEndpoint = 30
 table_fault_number faults.NoRoom = 20
 
--- the number of a cause; 0 for none
+-- The number of a cause; 0 for none.
 abbrev pub stop_number : Option TableFault → ℕ
 stop_number None = 0
 stop_number (Some fault) = table_fault_number fault
 
--- the word of an answer with moves, after those of other answers
+-- The word of an answer with moves, which comes after the words of other answers.
 abbrev pub moved : ℕ
 moved = 17
 
--- the answer with moves, which counts them, and why the call ended early, if it did; there are never as many as a number can't have
+-- The answer with moves, which counts them, and says why the call ended early, if it did. The count always fits.
 abbrev pub told_moves : List Move → Option TableFault → Answer
 told_moves moves stop = record no_request { word = moved; count = min (length moves) (2 ^ 64 - 1); refusal = stop_number stop }
 
--- the answer to a call that the table refused
+-- The answer to a call that the table refused.
 abbrev pub told_fault : TableFault → Answer
 told_fault fault = record (worded words.Refused) { refusal = table_fault_number fault }
 
--- the answer to an assignment or a reply
+-- The answer to an assignment or a reply.
 abbrev pub told_call : Result (List Move) TableFault → Answer
 told_call (Ok moves) = told_moves moves None
 told_call (Err fault) = told_fault fault

@@ -58,7 +58,7 @@ query_at bits text = cond (not (bits == 0) && nat_le bits 15) (Some (query_of te
 abbrev pub is_text : List ℕ → Bool
 is_text bytes = nat_le (length bytes) 256 && list_all is_text_byte bytes
 
--- The text with these bytes, if they are one.
+-- The text with these bytes, if `is_text` holds.
 unfoldable pub string_at : List ℕ → Option Value
 string_at bytes = cond (is_text bytes) (Some (values.Str bytes)) None
 

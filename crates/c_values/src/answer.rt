@@ -121,7 +121,7 @@ impl Answer {
         Answer::of(Word::NoRequest)
     }
 
-    /// Returns the answer of a show of `count` items, with one piece of text each.
+    /// Returns the answer to a show of `count` items, one text piece each.
     pub fn shown(count: usize) -> Answer
         ensures { result ≡ told_shown count }
     {

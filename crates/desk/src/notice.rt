@@ -8,7 +8,7 @@ ghost use Rattle.desk.specs.Tally.{CanPost, Counts, Posts, RaisesMask, Tallies, 
 
 use desk_rule::{DeskSeat, DeskShared, Machine, post};
 
-/// Adds 1 to the row of each of these bits of a server.
+/// Adds 1 to the row of each set bit of a server.
 pub(crate) fn tally(rows: &mut [u64; 128], server: u32, bits: u64)
     requires server { server < 16 }
     requires room { (b : ℕ) → b < 8 → row_at rows.old server b < 2 ^ 63 }

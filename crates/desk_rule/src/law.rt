@@ -12,7 +12,7 @@ pub fn histories_agree<M: Machine>()
 {}
 
 /// A law: all notices have one order. The notices that any two seats have seen are in this order, so one list is a prefix
-/// of the other. Each notice found its server's word as the notices before it left it.
+/// of the other. Each notice finds its server's word as earlier notices left it.
 pub fn notices_agree<M: Machine>()
     ensures { NoticesAgree (Stepped M.stands M.steps) M.owes }
 {}

@@ -29,7 +29,7 @@ is_same_state None None = true
 is_same_state (Some d) (Some e) = (d.generation == e.generation) && (d.slot == e.slot)
 is_same_state _ _ = false
 
--- Whether a state is old: its generation is below the newest, or is the newest and the endpoint isn't the one now.
+-- Whether a state is old: its generation is below the newest, or is the newest at an endpoint that isn't current.
 abbrev pub is_old : Option ℕ → Option EndpointRecord → Option EndpointRecord → Bool
 is_old None now state = false
 is_old (Some g) now None = false

@@ -51,7 +51,7 @@ pub trait Drivers {
         ensures unchanged { OnErr result (kept self.new ≡ kept self.old) };
 
     /// Accepts a request to a unit, and returns its move. Refusals in order: TwoIds unless the id is above all accepted
-    /// ones; NoDevice, which uses no id; NoRoom, only for a request that is sent or held.
+    /// ones; NoDevice, which consumes no id; NoRoom, only for a request that is sent or held.
     fn submit(&mut self, id: u64, unit: u8) -> Result<Move, TableFault>
         ensures answer { AnswersAs (kept self.old) (λ t. submitting t id unit) result }
         ensures room { (t : DriverTable) → TableStands (kept self.old) t → LacksOnlyWhere (RequestTakesMemory t id unit) result }

@@ -18,7 +18,7 @@ use Rattle.c_rs.specs.Running.{RunsCalls}
 use Rattle.c_rs.specs.Lines.{CallsRsLine}
 use Rattle.c_rs.specs.Text.{text_in}
 
--- what calls return, besides the numbers of other refusals
+-- The numbers that calls return, besides those of other refusals.
 abbrev pub done : ℕ
 done = 0
 
@@ -28,63 +28,63 @@ is_closed = 23
 abbrev pub is_open : ℕ
 is_open = 24
 
--- the word is the number of a refusal for which no store is opened with these numbers
+-- Whether the word is the number of a refusal for which no store is opened with these numbers.
 pub record IsOpenWord (first ring word : ℕ) : Type 0 where
   pub refusal : Refusal
   pub why : IsOpenRefusal refusal first ring
   pub word_is : word ≡ refusal_number refusal
 
--- a session is opened, whose store is in the machine's opening state, and RS isn't open; or none, for the first cause that applies
+-- Whether a session is opened, whose store is in the machine's opening state, without RS; or none, for the first cause that applies.
 abbrev pub Opened : ℕ → ℕ → ℕ → ℕ → Option RsSession → Type 0
 Opened incarnation first ring word None = IsOpenWord first ring word
 Opened incarnation first ring word (Some s) = (word ≡ done) × ContentStands s.session.store (opening incarnation first ring larger) × (s.services ≡ None) × ((s.session.last ≡ Nothing) × (s.told ≡ None))
 
--- a call that opens: an open handle is unchanged
+-- The effect of a call that opens. An open handle is unchanged.
 abbrev pub Opens : ℕ → ℕ → ℕ → Option RsSession → ℕ → Option RsSession → Type 0
 Opens incarnation first ring None word new = Opened incarnation first ring word new
 Opens incarnation first ring (Some old) word new = (word ≡ is_open) × (new ≡ Some old)
 
--- the session of an open handle carries out a request
+-- Whether the session of an open handle carries out a request.
 abbrev pub AskedOf : RsSession → Request → List ℕ → ℕ → Answer → Option RsSession → Type 0
 AskedOf old r texts word answer None = ⊥
 AskedOf old r texts word answer (Some new) = (word ≡ done) × CallsRs texts old r answer new
 
--- a call with a request: a closed handle, and the answer's place, are unchanged
+-- The effect of a call with a request. If the handle is closed, it and the answer's place are unchanged.
 abbrev pub Calls : Option RsSession → Request → List ℕ → Answer → ℕ → Answer → Option RsSession → Type 0
 Calls None r texts before word answer new = (word ≡ is_closed) × (answer ≡ before) × (new ≡ None)
 Calls (Some old) r texts before word answer new = AskedOf old r texts word answer new
 
--- a call that copies the text of the last answer: of a closed handle, nothing is copied
+-- The effect of a call that copies the text of the last answer. If the handle is closed, nothing is copied.
 abbrev pub Fetches : Option RsSession → ℕ → List ℕ → Given → ℕ → List ℕ → Given → Type 0
 Fetches None first old before word room given = (word ≡ is_closed) × (room ≡ old) × (given ≡ before)
 Fetches (Some s) first old before word room given = (word ≡ done) × GivesPieces (drop first (answer_pieces s)) old given room
 
--- the session of an open handle carries out requests in order
+-- Whether the session of an open handle carries out requests in order.
 abbrev pub RanOf : RsSession → List Request → List ℕ → List Answer → ℕ → List Answer → ℕ → Option RsSession → Type 0
 RanOf old rs texts place word answers count None = ⊥
 RanOf old rs texts place word answers count (Some new) = (word ≡ done) × RunsCalls old rs texts place count answers new
 
--- a call with requests, which counts them: a closed handle, and the places, are unchanged
+-- The effect of a call with requests, which counts them. If the handle is closed, it and the places are unchanged.
 abbrev pub RunsInTurn : Option RsSession → List Request → List ℕ → List Answer → ℕ → ℕ → List Answer → ℕ → Option RsSession → Type 0
 RunsInTurn None rs texts place before word answers count new = (word ≡ is_closed) × (answers ≡ place) × (count ≡ before) × (new ≡ None)
 RunsInTurn (Some old) rs texts place before word answers count new = RanOf old rs texts place word answers count new
 
--- the session of an open handle carries out a line
+-- Whether the session of an open handle carries out a line.
 abbrev pub AskedByLine : RsSession → List ℕ → ℕ → Answer → Option RsSession → Type 0
 AskedByLine old line word answer None = ⊥
 AskedByLine old line word answer (Some new) = (word ≡ done) × CallsRsLine line old answer new
 
--- a call with a line: a closed handle, and the answer's place, are unchanged
+-- The effect of a call with a line. If the handle is closed, it and the answer's place are unchanged.
 abbrev pub CallsByLine : Option RsSession → List ℕ → Answer → ℕ → Answer → Option RsSession → Type 0
 CallsByLine None line before word answer new = (word ≡ is_closed) × (answer ≡ before) × (new ≡ None)
 CallsByLine (Some old) line before word answer new = AskedByLine old line word answer new
 
--- a call that copies the text of the last answer as a script prints it
+-- The effect of a call that copies the text of the last answer as a script prints it.
 abbrev pub FetchesText : Option RsSession → ℕ → List ℕ → Given → ℕ → List ℕ → Given → Type 0
 FetchesText None first old before word room given = (word ≡ is_closed) × (room ≡ old) × (given ≡ before)
 FetchesText (Some s) first old before word room given = (word ≡ done) × GivesText (text_in s) first old given room
 
--- a call that closes a handle, of a store or of a map
+-- The effect of a call that closes a handle, of a store or of a map.
 module _ {T : Type 0} where
   abbrev pub Closes : Option T → ℕ → Option T → Type 0
   Closes None word new = (word ≡ is_closed) × (new ≡ None)

@@ -12,19 +12,19 @@ use Rattle.c_rs.specs.contracts.session.RsSession as session
 use Rattle.ds_submap.specs.contracts.map.SubMap as map
 use Rattle.c_table.specs.contracts.server_table.ServerTable as table
 
--- the token by which the heap knows a block; it doesn't depend on the handle to the heap
+-- The token by which the heap knows a block; it doesn't depend on the handle to the heap.
 abbrev pub any_heap : Global
 any_heap = record { memory = record { seal = tt } }
 
 abbrev pub chunk : Ty → Ptr → Fml
 chunk = ghosts.dealloc_token any_heap
 
--- null if the handle is closed, else a box of the value
+-- The ownership of a handle: null if it is closed, else a box of the value.
 abbrev pub box_or_null : (R : RattleType) → Ptr → Option R.Denot → Fml
 box_or_null R at None = feq Ptr at null_ptr
 box_or_null R at (Some x) = box_owns chunk R at x
 
--- what a handle of a store holds, one of a map, and one of a table
+-- The ownership of a handle of a store, of one of a map, and of one of a table.
 abbrev pub holds : Ptr → Option session.the_row.Denot → Fml
 holds = box_or_null session.the_row
 

@@ -21,38 +21,38 @@ not_allowed = 9
 abbrev pub not_found : ℕ
 not_found = 14
 
--- RS is opened beside the store of an open handle, or refused
+-- Whether RS is opened beside the store of an open handle, or refused.
 abbrev pub OpensIn : RsSession → List ℕ → ℕ → ℕ → SettingsRefusal → ℕ → SettingsRefusal → Option RsSession → Type 0
 OpensIn old text next first before word fault None = ⊥
 OpensIn old text next first before word fault (Some new) = OpensRs text next first old before word fault new
 
--- a call that opens RS: a closed handle, and the fault's place, are unchanged
+-- The effect of a call that opens RS. If the handle is closed, it and the fault's place are unchanged.
 abbrev pub OpensServices : Option RsSession → List ℕ → ℕ → ℕ → SettingsRefusal → ℕ → SettingsRefusal → Option RsSession → Type 0
 OpensServices None text next first before word fault new = (word ≡ is_closed) × (fault ≡ before) × (new ≡ None)
 OpensServices (Some old) text next first before word fault new = OpensIn old text next first before word fault new
 
--- an event reaches RS and the store of an open handle
+-- Whether an event reaches RS and the store of an open handle.
 abbrev pub EventReaches : RsSession → RsEvent → ℕ → Answer → Option RsSession → Type 0
 EventReaches old event word answer None = ⊥
 EventReaches old event word answer (Some new) = (word ≡ done) × ServesEvent event old answer new
 
--- a call that reports an event: a closed handle, and the answer's place, are unchanged
+-- The effect of a call that reports an event. If the handle is closed, it and the answer's place are unchanged.
 abbrev pub EventsReach : Option RsSession → RsEvent → Answer → ℕ → Answer → Option RsSession → Type 0
 EventsReach None event before word answer new = (word ≡ is_closed) × (answer ≡ before) × (new ≡ None)
 EventsReach (Some old) event before word answer new = EventReaches old event word answer new
 
 module _ {A : Type 0} where
-  -- a part that may be missing is written, or its place is unchanged
+  -- Whether a part that may be missing is written, or its place is unchanged.
   abbrev pub ReadsPart : Option A → A → ℕ → A → Type 0
   ReadsPart None before word new = (word ≡ not_found) × (new ≡ before)
   ReadsPart (Some part) before word new = (word ≡ done) × (new ≡ part)
 
-  -- a part of what an open handle holds is written: of a closed one, none is
+  -- Whether a part of what an open handle holds is written. If the handle is closed, none is.
   abbrev pub ReadsOf : (RsSession → Option A) → Option RsSession → A → ℕ → A → Type 0
   ReadsOf part None before word new = (word ≡ is_closed) × (new ≡ before)
   ReadsOf part (Some s) before word new = ReadsPart (part s) before word new
 
--- calls that write an action of the last answer, a service, and the next generation
+-- The effect of calls that write an action of the last answer, a service, and the next generation.
 abbrev pub ReadsAction : Option RsSession → ℕ → RsAction → ℕ → RsAction → Type 0
 ReadsAction held index before word action = ReadsOf (λ s. action_in s index) held before word action
 
@@ -62,22 +62,22 @@ ReadsService held index before word service = ReadsOf (λ s. service_row s.servi
 abbrev pub ReadsNext : Option RsSession → ℕ → ℕ → ℕ → Type 0
 ReadsNext held before word generation = ReadsOf (λ s. option_map (λ rs. rs.next) s.services) held before word generation
 
--- a call that writes the first tick that has actions
+-- The effect of a call that writes the first tick that has actions.
 abbrev pub ReadsDueTick : Option RsSession → ℕ → ℕ → ℕ → Type 0
 ReadsDueTick None before word tick = (word ≡ is_closed) × (tick ≡ before)
 ReadsDueTick (Some s) before word tick = (part : Option ℕ) × ReadsDue s.services part × ReadsPart part before word tick
 
--- a call that judges whether an instance may publish under a key
+-- The effect of a call that judges whether an instance may publish under a key.
 abbrev pub FindsPublisher : Option RsSession → ℕ → ℕ → ℕ → List ℕ → ℕ → Type 0
 FindsPublisher None generation slot kind name word = word ≡ is_closed
 FindsPublisher (Some s) generation slot kind name word = word ≡ cond (may_publish_in s.services generation slot kind name) done not_allowed
 
--- a call that judges whether an instance may complain of a service
+-- The effect of a call that judges whether an instance may complain of a service.
 abbrev pub FindsComplainer : Option RsSession → ℕ → ℕ → List ℕ → ℕ → Type 0
 FindsComplainer None generation slot label word = word ≡ is_closed
 FindsComplainer (Some s) generation slot label word = word ≡ cond (may_deal_in may_complain s.services generation slot label) done not_allowed
 
--- a call that judges whether an instance may connect to a service
+-- The effect of a call that judges whether an instance may connect to a service.
 abbrev pub FindsConnector : Option RsSession → ℕ → ℕ → List ℕ → ℕ → Type 0
 FindsConnector None generation slot label word = word ≡ is_closed
 FindsConnector (Some s) generation slot label word = word ≡ cond (may_deal_in may_connect s.services generation slot label) done not_allowed

@@ -7,7 +7,7 @@ use crate::words::{DONE, IS_CLOSED};
 use c_values::{Answer, Request};
 use std::alloc::Global;
 
-/// Carries out requests in order, each as `ds_call` does, and writes how many to `done`. It ends after the first answer that has a text,
+/// Carries out requests in order, each as `ds_call` does, and writes how many to `done`. Ends after the first answer that has a text,
 /// which `ds_items` copies then, after the last request, or when `answers` is full.
 #[unsafe(no_mangle)]
 pub extern "C" fn ds_run(

@@ -33,7 +33,7 @@ pub extern "C" fn ds_rs_open(
     }
 }
 
-/// Gives RS an event, and passes its label changes and sweeps to the store. The actions are kept for `ds_rs_action`.
+/// Reports an event to RS, and passes its label changes and sweeps to the store. The actions are kept for `ds_rs_action`.
 #[unsafe(no_mangle)]
 pub extern "C" fn ds_rs_event(
     alloc: Global,
@@ -95,7 +95,7 @@ pub extern "C" fn ds_rs_service(
     }
 }
 
-/// Writes the first tick at which a tick has actions.
+/// Writes the first tick that has actions.
 #[unsafe(no_mangle)]
 pub extern "C" fn ds_rs_due(alloc: Global, handle: &mut Handle, tick: &mut u64) -> u32
     ensures read { ReadsDueTick handle.old.value tick.old result tick.new }
@@ -194,7 +194,7 @@ pub extern "C" fn ds_rs_may_connect(
     }
 }
 
-// The number of a judgement.
+// Returns the number of a judgement.
 fn judgement(may: bool) -> u32
     ensures { result ≡ cond may done not_allowed }
 {

@@ -50,8 +50,8 @@ pub fn taking_laws()
 
 /// Laws of catching up.
 ///
-/// A map takes items that are whole up to a store's position. If the store's items cover all that the map learnt, the map
-/// holds exactly what the store holds under the map's query. Otherwise it holds at least that.
+/// A map takes items that are whole up to a store's position. If the store's items cover all that the map learnt, without
+/// contradictions, the map holds exactly what the store holds under its query. Otherwise it holds at least that.
 pub fn catch_up_laws()
     ensures exact { HoldsTheStores }
     ensures alike { HoldsAlike }

@@ -8,9 +8,10 @@ use ds_script::BadLine;
 use std::rt::Runtime;
 use typed_words::{COMMANDS, Meant, Plain, nearest};
 
-/// How many bytes of a line are shown before the place, and from it on.
+/// How many bytes of a line are shown before the bad place.
 const BEFORE: usize = 48;
 
+/// How many are shown from it on.
 const FROM: usize = 28;
 
 /// The reader of an explanation.

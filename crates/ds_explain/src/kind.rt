@@ -1,4 +1,4 @@
-//! What a text is that was given where another kind is read.
+//! The kind of a text that was given where another kind is read.
 
 use ds_names::{is_name_byte, read_decimal};
 use std::fmt;

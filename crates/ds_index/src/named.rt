@@ -102,7 +102,7 @@ pub(crate) fn endpoint_in(change: &Change) -> Option<Endpoint>
     }
 }
 
-/// Whether the label at the index is the first of its slot, among labels in order.
+/// Returns whether the label at the index is its slot's first, among labels in order.
 pub(crate) fn is_first_of_slot(names: &[Named], index: usize) -> bool {
     let Some(named) = names.get(index) else {
         return false;

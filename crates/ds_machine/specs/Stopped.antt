@@ -1,4 +1,4 @@
--- How a store refuses what stops a join.
+-- The refusal for what stops a join.
 use Rattle.ds_join.specs.declared.merge.JoinFault.{JoinFault}
 use Rattle.ds_join.specs.declared.merge.JoinFault.TheVariants as joins
 use Rattle.ds_machine.specs.declared.refusal.Refusal.{Refusal}

@@ -49,7 +49,7 @@ StampTells =
     Run s commands replies t →
     subscription_at s sub ≡ Some early → subscription_at t sub ≡ Some late → late.stamp ≡ early.stamp → late ≡ early
 
--- The place has this subscription now, and nothing took effect.
+-- Whether the place has this subscription now, and nothing took effect.
 pub record IsPlaced (s : State) (sub : ℕ) (seer : Subscription) (t : State) : Type 0 where
   pub here : subscription_at t sub ≡ Some seer
   pub feed_is : t.feed ≡ s.feed

@@ -114,7 +114,7 @@ pub fn given_was_accepted()
     ensures few { FewAreDone }
 {}
 
-/// A law: if no floor was accepted, changes of distinct keys that each take the place of their key's held change all
+/// A law: if no floor was accepted and enough positions are left, changes of distinct keys that each replace a held one
 /// take effect.
 pub fn places_are_taken()
     ensures free { PlacesAreFree }

@@ -60,7 +60,7 @@ impl Generation {
 #[error("an endpoint is written as generation/slot")]
 pub struct BadEndpoint;
 
-/// A process: a generation and a slot, as in MINIX 3's endpoints.
+/// A process's address: a generation and a slot, as in MINIX 3.
 #[derive(Clone, Copy, Debug, PartialEq, Eq)]
 pub struct Endpoint {
     generation: Generation,

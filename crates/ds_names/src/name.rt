@@ -65,7 +65,7 @@ static NAME_BYTES: [u8; 256] = *b"\
     ,,,,,,,,,,,,,,,,,,,,,,,,,,,,,,,,\
     ,,,,,,,,,,,,,,,,,,,,,,,,,,,,,,,,";
 
-/// Returns whether a name may have the byte.
+/// Returns whether a name may contain the byte.
 #[inline]
 pub fn is_name_byte(b: u8) -> bool
     ensures { result ≡ is_name_byte b }

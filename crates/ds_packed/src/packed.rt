@@ -8,7 +8,7 @@ use ds_entry::Item;
 use std::alloc::Global;
 use std::marker::Model;
 
-/// A packed list of items. No item is a text or a blob.
+/// A packed list of items. No item has a str or mem value.
 #[derive(Drop)]
 pub struct Packed {
     rows: Vec<Row>,
@@ -53,7 +53,7 @@ impl Packed {
         })
     }
 
-    /// Packs the items. Returns `None` if one of them is a text or a blob, or if memory runs out.
+    /// Packs the items. Returns `None` if one of them has a str or mem value, or if memory runs out.
     pub fn of(alloc: Global, items: &[Item]) -> Option<Packed>
         ensures { IfSome result (λ packed. packed ≡ items.now) }
     {
@@ -65,7 +65,7 @@ impl Packed {
         Some(packed)
     }
 
-    // Appends an item. Returns `None` if it is a text or a blob, or if memory runs out.
+    // Appends an item. Returns `None` if it has a str or mem value, or if memory runs out.
     #[tactic(auto, using(crate::proofs::RowsLemmas::rows_push))]
     fn with(self, item: &Item) -> Option<Packed>
         ensures { IfSome result (λ packed. packed ≡ self ++ item.now ∷ []) }

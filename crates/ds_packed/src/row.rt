@@ -40,7 +40,7 @@ pub(crate) enum Row {
 }
 
 impl Row {
-    // Returns the row of an item, and appends its names to the bytes. Returns `None` if it is a text or a blob, or if
+    // Returns the row of an item, and appends its names to the bytes. Returns `None` if it has a str or mem value, or if
     // memory runs out.
     #[inline(always)]
     pub(crate) fn of(item: &Item, names: &mut Vec<u8>) -> Option<Row>

@@ -42,7 +42,7 @@ impl From<DeskFault> for MergeFault {
 }
 
 impl<W: Wait> Seat<'_, W> {
-    /// Merges 1 to 256 items into the store, in order. Returns how many of them took effect.
+    /// Merges at most 256 items into the store, in order. Returns how many of them took effect.
     pub fn merge(&mut self, items: Items) -> Result<usize, MergeFault>
         ensures same { IsSameSeat self.old self.new }
         ensures told { IfOk result (λ taken. (done stale owed place : ℕ)

@@ -9,7 +9,7 @@ pub enum RefreshFault {
     /// The limit isn't 2 to 65536 calls.
     #[error("the limit isn't 2 to 65536 calls")]
     BadLimit,
-    /// A call of the desk's store failed, or the caller is out of memory.
+    /// A call to the desk's store failed, or the caller is out of memory.
     #[error("{0}")]
     Call(CallFault),
 }

@@ -38,7 +38,7 @@ abbrev pub IsProperEvent : Event → Type 0
 IsProperEvent (Ask side command) = IsProper command
 IsProperEvent _ = Unit {0}
 
--- A law: after any such events, everything brought in is a change or a floor that keeps its rules.
+-- A law: after any such events, everything brought in is a valid change or floor.
 abbrev pub EventsBringItems : Type 0
 EventsBringItems =
     (account : Account) (old new : World) (events : List (Event × Outcome)) → Fits account old → HappenAll old events new →

@@ -42,11 +42,11 @@ impl Machine for Store {
     }
 }
 
-/// A law: what a history of a store's turns says.
+/// A law about histories of a store's turns.
 ///
-/// From each state that the store stood for, the turns are a run of the store's machine in which lack of memory comes
-/// last. The last turn was answered in some reached state. A command and its reply determine the next state, so a
-/// history determines the state that it leads to. It is the machine's run over its commands and replies.
+/// From each state that the store stood for, the turns are a run of the store's machine that judges out-of-memory last.
+/// The last turn is answered in some reached state. A command and its reply determine the next state, so a history
+/// determines the state that it leads to. Histories are the machine's runs over their commands and replies.
 pub fn stores_take_turns()
     ensures run { TurnsRun }
     ensures answered { TurnsAreAnswered }

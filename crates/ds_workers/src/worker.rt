@@ -16,7 +16,7 @@ use ds_store::Store;
 use std::alloc::Global;
 use std::sync::Wait;
 
-/// A worker with its pass of the first desk. The type of the pass is a parameter, so that the compiler finds a worker to be `Send`.
+/// A worker with its pass of the first desk. The type of the pass is a parameter, so that the compiler can tell a worker is `Send`.
 #[derive(Drop)]
 pub struct Worker<P> {
     /// The worker's number. Publishers come first, then subscribers, then the worker that exchanges.

@@ -39,83 +39,86 @@ use Rattle.ds_world.specs.World.{WorldRecord, held_in, store_in, kept_items, Wor
 use Rattle.ds_names.specs.Key.{label_key}
 use Rattle.ds_entry.specs.Under.{under, entries_of}
 
--- The account fits a world that the value stands for.
+-- Whether the account fits a world that the value stands for.
 abbrev pub IsFor : Account → WorldRecord → Type 0
 IsFor account value = (w : World) × WorldStands value w × Fits account w
 
--- *agreement*: holders that know the same under a query hold the same under it, tombstones, versions and floors
--- included, and so have equal entries, if everything brought is exact.
+-- The promise of *agreement*: holders that know the same under a query hold the same under it, tombstones, versions and
+-- floors included, and so have equal entries, if everything brought is exact.
 abbrev pub Agrees : Account → WorldRecord → Type 0
 Agrees account value =
     (query : Key → Bool) (h i : Holder) → AreExact account.brought → KnowSame query (known_at account h) (known_at account i) →
     (under query (held_in value h) ≡ under query (held_in value i)) ×
     (entries_of (under query (held_in value h)) ≡ entries_of (under query (held_in value i)))
 
--- *catch-up*: a map that has all of a store, and nothing else, holds exactly what the store holds under its query, if
--- everything brought is exact.
+-- The promise of *catch-up*: a map that has all of a store, and nothing else, holds exactly what the store holds under
+-- its query, if everything brought is exact.
 abbrev pub CatchesUp : Account → WorldRecord → Type 0
 CatchesUp account value =
     (j : ℕ) (m : MapAccount) (side : Side) → AreExact account.brought → HasAll account j m side → HasNothingElse account m side →
     (held_in value (Map j) ≡ under (is_under m.query) (held_in value (Store side))) ×
     (entries_of (held_in value (Map j)) ≡ entries_of (under (is_under m.query) (held_in value (Store side))))
 
--- A map that was given more holds at least the store's version of each key under its query.
+-- Whether a map that has all of a store, and maybe more, holds at least the store's version of each key under its
+-- query.
 abbrev pub KeepsUp : Account → WorldRecord → Type 0
 KeepsUp account value =
     (j : ℕ) (m : MapAccount) (side : Side) → HasAll account j m side →
     CoversAll (held_in value (Map j)) (under (is_under m.query) (held_in value (Store side)))
 
--- *no older generation*: for each label under such a map's query, the map returns the endpoint of the greatest
--- generation that the store knows, or none if that one has ended. Exactness isn't needed.
+-- The promise of *no older generation*: for each label under such a map's query, the map returns the endpoint of the
+-- greatest generation that the store knows, or none if that one has ended. Exactness isn't needed.
 abbrev pub NamesNewest : Account → WorldRecord → Type 0
 NamesNewest account value =
     (j : ℕ) (m : MapAccount) (n : SubMapRecord) (side : Side) (name : List ℕ) → slice_get value.maps j ≡ Some n →
     AreItems account.brought → HasAll account j m side → HasNothingElse account m side →
     is_under m.query (label_key name) ≡ true → IsNewest (store_of account side).known name (endpoint_of_label n.held name)
 
--- *no stop by clash or owner*: no two changes of one key that are held or can be delivered have two owners, or two
--- bodies at one version, if everything brought is single-numbered.
+-- Whether the item is held by a store or a map, or is among the items of a message.
 abbrev pub IsFoundIn : WorldRecord → Item → Type 0
 IsFoundIn value i =
     ((h : Holder) × Contains (held_in value h) i) ⊎
     ((k : ℕ) × (items : List Item) × (kept_items value.messages k ≡ Some items) × Contains items i)
 
+-- The promise of *no stop by clash or owner*: no two changes of one key that are held or can be delivered have two
+-- owners, or two bodies at one version, if everything brought is single-numbered.
 abbrev pub NothingClashes : Account → WorldRecord → Type 0
 NothingClashes account value =
     (c d : ChangeRecord) → AreSingleNumbered account.brought → IsFoundIn value (Changed c) → IsFoundIn value (Changed d) → c.key ≡ d.key →
     (c.owner ≡ d.owner) × (c.version ≡ d.version → c ≡ d)
 
--- No delivery among these events stops by such a fault.
+-- Whether no delivery among these events stops by such a fault.
 abbrev pub NothingStops : Account → List (Event × Outcome) → Type 0
 NothingStops account events =
     (before since : List (Event × Outcome)) (k : ℕ) (holder : Holder) (count : Option ℕ) (done : ℕ) (fault : Refusal) (owed : ℕ) →
     before ++ (Deliver k holder count, Stopped done fault owed) ∷ since ≡ events →
     AreSingleNumbered (extended_all account before).brought → ¬ IsContradiction fault
 
--- *floors*: a holder that knows a floor holds nothing that the floor makes void.
+-- The promise of *floors*: a holder that knows a floor holds nothing that the floor makes void.
 abbrev pub NothingBelowFloors : Account → WorldRecord → Type 0
 NothingBelowFloors account value =
     (h : Holder) (f : Floor) (c : ChangeRecord) → Contains (known_at account h) (Floored f) → Contains (held_in value h) (Changed c) →
     voids f c ≡ false
 
--- *floors*: the events bring in nothing that a floor known before them makes void, unless they empty the holder.
+-- The promise of *floors* over events: they bring in nothing that a floor known before them makes void, unless they
+-- empty the holder.
 abbrev pub FloorsStand : Account → List (Event × Outcome) → WorldRecord → Type 0
 FloorsStand account events new =
     (h : Holder) (f : Floor) (c : ChangeRecord) → Stays h events → Contains (known_at account h) (Floored f) →
     Contains (held_in new h) (Changed c) → voids f c ≡ false
 
--- *wholeness*: what is whole for a store stays whole over these events, unless they restart the store.
+-- The promise of *wholeness*: what is whole for a store stays whole over these events, unless they restart the store.
 abbrev pub StaysWhole : Account → List (Event × Outcome) → Type 0
 StaysWhole account events =
     (side : Side) (query : Key → Bool) (items : List Sent) (r : ℕ) → Stays (Store side) events →
     r ≤ position (store_of account side).state.feed → IsWhole (store_of account side).state.feed query items r →
     IsWhole (store_of (extended_all account events) side).state.feed query items r
 
--- Everything brought keeps the rules of changes and floors, if everything brought before these events did.
+-- Whether everything brought keeps the rules of changes and floors, if everything brought before these events did.
 abbrev pub StayItems : Account → List (Event × Outcome) → Type 0
 StayItems account events = AreItems account.brought → AreItems (extended_all account events).brought
 
--- A store's turns in these events are a run of its machine, unless they restart the store.
+-- Whether a store's turns in these events are a run of its machine, unless they restart the store.
 abbrev pub TurnsAreRun : WorldRecord → List (Event × Outcome) → WorldRecord → Type 0
 TurnsAreRun old events new =
     (w : World) (side : Side) → WorldStands old w → Stays (Store side) events →

@@ -16,7 +16,7 @@ pub record CameSince (known : Account) (told : List (Event × Outcome)) (value :
   pub fits : IsFor known first
   pub told_so : AreTold first told value
 
--- What holds for such a value: about the account that the events extend, about the events, and about the messages.
+-- The laws for such a value: about the account that the events extend, about the events, and about the messages.
 pub record Laws (known : Account) (told : List (Event × Outcome)) (new : WorldRecord) : Type 0 where
   pub came : CameSince known told new
   pub account : IsFor (extended_all known told) new
@@ -38,8 +38,8 @@ pub record Laws (known : Account) (told : List (Event × Outcome)) (new : WorldR
   pub checks : ChecksAreTurns known told
   pub all_checks : AllChecksAreWhole known told
 
--- After the events, the laws hold for everything that happened since any account fitted: these events, and all those
--- before them. So pages and checks may be read in any number of runs.
+-- Whether, after the events, the laws hold for everything that happened since any account fitted: these events, and all
+-- those before them. So pages and checks may be read in any number of runs.
 abbrev pub LawsHold : WorldRecord → List (Event × Outcome) → WorldRecord → Type 0
 LawsHold old events new =
     (known : Account) (before : List (Event × Outcome)) → CameSince known before old → Laws known (before ++ events) new

@@ -35,7 +35,7 @@ use Rattle.ds_replica.specs.Messages.{IsMessage, feed_of}
 use Rattle.ds_replica.specs.Checks.{is_subscribing, sent_in, checks_sent}
 use Rattle.ds_replica.specs.Turns.{Stays}
 
--- Among the events, a store was sent the command and made this message, and it wasn't restarted since.
+-- Whether, among the events, a store was sent the command and made this message, and wasn't restarted since.
 pub record WasGiven (events : List (Event × Outcome)) (side : Side) (command : Command) (k : ℕ) : Type 0 where
   pub before : List (Event × Outcome)
   pub since : List (Event × Outcome)
@@ -54,7 +54,7 @@ pub record GivenPage : Type 0 where
   pub message : ℕ
   pub page : pages.Page
 
--- A snapshot message, under a scope that has all of the query, is whole up to its cursor.
+-- Whether a snapshot message, under a scope that has all of the query, is whole up to its cursor.
 abbrev pub SnapshotsAreWhole : Account → List (Event × Outcome) → List Reply → Type 0
 SnapshotsAreWhole account events messages =
     (side : Side) (scope : Scope) (query : Key → Bool) (k : ℕ) (snapshot : snapshots.Snapshot) → WasGiven events side (Snapshot scope) k →
@@ -62,7 +62,7 @@ SnapshotsAreWhole account events messages =
     let now = extended_all account events in
     IsWhole (feed_of now side) query (sent_in now k) snapshot.cursor.position
 
--- A journal message is a turn of the store in its state at the Since.
+-- Whether a journal message is a turn of the store in its state at the Since.
 abbrev pub SincesAreTurns : Account → List (Event × Outcome) → List Reply → Type 0
 SincesAreTurns account events messages =
     (side : Side) (scope : Scope) (at : Cursor) (x : GivenSince) (g : WasGiven events side (Since scope at x.max) x.message) →
@@ -71,8 +71,8 @@ SincesAreTurns account events messages =
     (t : SinceTurn) × (t.max ≡ x.max) × (t.since ≡ x.since) × (t.feed ≡ feed_of (extended_all account g.before) side) ×
     IsSinceTurn (feed_of now side) (keeps scope) at t × (sent_in now x.message ≡ given t.known x.since.items)
 
--- Items that are whole up to a cursor, with a journal message from that cursor under a scope that has all of the query,
--- are whole up to the message's cursor.
+-- Whether items that are whole up to a cursor, with a journal message from that cursor under a scope that has all of
+-- the query, are whole up to the message's cursor.
 abbrev pub SinceMessagesExtend : Account → List (Event × Outcome) → List Reply → Type 0
 SinceMessagesExtend account events messages =
     (side : Side) (scope : Scope) (query : Key → Bool) (at : Cursor) (x : GivenSince) (items : List Sent) →
@@ -82,7 +82,7 @@ SinceMessagesExtend account events messages =
     IsWhole (feed_of now side) query items at.position →
     IsWhole (feed_of now side) query (items ++ sent_in now x.message) x.since.cursor.position
 
--- A page message is a turn of the store in its state at the Page, as the law of pages takes it.
+-- Whether a page message is a turn of the store in its state at the Page, as the law of pages takes it.
 abbrev pub PagesAreTurns : Account → List (Event × Outcome) → List Reply → Type 0
 PagesAreTurns account events messages =
     (side : Side) (scope : Scope) (behind : Option Key) (x : GivenPage) (g : WasGiven events side (Page scope behind x.max) x.message) →
@@ -91,8 +91,8 @@ PagesAreTurns account events messages =
     (t : PageTurn) × (t.max ≡ x.max) × (t.page ≡ x.page) × (t.feed ≡ feed_of (extended_all account g.before) side) ×
     IsPageTurn (feed_of now side) (keeps scope) behind t × (sent_in now x.message ≡ given t.known x.page.items)
 
--- A check message is a turn of its subscription, in the store's state at the Check. `early` is the feed of any earlier
--- state.
+-- Whether a check message is a turn of its subscription, in the store's state at the Check. `early` is the feed of any
+-- earlier state.
 abbrev pub ChecksAreTurns : Account → List (Event × Outcome) → Type 0
 ChecksAreTurns account events =
     (side : Side) (sub max k : ℕ) (early : Feed) (g : WasGiven events side (Check sub max) k) →
@@ -102,8 +102,8 @@ ChecksAreTurns account events =
     (t.max ≡ max) × IsCheckTurn early (feed_of now side) (is_under seer.query) seer.shown t
     × IsMessage now k (given t.known t.items)
 
--- Among the events, a subscription with the query was made with INITIAL and later checked. In between it wasn't made
--- again, and the store wasn't restarted.
+-- Whether, among the events, a subscription with the query was made with INITIAL and later checked. In between it
+-- wasn't made again, and the store wasn't restarted.
 pub record WasChecked (events : List (Event × Outcome)) (side : Side) (sub : ℕ) (query : Query) (max k : ℕ) : Type 0 where
   pub before : List (Event × Outcome)
   pub overwrite : Bool
@@ -116,7 +116,7 @@ pub record WasChecked (events : List (Event × Outcome)) (side : Side) (sub : �
   pub stays : Stays (Store side) between
   pub alone : list_any (is_subscribing side sub) between ≡ false
 
--- The items of all checks since then are whole up to that check, if it showed fewer than its max.
+-- Whether the items of all checks since then are whole up to that check, if it showed fewer than its max.
 abbrev pub AllChecksAreWhole : Account → List (Event × Outcome) → Type 0
 AllChecksAreWhole account events =
     (side : Side) (sub : ℕ) (query : Query) (max k : ℕ) (g : WasChecked events side sub query max k) →

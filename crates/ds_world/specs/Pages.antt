@@ -19,8 +19,8 @@ use Rattle.ds_replica.specs.Messages.{feed_of}
 use Rattle.ds_replica.specs.Checks.{sent_in}
 use Rattle.ds_world.specs.Messages.{WasGiven, GivenSince, GivenPage}
 
--- Among the events, a store made these page messages, up to the last page. Each was read after the last key of the one
--- before, and at no earlier position.
+-- Whether, among the events, a store made these page messages, up to the last page. Each was read after the last key of
+-- the one before, and at no earlier position.
 abbrev pub WerePaged : List (Event × Outcome) → List Reply → Side → Scope → Option Key → ℕ → List GivenPage → Type 0
 WerePaged events messages side scope after p [] = ⊥
 WerePaged events messages side scope after p (x ∷ xs) =
@@ -28,7 +28,7 @@ WerePaged events messages side scope after p (x ∷ xs) =
     (p ≤ x.page.cursor.position)
     × MatchBool x.page.last (xs ≡ []) (WerePaged events messages side scope (last_key after x.page.items) x.page.cursor.position xs)
 
--- Among the events, its journal made these messages, each read from the cursor of the one before.
+-- Whether, among the events, its journal made these messages, each read from the cursor of the one before.
 abbrev pub WereJournaled : List (Event × Outcome) → List Reply → Side → Scope → Cursor → List GivenSince → Type 0
 WereJournaled events messages side scope at [] = Unit {0}
 WereJournaled events messages side scope at (x ∷ xs) =
@@ -44,9 +44,9 @@ abbrev pub last_since : Cursor → List GivenSince → Cursor
 last_since at [] = at
 last_since at (x ∷ xs) = last_since x.since.cursor xs
 
--- The items of all pages, with those of the journal from the first page's cursor on, are whole up to the journal's last
--- cursor, if that one isn't before the last page's. It doesn't matter what happened between them, or in which order
--- they were read.
+-- Whether the items of all pages, with those of the journal from the first page's cursor on, are whole up to the
+-- journal's last cursor, if that one isn't before the last page's. It doesn't matter what happened between them, or in
+-- which order they were read.
 abbrev pub AllPagesAreWhole : Account → List (Event × Outcome) → List Reply → Type 0
 AllPagesAreWhole account events messages =
     (side : Side) (scope other : Scope) (query : Key → Bool) (first : GivenPage) (pages : List GivenPage) (sinces : List GivenSince) →

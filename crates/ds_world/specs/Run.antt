@@ -17,15 +17,15 @@ paired [] outcomes = []
 paired (event ∷ events) [] = []
 paired (event ∷ events) (outcome ∷ outcomes) = (event, outcome) ∷ paired events outcomes
 
--- The event happened, with this outcome.
+-- Whether the event happened, with this outcome.
 abbrev pub EventLeads : Event → Outcome → WorldRecord → WorldRecord → Type 0
 EventLeads event outcome old new = Leads (λ w after. Happens w event outcome after) old new
 
--- The events happened in order, with these outcomes.
+-- Whether the events happened in order, with these outcomes.
 abbrev pub RunLeads : List Event → List Outcome → WorldRecord → WorldRecord → Type 0
 RunLeads events outcomes old new = Leads (λ w after. HappenAll w (paired events outcomes) after) old new
 
--- Why events can't be run. Lack of memory is reported only if they aren't too many.
+-- Whether the events can't be run, by this fault. Lack of memory is reported only if they aren't too many.
 abbrev pub IsRunFault : WorldFault → List Event → Type 0
 IsRunFault TooMany events = most_events < length events
 IsRunFault NoRoom events = length events ≤ most_events

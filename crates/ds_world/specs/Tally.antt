@@ -28,13 +28,13 @@ both_tallied t u = record {
   stop = u.stop;
 }
 
--- The counts of both can be added.
+-- Whether the counts of both can be added.
 pub record CanJoin (t u : deliveries.Tally) : Type 0 where
   pub done : t.count.done + u.count.done < 2 ^ 64
   pub taken : t.count.taken + u.count.taken < 2 ^ 64
   pub stale : t.count.stale + u.count.stale < 2 ^ 64
 
--- Of n items all are done, or fewer if they stopped, and at most those done are taken or stale.
+-- Whether all of n items are done, or fewer if they stopped, and at most those done are taken or stale.
 pub record CountsOf (n : ℕ) (t : deliveries.Tally) : Type 0 where
   pub all : t.stop ≡ None → t.count.done ≡ n
   pub few : t.count.done ≤ n
@@ -46,7 +46,7 @@ fault_of patterns.TooLong = faults.TooLong
 fault_of patterns.BadPattern = faults.BadPattern
 fault_of patterns.NoRoom = faults.NoRoom
 
--- The counts of a reply to a Merge of n items: all were done, or the first ones.
+-- Whether the reply to a Merge of n items counts them: all were done, or the first ones.
 abbrev pub IsCounted : ℕ → Reply → Type 0
 IsCounted n (Merged done taken stale owed) = (done ≡ n) × (taken + stale ≤ done)
 IsCounted n (MergeStopped done fault owed) = done < n

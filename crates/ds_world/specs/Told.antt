@@ -27,34 +27,34 @@ use Rattle.ds_replica.specs.Bringing.{IsProper}
 use Rattle.ds_world.specs.World.{WorldRecord, kept_items, WorldStands, Leads}
 use Rattle.ds_world.specs.Run.{EventLeads}
 
--- The item after the first `done` ones would take effect in this state, and takes memory.
+-- Whether the item after the first `done` ones would take effect in this state, and takes memory.
 pub record WouldTake (s : State) (items : List Item) (done : ℕ) : Type 0 where
   pub item : Item
   pub is_next : slice_get items done ≡ Some item
   pub lacks : MayLackItem s item
 
--- If items were stopped for lack of memory, the next one would take effect in the state that they left, and takes
--- memory.
+-- Whether lack of memory comes last: if it stopped the items, the next one would take effect in the state that they
+-- left, and takes memory.
 abbrev pub IsWantLast : List Item → ℕ → Option Refusal → State → Type 0
 IsWantLast items done (Some NoRoom) s = WouldTake s items done
 IsWantLast items done _ s = Unit {0}
 
--- A stopped delivery to a store leads to a world in which lack of memory comes last for that store.
+-- Whether a stopped delivery to a store leads to a world in which lack of memory comes last for that store.
 abbrev pub IsStoreTold : Event → Side → List Item → Outcome → WorldRecord → WorldRecord → Type 0
 IsStoreTold event side items (Stopped done fault owed) old new =
     Leads (λ w after. Happens w event (Stopped done fault owed) after × IsWantLast items done (Some fault) (store_at after side)) old new
 IsStoreTold event side items outcome old new = Unit {0}
 
--- The map took all items, with this count; or it took the first ones and refuses the next by this fault, as the map's
--- own contract says.
+-- Whether the map took all items, with this count; or took the first ones and refuses the next by this fault, as the
+-- map's own contract says.
 abbrev pub IsMapTold : Query → Holding → List Item → Outcome → Holding → Type 0
 IsMapTold query old items (Merged counted owed) new = AreCounted query old items new counted
 IsMapTold query old items (Stopped done fault owed) new =
     (stop : JoinFault) × (fault ≡ refusal_of_join stop) × IsTakeStopped query old items new (record { done = done; fault = stop })
 IsMapTold query old items _ new = Unit {0}
 
--- The store answered an Ask with this reply, from each world that the old value stands for to one that the new value
--- stands for, and lack of memory comes last.
+-- Whether the store answered an Ask with this reply, from each world that the old value stands for to one that the new
+-- value stands for, and lack of memory comes last.
 pub record IsAnswered (side : Side) (command : Command) (outcome : Outcome) (reply : Reply) (old new : WorldRecord) : Type 0 where
   pub asks : (w : World) → WorldStands old w →
       (event_fault w (Ask side command) ≡ None) × (after : World) × (a : Asks w side command outcome after) × (a.reply ≡ reply) ×
@@ -68,13 +68,14 @@ pub record IsMessageKept (side : Side) (command : Command) (k : ℕ) (old new : 
   pub next : k ≡ length old.messages
   pub kept : new.messages ≡ old.messages ++ reply ∷ []
 
--- What an Ask reports: the reply, or the number of the message that keeps it. A refused Ask changes no message.
+-- Whether an Ask reports this: the reply, or the number of the message that keeps it. A refused Ask changes no message.
 abbrev pub IsAskTold : Side → Command → Outcome → WorldRecord → WorldRecord → Type 0
 IsAskTold side command (Replied reply) old new = IsAnswered side command (Replied reply) reply old new × (new.messages ≡ old.messages)
 IsAskTold side command (Made k) old new = IsMessageKept side command k old new
 IsAskTold side command _ old new = new.messages ≡ old.messages
 
--- What an event reports. The changes and floors that an Ask names are in their ranges, and only an Ask makes a message.
+-- Whether an event reports this. The changes and floors that an Ask names are in their ranges, and only an Ask makes a
+-- message.
 abbrev pub IsTold : Event → Outcome → WorldRecord → WorldRecord → Type 0
 IsTold (Ask side command) outcome old new = IsProper command × IsAskTold side command outcome old new
 IsTold (Deliver k (Store side) count) outcome old new =
@@ -88,17 +89,17 @@ IsTold (Deliver k (Map j) count) outcome old new =
     × (new.messages ≡ old.messages)
 IsTold event outcome old new = new.messages ≡ old.messages
 
--- The events led from each value to the next with these outcomes, and reported so.
+-- Whether the events led from each value to the next with these outcomes, and reported so.
 abbrev pub AreTold : WorldRecord → List (Event × Outcome) → WorldRecord → Type 0
 AreTold old [] new = new ≡ old
 AreTold old (e ∷ es) new = (mid : WorldRecord) × EventLeads e.0 e.1 old mid × IsTold e.0 e.1 old mid × AreTold mid es new
 
--- The existing messages stay, under their numbers.
+-- Whether the existing messages stay, under their numbers.
 abbrev pub MessagesStay : WorldRecord → WorldRecord → Type 0
 MessagesStay old new = (made : List Reply) × (new.messages ≡ old.messages ++ made)
 
--- Each message that an Ask among these events made is the reply of the store's step at that time, after the events
--- before it.
+-- Whether each message that an Ask among these events made is the reply of the store's step at that time, after the
+-- events before it.
 abbrev pub RepliesAreKept : WorldRecord → List (Event × Outcome) → WorldRecord → Type 0
 RepliesAreKept old events new =
     (before since : List (Event × Outcome)) (side : Side) (command : Command) (k : ℕ) (w : World) →

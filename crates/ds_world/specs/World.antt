@@ -15,7 +15,7 @@ use Rattle.ds_machine.specs.declared.reply.Reply.{Reply}
 use Rattle.ds_replica.specs.World.{MapState, World, map_held}
 use Rattle.ds_replica.specs.Happens.{items_given}
 
--- What callers see of a world: its stores, its maps, and its messages, which are the stores' replies.
+-- The value of a world: its stores, its maps, and its messages, which are the stores' replies.
 pub record WorldRecord : Type 0 where
   pub a : ContentRecord
   pub b : ContentRecord
@@ -40,7 +40,7 @@ abbrev pub held_in : WorldRecord → Holder → List Item
 held_in value (Store side) = (store_in value side).held
 held_in value (Map j) = map_held (option_map map_state (slice_get value.maps j))
 
--- The reply has items, as every message does.
+-- Whether the reply has items, as every message does.
 abbrev pub HasItems : Reply → Type 0
 HasItems reply = is_some (items_given reply) ≡ true
 
@@ -48,14 +48,14 @@ HasItems reply = is_some (items_given reply) ≡ true
 abbrev pub kept_items : List Reply → ℕ → Option (List Item)
 kept_items messages k = option_and_then items_given (slice_get messages k)
 
--- The stores' contents stand for the world's stores, the maps are the world's, and each message has the items that it
--- has in the world.
+-- Whether the stores' contents stand for the world's stores, the maps are the world's, and each message has the items
+-- that it has in the world.
 pub record WorldStands (value : WorldRecord) (w : World) : Type 0 where
   pub a : contents.ContentStands value.a w.a
   pub b : contents.ContentStands value.b w.b
   pub maps : w.maps ≡ map map_state value.maps
   pub messages : map items_given value.messages ≡ map Some w.messages
 
--- Each world that the old value stands for leads to one that the new value stands for.
+-- Whether each world that the old value stands for leads to one that the new value stands for.
 abbrev pub Leads : (World → World → Type 0) → WorldRecord → WorldRecord → Type 0
 Leads R old new = (w : World) → WorldStands old w → (after : World) × R w after × WorldStands new after

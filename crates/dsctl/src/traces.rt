@@ -70,8 +70,8 @@ fn with_header<'a>(wrong: WrongLine<'a>, first_line: &'a [u8]) -> WrongLine<'a> 
     }
 }
 
-/// Writes a trace of format 1 in format 2. If it can't be upgraded, standard error gets a word and a line's number,
-/// and what is wrong. Greets a user at a terminal.
+/// Writes a trace of format 1 in format 2. If it can't be upgraded, standard error gets a word, a line number,
+/// and the fault. Greets a user at a terminal.
 pub(crate) fn upgrade_input<R: Runtime + AllocGlobal>(
     rt: &R,
     terminals: Terminals,

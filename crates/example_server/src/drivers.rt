@@ -50,7 +50,7 @@ impl Driver {
         })
     }
 
-    /// Returns RS's command that sweeps everything it left, in this generation and earlier ones.
+    /// Returns RS's command that sweeps everything the driver left, up to this generation.
     pub(crate) fn died(&self) -> Command {
         Command::Sweep {
             caller: Endpoint::rs(),

@@ -11,8 +11,8 @@ use Rattle.rs_core.specs.declared.action.Action.TheVariants.{Kill, Start, Ping, 
 use Rattle.ds_names.specs.Name.{rs_name}
 use Rattle.ds_names.specs.Key.{label_key}
 
--- Copying the action takes no memory. That holds for all of RS's own: only the offer of a text or a blob would take
--- some.
+-- Whether a copy of the action takes no memory. For all of RS's own that holds: only the offer of a text or a blob
+-- would take some.
 abbrev pub IsActionInPlace : Action → Type 0
 IsActionInPlace (Offer change) = IsBodyInPlace change.body
 IsActionInPlace (Kill endpoint) = Unit {0}

@@ -8,7 +8,7 @@ use Rattle.rs_core.specs.declared.state.Running.{Running}
 use Rattle.rs_core.specs.Slots.{SlotsRecord}
 use Rattle.rs_core.specs.State.{up_count}
 
--- A running instance: its generation was used, and its slot isn't below RS's first one.
+-- Whether the instance may run: its generation was used, and its slot isn't below RS's first one.
 pub record IsRunning (first next : ℕ) (r : Running) : Type 0 where
   pub valid : IsEndpoint r.endpoint
   pub given : 0 < r.endpoint.generation
@@ -16,7 +16,7 @@ pub record IsRunning (first next : ℕ) (r : Running) : Type 0 where
   pub slot : first ≤ r.endpoint.slot
   pub failures : r.failures ≤ 1000
 
--- The state of a service has its parts in their ranges.
+-- Whether the parts of a service's state are in their ranges.
 abbrev pub IsState : ℕ → ℕ → State → Type 0
 IsState first next (Up r) = IsRunning first next r
 IsState first next (Waiting p) = p.failures ≤ 1000
@@ -30,11 +30,11 @@ is_at first key (Waiting p) = false
 is_at first key Down = false
 is_at first key GaveUp = false
 
--- 1 for a key that was ever taken, 0 for any other.
+-- The number of times that a key was taken first: 1 for a key that was ever taken, 0 for any other.
 abbrev pub times_given : ℕ → ℕ → ℕ
 times_given given key = if nat_lt key given then 1 else 0
 
--- The slots fit the states: no slot is lost, and none has two instances.
+-- Whether the slots fit the states: no slot is lost, and none has two instances.
 pub record SlotsFit (slots : SlotsRecord) (states : List State) : Type 0 where
   -- a key that was ever taken is either free or has one instance; no other key is
   pub once : (key : ℕ) → count_by (λ k. k == key) slots.freed + count_by (is_at slots.first key) states ≡ times_given slots.given key
@@ -43,12 +43,12 @@ pub record SlotsFit (slots : SlotsRecord) (states : List State) : Type 0 where
   -- no more keys were ever taken than there are services
   pub few : slots.given ≤ length states
 
--- The generation of the first start isn't 1 to 2097152, or the slots don't lie within 16 to 1023.
+-- Whether the generation of the first start isn't 1 to 2097152, or the slots don't lie within 16 to 1023.
 abbrev pub IsOutOfRange : ℕ → ℕ → ℕ → Type 0
 IsOutOfRange slots next first = ((next < 1) ⊎ (2097152 < next)) ⊎ ((first < 16) ⊎ (1024 < first + slots))
 
--- The settings, the tick and the next generation are in their ranges, each service has a state in its range, and the
--- slots fit the states and the settings.
+-- Whether the settings, the tick and the next generation are in their ranges, each service has a state in its range,
+-- and the slots fit the states and the settings.
 pub record IsRs (settings : SettingsRecord) (states : List State) (tick next : ℕ) (slots : SlotsRecord) : Type 0 where
   pub checked : IsSettings settings
   pub count : length states ≡ length settings.services
@@ -62,19 +62,19 @@ pub record IsRs (settings : SettingsRecord) (states : List State) (tick next : �
   pub low : 16 ≤ slots.first
   pub high : slots.first + settings.slots ≤ 1024
 
--- No instance of the service runs in the slot with the key.
+-- Whether no instance of the service runs in the slot with the key.
 abbrev pub IsNotAt : ℕ → ℕ → State → Type 0
 IsNotAt first key (Up r) = r.endpoint.slot ≢ first + key
 IsNotAt first key (Waiting p) = Unit {0}
 IsNotAt first key Down = Unit {0}
 IsNotAt first key GaveUp = Unit {0}
 
--- If both services run, they run in different slots.
+-- Whether the two services, if both run, run in different slots.
 abbrev pub HaveTwoSlots : State → State → Type 0
 HaveTwoSlots (Up r) (Up q) = r.endpoint.slot ≢ q.endpoint.slot
 HaveTwoSlots _ _ = Unit {0}
 
--- The service runs no instance.
+-- Whether the service runs no instance.
 abbrev pub IsAtRest : State → Type 0
 IsAtRest (Up r) = ⊥
 IsAtRest (Waiting p) = p.failures ≤ 1000

@@ -12,18 +12,18 @@ pub record NumbererRecord : Type 0 where
 abbrev pub numberer : ℕ → ℕ → NumbererRecord
 numberer generation next = record { generation = generation; next = next }
 
--- A call of `next` that succeeds: it returns the next number of the generation, and moves on to the one above.
+-- Whether `next` succeeds so: it returns the next number of the generation, and the numberer moves on to the one above.
 pub record Gives (old new : NumbererRecord) (given : Version) : Type 0 where
   pub value : given ≡ version old.generation old.next
   pub left : old.next ≤ 4294967294
   pub after : new ≡ numberer old.generation (old.next + 1)
 
--- Such calls, in order.
+-- Whether such calls, in order, return these versions.
 abbrev pub GiveAll : NumbererRecord → List Version → NumbererRecord → Type 0
 GiveAll old [] new = old ≡ new
 GiveAll old (v ∷ vs) new = (between : NumbererRecord) × Gives old between v × GiveAll between vs new
 
--- Each version is of the generation, and its number is above those before it.
+-- Whether each version is of the generation, and its number is above those before it.
 abbrev pub AreNumbered : ℕ → ℕ → List Version → Type 0
 AreNumbered generation low [] = Unit {0}
 AreNumbered generation low (v ∷ vs) = (v.epoch ≡ generation) × (low ≤ v.seq) × (v.seq < 4294967295) × AreNumbered generation (v.seq + 1) vs

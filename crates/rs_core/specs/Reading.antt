@@ -37,7 +37,7 @@ abbrev pub is_from : Option ℕ → ℕ → Bool
 is_from None tick = false
 is_from (Some first) tick = nat_le first tick
 
--- The test holds from this first tick on, and at no earlier one.
+-- Whether the test holds from this first tick on, and at no earlier one.
 abbrev pub IsFrom : (ℕ → Bool) → Option ℕ → Type 0
 IsFrom test first = (tick : ℕ) → tick ≤ 2 ^ 62 → test tick ≡ is_from first tick
 

@@ -11,7 +11,7 @@ use Rattle.rs_core.specs.declared.event.Event.{Event}
 use Rattle.rs_core.specs.State.{RsRecord}
 use Rattle.rs_core.specs.Step.{RsStep}
 
--- The actions are those of a step at some event and tick.
+-- Whether the actions are those of a step at some event and tick.
 abbrev pub RsActs : RsRecord → List Action → RsRecord → Type 0
 RsActs s actions t = (event : Event) × (tick : ℕ) × RsStep s event tick actions t
 
@@ -37,7 +37,7 @@ offer_of _ = None
 abbrev pub offers : List Action → List ChangeRecord
 offers = filter_map offer_of
 
--- Each generation is above those before it, none is below `low`, and all are below `high`.
+-- Whether each generation is above those before it, none is below `low`, and all are below `high`.
 abbrev pub AreRising : ℕ → List EndpointRecord → ℕ → Type 0
 AreRising low [] high = low ≤ high
 AreRising low (e ∷ es) high = (low ≤ e.generation) × AreRising (e.generation + 1) es high

@@ -43,25 +43,26 @@ pub record Begun : Type 0 where
 abbrev pub begun_at : ℕ → EndpointRecord → Begun
 begun_at place endpoint = record { place = place; endpoint = endpoint }
 
--- The next generation after the step: one more if an instance began, which took the old one, else unchanged.
+-- Whether this is the next generation after the step: one more if an instance began, which took the old one, else
+-- unchanged.
 abbrev pub IsNextAfter : ℕ → Option Begun → ℕ → Type 0
 IsNextAfter next None after = after ≡ next
 IsNextAfter next (Some b) after = (b.endpoint.generation ≡ next) × (after ≡ next + 1) × (next ≤ 2097151)
 
--- The change puts the label of the instance that began.
+-- Whether the change puts the label of the instance that began.
 abbrev pub IsPutOf : RsRecord → Option Begun → ChangeRecord → Type 0
 IsPutOf s None c = ⊥
 IsPutOf s (Some b) c = c ≡ label_put (label_at s b.place) b.endpoint
 
--- The change ends the label of an instance that ran.
+-- Whether the change ends the label of an instance that ran.
 abbrev pub IsGoneOf : RsRecord → ChangeRecord → Type 0
 IsGoneOf s c = (i : ℕ) × (r : Running) × (state_at s i ≡ Up r) × (c ≡ label_gone (label_at s i) r.endpoint.generation)
 
--- The service's instance ran before, or began.
+-- Whether the service's instance ran before, or began.
 abbrev pub RanOrBegan : State → Option Begun → ℕ → EndpointRecord → Type 0
 RanOrBegan old begun i endpoint = ((q : Running) × (old ≡ Up q) × (q.endpoint ≡ endpoint)) ⊎ (begun ≡ Some (begun_at i endpoint))
 
--- What a step with these actions says: at most one instance begins.
+-- The consequences of a step with these actions; at most one instance begins.
 pub record StepSays (s : RsRecord) (actions : List Action) (t : RsRecord) : Type 0 where
   pub settings : t.settings ≡ s.settings
   pub count : length t.states ≡ length s.states
@@ -77,7 +78,7 @@ pub record StepSays (s : RsRecord) (actions : List Action) (t : RsRecord) : Type
   -- whatever runs after the step ran before it or began in it
   pub runs : (i : ℕ) (r : Running) → state_at t i ≡ Up r → RanOrBegan (state_at s i) begun i r.endpoint
 
--- A law: every step says so.
+-- A law: every step has these consequences.
 abbrev pub StepsSay : Type 0
 StepsSay = (s t : RsRecord) (event : Event) (tick : ℕ) (actions : List Action) → RsStep s event tick actions t → StepSays s actions t
 

@@ -2,8 +2,8 @@
 use Rattle.std.specs.Prelude.{ℕ, ◌+◌, List, [], ◌∷◌, refl}
 use Rattle.std.specs.Coded.{Coded, code_by, coded×, coded_ℕ, coded_list}
 
--- RS's slots: the slot with key 0, the freed keys with the last one first, and how many keys were ever taken, all below
--- that number.
+-- The slots of RS: the slot with key 0, the freed keys with the last one first, and how many keys were ever taken, all
+-- below that number.
 pub record SlotsRecord : Type 0 where
   pub first : ℕ
   pub freed : List ℕ
@@ -13,11 +13,11 @@ pub record SlotsRecord : Type 0 where
 abbrev pub slots_from : ℕ → List ℕ → ℕ → SlotsRecord
 slots_from first freed given = record { first = first; freed = freed; given = given }
 
--- Slots of which none was taken.
+-- The slots of which none was taken.
 abbrev pub new_slots : ℕ → SlotsRecord
 new_slots first = slots_from first [] 0
 
--- Slots, coded as the tuple of their parts.
+-- The code of slots: the tuple of their parts.
 abbrev pub slots_code : Coded SlotsRecord
 slots_code =
     code_by (ℕ × (List ℕ × ℕ)) (coded× coded_ℕ (coded× (coded_list coded_ℕ) coded_ℕ)) (λ s. (s.first, (s.freed, s.given)))

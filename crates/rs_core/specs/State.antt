@@ -8,8 +8,8 @@ use Rattle.rs_core.specs.declared.state.State.{State}
 use Rattle.rs_core.specs.declared.state.State.TheVariants.{Down, Up, Waiting, GaveUp}
 use Rattle.rs_core.specs.Slots.{SlotsRecord, slots_code}
 
--- RS: the settings, a state for each of their services in order, the last tick, the generation of the next start, and
--- the slots.
+-- The state of RS: the settings, a state for each of their services in order, the last tick, the generation of the next
+-- start, and the slots.
 pub record RsRecord : Type 0 where
   pub settings : SettingsRecord
   pub states : List State
@@ -21,7 +21,7 @@ pub record RsRecord : Type 0 where
 abbrev pub rs_of : SettingsRecord → List State → ℕ → ℕ → SlotsRecord → RsRecord
 rs_of settings states tick next slots = record { settings = settings; states = states; tick = tick; next = next; slots = slots }
 
--- RS, coded as the tuple of its parts.
+-- The code of RS: the tuple of its parts.
 abbrev pub rs_code : Coded SettingsRecord → Coded State → Coded RsRecord
 rs_code settings state =
     code_by

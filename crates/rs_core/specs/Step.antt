@@ -7,7 +7,7 @@ use Rattle.rs_core.specs.State.{RsRecord, rs_of, state_at, service_at}
 use Rattle.rs_core.specs.Machine.{asked, state_after, actions_of, next_after, slots_after}
 use Rattle.rs_core.specs.Judging.{refusal}
 
--- RS after the plan's deed was done to its service, and to no other.
+-- The state of RS after the plan's deed was done to its service, and to no other.
 abbrev pub done_to : RsRecord → ℕ → Plan → RsRecord
 done_to s tick p =
     rs_of s.settings
@@ -16,22 +16,22 @@ done_to s tick p =
     (next_after s (state_at s p.place) p.deed)
     (slots_after s (state_at s p.place) p.deed)
 
--- The deed is done.
+-- Whether the deed is done.
 pub record IsDone (s : RsRecord) (tick : ℕ) (p : Plan) (actions : List Action) (t : RsRecord) : Type 0 where
   pub done : actions ≡ actions_of s (service_at s p.place) (state_at s p.place) p.deed
   pub after : t ≡ done_to s tick p
 
--- Nothing is due, and only the tick changes.
+-- Whether nothing is due, and only the tick changes.
 pub record IsIdle (s : RsRecord) (tick : ℕ) (actions : List Action) (t : RsRecord) : Type 0 where
   pub done : actions ≡ []
   pub after : t ≡ record s { tick = tick }
 
--- The plan is carried out, or there is none and nothing happens.
+-- Whether the plan is carried out, or there is none and nothing happens.
 abbrev pub IsCarriedOut : RsRecord → ℕ → Option Plan → List Action → RsRecord → Type 0
 IsCarriedOut s tick None actions t = IsIdle s tick actions t
 IsCarriedOut s tick (Some p) actions t = IsDone s tick p actions t
 
--- No fault applies to the event, and what it calls for is done.
+-- Whether no fault applies to the event, and what it calls for is done.
 abbrev pub RsStep : RsRecord → Event → ℕ → List Action → RsRecord → Type 0
 RsStep s event tick actions t =
     (p : Option Plan) × (refusal s event tick ≡ None) × (asked s event tick ≡ Ok p) × IsCarriedOut s tick p actions t

@@ -5,7 +5,7 @@ ghost use Rattle.rs_core.specs.Says.{StepsSay, QuietStepsAreEmpty, LabelsAreFoun
 ghost use Rattle.rs_core.specs.Reading.{StepsGiveUp, TicksActWhenDue};
 ghost use Rattle.rs_core.specs.Numbering.{NumbersRise};
 
-/// A law: over any events, each start has a generation above those of all earlier starts.
+/// A law: whatever the events, each start has a generation above those of all earlier starts.
 pub fn starts_rise()
     ensures { StartsRise }
 {}
@@ -32,7 +32,7 @@ pub fn readings_hold()
     ensures given_up { StepsGiveUp }
 {}
 
-/// A law: a numberer never returns a number twice.
+/// A law: a `Numberer` never returns a number twice.
 pub fn numbers_rise()
     ensures { NumbersRise }
 {}

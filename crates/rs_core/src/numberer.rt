@@ -12,7 +12,7 @@ use thiserror::Error;
 #[error("all sequence numbers are spent")]
 pub struct SeqSpent;
 
-/// Numbers the changes of one generation, each number once. Not part of MINIX 3.
+/// Numbers the changes of one generation, using each number once. Not part of MINIX 3.
 #[derive(Debug, Drop)]
 pub struct Numberer {
     generation: Generation,

@@ -56,7 +56,7 @@ name_in value = option_and_then name_read (as_str value)
 abbrev pub label_in_data : Data → Option (List ℕ)
 label_in_data value = option_and_then (λ name. if is_same name rs_name then None else Some name) (name_in value)
 
--- The names in an array of at most 64.
+-- The names in an array, at most 64.
 abbrev pub names_of : Items → Option (List (List ℕ))
 names_of items = if nat_le (item_count items) 64 then each_of name_in items else None
 

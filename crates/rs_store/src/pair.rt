@@ -43,7 +43,7 @@ impl Model for RsStore {
 }
 
 impl RsStore {
-    /// Opens a store of 128 subscriptions and 4096 keys, before RS has begun. Refuses what `Store::open` refuses.
+    /// Opens a store of 128 subscriptions and 4096 keys; RS hasn't begun. Refuses what `Store::open` refuses.
     pub fn open(alloc: Global, incarnation: u64, first: u64, ring: u32) -> Result<RsStore, Refusal>
         ensures opened { IfOk result (λ p. ContentStands p.store (opening incarnation first ring larger)) }
         ensures fits { OnOk result (IsRing ring × (first ≤ last_place)) }

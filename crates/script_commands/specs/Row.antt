@@ -65,8 +65,8 @@ slot_wants k slots.Item bytes = ItemWantsRoom bytes
 slot_wants k slots.Value bytes = ValueWantsRoom k bytes
 slot_wants k s bytes = ⊥
 
--- The slots are read in order, up to the first bad one. If there is none, `done` holds of their contents; else `failed`
--- holds of the reason.
+-- Whether the slots are read in order, up to the first bad one, and `done` holds of their contents, or `failed` of the
+-- reason.
 abbrev pub ReadsRow : (k : Kind) (ss : List Slot) → List ℕ → ((row_of k ss).Of → Type 0) → (PartFault → Type 0) → Type 0
 ReadsRow k [] bytes done failed = done tt
 ReadsRow k (s ∷ []) bytes done failed =
@@ -76,13 +76,13 @@ ReadsRow k (s ∷ t ∷ ss) bytes done failed =
     (r : Result (piece_of k s).Of PartFault) × (rest : List ℕ) × ReadsOr (slot_wants k s bytes) (piece_of k s) bytes r rest
     × MatchResult r (λ x. ReadsRow (kind_after k s x) (t ∷ ss) rest (λ y. done (x, y)) failed) failed
 
--- The answer is the command, or memory ran out for it.
+-- Whether the answer is the command, or memory ran out for it.
 abbrev pub GivesCommand : ScriptCommand → Result ScriptCommand PartFault → Type 0
 GivesCommand command (Ok given) = command ≡ given
 GivesCommand command (Err stop) = (stop ≡ NoRoom) × CommandTakesMemory command
 
--- The reader of a word's line reads its slots, and answers the command that they make, or why the first bad one can't
--- be read.
+-- Whether the reader of a word's line reads its slots, and answers the command that they make, or why the first bad one
+-- can't be read.
 unfoldable pub TakesRow : Word → List ℕ → Result ScriptCommand PartFault → Type 0
 TakesRow w bytes result =
     ReadsRow U32 (slots_of w) bytes (λ (x : (line_of w).Of). GivesCommand (command_in w x) result)

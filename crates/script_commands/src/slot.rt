@@ -64,7 +64,7 @@ pub enum Slot {
     /// The number of a cause of death, below 2^64.
     Cause,
     /// `file MAJOR block`, `file MAJOR character`, or `net PORT`: the unit of a driver. MAJOR and PORT are 0 to 255.
-    /// They are one slot, since the first word decides what follows it.
+    /// These words are one slot: the first decides what follows it.
     Device,
     /// `file` or `net`.
     Server,

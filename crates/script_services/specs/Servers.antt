@@ -30,7 +30,7 @@ with_table s Net t = record s { net = t }
 abbrev pub with_rs : Servers → Option RsRecord → Servers
 with_rs s services = record s { services = services }
 
--- What the code keeps of them.
+-- The value of the servers: what the code keeps of them.
 pub record ServersRecord : Type 0 where
   pub services : Option RsRecord
   pub file : TableRecord
@@ -40,12 +40,12 @@ pub record ServersRecord : Type 0 where
 abbrev pub servers_of : Option RsRecord → TableRecord → TableRecord → ServersRecord
 servers_of services file net = record { services = services; file = file; net = net }
 
--- RS is the value's, and the value's tables stand for the tables.
+-- Whether RS is the value's, and the value's tables stand for the tables.
 pub record ServersStand (value : ServersRecord) (s : Servers) : Type 0 where
   pub services : s.services ≡ value.services
   pub file : TableStands value.file s.file
   pub net : TableStands value.net s.net
 
--- R leads from all servers that the old value stands for to servers that the new value stands for.
+-- Whether R leads from all servers that the old value stands for to servers that the new value stands for.
 abbrev pub ServersLead : (Servers → Servers → Type 0) → ServersRecord → ServersRecord → Type 0
 ServersLead R old new = (s : Servers) → ServersStand old s → (t : Servers) × R s t × ServersStand new t

@@ -33,12 +33,12 @@ use Rattle.script_services.specs.Servers.{Servers, ServersRecord, with_rs}
 
 -- ---- settings
 
--- RS with settings that were just accepted: every service is down, and the first start has generation 1.
+-- The state of RS with settings that were just accepted: every service is down, and the first start has generation 1.
 abbrev pub begun_with : SettingsRecord → RsRecord
 begun_with settings = rs_of settings (replicate (length settings.services) Down) 0 1 (new_slots 16)
 
--- RS after a settings text, and the answer: the text's settings are accepted, or its fault is reported; once settings
--- are accepted, later texts are ignored.
+-- The state of RS after a settings text, and the answer: the text's settings are accepted, or its fault is reported.
+-- Once settings are accepted, later texts are ignored.
 abbrev pub settings_outcome : Option RsRecord → Result SettingsRecord SettingsFault → Option RsRecord × List ℕ
 settings_outcome (Some rs) read = (Some rs, exists_line)
 settings_outcome None (Ok settings) = (Some (begun_with settings), settings_line (length settings.services) settings.slots)
@@ -61,8 +61,8 @@ without_settings (Death endpoint cause) = Err OldEndpoint
 without_settings (Beat endpoint) = Err OldEndpoint
 without_settings Tick = Ok []
 
--- RS's answer: the actions of its step, or the first cause against the event. NoRoom comes last, and only for an event
--- that has actions; a refused event changes nothing.
+-- Whether this is RS's answer: the actions of its step, or the first cause against the event. NoRoom comes last, and
+-- only for an event that has actions; a refused event changes nothing.
 abbrev pub RsAnswers : RsRecord → services.Event → ℕ → Result (List Action) RsFault → RsRecord → Type 0
 RsAnswers rs event tick (Ok actions) after = RsStep rs event tick actions after
 RsAnswers rs event tick (Err NoRoom) after = (refusal rs event tick ≡ None) × (asks has_actions (asked rs event tick) ≡ true) × (after ≡ rs)
@@ -75,7 +75,7 @@ ServicesAnswer (Some rs) event tick answer after = (new : RsRecord) × RsAnswers
 
 -- ---- the commands of its actions
 
--- The store of a side gets a command, and its reply is written: an event of the world.
+-- Whether the store of a side gets a command, and its reply is written: an event of the world.
 pub record AsksStore (side : Side) (command : Command) (old : WorldRecord) (out : List ℕ) (events : List (Event × Outcome)) (new : WorldRecord) : Type 0 where
   pub reply : Reply
   pub leads : EventLeads (Ask side command) (Replied reply) old new
@@ -88,7 +88,7 @@ abbrev pub AsksIfAny : Side → Option Command → WorldRecord → List ℕ → 
 AsksIfAny side None old out events new = (out ≡ []) × (events ≡ []) × (new ≡ old)
 AsksIfAny side (Some command) old out events new = AsksStore side command old out events new
 
--- Each action has its line, followed by the store's reply.
+-- Whether each action has its line, followed by the store's reply.
 abbrev pub AnswersActions : Side → List Action → WorldRecord → List ℕ → List (Event × Outcome) → WorldRecord → Type 0
 AnswersActions side [] old out events new = (out ≡ []) × (events ≡ []) × (new ≡ old)
 AnswersActions side (action ∷ actions) old out events new =
@@ -103,7 +103,8 @@ TellsActions side (Ok actions) old out events new =
     (lines : List ℕ) × AnswersActions side actions old lines events new × (out ≡ lines ++ action_count_line (length actions))
 TellsActions side (Err fault) old out events new = (out ≡ rs_fault_line fault) × (events ≡ []) × (new ≡ old)
 
--- RS gets an event at a tick, and its label changes and sweeps go to the store of the side; the tables are unchanged.
+-- Whether RS gets an event at a tick, and its label changes and sweeps go to the store of the side; the tables are
+-- unchanged.
 pub record AnswersService (event : services.Event) (tick : ℕ) (side : Side) (old : ServersRecord) (from : WorldRecord) (out : List ℕ) (new : ServersRecord) (to : WorldRecord) : Type 0 where
   pub answer : Result (List Action) RsFault
   pub events : List (Event × Outcome)

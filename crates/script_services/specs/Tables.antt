@@ -41,7 +41,7 @@ abbrev pub assign_text : Result (List Move) TableFault → List ℕ
 assign_text (Ok moves) = assigned_line
 assign_text (Err fault) = table_fault_line fault
 
--- A call on a server's table, and the text of its answer.
+-- Whether a call on a server's table has this text as its answer.
 pub record AnswersCall (server : Server) (call : Call) (text : Result (List Move) TableFault → List ℕ) (s : Servers) (out : List ℕ) (t : Servers) : Type 0 where
   pub answer : Result (List Move) TableFault
   pub table : DriverTable
@@ -83,12 +83,12 @@ abbrev pub ended_by : Option TableFault → Result (List Move) TableFault
 ended_by None = Ok []
 ended_by (Some fault) = Err fault
 
--- Unless something ended earlier, a table follows a map that holds these items.
+-- Whether a table, unless something ended earlier, follows a map that holds these items.
 abbrev pub FollowsNext : Option TableFault → List Item → DriverTable → List (List Move) → Option TableFault → DriverTable → Type 0
 FollowsNext None held t rounds fault u = Follows held (labels_of t) t rounds fault u
 FollowsNext (Some stop) held t rounds fault u = (rounds ≡ []) × (fault ≡ Some stop) × (u ≡ t)
 
--- The file server's table follows first, and then, unless something ended that, the network server's.
+-- Whether the file server's table follows first, and then, unless something ended that, the network server's.
 pub record BothFollow (held : List Item) (s : Servers) (rounds : List (List Move)) (fault : Option TableFault) (t : Servers) : Type 0 where
   pub first : List (List Move)
   pub next : List (List Move)
@@ -111,8 +111,8 @@ AnswersFollow None s out t = (t ≡ s) × (out ≡ nomap_line)
 AnswersFollow (Some held) s out t =
     (rounds : List (List Move)) × (fault : Option TableFault) × BothFollow held s rounds fault t × (out ≡ moves_text (all_in rounds) (ended_by fault))
 
--- Without a map nothing happens; else the moves of the follow come before the request's own move, or before its
--- refusal.
+-- Whether a request is answered so: without a map nothing happens; else the moves of the follow come before the
+-- request's own move, or before its refusal.
 abbrev pub AnswersSubmit : Server → ℕ → ℕ → Option (List Item) → Servers → List ℕ → Servers → Type 0
 AnswersSubmit server id unit None s out t = (t ≡ s) × (out ≡ nomap_line)
 AnswersSubmit server id unit (Some held) s out t =

@@ -17,7 +17,7 @@ use Rattle.script_services.specs.Services.{AsksIfAny, TellsActions, AnswersServi
 abbrev pub AppendsLed : (Servers → List ℕ → Servers → Type 0) → (before after : List ℕ) → (old new : ServersRecord) → Type 0
 AppendsLed R before after old new = (out : List ℕ) × (after ≡ before ++ out) × ServersLead (λ s t. R s out t) old new
 
--- Memory ran out: the line is refused, and nothing changes.
+-- Whether memory ran out, so that the line is refused and nothing changes.
 abbrev pub AreServersRefused : ServersRecord → List ℕ → ServersRecord → Type 0
 AreServersRefused old out new = (new ≡ old) × (out ≡ refused_noroom)
 

@@ -20,8 +20,8 @@ use script_commands::Server;
 use std::alloc::Global;
 
 impl Servers {
-    /// Follows a map with both tables: the file server's first and then, unless memory ran out for that, the network
-    /// server's. Appends their moves and the number of moves.
+    /// Follows a map with both tables: the file server's and then, unless memory runs out for the first, the network
+    /// server's. Appends all moves and their number; or, if memory runs out, the cause.
     pub fn follow(
         &mut self,
         alloc: Global,
@@ -40,7 +40,7 @@ impl Servers {
         append_moves(output, &rounds, &ended_by(ended))
     }
 
-    /// Follows a map with a server's table, which then takes a request to a unit by an id. Appends all moves and their
+    /// Follows a map with a server's table, which then takes request `id` to `unit`. Appends all moves and their
     /// number; if the request is refused, or memory runs out, the moves that were made and then the cause.
     pub fn submit(
         &mut self,

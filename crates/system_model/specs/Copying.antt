@@ -3,7 +3,8 @@ use Rattle.std.specs.Prelude.{◌≢◌, ◌⊎◌, []}
 use Rattle.system_model.specs.declared.outcome.SystemOutcome.{SystemOutcome}
 use Rattle.system_model.specs.declared.outcome.SystemOutcome.TheVariants.{Acted, Moved, Refused}
 
--- An outcome with an action, a reply or a round; and an outcome of a store or a world, which may have items or a text.
+-- Whether a copy of the outcome takes memory: it has an action, a reply or a round, or it is that of a store or a
+-- world, which may have items or a text.
 abbrev pub CopyTakesRoom : SystemOutcome → Type 0
 CopyTakesRoom (Acted actions replies) = (actions ≢ []) ⊎ (replies ≢ [])
 CopyTakesRoom (Moved rounds own fault) = rounds ≢ []

@@ -40,14 +40,14 @@ judged_kind numberers key content it =
     else if is_spent (numbers_left numberers it) then Err SeqSpent
     else Ok it
 
--- Before that, the state of the service at this index.
+-- The instance, or the cause against it: first the state of the service at this index, then as `judged_kind`.
 abbrev pub judged_state : List NumbererRecord → Key → Body → ℕ → State → Result Instance SystemFault
 judged_state numberers key content i (Up r) = judged_kind numberers key content (record { place = i; running = r })
 judged_state numberers key content i Down = Err NotUp
 judged_state numberers key content i (Waiting p) = Err NotUp
 judged_state numberers key content i GaveUp = Err NotUp
 
--- Before that, whether there is a service and what it declares.
+-- The instance, or the cause against it: first whether there is a service and what it declares, then as `judged_state`.
 abbrev pub judged_place : RsRecord → List NumbererRecord → Key → Body → Option ℕ → Result Instance SystemFault
 judged_place rs numberers key content None = Err UnknownLabel
 judged_place rs numberers key content (Some i) =

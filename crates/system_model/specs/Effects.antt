@@ -42,16 +42,16 @@ pub record WorldDoes (s : System) (steps : Steps) (events : WorldEvents) (t : Sy
   pub proper : AreProper events
   pub happen : HappenAll s.world events t.world
 
--- RS made a step: its label changes and sweeps went to the store of the side, in order, and the label changes were
--- added to `made`.
+-- Whether RS made a step: its label changes and sweeps went to the store of the side, in order, and the label changes
+-- were added to `made`.
 pub record Acts (s : System) (event : services.Event) (tick : ℕ) (side : Side) (actions : List Action) (replies : List Reply) (steps : Steps) (t : System) : Type 0 where
   pub step : RsStep s.rs event tick actions t.rs
   pub one_each : length replies ≡ length (commands actions)
   pub asked : WorldDoes s steps (asks_replied side (commands actions) replies) t
   pub system_is : t ≡ record s { rs = t.rs; world = t.world; made = s.made ++ offers actions }
 
--- The change of the service with the label was accepted: its instance drew a number, and the change was made and went
--- to the store of the side, from the instance's endpoint.
+-- Whether the change of the service with the label was accepted: its instance drew a number, and the change was made
+-- and went to the store of the side, from the instance's endpoint.
 pub record WritesEntry (s : System) (label : List ℕ) (key : Key) (content : Body) (side : Side) (reply : Reply) (steps : Steps) (t : System) : Type 0 where
   pub instance : Instance
   pub judged_is : judged s.rs s.numberers label key content ≡ Ok instance
@@ -61,14 +61,14 @@ pub record WritesEntry (s : System) (label : List ℕ) (key : Key) (content : Bo
   pub asked : WorldDoes s steps ((Ask side (asking_for instance.running.endpoint key number content), Replied reply) ∷ []) t
   pub system_is : t ≡ record s { numberers = slice_set s.numberers instance.place left; world = t.world; made = s.made ++ change_of key label number content ∷ [] }
 
--- A change that was made went to the store of the side again; nothing new was made.
+-- Whether a change that was made went to the store of the side again, and nothing new was made.
 pub record Repeats (s : System) (k : ℕ) (side : Side) (reply : Reply) (steps : Steps) (t : System) : Type 0 where
   pub change : ChangeRecord
   pub there : slice_get s.made k ≡ Some change
   pub asked : WorldDoes s steps ((Ask side (Merge (Changed change ∷ [])), Replied reply) ∷ []) t
   pub system_is : t ≡ record s { world = t.world; made = s.made }
 
--- The world's event happened.
+-- Whether the world's event happened.
 pub record Passes (s : System) (event : worlds.Event) (outcome : outcomes.Outcome) (steps : Steps) (t : System) : Type 0 where
   pub allowed : is_barred event ≡ false
   pub asked : WorldDoes s steps ((event, outcome) ∷ []) t
@@ -76,23 +76,23 @@ pub record Passes (s : System) (event : worlds.Event) (outcome : outcomes.Outcom
 
 -- ---- what the servers do
 
--- A server's table had a turn, in which it followed its map.
+-- Whether a server's table had a turn, in which it followed its map.
 pub record LooksAtMap (s : System) (table : Table) (turn : TableTurn) : Type 0 where
   pub before : turn.before ≡ table_at s table
   pub follows : FollowsItems (followed_items s table) turn
 
--- The turn has no request.
+-- Whether the turn has no request.
 pub record IsPlain (turn : TableTurn) : Type 0 where
   pub none : turn.own ≡ None
   pub after : turn.after ≡ turn.followed
 
--- Unless something ended the file server's turn, the network server had one too, with these rounds, this fault and this
--- table after it.
+-- Whether, unless something ended the file server's turn, the network server had one too, with these rounds, this fault
+-- and this table after it.
 abbrev pub LooksToo : System → Option TableFault → Option TableTurn → List (List Move) → Option TableFault → DriverTable → Type 0
 LooksToo s None net rounds fault after = (turn : TableTurn) × (net ≡ Some turn) × LooksAtMap s Net turn × IsPlain turn × (rounds ≡ turn.rounds) × (fault ≡ turn.stop) × (after ≡ turn.after)
 LooksToo s (Some stop) net rounds fault after = (net ≡ None) × (rounds ≡ []) × (fault ≡ Some stop) × (after ≡ s.net)
 
--- Both servers followed their maps, the file server first.
+-- Whether both servers followed their maps, the file server first.
 pub record FollowsBoth (s : System) (rounds : List (List Move)) (own : Option Move) (fault : Option TableFault) (steps : Steps) (t : System) : Type 0 where
   pub file : TableTurn
   pub first : LooksAtMap s File file
@@ -105,7 +105,7 @@ pub record FollowsBoth (s : System) (rounds : List (List Move)) (own : Option Mo
   pub steps_are : steps ≡ record no_steps { file = Some file; net = net }
   pub system_is : t ≡ record s { file = file.after; net = t.net }
 
--- The request, unless the follow ended early: it has a move, or is refused, or memory runs out for it.
+-- Whether the request, unless the follow ended early, has a move, or is refused, or runs out of memory.
 abbrev pub Submits : DriverTable → ℕ → ℕ → Option TableFault → Option Move → Option TableFault → DriverTable → Type 0
 Submits followed id unit (Some stop) own fault after = (own ≡ None) × (fault ≡ Some stop) × (after ≡ followed)
 Submits followed id unit None None (Some NoRoom) after = IsOk (submitting followed id unit).0 × (after ≡ followed)
@@ -113,7 +113,7 @@ Submits followed id unit None None (Some fault) after = ((submitting followed id
 Submits followed id unit None (Some own) None after = submitting followed id unit ≡ (Ok own, after)
 Submits followed id unit None _ _ after = ⊥
 
--- A server followed its map, and took a request.
+-- Whether a server followed its map, and took a request.
 pub record FollowsAndSubmits (s : System) (table : Table) (id unit : ℕ) (rounds : List (List Move)) (own : Option Move) (fault : Option TableFault) (steps : Steps) (t : System) : Type 0 where
   pub turn : TableTurn
   pub first : LooksAtMap s table turn
@@ -123,13 +123,13 @@ pub record FollowsAndSubmits (s : System) (table : Table) (id unit : ℕ) (round
   pub steps_are : steps ≡ turn_alone table turn
   pub system_is : t ≡ system_with_table s table turn.after
 
--- A reply ends its request, or is refused and changes nothing.
+-- Whether a reply ends its request, or is refused and changes nothing.
 abbrev pub Replies : DriverTable → EndpointRecord → ℕ → Option Move → Option TableFault → DriverTable → Type 0
 Replies t endpoint id (Some own) None after = replying t endpoint id ≡ (Ok own, after)
 Replies t endpoint id None (Some fault) after = ((replying t endpoint id).0 ≡ Err fault) × (after ≡ t)
 Replies t endpoint id _ _ after = ⊥
 
--- A driver replied.
+-- Whether a driver replied.
 pub record TakesReply (s : System) (table : Table) (endpoint : EndpointRecord) (id : ℕ) (rounds : List (List Move)) (own : Option Move) (fault : Option TableFault) (steps : Steps) (t : System) : Type 0 where
   pub none : rounds ≡ []
   pub after : DriverTable

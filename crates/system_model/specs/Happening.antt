@@ -25,13 +25,13 @@ SystemTakes s (Submit table id unit) (Moved rounds own fault) steps t = FollowsA
 SystemTakes s (Answered table endpoint id) (Moved rounds own fault) steps t = TakesReply s table endpoint id rounds own fault steps t
 SystemTakes s event outcome steps t = ⊥
 
--- The event was refused, and nothing changed.
+-- Whether the event was refused, and nothing changed.
 pub record IsRefusedSo (s : System) (event : SystemEvent) (fault : SystemFault) (steps : Steps) (t : System) : Type 0 where
   pub refused : IsSystemRefused s event fault
   pub steps_are : steps ≡ no_steps
   pub system_is : t ≡ s
 
--- The event has this outcome, by these steps.
+-- Whether the event has this outcome, by these steps.
 abbrev pub SystemDoes : System → SystemEvent → SystemOutcome → Steps → System → Type 0
 SystemDoes s event (Refused fault) steps t = IsRefusedSo s event fault steps t
 SystemDoes s event outcome steps t = SystemTakes s event outcome steps t

@@ -31,13 +31,13 @@ use Rattle.system_model.specs.Happening.{SystemEntry, SystemRun, all_events}
 use Rattle.system_model.specs.Start.{IsNew, account_since}
 use Rattle.system_model.specs.Numbers.{NumbersAreDrawnOnce}
 
--- No delivery among these events is stopped because an item contradicts what is held.
+-- Whether no delivery among these events is stopped because an item contradicts what is held.
 abbrev pub NoneIsContradicted : WorldEvents → Type 0
 NoneIsContradicted events =
     (front back : WorldEvents) (k : ℕ) (holder : Holder) (count : Option ℕ) (done : ℕ) (fault : Refusal) (owed : ℕ) →
     front ++ (Deliver k holder count, Stopped done fault owed) ∷ back ≡ events → ¬ IsContradiction fault
 
--- A run of calls led to the table from an empty one, so all laws of driver tables over runs apply to it.
+-- Whether a run of calls led to the table from an empty one, so that all laws of driver tables over runs apply to it.
 abbrev pub IsCalled : DriverTable → Type 0
 IsCalled t = (calls : List Call) × TableRun empty_table calls t
 

@@ -17,24 +17,24 @@ use Rattle.system_model.specs.System.{System}
 use Rattle.system_model.specs.Drawing.{Instance, judged}
 use Rattle.system_model.specs.Steps.{is_barred}
 
--- RS's own refusal; or out of memory, if RS has none and the event has actions.
+-- Whether this is RS's own refusal; or out of memory, if RS has none and the event has actions.
 abbrev pub IsServiceFault : RsRecord → services.Event → ℕ → RsFault → Type 0
 IsServiceFault rs event tick faults.NoRoom = (refusal rs event tick ≡ None) × (asks has_actions (asked rs event tick) ≡ true)
 IsServiceFault rs event tick fault = refusal rs event tick ≡ Some fault
 
--- The first cause against a service's change; or out of memory, if there is none.
+-- Whether this is the first cause against a service's change; or out of memory, if there is none.
 abbrev pub IsWriteFault : Result Instance SystemFault → SystemFault → Type 0
 IsWriteFault judgement refusals.NoRoom = IsOk judgement
 IsWriteFault judgement fault = judgement ≡ Err fault
 
--- The made change of this number puts a text or a blob, whose copy takes memory.
+-- Whether the made change of this number puts a text or a blob, whose copy takes memory.
 pub record CopyTakesRoom (made : List ChangeRecord) (k : ℕ) : Type 0 where
   pub change : ChangeRecord
   pub there : slice_get made k ≡ Some change
   pub takes : ¬ IsBodyInPlace change.body
 
--- The event is refused by this fault; no other fault refuses an event, and nothing refuses a Follow, a Submit or an
--- Answered as a whole.
+-- Whether the event is refused by this fault. No other fault refuses an event, and nothing refuses a Follow, a Submit
+-- or an Answered as a whole.
 abbrev pub IsSystemRefused : System → SystemEvent → SystemFault → Type 0
 IsSystemRefused s (Service event tick side) (refusals.Service fault) = IsServiceFault s.rs event tick fault
 IsSystemRefused s (Put label key value side) fault = IsWriteFault (judged s.rs s.numberers label key (bodies.Put value)) fault

@@ -82,7 +82,7 @@ is_late t label c = is_old_tombstone (newest t.states label) c.version.epoch c.b
 abbrev pub is_passed : DriverTable → List ℕ → ChangeRecord → Bool
 is_passed t label c = is_late t label c || is_old_for t.states label (endpoint_in c.body)
 
--- The move is under a label, and goes to no older generation.
+-- Whether the move is under a label, and goes to no older generation.
 pub record GoesToNoOlder (held : List Item) (turn : TableTurn) (earlier : List Sending) (m : Move) (e : EndpointRecord) : Type 0 where
   pub label : List ℕ
   pub under : label_of turn.after m ≡ Some label
@@ -95,12 +95,12 @@ pub record GoesToNoOlder (held : List Item) (turn : TableTurn) (earlier : List S
   -- and if the label lives in the map, and isn't passed over, the endpoint is the map's
   pub own : (c : ChangeRecord) (f : EndpointRecord) → held_at held (label_key label) ≡ Some c → endpoint_in c.body ≡ Some f → is_passed turn.before label c ≡ false → e ≡ f
 
--- The label's endpoint and newest generation are unchanged.
+-- Whether the label's endpoint and newest generation are unchanged.
 pub record IsAsBefore (t u : DriverTable) (label : List ℕ) : Type 0 where
   pub now : endpoint_now u.states label ≡ endpoint_now t.states label
   pub newest : newest u.states label ≡ newest t.states label
 
--- The turn is right over a map that holds these items, after these Sends and Starts.
+-- Whether the turn is right over a map that holds these items, after these Sends and Starts.
 pub record FollowsRightly (held : List Item) (turn : TableTurn) (earlier : List Sending) : Type 0 where
   -- each Send and Start goes to no older generation
   pub sends : (front back : List Move) (m : Move) (e : EndpointRecord) → turn_moves turn ≡ front ++ m ∷ back → goal_of m ≡ Some e →
@@ -144,15 +144,15 @@ abbrev pub moves_had : Option TableTurn → List Move
 moves_had None = []
 moves_had (Some turn) = turn_moves turn
 
--- The turn is the table's between these systems, over its own map, and right; it has no early end if the event has
--- none.
+-- Whether the turn is the table's between these systems, over its own map, and right, and has no early end if the event
+-- has none.
 pub record IsRightTurn (s : System) (outcome : SystemOutcome) (table : Table) (turn : TableTurn) (earlier : List Sending) (t : System) : Type 0 where
   pub before : turn.before ≡ table_at s table
   pub after : turn.after ≡ table_at t table
   pub right : FollowsRightly (followed_items s table) turn earlier
   pub whole : is_whole outcome ≡ true → turn.stop ≡ None
 
--- The turns of the event are right, after all that each table sent earlier.
+-- Whether the turns of the event are right, after all that each table sent earlier.
 pub record TurnsAreRight (s : System) (entry : SystemEntry) (earlier : Table → List Sending) (t : System) : Type 0 where
   -- the moves that the outcome reports are those of the turns, the file server's first
   pub told : is_look entry.event ≡ true → moves_told entry.outcome ≡ moves_had entry.steps.file ++ moves_had entry.steps.net

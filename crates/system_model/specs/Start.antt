@@ -63,8 +63,8 @@ net_unit s = unit_with s.unit (net_driver_of s.class s.label)
 abbrev pub assigned_all : List (ℕ × Driver) → DriverTable
 assigned_all units = fold (λ (t : DriverTable) (u : ℕ × Driver). (assigning t u.0 u.1).1) empty_table units
 
--- Every service is down and drew no number; both stores are empty, and both maps exist; each server has the settings'
--- units, in order; no change was made.
+-- Whether the system is new: every service is down and drew no number; both stores are empty, and both maps exist; each
+-- server has the settings' units, in order; no change was made.
 pub record IsNew (settings : SettingsRecord) (a b : Seed) (next : ℕ) (s : System) : Type 0 where
   pub checked : IsSettings settings
   pub some : 1 ≤ next

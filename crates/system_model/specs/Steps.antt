@@ -13,7 +13,7 @@ use Rattle.system_model.specs.declared.event.Table.{Table}
 use Rattle.system_model.specs.declared.event.Table.TheVariants.{File, Net}
 use Rattle.system_model.specs.Turn.{TableTurn}
 
--- Events of the world, each with its outcome.
+-- The events of the world, each with its outcome.
 abbrev pub WorldEvents : Type 0
 WorldEvents = List (Event × Outcome)
 
@@ -26,7 +26,7 @@ pub record Steps : Type 0 where
 abbrev pub no_steps : Steps
 no_steps = record { events = []; file = None; net = None }
 
--- Events of the world, without a turn.
+-- The steps of these events of the world, without a turn.
 abbrev pub events_alone : WorldEvents → Steps
 events_alone events = record no_steps { events = events }
 
@@ -40,13 +40,13 @@ abbrev pub turn_in : Steps → Table → Option TableTurn
 turn_in steps File = steps.file
 turn_in steps Net = steps.net
 
--- Each of the commands was sent to the store of the side, and had this reply.
+-- The Asks of these commands, in order, to the store of the side, each with its reply.
 abbrev pub asks_replied : Side → List Command → List Reply → WorldEvents
 asks_replied side [] replies = []
 asks_replied side (command ∷ commands) [] = []
 asks_replied side (command ∷ commands) (reply ∷ replies) = (Ask side command, Replied reply) ∷ asks_replied side commands replies
 
--- The parts of these commands are in the ranges of their types.
+-- Whether the parts of these events are in the ranges of their types.
 abbrev pub AreProper : WorldEvents → Type 0
 AreProper events = (e : Event × Outcome) → Contains events e → IsProperEvent e.0
 

@@ -21,7 +21,7 @@ pub record TableTurn : Type 0 where
   -- the table after the turn
   pub after : DriverTable
 
--- In the turn the table follows a map that holds these items.
+-- Whether the table follows, in the turn, a map that holds these items.
 abbrev pub FollowsItems : List Item → TableTurn → Type 0
 FollowsItems held turn = Follows held (labels_of turn.before) turn.before turn.rounds turn.stop turn.followed
 

@@ -44,34 +44,36 @@ plain_turn before rounds after = record { before = before; rounds = rounds; stop
 abbrev pub request_turn : DriverTable → Move → TableTurn
 request_turn t m = record (plain_turn t [] t) { own = Some m }
 
--- The table does nothing, though its map has the label.
+-- Whether a turn is right in which the table does nothing, though its map has the label.
 abbrev pub DoesNothing : Type 0
 DoesNothing = FollowsRightly (lives_at young) (plain_turn (disk_table []) [] (disk_table [])) []
 
--- The table sends again to the endpoint that it had, though its map has a newer one.
+-- Whether a turn is right in which the table sends again to its old endpoint, though its map has a newer one.
 abbrev pub SendsToOld : Type 0
 SendsToOld = FollowsRightly (lives_at young) (plain_turn (disk_table (Some old ∷ [])) ((Send 7 old ∷ []) ∷ []) (disk_table (Some old ∷ []))) []
 
--- The table sends a request there, without following its map.
+-- Whether a turn is right in which the table sends a request there, without following its map.
 abbrev pub SubmitsUnseen : Type 0
 SubmitsUnseen = FollowsRightly (lives_at young) (request_turn (disk_table (Some old ∷ [])) (Send 7 old)) []
 
--- The table sends to the very endpoint that its map says is gone, without following its map.
+-- Whether a turn is right in which the table sends to the very endpoint that its map says is gone, without following
+-- its map.
 abbrev pub SendsToGone : Type 0
 SendsToGone = FollowsRightly (gone_since 2) (request_turn (disk_table (Some young ∷ [])) (Send 7 young)) []
 
--- The table takes the state of another, older map.
+-- Whether a turn is right in which the table takes the state of another, older map.
 abbrev pub FollowsAnotherMap : Type 0
 FollowsAnotherMap = FollowsRightly (lives_at young) (plain_turn (disk_table []) ((Send 7 old ∷ []) ∷ []) (disk_table (Some old ∷ []))) []
 
--- The table takes an old tombstone for the end of its driver.
+-- Whether a turn is right in which the table takes an old tombstone for the end of its driver.
 abbrev pub EndsByOldTombstone : Type 0
 EndsByOldTombstone = FollowsRightly (gone_since 1) (plain_turn (disk_table (Some young ∷ [])) ([] ∷ []) (disk_table (Some young ∷ None ∷ []))) []
 
--- The table sends to the endpoint of its map, which was cleared and filled anew, though it sent to a newer one before.
+-- Whether a turn is right in which the table sends to the endpoint of its map, which was cleared and filled anew,
+-- though it sent to a newer one before.
 abbrev pub GoesBack : Type 0
 GoesBack = FollowsRightly (lives_at old) (plain_turn (disk_table (Some young ∷ [])) ((Send 7 old ∷ []) ∷ []) (disk_table (Some young ∷ Some old ∷ []))) (record { label = disk; endpoint = young } ∷ [])
 
--- A law: none of them is right.
+-- A law: none of these turns is right.
 abbrev pub WrongTurns : Type 0
 WrongTurns = (¬ DoesNothing) × (¬ SendsToOld) × (¬ SubmitsUnseen) × (¬ SendsToGone) × (¬ FollowsAnotherMap) × (¬ EndsByOldTombstone) × (¬ GoesBack)

@@ -83,7 +83,7 @@ pub enum SystemFault {
     /// No change of this number was made.
     #[error("there is no such change")]
     NoMessage,
-    /// Only RS and the services bring something in.
+    /// The event brings something in; only RS and the services may.
     #[error("only RS and the services may bring something in")]
     NotAllowed,
     /// Out of memory.

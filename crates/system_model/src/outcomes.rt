@@ -24,7 +24,7 @@ impl Model for SystemOutcomes {
 }
 
 impl SystemOutcomes {
-    /// Takes a `Vec` over. It takes no memory.
+    /// Wraps a `Vec`, and takes no memory.
     pub fn of(outcomes: Vec<SystemOutcome>) -> SystemOutcomes
         ensures { result ≡ outcomes.items }
     {

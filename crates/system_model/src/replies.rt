@@ -24,7 +24,7 @@ impl Model for Replies {
 }
 
 impl Replies {
-    /// Takes a `Vec` over. It takes no memory.
+    /// Wraps a `Vec`, and takes no memory.
     pub fn of(replies: Vec<Reply>) -> Replies
         ensures { result ≡ replies.items }
     {

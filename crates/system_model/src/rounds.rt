@@ -33,7 +33,7 @@ impl Rounds {
         }
     }
 
-    /// Takes a `Vec` over. It takes no memory.
+    /// Wraps a `Vec`, and takes no memory.
     pub fn of(rounds: Vec<Moves>) -> Rounds
         ensures { result ≡ rounds.items }
     {

@@ -7,8 +7,8 @@ use ds_line::{read_change, read_item, write_change, write_item};
 use std::alloc::Global;
 use test_kit::append_items;
 
-/// Writes each change, remade with a copy of its value. `None`: a line isn't parsed whole, the two differ, or out of
-/// memory.
+/// Writes each change, remade with a copy of its value. `None` if a line isn't parsed whole, the two differ, or memory
+/// runs out.
 pub(crate) fn tell_changes(text: &mut Vec<u8>, alloc: Global) -> Option<()> {
     tell(text, &[b"changes, made again of copies of their parts\n"])?;
     for line in CHANGES {
@@ -38,7 +38,7 @@ fn made_again(alloc: Global, change: &Change) -> Option<Change> {
     Change::make(*change.key(), *change.owner(), change.version(), body).ok()
 }
 
-/// Writes a copy of each item. `None`: a line isn't parsed whole, the two differ, or out of memory.
+/// Writes a copy of each item. `None` if a line isn't parsed whole, the two differ, or memory runs out.
 pub(crate) fn tell_items_again(text: &mut Vec<u8>, alloc: Global) -> Option<()> {
     tell(text, &[b"items, copied one by one\n"])?;
     for line in FLOORS {

@@ -39,7 +39,7 @@ impl Others for Driver {
     }
 }
 
-/// Returns the version that it publishes with.
+/// Returns the version the driver publishes with.
 pub(crate) fn first_version() -> Option<Version> {
     version(3, 0)
 }

@@ -4,7 +4,7 @@ use ds_machine::{Command, Refusal, Reply};
 use ds_reader::Others;
 use ds_store::Store;
 
-/// Checks the subscription for one item each time it is its turn.
+/// Checks the subscription for one item on each turn.
 #[derive(Drop)]
 pub(crate) struct Rival {
     /// The subscription's number.

@@ -19,7 +19,7 @@ pub(crate) struct Sizes {
     pub calls: u32,
 }
 
-/// Reads a line. Returns `None` for any other line.
+/// Reads a test's line. Returns `None` for any other.
 pub(crate) fn read_line(line: &str) -> Option<Line> {
     match line {
         "gates" => Some(Line::Gates),

@@ -19,7 +19,7 @@ pub(crate) enum Step {
     Take,
     /// Prints the generation of a label's endpoint in the follower's map.
     TellLabel(&'static [u8]),
-    /// Makes the follower lost.
+    /// Marks the follower lost.
     Lose,
     /// Makes an exchange from the first store to the second, from the cursor of the last such exchange on.
     Give,

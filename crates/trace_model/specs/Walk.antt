@@ -94,7 +94,7 @@ pub record MayReply (format : Format) (limits : LimitsRecord) (s : State) (asked
   pub text : reply_lines (worded_as asked) reply limits ≡ first ++ rest
   pub line_is : line ≡ 60 ∷ 32 ∷ first
 
--- After an entry's command, the first line of a reply must follow.
+-- A law: a reply's first line must follow an entry's command.
 abbrev pub ReplyPlaces : Type 0
 ReplyPlaces =
     (front : List ℕ) (h : Header) (s : State) (count pass : ℕ) (asked : Asked) → IsBehind front h s count → pass ≤ 63 → MayAsk h.format pass asked →

@@ -67,7 +67,7 @@ pub fn traces_are_histories()
     ensures history { LegalIsHistory }
 {}
 
-/// A law: the upgrade of a legal trace of format 1 is a legal trace of format 2 that leads to the same state, so to the
+/// A law: the upgrade of a legal trace of format 1 is a legal trace of format 2 that leads to the same state, hence the
 /// same accepted items, stamps and shown items.
 pub fn upgraded_traces_are_legal()
     ensures { UpgradedIsLegal }

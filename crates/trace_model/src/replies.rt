@@ -27,7 +27,7 @@ pub fn stopped_at(line: &[u8]) -> Option<u64>
     Some(done)
 }
 
-/// Returns whether the line is `< ` and then the other. Both have their newlines.
+/// Returns whether `line` is `< ` and then `said`, newlines included.
 pub fn is_marked(line: &[u8], said: &[u8]) -> bool
     ensures { IsTrue result ↔ (line.now ≡ 60 ∷ 32 ∷ said.now) }
 {

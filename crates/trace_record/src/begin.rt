@@ -19,7 +19,7 @@ pub(crate) struct Beginning {
     pub next: Result<bool, RecordFault>,
 }
 
-/// Reads the first line of a command, after `ring N` if that is there.
+/// Reads the first line of a command, after any `ring N`.
 pub(crate) fn begin<R: Source>(
     alloc: Global,
     lines: &mut Lines,

@@ -75,7 +75,7 @@ impl Walk {
         self.header
     }
 
-    /// Passes one entry, if there is one, and returns what it is in format 2, if the trace is of format 1.
+    /// Walks past one entry, if there is one, and returns its form in format 2, if the trace has format 1.
     pub fn next<R: Source>(&mut self, reader: &mut R) -> Result<Option<Passed>, WalkFault>
         ensures goes { IfOk result (λ o. IfSome o (GoesPast self.old (R.remaining reader.old) self.new (R.remaining reader.new))) }
         ensures ends { IfOk result (λ o. IfNone o (EndsThere self.old (R.remaining reader.old))) }

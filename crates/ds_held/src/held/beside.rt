@@ -56,10 +56,10 @@ impl Held {
     }
 
     /// Puts a floor at its owner's place, drops what it voids, and returns how many puts it dropped. The caller has
-    /// judged already that [`Held::raise`] would take it. From `marks`, the list beside the changes, it drops the
+    /// already judged that [`Held::raise`] would take it. From `marks`, the list beside the changes, it drops the
     /// elements of the dropped changes; the others keep their order.
     ///
-    /// It allocates only for an owner without a floor, and is refused only if memory runs out; then neither what is
+    /// Allocates only for an owner without a floor, and fails only if memory runs out; then neither what is
     /// held nor the list changes.
     pub fn raise_at<M: Drop>(
         &mut self,
