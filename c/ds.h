@@ -14,7 +14,8 @@
  *   - at most one thread at a time makes a call on a handle.
  * Any other misuse is answered by a word, and changes nothing.
  *
- * Link libds_c.a and the toolchain's liblibc_c.a, which calls malloc, realloc and free. */
+ * Link libds_c.a and, after it, the toolchain's liblibc_c.a, which calls malloc, realloc and free. If the library is installed, link what
+ * `pkg-config --cflags --libs pengtawis` prints. */
 #ifndef DS_H
 #define DS_H
 
@@ -36,7 +37,7 @@ const char *ds_version(void);
 enum ds_command {
     DS_PUBLISH,   /* caller, key, version, value, overwrite: puts a value under the key */
     DS_DELETE,    /* caller, key, version: leaves a tombstone under the key of a live entry */
-    DS_SWEEP,     /* caller (RS), name (of the owner), value (a generation): raises the owner's floor */
+    DS_SWEEP,     /* caller (RS), name (of the owner), value (a generation): raises the owner's floor, ends its entries but no label */
     DS_RETRIEVE,  /* key: the value of a live entry */
     DS_NAMEOF,    /* generation, slot: the least name whose live label holds this endpoint */
     DS_SUBSCRIBE, /* sub, kinds, text (a pattern), initial, overwrite */
@@ -49,13 +50,17 @@ enum ds_command {
 
 enum ds_kinds { DS_LABEL = 1, DS_U32 = 2, DS_STR = 4, DS_MEM = 8 };
 
-/* A request. Begin with zeros, and set what the command needs. */
+/* A request. Begin with zeros, and set what the command needs. Its text is raw bytes: a string of 0 to 256 bytes from 0x20 to 0x7E, memory
+ * of 0 to 1024 bytes, a pattern of at most 128, or lines of items.
+ *
+ * The version of a change is its caller's generation and a number, which the caller counts from 0. That of a label is the generation of
+ * its endpoint and 0; that of the label's deletion is the same generation and 1. */
 struct ds_request {
     uint64_t incarnation, position; /* the cursor of a since */
     uint64_t text_at, text_length;  /* where its text is within the texts of the call: a string, memory, a pattern or lines */
     uint32_t command;               /* of enum ds_command */
     uint32_t generation;            /* with slot: the caller's endpoint, or that of a nameof; at most 2097151 */
-    uint32_t epoch, seq;            /* the version; an epoch is at most 2097151 */
+    uint32_t epoch, seq;            /* the version: a generation, at most 2097151, and a number below 4294967295 */
     uint32_t value;                 /* a number; with value_slot, a label's endpoint; a sweep's generation */
     uint32_t sub, max;              /* max: 1 to 256 */
     uint16_t slot, value_slot;      /* at most 1023 */
@@ -83,14 +88,15 @@ enum ds_word {
     DS_MERGED,     /* count: how many items are done; taken, stale: how many of these took effect, or were stale */
     DS_STOPPED,    /* a merge: count items are done; the next one was refused, as refusal says */
     DS_REFUSED,    /* as refusal says; nothing changed */
-    DS_NOREQUEST,  /* no command has such parts, its text is outside the texts, or the line is not of one store; nothing changed */
+    DS_NOREQUEST,  /* no command has such parts or text, its text is outside the texts, or the line is not of one store; nothing changed */
     DS_SHOWN,      /* answers a line `show` or `all`. count: how many items; a piece of text for each */
     DS_BADLINE,    /* answers a line that can't be read. count: the byte, from 0, where the bad part begins; nothing changed */
     DS_ACTED,      /* answers an event of RS. count: how many actions ds_rs_action has; owed: the notices of all of them together */
     DS_MOVED       /* answers a call on a driver table. count: how many moves ds_table_moves has */
 };
 
-/* Returns a word of enum ds_word in lower case, such as `changed`, and "" for any other number. The text is static. */
+/* Returns a word of enum ds_word in lower case, such as `changed`, and "" for any other number. The text is static. A script prints
+ * other words for some: `taken` for `changed`. docs/reference/c.md lists them. */
 static inline const char *ds_word_text(uint32_t word) {
     switch (word) {
     case DS_CHANGED: return "changed";
@@ -179,12 +185,13 @@ static inline const char *ds_refusal_text(uint32_t refusal) {
     }
 }
 
+/* An answer. What its word doesn't have is 0. */
 struct ds_answer {
     uint64_t count, taken, stale;
     uint64_t before, after;
     uint64_t pieces;        /* how many pieces of text the answer has, for ds_items */
     uint32_t word;          /* of enum ds_word */
-    uint32_t refusal;       /* 0, or of enum ds_refusal */
+    uint32_t refusal;       /* 0, for DS_NOREQUEST and DS_BADLINE, too; or of enum ds_refusal */
     uint32_t epoch, seq;    /* the version of a clash */
     uint32_t value;
     uint16_t value_slot;
@@ -406,8 +413,8 @@ uint32_t ds_rs_may_connect(struct ds_handle *handle, uint32_t generation, uint16
 
 /* A subscriber's map: what it keeps of the items of stores, for up to 4096 keys and 64 owners. Of each key under its query it keeps the
  * change with the greatest version, and of each owner the highest floor. Items may come from any store, in any order, any number of times:
- * once the map has a generation of a label, no earlier one replaces it. A map begins as DS_CLOSED, and the rules for a handle at the top
- * apply to it. */
+ * once the map has a generation of a label, no earlier one replaces it. Only its labels can be read: retrieve other kinds from a store.
+ * A map begins as DS_CLOSED, and the rules for a handle at the top apply to it. */
 struct ds_map { void *private_; };
 
 /* Makes an empty map in a closed handle. Its query is a pattern, which must match a name whole, and kinds, a sum of enum ds_kinds.
