@@ -92,7 +92,7 @@ impl<K: Into<Kinds>> BitOr<K> for Kinds {
     }
 }
 
-/// A value to be published. A string has at most 256 printable bytes of ASCII, memory at most 1024 bytes. An array is passed as `&mac[..]`.
+/// A value to be published. A string has at most 256 printable bytes of ASCII, memory at most 1024 bytes.
 #[derive(Clone, Copy, Debug, PartialEq, Eq)]
 pub enum Value<'a> {
     Label(Endpoint),
@@ -146,6 +146,12 @@ impl<'a> From<&'a [u8]> for Value<'a> {
     }
 }
 
+impl<'a, const LENGTH: usize> From<&'a [u8; LENGTH]> for Value<'a> {
+    fn from(bytes: &'a [u8; LENGTH]) -> Self {
+        Value::Mem(bytes)
+    }
+}
+
 /// The keys that a pattern matches whole, of some kinds.
 #[derive(Clone, Copy, Debug, PartialEq, Eq)]
 pub struct Scope<'a> {
@@ -159,9 +165,15 @@ impl<'a> Scope<'a> {
     }
 }
 
-/// The subscriptions that are owed a notice.
-#[derive(Clone, Copy, Debug, Default, PartialEq, Eq)]
+/// The subscriptions that are owed a notice. `{:?}` shows their numbers.
+#[derive(Clone, Copy, Default, PartialEq, Eq)]
 pub struct Owed(pub(crate) [u8; 16]);
+
+impl fmt::Debug for Owed {
+    fn fmt(&self, to: &mut fmt::Formatter<'_>) -> fmt::Result {
+        to.debug_set().entries(self.iter()).finish()
+    }
+}
 
 impl Owed {
     pub fn contains(&self, sub: u32) -> bool {

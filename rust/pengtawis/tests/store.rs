@@ -55,7 +55,7 @@ fn the_longest_values_and_names() {
     let at = Endpoint::new(4, 17);
     store.publish(RS, &name, at, version(4, 0), false).unwrap();
     store.publish(at, &name, text.as_str(), version(4, 0), false).unwrap();
-    store.publish(at, &name, &bytes[..], version(4, 0), false).unwrap();
+    store.publish(at, &name, &bytes, version(4, 0), false).unwrap();
     assert_eq!(store.name_of(at), Ok(name.clone()));
     assert_eq!(store.retrieve::<String>(&name), Ok(text));
     assert_eq!(store.retrieve::<Vec<u8>>(&name), Ok(bytes.to_vec()));
@@ -80,6 +80,7 @@ fn a_subscription() {
     assert_eq!((told.stamp, told.owed.iter().collect::<Vec<_>>()), (1, vec![40]));
     let owed = store.publish(ETH, "eth0.mtu", 1500, version(3, 1), false).unwrap().owed;
     assert!(owed.contains(40) && !owed.contains(41) && !owed.contains(u32::MAX) && !owed.is_empty());
+    assert_eq!((format!("{owed:?}"), format!("{:?}", Owed::default())), ("{40}".into(), "{}".into()));
     let mut check = store.check(40, 1).unwrap();
     assert_eq!((check.count(), shown(&check.items().unwrap())), (1, "eth0 label rs 3.0 = 3/16\n"));
     assert_eq!(shown(&store.check(40, 256).unwrap().items().unwrap()), "eth0.mtu u32 eth0 3.1 = 1500\n");
@@ -121,7 +122,7 @@ fn a_journal_and_pages() {
 fn more_than_one_room() {
     let mut store = with_eth();
     for at in 0..200u8 {
-        store.publish(ETH, &format!("m{at:03}"), &[at; 1024][..], version(3, 0), false).unwrap();
+        store.publish(ETH, &format!("m{at:03}"), &[at; 1024], version(3, 0), false).unwrap();
     }
     let items = store.snapshot(Some(Scope::new("m.*", Kind::Mem))).unwrap().items().unwrap();
     let wanted: String = (0..200u8).map(|at| format!("m{at:03} mem eth0 3.0 = {}\n", format!("{at:02x}").repeat(1024))).collect();
