@@ -17,17 +17,18 @@ enum {
 static struct ds_handle store = DS_CLOSED;
 static unsigned long networks = 1;
 
-static const char *const words[] = {"changed", "known", "swept", "found", "named", "subscribed", "checked", "journaled",
-                                    "snapped", "paged", "merged", "stopped", "refused", "no request"};
-
 static void give_up(const char *why) {
     fprintf(stderr, "driver: %s\n", why);
     exit(1);
 }
 
 static void set_name(struct ds_request *to, const char *name) {
-    to->name_length = (uint8_t)strlen(name);
-    memcpy(to->name, name, strlen(name));
+    size_t length = strlen(name);
+    if (length > sizeof to->name) {
+        give_up("the name is too long");
+    }
+    to->name_length = (uint8_t)length;
+    memcpy(to->name, name, length);
 }
 
 /* Prints the text of the last answer. One ds_items fetches the pieces that fit into the room, so it is called until all
@@ -49,7 +50,7 @@ static struct ds_answer ask(const char *what, const struct ds_request *request, 
     if (ds_call(&store, request, text, strlen(text), &answer) != 0) {
         give_up("the store is closed");
     }
-    printf("%s: %s", what, words[answer.word]);
+    printf("%s: %s", what, ds_word_text(answer.word));
     if (answer.refusal != 0) {
         printf(" %s", ds_refusal_text(answer.refusal));
     }
