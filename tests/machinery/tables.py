@@ -59,7 +59,7 @@ def times(values):
 
 
 def of_kills(rows):
-    yield from table("Harm", "Times", "Recovered", "Recovery, ms", "RS's pause, ms", "MB/s alone", "MB/s harmed", "Share", "Away")
+    yield from table("Harm", "Failures", "Recovered", "Recovery, ms", "RS's pause, ms", "MB/s alone", "MB/s harmed", "Share", "Away")
     names = {"many kills": "SIGKILL each 0.25 s, always", "stops": "SIGSTOP each 1 s, always", "kills, mirror": "both disks of a mirror, 0.25 s"}
     for it in named(rows, r"kills [\d.]+|many kills|stops|kills, mirror"):
         name = names.get(it["name"], f"SIGKILL each {it['name'].split()[-1]} s")
