@@ -1,5 +1,5 @@
 -- The masks of the item at an index, and whether the item is under a query.
-use Rattle.std.proofs.Common.{◌≡◌, ℕ, map, inl, inr, length-append, ◌+◌, ◌<◌, ◌≤◌, Bool, true, false, List, [], ◌∷◌, zero, suc, length, get_or, Option, Some, None, is_some, refl, ap, sym, ◌∙◌, subst, arith, Contains}
+use Rattle.std.proofs.Common.{◌≡◌, ℕ, map, length-append, ◌+◌, ◌<◌, ◌≤◌, Bool, true, false, List, [], ◌∷◌, zero, suc, length, get_or, Option, Some, None, is_some, refl, ap, sym, ◌∙◌, subst, arith, Contains}
 use Rattle.std.specs.Prelude.{slice_get}
 use Rattle.std.specs.Option.{option_map, option_map_or}
 use Rattle.std.proofs.lemmas.Option.{same_Some}

@@ -13,3 +13,4 @@ pub mod ServeLemmas
 pub mod IndexLemmas
 pub mod PagingLemmas
 pub mod NextLemmas
+pub mod BackLemmas

@@ -1,21 +1,18 @@
 -- The next item that is still to be shown, by the masks.
-use Rattle.std.proofs.Common.{◌≡◌, ℕ, zero, suc, ◌+◌, ◌-◌, ◌<◌, ◌≤◌, ◌⊎◌, Bool, true, false, cond, List, [], ◌∷◌, length, take, filter, get_or, set, map, length-append, Option, Some, None, refl, ap, sym, ◌∙◌, subst, inl, inr, arith}
+use Rattle.std.proofs.Common.{◌≡◌, ℕ, zero, suc, ◌+◌, ◌-◌, ◌<◌, ◌≤◌, ◌⊎◌, Bool, true, false, cond, List, [], ◌∷◌, length, take, filter, map, length-append, Option, Some, None, refl, ap, sym, ◌∙◌, subst, inl, inr, arith}
 use Rattle.std.specs.Prelude.{slice_get}
-use Rattle.std.specs.Option.{option_map, option_map_or, IfSome}
+use Rattle.std.specs.Option.{option_map, IfSome}
 use Rattle.std.proofs.lemmas.List.{length-map}
 use Rattle.std.proofs.lemmas.Option.{same_Some, slice_get_within, slice_get_cases}
 use Rattle.ds_entry.specs.Change.{ChangeRecord}
-use Rattle.ds_entry.specs.declared.floor.Floor.{Floor}
 use Rattle.ds_entry.specs.declared.item.Item.{Item}
 use Rattle.ds_entry.specs.declared.item.Item.TheVariants.{Change as Changed, Floor as Floored}
 use Rattle.ds_held.specs.Held.{Holding, held_items, held_changes, held_floors, held_count, floor_count, change_item}
 use Rattle.ds_held.specs.Kept.{floored}
 use Rattle.ds_held.proofs.HeldLemmas.{count_is}
 use Rattle.ds_marked.specs.Marked.{MarkedHolding, AreMarks, AreFloorMarks}
-use Rattle.ds_watch.specs.Masks.{shown_to}
 use Rattle.ds_watch.specs.declared.masks.Masks.{Masks}
 use Rattle.ds_content.specs.Kept.{masks_at}
-use Rattle.ds_content.specs.Marking.{AreRemarked}
 use Rattle.ds_content.specs.Shown.{says_unseen, is_to_show, IsNext}
 use Rattle.ds_content.proofs.FlagLemmas.{below_or_not, below_or_at}
 use Rattle.ds_content.proofs.HoldingLemmas.{count_floors, items_floored, floor_item_at, change_item_at}
@@ -164,34 +161,6 @@ module _ {X : Type 0} (p : X → Bool) where
   filter_past (suc n) (suc m) [] l none = refl
   filter_past (suc n) (suc m) (x ∷ xs) l none =
       ap (λ (ys : List X). cond (p x) (x ∷ ys) ys) (filter_past n m xs (omega (arith, l)) (λ k y e a b. none (suc k) y e (omega (arith, a)) (omega (arith, b))))
-
--- ---- what isn't to be shown keeps its masks where it is shown
-set_same : (fs : List Bool) (k : ℕ) → get_or fs k false ≡ false → set fs k false ≡ fs
-set_same [] zero e = refl
-set_same [] (suc k) e = refl
-set_same (f ∷ fs) zero e = ap (λ b. b ∷ fs) (sym e)
-set_same (f ∷ fs) (suc k) e = ap (λ t. f ∷ t) (set_same fs k e)
-
-shown_same : (sub : ℕ) (o : Option Masks) → get_or (option_map_or (λ (m : Masks). m.unseen) o []) sub false ≡ false → option_map (shown_to sub) o ≡ o
-shown_same sub None e = refl
-shown_same sub (Some m) e = ap (λ us. Some (record m { unseen = us })) (set_same m.unseen sub e)
-
-pub remarked_past : (old mid : MarkedHolding Masks) (n m sub : ℕ) → n ≤ m → AreRemarked old mid n (λ k. shown_to sub)
-    → ((k : ℕ) (i : Item) → slice_get (held_items mid.held) k ≡ Some i → n ≤ k → k < m → is_to_show mid sub i ≡ false) → AreRemarked old mid m (λ k. shown_to sub)
-remarked_past old mid n m sub up so_far none = record {
-  held = so_far.held;
-  first = λ k i e l. by_place k i e l (below_or_not k n);
-  rest = λ k i e l. so_far.rest k i e (omega (arith, up, l));
-}
-  where
-    by_place : (k : ℕ) (i : Item) → slice_get (held_items old.held) k ≡ Some i → k < m → (k < n) ⊎ (n ≤ k) → masks_at mid i ≡ option_map (shown_to sub) (masks_at old i)
-    by_place k i e l (inl b) = so_far.first k i e b
-    by_place k i e l (inr a) =
-        let same = so_far.rest k i e a in
-        let there : slice_get (held_items mid.held) k ≡ Some i = ap (λ (h : Holding). slice_get (held_items h) k) so_far.held ∙ e in
-        let flag : get_or (option_map_or (λ (m : Masks). m.unseen) (masks_at old i) []) sub false ≡ false =
-        ap (λ o. get_or (option_map_or (λ (m : Masks). m.unseen) o []) sub false) (sym same) ∙ none k i there a l in
-        same ∙ sym (shown_same sub (masks_at old i) flag)
 
 -- ---- how many items are held
 pub items_counted : (h : Holding) (count floors : ℕ) → count ≡ held_count h → floors ≡ floor_count h → length (held_items h) ≡ floors + count

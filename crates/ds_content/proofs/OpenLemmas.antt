@@ -1,5 +1,5 @@
 -- What a content stands for at its opening, and small facts about what it returns.
-use Rattle.std.proofs.Common.{◌≡◌, ℕ, zero, suc, ◌≤◌, Bool, List, [], ◌∷◌, ◌++◌, map, length, replicate, Option, Some, None, Result, Ok, Err, IfOk, refl, ap, ap₂, sym, ◌∙◌, subst, arith, Contains}
+use Rattle.std.proofs.Common.{◌≡◌, ℕ, zero, suc, ◌≤◌, Bool, List, [], ◌∷◌, ◌++◌, map, length, replicate, Option, None, Result, Ok, Err, IfOk, refl, ap, ap₂, sym, ◌∙◌, subst, arith, Contains}
 use Rattle.std.proofs.lemmas.List.{length-replicate}
 use Rattle.std.specs.FinMap.{entries, len, len-entries, len-empty}
 use Rattle.std.specs.Option.{option_map}
@@ -7,8 +7,6 @@ use Rattle.std.specs.Result.{OnErr}
 use Rattle.ds_names.specs.declared.key.Key.{Key}
 use Rattle.ds_names.specs.Key.{name_cmp, key_cmp}
 use Rattle.ds_entry.specs.Change.{ChangeRecord}
-use Rattle.ds_entry.specs.Floor.{floor_of}
-use Rattle.ds_entry.specs.declared.floor.Floor.{Floor}
 use Rattle.ds_entry.specs.declared.item.Item.{Item}
 use Rattle.ds_entry.proofs.Members.{Contains-nil}
 use Rattle.ds_feed.specs.Feed as feeds

@@ -24,7 +24,7 @@ use Rattle.ds_content.specs.Marking.{AreRemarked}
 use Rattle.ds_content.specs.Shown.{flagged, AreUnseen, AreFirst, is_to_show}
 use Rattle.ds_content.specs.Stands.{ContentStands}
 use Rattle.ds_content.proofs.EnterLemmas.{value_of, few_places}
-use Rattle.ds_content.proofs.FlagLemmas.{taken_first, all_taken, few_taken}
+use Rattle.ds_content.proofs.FlagLemmas.{taken_first, few_taken}
 use Rattle.ds_content.proofs.HoldingLemmas.{top_itself}
 use Rattle.ds_content.proofs.MarkLemmas.{none_more}
 use Rattle.ds_content.proofs.RemarkLemmas.{check_others, check_first, check_rest, made_flag, made_other}

@@ -47,3 +47,8 @@ pub record AreFirst (h : MarkedHolding Masks) (sub max : ℕ) (items : List Item
 -- The held item at the index is still to be shown to the subscription.
 abbrev pub IsToShowAt : MarkedHolding Masks → ℕ → ℕ → Type 0
 IsToShowAt h sub index = (i : Item) × (slice_get (held_items h.held) index ≡ Some i) × (is_to_show h sub i ≡ true)
+
+-- The flag says whether there is a held item at the index that is still to be shown to the subscription.
+pub record IsToShowHere (h : MarkedHolding Masks) (sub index : ℕ) (flag : Bool) : Type 0 where
+  pub here : (i : Item) → slice_get (held_items h.held) index ≡ Some i → flag ≡ is_to_show h sub i
+  pub nothing : slice_get (held_items h.held) index ≡ None → flag ≡ false

@@ -1,12 +1,13 @@
 -- The holding of a holder's lists, and what a merge and a raised floor leave of them.
-use Rattle.std.proofs.Common.{◌≡◌, ℕ, zero, suc, ◌<◌, ◌≤◌, List, [], ◌∷◌, ◌++◌, length, get_or, map, take, drop, Bool, true, false, None, Result, Ok, Err, refl, sym, ap, ◌∙◌, subst, arith, length-set, All}
-use Rattle.std.proofs.lemmas.Option.{slice_get-get_or, none-some}
+use Rattle.std.proofs.Common.{◌≡◌, ℕ, zero, suc, ◌<◌, ◌≤◌, List, [], ◌∷◌, ◌++◌, length, get_or, map, take, drop, Bool, true, false, Some, None, Result, Ok, Err, refl, sym, ap, ◌∙◌, subst, arith, length-set, All}
+use Rattle.std.proofs.lemmas.Option.{slice_get-get_or, none-some, slice_get_within, get_or_from_slice_get}
 use Rattle.std.proofs.lemmas.Cmp.{nat_list_cmp_total}
 use Rattle.std.proofs.lemmas.Map.Lookups.{exact_bytes}
 use Rattle.std.proofs.lemmas.List.Edits.{length-insert}
 use Rattle.std.proofs.lemmas.List.Elements.{All-set, All-append, All-take, All-drop, All-head, All-tail, All-cons, All-nil, All-filter}
 use Rattle.std.specs.List.{slice_get}
 use Rattle.std.specs.FinMap.{get, get-empty, len}
+use Rattle.std.specs.declared.cmp.Ordering.TheVariants.{Equal}
 use Rattle.std.specs.Option.{IfSome}
 use Rattle.std.specs.Result.{OnOk}
 use Rattle.ds_names.specs.declared.key.Key.{Key}
@@ -71,6 +72,11 @@ kept_nothing lim = record {
   valid = All-nil IsChange;
   sound = record { own = λ q d h. absurd (none-some d (sym (get-empty key_cmp q) ∙ h)); none_void = λ q d h. absurd (none-some d (sym (get-empty key_cmp q) ∙ h)) };
 }
+
+-- A change of the key that is in the list is what is held for the key.
+pub listed_there : (xs : List ChangeRecord) (key : Key) (k : ℕ) (c : ChangeRecord) → AreKeysRising xs → slice_get xs k ≡ Some c → key_cmp c.key key ≡ Equal → Some c ≡ get (changes_map xs) key
+listed_there xs key k c s h e =
+    sym h ∙ sym (change_there xs key k s (slice_get_within xs k c h, λ d. subst (λ (x : ChangeRecord). key_cmp x.key key ≡ Equal) (sym (get_or_from_slice_get xs k c d h)) e))
 
 -- The element at an index of changes is a change.
 pub valid_at : (xs : List ChangeRecord) (i : ℕ) → All IsChange xs → IfSome (slice_get xs i) IsChange

@@ -9,19 +9,21 @@ use std::hash::{FoldHasher, Hasher};
 // The length of the first table.
 const FEWEST: usize = 64;
 
-/// A table from each key's hash to the place where its change was last seen, among changes in the order of their
-/// keys.
+// The part of the changes after whose wrong guesses all places are noted again, as a divisor.
+const SHARE: usize = 32;
+
+/// A table from each key's hash to the slot of its change, and one from each slot to the place where its change was last
+/// seen, among changes in the order of their keys.
 ///
-/// A place is a guess: the caller checks the change there, so a wrong guess costs a search and nothing else. If two
-/// keys have one hash, the guess is of the one noted last. The table has at least four slots for each held key,
-/// unless memory ran out for it, so that is rare.
-///
-/// A change that is inserted or dropped moves those after it, and their guesses are wrong. Puts note their places
-/// again, as many as there are changes; then all places are noted.
+/// Both are guesses: the caller checks the change there, so a wrong guess costs a search and nothing else. If two keys
+/// have one hash, the slot is that of the key inserted last. There are at least four hashes for each held key, unless
+/// memory ran out for them, so that is rare. A change that is inserted or dropped moves those after it, so their places
+/// are wrong until they are put again. Once a 32nd of the changes were put at wrong guesses, all places are noted.
 #[derive(Drop)]
 pub(crate) struct Guesses {
+    slots: Vec<u16>,
     places: Vec<u16>,
-    doubts: usize,
+    wrong: usize,
 }
 
 // Hashes a key.
@@ -38,77 +40,96 @@ fn hash_of(key: &Key) -> usize {
 }
 
 impl Guesses {
-    /// Returns an empty table. It allocates nothing.
+    /// Returns empty tables. It allocates nothing.
     pub(crate) fn new(alloc: Global) -> Guesses {
         Guesses {
+            slots: Vec::new(alloc),
             places: Vec::new(alloc),
-            doubts: 0,
+            wrong: 0,
         }
     }
 
-    // Returns the slot of a key. The table's length is a power of two.
-    fn slot(&self, key: &Key) -> usize {
-        hash_of(key) & self.places.len().saturating_sub(1)
+    // Returns the index of a key in the first table, whose length is a power of two.
+    fn index_of(&self, key: &Key) -> usize {
+        hash_of(key) & self.slots.len().saturating_sub(1)
+    }
+
+    /// Returns the slot in which the change of the key may be.
+    #[inline(always)]
+    pub(crate) fn slot_of(&self, key: &Key) -> u16 {
+        match self.slots.get(self.index_of(key)) {
+            Some(slot) => *slot,
+            None => 0,
+        }
     }
 
     /// Returns the place where the change of the key may be.
     #[inline(always)]
     pub(crate) fn of(&self, key: &Key) -> usize {
-        match self.places.get(self.slot(key)) {
+        match self.places.get(usize::from(self.slot_of(key))) {
             Some(place) => usize::from(*place),
             None => 0,
         }
     }
 
-    // Notes the place of a key's change.
-    fn note(&mut self, key: &Key, place: u16) {
-        let slot = self.slot(key);
-        if let Some(guess) = self.places.get_mut(slot) {
-            *guess = place;
+    // Notes the place of a slot's change, and returns whether it was guessed.
+    #[inline(always)]
+    fn note_place(&mut self, slot: u16, place: usize) -> bool {
+        if let Some(guess) = self.places.get_mut(usize::from(slot)) {
+            if let Ok(place) = u16::try_from(place) {
+                let is_right = *guess == place;
+                *guess = place;
+                return is_right;
+            }
+        }
+        true
+    }
+
+    // Notes the slot and the place of the change at the place.
+    fn note(&mut self, changes: &Rows<Change>, place: usize) {
+        let slot = changes.slot_at(place);
+        if let Some(change) = changes.get(place) {
+            let index = self.index_of(change.key());
+            if let Some(guess) = self.slots.get_mut(index) {
+                *guess = slot;
+            }
+        }
+        let _ = self.note_place(slot, place);
+    }
+
+    // Counts a wrong guess of a place, and notes all places once there were as many as a 32nd of the changes.
+    #[inline(never)]
+    fn count_wrong(&mut self, changes: &Rows<Change>) {
+        self.wrong = self.wrong.saturating_add(1);
+        if self.wrong > changes.len() / SHARE {
+            self.wrong = 0;
+            for place in 0..changes.len() {
+                let _ = self.note_place(changes.slot_at(place), place);
+            }
         }
     }
 
-    // Notes the change at the place.
-    fn note_at(&mut self, changes: &Rows<Change>, place: usize) {
-        if let (Some(change), Ok(place)) = (changes.get(place), u16::try_from(place)) {
-            self.note(change.key(), place);
-        }
-    }
-
-    // Notes the places of all changes.
-    fn look(&mut self, changes: &Rows<Change>) {
+    // Notes all changes.
+    fn note_all(&mut self, changes: &Rows<Change>) {
         for place in 0..changes.len() {
-            self.note_at(changes, place);
+            self.note(changes, place);
         }
-        self.doubts = 0;
     }
 
-    // Doubles the table.
+    // Doubles the tables.
     #[inline(never)]
     fn grow(&mut self) -> Result<(), AllocError> {
-        let count = self.places.len();
-        self.places.resize(FEWEST.max(count.saturating_mul(2)), 0)
+        let count = FEWEST.max(self.slots.len().saturating_mul(2));
+        self.places.resize(count / 4, 0)?;
+        self.slots.resize(count, 0)
     }
 
     // Notes a new key's change, inserted at the place.
     fn insert(&mut self, changes: &Rows<Change>, place: usize) {
-        if changes.len() > self.places.len() / 4 && self.grow().is_ok() {
-            return self.look(changes);
-        }
-        self.note_at(changes, place);
-        if place < changes.len().saturating_sub(1) {
-            self.doubts = changes.len();
-        }
-    }
-
-    // Notes a held key's change, put at the place, while there are doubts.
-    #[inline(never)]
-    fn settle(&mut self, changes: &Rows<Change>, place: usize) {
-        self.doubts = self.doubts.saturating_sub(1);
-        if self.doubts == 0 {
-            self.look(changes);
+        if changes.len() > self.slots.len() / 4 && self.grow().is_ok() {
+            self.note_all(changes);
         } else {
-            self.note_at(changes, place);
+            self.note(changes, place);
         }
     }
 
@@ -121,16 +142,13 @@ impl Guesses {
         is_put: bool,
     ) {
         match place {
+            Ok(place) => {
+                if !self.note_place(changes.slot_at(place), place) {
+                    self.count_wrong(changes);
+                }
+            }
             Err(place) if is_put => self.insert(changes, place),
-            Ok(place) if self.doubts > 0 => self.settle(changes, place),
-            _ => {}
-        }
-    }
-
-    /// Notes that changes were dropped, if there are fewer than `count` now.
-    pub(crate) fn note_dropped(&mut self, changes: &Rows<Change>, count: usize) {
-        if changes.len() != count {
-            self.doubts = changes.len();
+            Err(_) => {}
         }
     }
 }

@@ -145,7 +145,7 @@ impl Held {
         ensures sound { IsSound self.now }
         ensures change { IfSome (option_copied result) IsChange }
     {
-        change_at(&self.changes, self.guesses.of(key), key)
+        change_at(&self.changes, self.guesses.slot_of(key), key)
     }
 
     /// Returns the value under a key. A tombstone has none.
@@ -252,9 +252,7 @@ impl Held {
     {
         match raise(&mut self.floors, floor) {
             Ok(Merge::Taken) => {
-                let count = self.changes.len();
                 drop_void(&mut self.changes, &floor);
-                self.guesses.note_dropped(&self.changes, count);
                 Ok(Merge::Taken)
             }
             answer => answer,

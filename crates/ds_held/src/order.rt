@@ -4,6 +4,8 @@ ghost use Rattle.std.specs.Prelude.{◌≡◌, ◌≤◌, Ok, true, drop, filter
 ghost use Rattle.std.specs.FinMap.{get};
 ghost use Rattle.std.specs.Option.{option_copied};
 ghost use Rattle.std.specs.List.{find};
+ghost use Rattle.std.specs.declared.cmp.Ordering.{Ordering};
+ghost use Rattle.ds_names.specs.Key.{key_cmp};
 ghost use Rattle.ds_entry.specs.Change.{IsChange};
 ghost use Rattle.ds_join.specs.Reading.{comes_after};
 ghost use Rattle.ds_held.specs.Kept.{AreKeysRising, IsPlace, changes_map};
@@ -12,6 +14,14 @@ use ds_entry::Change;
 use ds_names::Key;
 use ds_rows::Rows;
 use std::cmp::Ordering;
+
+// Whether the change is of the key.
+#[inline(always)]
+fn is_of(change: &Change, key: &Key) -> bool
+    ensures { result ≡ true → key_cmp change.now.key key.now ≡ Ordering.Equal }
+{
+    change.key().compare(key) == Ordering::Equal
+}
 
 // Whether the change at an index is of the key.
 #[inline(always)]
@@ -54,18 +64,19 @@ pub(crate) fn place_of(changes: &Rows<Change>, guess: usize, key: &Key) -> Resul
     search(changes, key)
 }
 
-// Returns the change of a key.
-pub(crate) fn change_at<'a>(
-    changes: &'a Rows<Change>,
-    guess: usize,
-    key: &Key,
-) -> Option<&'a Change>
+// Returns the change of a key. The guessed slot is checked before a search.
+pub(crate) fn change_at<'a>(changes: &'a Rows<Change>, slot: u16, key: &Key) -> Option<&'a Change>
     requires rising { AreKeysRising changes.now }
     requires valid { All IsChange changes.now }
     ensures value { option_copied result ≡ get (changes_map changes.now) key.now }
     ensures change { IfSome (option_copied result) IsChange }
 {
-    match place_of(changes, guess, key) {
+    if let Some(change) = changes.in_slot(slot) {
+        if is_of(change, key) {
+            return Some(change);
+        }
+    }
+    match search(changes, key) {
         Ok(i) => changes.get(i),
         Err(_) => None,
     }

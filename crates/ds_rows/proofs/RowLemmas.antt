@@ -1,13 +1,13 @@
 -- Slots and an order of slot numbers as one list.
-use Rattle.std.proofs.Common.{◌≡◌, ◌≢◌, ℕ, zero, suc, ◌+◌, ◌<◌, ◌≤◌, List, [], ◌∷◌, ◌++◌, length, get_or, set, Option, None, Some, Result, Ok, Err, Bor, refl, sym, ap, ◌∙◌, subst, arith}
-use Rattle.std.proofs.lemmas.Option.{same_Some, none-some, slice_get-get_or, slice_get_past, slice_get_within, get_or_from_slice_get}
-use Rattle.std.proofs.lemmas.List.{get_or_past, get_or-set_same, get_or-set_other, length-set, length_push, get_or_push}
+use Rattle.std.proofs.Common.{◌≡◌, ◌≢◌, ℕ, zero, suc, ◌<◌, ◌≤◌, List, [], ◌∷◌, ◌++◌, length, set, Option, None, Some, Result, Ok, Err, Bor, ◌⊎◌, inl, inr, refl, sym, ap, ◌∙◌, subst, arith}
+use Rattle.std.proofs.lemmas.Option.{same_Some, none-some, slice_get-get_or, slice_get_past, slice_get_within}
+use Rattle.std.proofs.lemmas.List.{get_or-set_same, get_or-set_other, length-set, length_push}
 use Rattle.std.proofs.lemmas.List.Edits.{length-insert, length-remove}
-use Rattle.std.specs.Option.{option_copied}
+use Rattle.std.specs.Option.{option_copied, IfSome}
 use Rattle.std.specs.Result.{IfOk, OnOk, OnErr}
 use Rattle.std.specs.Slice.{IsItemAt}
 use Rattle.std.specs.List.{slice_get, insert, remove, cons_option}
-use Rattle.ds_rows.specs.Rows.{in_slot, rows_of, AreFilled, AreBelow, IsLone, AreNumbersApart, AreSpare, AreInSlots, IsFreeSlot}
+use Rattle.ds_rows.specs.Rows.{in_slot, rows_of, AreFilled, AreBelow, IsLone, IsAmong, AreListed, AreNumbersApart, AreSpare, AreInSlots, IsFreeSlot}
 
 -- ---- numbers that are apart
 among : (order : List ℕ) (i s t : ℕ) → IsLone s order → slice_get order i ≡ Some t → s ≢ t
@@ -40,6 +40,41 @@ removed_lone : (s i : ℕ) (order : List ℕ) → AreNumbersApart order → slic
 removed_lone s i [] a e = absurd (cc)
 removed_lone s zero (t ∷ order) a e = subst (λ n. IsLone n order) (same_Some t s e) a.0
 removed_lone s (suc i) (t ∷ order) a e = ((λ f. among order i t s a.0 e (sym f)), removed_lone s i order a.1 e)
+
+-- ---- numbers that are there
+eq_or_not : (i k : ℕ) → (i ≡ k) ⊎ (i ≢ k)
+eq_or_not zero zero = inl refl
+eq_or_not zero (suc k) = inr (λ e. omega (arith, e))
+eq_or_not (suc i) zero = inr (λ e. omega (arith, e))
+eq_or_not (suc i) (suc k) = elim (eq_or_not i k) [ inl e ↦ inl (ap suc e) | inr other ↦ inr (λ e. other (omega (arith, e))) ]
+
+among_self : (s i : ℕ) (order : List ℕ) → IsAmong s (insert order i s)
+among_self s zero order = inl refl
+among_self s (suc i) [] = inl refl
+among_self s (suc i) (t ∷ order) = inr (among_self s i order)
+
+among_more : (s n i : ℕ) (order : List ℕ) → IsAmong s order → IsAmong s (insert order i n)
+among_more s n zero order a = inr a
+among_more s n (suc i) [] a = absurd a
+among_more s n (suc i) (t ∷ order) (inl e) = inl e
+among_more s n (suc i) (t ∷ order) (inr a) = inr (among_more s n i order a)
+
+among_left : (s u i : ℕ) (order : List ℕ) → slice_get order i ≡ Some u → s ≢ u → IsAmong s order → IsAmong s (remove order i)
+among_left s u i [] h d a = absurd a
+among_left s u zero (t ∷ order) h d (inl e) = absurd (d (e ∙ same_Some t u h))
+among_left s u zero (t ∷ order) h d (inr a) = a
+among_left s u (suc i) (t ∷ order) h d (inl e) = inl e
+among_left s u (suc i) (t ∷ order) h d (inr a) = inr (among_left s u i order h d a)
+
+among_at : (s : ℕ) (order : List ℕ) → IsAmong s order → (k : ℕ) × (slice_get order k ≡ Some s)
+among_at s [] a = absurd a
+among_at s (t ∷ order) (inl e) = (0, ap (λ n. Some n) (sym e))
+among_at s (t ∷ order) (inr a) = let rest = among_at s order a in (suc rest.0, rest.1)
+
+at_among : (s i : ℕ) (order : List ℕ) → slice_get order i ≡ Some s → IsAmong s order
+at_among s i [] h = absurd (cc)
+at_among s zero (t ∷ order) h = inl (sym (same_Some t s h))
+at_among s (suc i) (t ∷ order) h = inr (at_among s i order h)
 
 -- ---- spare numbers, of which the last is taken, or to which one is added
 lone_front : (s t : ℕ) (rest : List ℕ) → IsLone s (rest ++ t ∷ []) → IsLone s rest × (s ≢ t)
@@ -183,10 +218,40 @@ module _ {T : Type 0} where
   filled_written (t ∷ order) slots (suc i) s x f a e =
       ((f.0.0, get_or-set_other slots s t (Some x) None (among order i t s a.0 e) ∙ f.0.1), filled_written order slots i s x f.1 a.1 e)
 
+  -- ---- slots with an element are in the order
+  listed_more : (order : List ℕ) (slots : List (Option T)) → AreListed order slots → AreListed order (slots ++ None ∷ [])
+  listed_more order slots l s x e = l s x (sym (front_same slots s) ∙ e)
+
+  listed_inserted : (order : List ℕ) (slots : List (Option T)) (i s : ℕ) (x : T) → AreListed order slots → AreListed (insert order i s) (set slots s (Some x))
+  listed_inserted order slots i s x l t y e = elim (eq_or_not t s) [
+    | inl q ↦ subst (λ n. IsAmong n (insert order i s)) (sym q) (among_self s i order)
+    | inr d ↦ among_more t s i order (l t y (sym (get_or-set_other slots s t (Some x) None d) ∙ e))
+  ]
+
+  listed_removed : (order : List ℕ) (slots : List (Option T)) (i s : ℕ) → slice_get order i ≡ Some s → s < length slots → AreListed order slots → AreListed (remove order i) (set slots s None)
+  listed_removed order slots i s h w l t y e = elim (eq_or_not t s) [
+    | inl q ↦ absurd (none-some y (sym (get_or-set_same slots s None None w) ∙ ap (in_slot (set slots s None)) (sym q) ∙ e))
+    | inr d ↦ among_left t s i order h d (l t y (sym (get_or-set_other slots s t None None d) ∙ e))
+  ]
+
+  pub listed_written : (order : List ℕ) (slots : List (Option T)) (i s : ℕ) (x : T) → slice_get order i ≡ Some s → AreListed order slots → AreListed order (set slots s (Some x))
+  listed_written order slots i s x h l t y e = elim (eq_or_not t s) [
+    | inl q ↦ subst (λ n. IsAmong n order) (sym q) (at_among s i order h)
+    | inr d ↦ l t y (sym (get_or-set_other slots s t (Some x) None d) ∙ e)
+  ]
+
+  -- what is found in a slot is in the list
+  pub found_listed : (order : List ℕ) (slots : List (Option T)) (v : List T) → AreFilled order slots → AreListed order slots → rows_of order slots ≡ v
+      → (s : ℕ) (r : Option (Bor T)) → option_copied r ≡ in_slot slots s → IfSome r (λ x. (k : ℕ) × (slice_get v k ≡ Some x.now))
+  found_listed order slots v f l is s None e = tt
+  found_listed order slots v f l is s (Some x) e =
+      let at = among_at s order (l s x.now (sym e)) in (at.0, ap (λ m. slice_get m at.0) (sym is) ∙ row_there order slots at.0 s f at.1 ∙ sym e)
+
   -- ---- the steps
   pub free_last : (order rest : List ℕ) (s : ℕ) (slots : List (Option T)) (n : ℕ) → AreInSlots order (rest ++ s ∷ []) slots n → (m : ℕ) → n ≤ m → IsFreeSlot order s rest slots m
   free_last order rest s slots n r m w = record {
     filled = r.filled;
+    listed = r.listed;
     apart = r.apart;
     lone = spare_lone s rest order r.others;
     within = (below_front (length slots) s rest r.below).1;
@@ -199,6 +264,7 @@ module _ {T : Type 0} where
   pub free_new : (order : List ℕ) (slots : List (Option T)) (n : ℕ) → AreInSlots order [] slots n → (m : ℕ) → length (slots ++ None ∷ []) ≤ m → IsFreeSlot order (length slots) [] (slots ++ None ∷ []) m
   free_new order slots n r m w = record {
     filled = filled_more order slots r.filled;
+    listed = listed_more order slots r.listed;
     apart = r.apart;
     lone = lone_past order slots (length slots) r.filled (omega arith);
     within = let more = length_push slots None in omega (arith, more);
@@ -230,6 +296,7 @@ module _ {T : Type 0} where
     pub rows_inserted : i ≤ length order → AreInSlots (insert order i s) spare (set slots s (Some x)) n
     rows_inserted w = record {
       filled = filled_inserted order (set slots s (Some x)) i s x (filled_by order slots s (Some x) r.lone r.filled) here;
+      listed = listed_inserted order slots i s x r.listed;
       apart = apart_inserted s i order r.lone r.apart;
       below = subst (λ m. AreBelow m spare) (sym (length-set slots s (Some x))) r.below;
       others = r.others i;
@@ -247,6 +314,7 @@ module _ {T : Type 0} where
     pub rows_removed : AreInSlots (remove order i) (spare ++ s ∷ []) (set slots s None) n
     rows_removed = record {
       filled = filled_by (remove order i) slots s None (removed_lone s i order r.apart e) (filled_removed order slots i r.filled inside);
+      listed = listed_removed order slots i s e (slot_within order slots i s r.filled e) r.listed;
       apart = apart_removed i order inside r.apart;
       below = subst (λ m. AreBelow m (spare ++ s ∷ [])) (sym (length-set slots s None)) (below_push (length slots) s spare r.below (slot_within order slots i s r.filled e));
       others = spare_added s i spare order r.apart e r.others;
@@ -258,10 +326,15 @@ module _ {T : Type 0} where
     pub has_room : (m : ℕ) → n ≤ m → length spare < m
     has_room m w = let each = r.all in let few = r.room in let low = inside in omega (arith, each, few, low, w)
 
+  pub rows_nothing : (order spare : List ℕ) (slots : List (Option T)) (n : ℕ) → order ≡ [] → spare ≡ [] → slots ≡ [] → AreInSlots order spare slots n
+  rows_nothing order spare slots n a b c =
+      subst (λ l. AreInSlots l spare slots n) (sym a) (subst (λ l. AreInSlots [] l slots n) (sym b) (subst (λ (l : List (Option T)). AreInSlots [] [] l n) (sym c)
+      (record { filled = tt; listed = λ s x e. absurd (none-some x e); apart = tt; below = tt; others = tt; all = omega arith; room = omega arith })))
+
   pub rows_same : (order spare : List ℕ) (slots : List (Option T)) (n : ℕ) → AreInSlots order spare slots n → (o p : List ℕ) (q : List (Option T)) (m : ℕ) → o ≡ order → p ≡ spare → q ≡ slots → n ≤ m → AreInSlots o p q m
   rows_same order spare slots n r o p q m a b c w =
       subst (λ l. AreInSlots l p q m) (sym a) (subst (λ l. AreInSlots order l q m) (sym b) (subst (λ l. AreInSlots order spare l m) (sym c)
-      (record { filled = r.filled; apart = r.apart; below = r.below; others = r.others; all = r.all; room = let few = r.room in omega (arith, few, w) })))
+      (record { filled = r.filled; listed = r.listed; apart = r.apart; below = r.below; others = r.others; all = r.all; room = let few = r.room in omega (arith, few, w) })))
 
 -- what a look at an index gives
 pub found_at : {X : Type 0} (xs : List X) (i : ℕ) (r : Option (Bor X)) → IsItemAt xs i r → option_copied r ≡ slice_get xs i

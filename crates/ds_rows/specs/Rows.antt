@@ -1,5 +1,5 @@
 -- How slots, some of them empty, and the slot numbers in an order are one list.
-use Rattle.std.specs.Prelude.{◌≡◌, ◌≢◌, ℕ, ◌+◌, ◌<◌, ◌≤◌, List, [], ◌∷◌, length, Option, Some, None, ⊤, slice_index_or}
+use Rattle.std.specs.Prelude.{◌≡◌, ◌≢◌, ℕ, ◌+◌, ◌<◌, ◌≤◌, List, [], ◌∷◌, length, Option, Some, None, ⊤, ◌⊎◌, slice_index_or}
 use Rattle.std.specs.List.{cons_option, insert}
 
 module _ {T : Type 0} where
@@ -27,6 +27,15 @@ abbrev pub IsLone : ℕ → List ℕ → Type 0
 IsLone s [] = ⊤
 IsLone s (t ∷ numbers) = (s ≢ t) × IsLone s numbers
 
+-- Whether the number is one of these.
+abbrev pub IsAmong : ℕ → List ℕ → Type 0
+IsAmong s [] = ⊥
+IsAmong s (t ∷ numbers) = (s ≡ t) ⊎ IsAmong s numbers
+
+-- Whether the number of each slot with an element is in the order.
+abbrev pub AreListed : {T : Type 0} → List ℕ → List (Option T) → Type 0
+AreListed {T} order slots = (s : ℕ) (x : T) → in_slot slots s ≡ Some x → IsAmong s order
+
 -- Whether no two numbers are equal.
 abbrev pub AreNumbersApart : List ℕ → Type 0
 AreNumbersApart [] = ⊤
@@ -41,6 +50,7 @@ AreSpare (s ∷ spare) order = IsLone s order × (IsLone s spare × AreSpare spa
 -- slots has memory for them all.
 pub record AreInSlots {T : Type 0} (order spare : List ℕ) (slots : List (Option T)) (capacity : ℕ) : Type 0 where
   pub filled : AreFilled order slots
+  pub listed : AreListed order slots
   pub apart : AreNumbersApart order
   pub below : AreBelow (length slots) spare
   pub others : AreSpare spare order
@@ -50,6 +60,7 @@ pub record AreInSlots {T : Type 0} (order spare : List ℕ) (slots : List (Optio
 -- Whether the slot is neither in the order nor spare, and each other slot is one of the two.
 pub record IsFreeSlot {T : Type 0} (order : List ℕ) (slot : ℕ) (spare : List ℕ) (slots : List (Option T)) (capacity : ℕ) : Type 0 where
   pub filled : AreFilled order slots
+  pub listed : AreListed order slots
   pub apart : AreNumbersApart order
   pub lone : IsLone slot order
   pub within : slot < length slots

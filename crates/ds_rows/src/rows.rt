@@ -1,6 +1,6 @@
 //! Lists in slots.
 
-ghost use Rattle.std.specs.Prelude.{◌≡◌, ◌<◌, ◌≤◌, [], length, slice_get, slice_index_or, slice_set, OnOk, OnErr};
+ghost use Rattle.std.specs.Prelude.{◌≡◌, ℕ, ◌<◌, ◌≤◌, [], Some, length, slice_get, slice_index_or, slice_set, IfSome, OnOk, OnErr};
 ghost use Rattle.std.specs.List.{insert, remove};
 ghost use Rattle.std.specs.Option.{option_copied};
 
@@ -77,6 +77,25 @@ impl<T: Drop> Rows<T> {
         ensures { result.now ≡ slice_index_or self.now index result.now }
     {
         self.get(index).unwrap()
+    }
+
+    /// Returns the number of the slot of the element at an index; 0 past the end. It is for guesses: no clause says which
+    /// number it is.
+    pub fn slot_at(&self, index: usize) -> u16 {
+        match self.order.get(index) {
+            Some(slot) => *slot,
+            None => 0,
+        }
+    }
+
+    /// Returns the element in a slot: one of the list, or `None` if the slot is empty.
+    pub fn in_slot(&self, slot: u16) -> Option<&T>
+        ensures { IfSome result (λ x. (k : ℕ) × (slice_get self.now k ≡ Some x.now)) }
+    {
+        match self.slots.get(usize::from(slot)) {
+            Some(element) => element.as_ref(),
+            None => None,
+        }
     }
 
     /// Replaces the element at an index. It allocates nothing.

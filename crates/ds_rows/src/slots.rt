@@ -2,7 +2,7 @@
 
 ghost use Rattle.std.specs.Prelude.{◌≡◌, ◌<◌, ◌≤◌, ◌++◌, ◌∷◌, [], None, length, slice_set, vec_capacity, vec_len, IfOk, OnOk, OnErr};
 ghost use Rattle.std.specs.List.{insert, remove};
-ghost use Rattle.ds_rows.specs.Rows.{rows_of, AreNumbersApart, AreFilled, AreInSlots, IsFreeSlot};
+ghost use Rattle.ds_rows.specs.Rows.{rows_of, AreFilled, AreInSlots, AreListed, AreNumbersApart, IsFreeSlot};
 
 use ds_names::NoRoom;
 
@@ -101,8 +101,10 @@ pub(crate) fn remove_in<T: Drop>(
 pub(crate) fn set_in<T: Drop>(order: &[u16], slots: &mut Vec<Option<T>>, index: usize, element: T)
     requires within { index < length order.now }
     requires filled { AreFilled order.now slots.old.items }
+    requires listed { AreListed order.now slots.old.items }
     requires apart { AreNumbersApart order.now }
     ensures filled { AreFilled order.now slots.new.items }
+    ensures listed { AreListed order.now slots.new.items }
     ensures count { length slots.new.items ≡ length slots.old.items }
     ensures set { rows_of order.now slots.new.items ≡ slice_set (rows_of order.now slots.old.items) index element }
 {

@@ -16,7 +16,7 @@ watching query stamp = record { query = query; stamp = stamp }
 abbrev pub AreEmptyFrom : ℕ → List (Option Watching) → Type 0
 AreEmptyFrom from places = (k : ℕ) → from ≤ k → slice_index_or places k None ≡ None
 
--- Whether there is a subscription and the key is under its query.
+-- Whether there is a subscription, and the key is under its query.
 abbrev pub watches : Key → Option Watching → Bool
 watches key None = false
 watches key (Some w) = is_under w.query key

@@ -14,7 +14,8 @@ use std::marker::Model;
 // The most subscriptions of a store.
 const MOST_PLACES: usize = 128;
 
-/// The subscriptions of a store, each at the place of its number, below 128. The places from `used` on are empty.
+/// The subscriptions of a store, each at the place of its number. There are at most 128 places, and those from `used`
+/// on are empty.
 #[derive(Drop)]
 pub struct Subscriptions {
     places: [Option<Subscription>; MOST_PLACES],

@@ -1,13 +1,13 @@
 //! The masks of held items, for all subscriptions.
 
-ghost use Rattle.std.specs.Prelude.{◌≡◌, ◌<◌, ◌≤◌, ◌&&◌, Some, None, length, map, false, slice_get, slice_index_or, IfOk};
+ghost use Rattle.std.specs.Prelude.{◌≡◌, ◌<◌, ◌≤◌, ◌&&◌, Some, None, length, map, filter, take, false, slice_get, slice_index_or, IfOk};
 ghost use Rattle.std.specs.Option.{option_map};
 ghost use Rattle.ds_entry.specs.declared.item.Item as items;
 ghost use Rattle.ds_held.specs.Held.{held_items};
 ghost use Rattle.ds_watch.specs.Masks.{shown_to, made_at};
 ghost use Rattle.ds_content.specs.Kept.{masks_at};
 ghost use Rattle.ds_content.specs.Marking.{IsSet, IsRemarked, AreRemarked};
-ghost use Rattle.ds_content.specs.Shown.{says_unseen, is_to_show, IsNext};
+ghost use Rattle.ds_content.specs.Shown.{says_unseen, is_to_show, IsNext, IsToShowHere};
 ghost use Rattle.ds_pattern.specs.Under.{is_under};
 ghost use Rattle.ds_entry.specs.Item.{passes};
 
@@ -105,6 +105,17 @@ fn set_masks(held: &mut Indexed<Masks>, index: usize, masks: Masks)
     }
 }
 
+// Returns whether the item at the index is still to be shown to subscription `sub`.
+fn is_unseen_at(held: &Marked<Masks>, index: usize, sub: usize) -> bool
+    requires { sub < 128 }
+    ensures { IsToShowHere held.now sub index result }
+{
+    match masks_of(held, index) {
+        Some(masks) => masks.is_unseen(sub),
+        None => false,
+    }
+}
+
 // Marks the item at the index as shown to subscription `sub`.
 fn show_one(held: &mut Indexed<Masks>, index: usize, sub: usize)
     requires { sub < 128 }
@@ -115,21 +126,20 @@ fn show_one(held: &mut Indexed<Masks>, index: usize, sub: usize)
     }
 }
 
-/// Marks the first `count` items as shown to subscription `sub`. Takes no memory.
-pub(super) fn show_first(held: &mut Indexed<Masks>, count: usize, sub: usize)
-    requires { sub < 128 }
+/// Marks the first `count` items as shown to subscription `sub`, of which `left` are still to be shown. It walks back
+/// from the last of them, as far as to the first that is still to be shown. Takes no memory.
+pub(super) fn show_first(held: &mut Indexed<Masks>, count: usize, mut left: usize, sub: usize)
+    requires place { sub < 128 }
+    requires left { left ≡ length (filter (is_to_show held.old sub) (take count (held_items held.old.held))) }
     ensures { AreRemarked held.old held.new count (λ k. shown_to sub) }
 {
-    let mut passed = 0;
-    while passed < count {
-        let Some(index) = next_unseen(held.marked(), passed, sub) else {
-            return;
-        };
-        if index >= count {
-            return;
+    let mut index = count;
+    while left > 0 && index > 0 {
+        index -= 1;
+        if is_unseen_at(held.marked(), index, sub) {
+            show_one(held, index, sub);
+            left -= 1;
         }
-        show_one(held, index, sub);
-        passed = index + 1;
     }
 }
 

@@ -85,7 +85,12 @@ impl Content {
         ensures { InEachWith self.old sub (λ s x. ContentStands self.new (subscribes s sub x.query (x.shown ++ shown.now.items))) }
     {
         let _held = self.held.held();
-        show_first(&mut self.held, shown.passed, sub as usize);
+        show_first(
+            &mut self.held,
+            shown.passed,
+            shown.items.len(),
+            sub as usize,
+        );
         self.stamp += 1;
         self.subscriptions.set_stamp(sub as usize, self.stamp);
     }

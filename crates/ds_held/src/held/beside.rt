@@ -80,12 +80,7 @@ impl Held {
         ensures sound { IsSound self.new }
     {
         match put(&mut self.floors, place, floor) {
-            Ok(()) => {
-                let before = self.changes.len();
-                let count = drop_beside(&mut self.changes, marks, &floor);
-                self.guesses.note_dropped(&self.changes, before);
-                Ok(count)
-            }
+            Ok(()) => Ok(drop_beside(&mut self.changes, marks, &floor)),
             Err(NoRoom) => Err(NoRoom),
         }
     }

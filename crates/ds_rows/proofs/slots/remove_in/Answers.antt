@@ -2,7 +2,7 @@ use Rattle.std.proofs.Common.{◌≡◌, ◌<◌, Some, None, length, set, refl,
 use Rattle.std.proofs.lemmas.Option.{slice_get_read}
 use Rattle.std.specs.List.{slice_get, remove}
 use Rattle.std.specs.Prelude.{vec_capacity, ◌++◌, ◌∷◌, []}
-use Rattle.ds_rows.specs.Rows.{rows_of, AreInSlots}
+use Rattle.ds_rows.specs.Rows.{rows_of}
 use Rattle.ds_rows.proofs.RowLemmas.{slot_within, list_removed, rows_removed, has_room, rows_same}
 use Rattle.ds_rows.proofs.slots.remove_in.Goals as goal
 

@@ -1,4 +1,4 @@
-use Rattle.std.proofs.Common.{◌≡◌, [], ◌∷◌, ◌++◌, None, map, refl, ap, sym, ◌∙◌, subst, inl, Ok, ◌⊎◌}
+use Rattle.std.proofs.Common.{◌≡◌, [], ◌∷◌, ◌++◌, None, map, ap, sym, ◌∙◌, subst, inl, Ok, ◌⊎◌}
 use Rattle.std.specs.FinMap.{insert}
 use Rattle.ds_entry.specs.Change.{ChangeRecord, IsBodyInPlace}
 use Rattle.ds_entry.specs.declared.item.Item.TheVariants.{Change as Changed}

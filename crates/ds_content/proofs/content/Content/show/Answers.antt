@@ -1,6 +1,7 @@
 use Rattle.std.proofs.Common.{◌≡◌, ◌+◌, ◌<◌, ◌++◌, List, Option, Some, None, true, is_some, length, take, filter, get_or, set, ap, sym, ◌∙◌, subst}
 use Rattle.std.proofs.lemmas.List.{length-set}
 use Rattle.std.specs.Option.{option_map}
+use Rattle.ds_entry.specs.declared.item.Item.{Item}
 use Rattle.ds_held.specs.Held.{Holding, held_items}
 use Rattle.ds_watch.specs.Watching.{Watching, watching, stamped}
 use Rattle.ds_machine.specs.State.{State, subscribes, subscription_at}
@@ -16,10 +17,17 @@ use Rattle.ds_content.proofs.content.Content.show.Goals as goal
 use Rattle.ds_content.proofs.content.Content.show.Goals.{After-set_stamp}
 use Rattle.ds_names.specs.Limits.{last_place}
 
-pub show_first-requires : goal.show_first-requires
-show_first-requires c =
+pub show_first-requires-clause-place : goal.show_first-requires-clause-place
+show_first-requires-clause-place c =
     let w = made_place c.self.inside.held c.self.inside.subscriptions c.args.sub (subst (λ (v : ContentRecord). is_some (get_or v.subscriptions c.args.sub None) ≡ true) (sym c.self.view_is) c.requires.made) in
     few_seats c.self.inside.held c.self.inside.journal c.self.inside.stamp c.self.inside.subscriptions c.self.invariant.stood.0 c.self.invariant.stood.1 c.self.invariant.places c.args.sub w.0 w.1
+
+pub show_first-requires-clause-left : goal.show_first-requires-clause-left
+show_first-requires-clause-left c =
+    let w = made_place c.self.inside.held c.self.inside.subscriptions c.args.sub (subst (λ (v : ContentRecord). is_some (get_or v.subscriptions c.args.sub None) ≡ true) (sym c.self.view_is) c.requires.made) in
+    c.len.ensures ∙ ap (λ (l : List Item). length l)
+    (unseen_items c.self.inside.held c.self.inside.subscriptions c.args.sub w.0 w.1 c.self.inside.journal c.self.inside.stamp c.args.shown.now.items c.args.shown.now.passed
+    (subst (λ (v : ContentRecord). AreUnseen v c.args.sub c.args.shown.now.items c.args.shown.now.passed) (sym c.self.view_is) c.requires.unseen))
 
 pub set_stamp-requires : goal.set_stamp-requires
 set_stamp-requires c =

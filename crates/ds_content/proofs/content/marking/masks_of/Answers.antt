@@ -1,4 +1,4 @@
-use Rattle.std.proofs.Common.{◌≡◌, ◌<◌, ◌+◌, length, ◌∙◌, arith}
+use Rattle.std.proofs.Common.{◌<◌, ◌∙◌, arith}
 use Rattle.ds_held.specs.Held.{held_changes, held_floors, floor_count}
 use Rattle.ds_content.proofs.HoldingLemmas.{count_floors}
 use Rattle.ds_content.proofs.IndexLemmas.{floor_beside, floor_none, change_beside, change_none, none_beside}

@@ -1,47 +1,46 @@
-use Rattle.std.proofs.Common.{◌≡◌, ◌<◌, ◌≤◌, ◌+◌, Some, None, length, ap, subst, arith}
-use Rattle.std.proofs.lemmas.Option.{slice_get_within}
-use Rattle.ds_held.specs.Held.{Holding, held_items}
-use Rattle.ds_watch.specs.Masks.{shown_to}
-use Rattle.ds_content.specs.Marking.{AreRemarked}
-use Rattle.ds_content.specs.Shown.{IsNext, is_to_show}
-use Rattle.ds_content.proofs.NextLemmas.{remarked_past}
-use Rattle.ds_content.proofs.RemarkLemmas.{none_remarked, remarked_more}
+use Rattle.std.proofs.Common.{◌≡◌, ℕ, ◌+◌, ◌-◌, cond, filter, length, take, ap, subst, arith}
+use Rattle.ds_held.specs.Held.{held_items}
+use Rattle.ds_marked.specs.Marked.{MarkedHolding}
+use Rattle.ds_watch.specs.declared.masks.Masks.{Masks}
+use Rattle.ds_content.specs.Shown.{is_to_show, IsToShowHere}
+use Rattle.ds_content.proofs.BackLemmas.{AreMarkedFrom, all_marked, left_now, marked_before, marked_same}
 use Rattle.ds_content.proofs.content.marking.show_first.Goals as goal
 
-pub loop-passed-init : goal.loop-passed-init
-loop-passed-init c = record { shown = none_remarked c.args.held.now (λ k. shown_to c.args.sub); within = omega arith }
-
-pub loop-passed-smaller : goal.loop-passed-smaller
-loop-passed-smaller c =
-    let hs = held_items c.loop-passed.held.held in
-    let next = subst (λ h. IsNext (is_to_show h c.args.sub) (held_items h.held) c.loop-passed.passed (Some c.in-Some.index)) c.marked.ensures c.in-Some.ensures in
-    let from = next.there.0 in
-    let within : c.in-Some.index < length hs = slice_get_within hs c.in-Some.index next.there.1.0 next.there.1.1 in
-    let same = ap (λ (h : Holding). length (held_items h)) c.show_one.ensures.held in
-    omega (arith, from, within, same)
-
-pub loop-passed-preserved : goal.loop-passed-preserved
-loop-passed-preserved c =
-    let next = subst (λ h. IsNext (is_to_show h c.args.sub) (held_items h.held) c.loop-passed.passed (Some c.in-Some.index)) c.marked.ensures c.in-Some.ensures in
-    let before : AreRemarked c.args.held.now c.loop-passed.held c.in-Some.index (λ k. shown_to c.args.sub) =
-    remarked_past c.args.held.now c.loop-passed.held c.loop-passed.passed c.in-Some.index c.args.sub next.there.0 c.loop-passed.invariant.shown (λ k i e l below. next.none_before k i e l below) in
+pub loop-left-preserved-then-is_unseen_at : goal.loop-left-preserved-then-is_unseen_at
+loop-left-preserved-then-is_unseen_at c =
+    let old = c.args.held.now in
+    let n = c.loop-left.index - 1 in
+    let at : c.loop-left.index ≡ n + 1 = omega (arith, c.if-index-gt0.true) in
+    let so_far = subst (λ i. AreMarkedFrom old c.loop-left.held i c.args.count c.args.sub) at c.loop-left.invariant.marked in
+    let here = subst (λ (h : MarkedHolding Masks). IsToShowHere h c.args.sub n c.is_unseen_at.result) c.marked.ensures c.is_unseen_at.ensures in
+    let left = left_now old c.loop-left.held n c.args.count c.args.sub so_far c.loop-left.left c.is_unseen_at.result
+    (subst (λ i. c.loop-left.left ≡ length (filter (is_to_show old c.args.sub) (take i (held_items old.held)))) at c.loop-left.invariant.left) here in
+    let one : cond {A = ℕ} c.is_unseen_at.result 1 0 ≡ 1 = ap (λ b. cond {A = ℕ} b 1 0) c.if-is_unseen_at.true in
+    let within = c.loop-left.invariant.within in
     record {
-      shown = remarked_more c.args.held.now c.loop-passed.held c.show_one.new.held c.in-Some.index (λ k. shown_to c.args.sub) before c.show_one.ensures;
-      within = omega arith;
+      marked = marked_before old c.loop-left.held n c.args.count c.args.sub so_far c.show_one.new.held (omega (arith, within, at)) c.show_one.ensures;
+      left = omega (arith, left, one);
+      within = omega (arith, within);
     }
 
-pub returns-then-index-count : goal.returns-then-index-count
-returns-then-index-count c =
-    let next = subst (λ h. IsNext (is_to_show h c.args.sub) (held_items h.held) c.loop-passed.passed (Some c.in-Some.index)) c.marked.ensures c.in-Some.ensures in
-    remarked_past c.args.held.now c.loop-passed.held c.loop-passed.passed c.args.count c.args.sub c.loop-passed.invariant.within c.loop-passed.invariant.shown
-    (λ k i e l below. next.none_before k i e l (omega (arith, below, c.if-index-count.true)))
+pub loop-left-preserved : goal.loop-left-preserved
+loop-left-preserved c =
+    let old = c.args.held.now in
+    let n = c.loop-left.index - 1 in
+    let at : c.loop-left.index ≡ n + 1 = omega (arith, c.if-index-gt0.true) in
+    let so_far = subst (λ i. AreMarkedFrom old c.loop-left.held i c.args.count c.args.sub) at c.loop-left.invariant.marked in
+    let here = subst (λ (h : MarkedHolding Masks). IsToShowHere h c.args.sub n c.is_unseen_at.result) c.marked.ensures c.is_unseen_at.ensures in
+    let left = left_now old c.loop-left.held n c.args.count c.args.sub so_far c.loop-left.left c.is_unseen_at.result
+    (subst (λ i. c.loop-left.left ≡ length (filter (is_to_show old c.args.sub) (take i (held_items old.held)))) at c.loop-left.invariant.left) here in
+    let none : cond {A = ℕ} c.is_unseen_at.result 1 0 ≡ 0 = ap (λ b. cond {A = ℕ} b 1 0) c.if-is_unseen_at.false in
+    let within = c.loop-left.invariant.within in
+    record {
+      marked = marked_same old c.loop-left.held n c.args.count c.args.sub so_far c.is_unseen_at.result here.here c.if-is_unseen_at.false;
+      left = omega (arith, left, none);
+      within = omega (arith, within);
+    }
 
-pub returns-in_default : goal.returns-in_default
-returns-in_default c =
-    remarked_past c.args.held.now c.loop-passed.held c.loop-passed.passed c.args.count c.args.sub c.loop-passed.invariant.within c.loop-passed.invariant.shown
-    (λ k i e l below. (subst (λ h. IsNext (is_to_show h c.args.sub) (held_items h.held) c.loop-passed.passed None) c.marked.ensures c.in_default.ensures).none_before k i e l tt)
-
-pub returns : goal.returns
-returns c =
-    subst (λ n. AreRemarked c.args.held.now c.loop-passed.held n (λ k. shown_to c.args.sub)) {x = c.loop-passed.passed} {y = c.args.count} (omega (arith, c.loop-passed.invariant.within, c.loop-passed-test.false))
-    c.loop-passed.invariant.shown
+pub returns-after-loop-left : goal.returns-after-loop-left
+returns-after-loop-left c =
+    let left = c.loop-left.invariant.left in
+    all_marked c.args.held.now c.loop-left.held c.loop-left.index c.args.count c.args.sub c.loop-left.invariant.within (omega (arith, left, c.loop-left-test.false)) c.loop-left.invariant.marked
