@@ -1,6 +1,7 @@
 -- RS's actions, and their commands to a store.
-use Rattle.std.proofs.Common.{◌≡◌, ℕ, zero, suc, Bool, true, false, List, [], ◌∷◌, ◌++◌, Option, Some, None, Result, Ok, Err, refl, sym, ap, subst, ◌∙◌, append_assoc, append-nil}
+use Rattle.std.proofs.Common.{◌≡◌, ℕ, zero, suc, false, List, [], ◌∷◌, ◌++◌, drop, take, Option, Some, None, Ok, refl, sym, ap, subst, ◌∙◌, append_assoc, append-nil}
 use Rattle.std.specs.List.{AllByRecursion, slice_get}
+use Rattle.std.proofs.lemmas.List.{take-append-drop}
 use Rattle.ds_names.specs.Endpoint.{EndpointRecord, endpoint_of}
 use Rattle.ds_names.specs.declared.key.Key.{Key}
 use Rattle.ds_names.specs.declared.version.Version.{Version}
@@ -17,10 +18,10 @@ use Rattle.rs_core.specs.declared.action.Action.{Action}
 use Rattle.rs_core.specs.declared.action.Action.TheVariants as actions
 use Rattle.rs_core.specs.declared.event.Event as services
 use Rattle.rs_core.specs.declared.event.Event.TheVariants.{Up, Stop, Refresh, Restart, Death, Beat, Tick}
-use Rattle.rs_core.specs.declared.fault.RsFault.{RsFault}
 use Rattle.rs_to_store.specs.Asked.{asking_for, command_of}
 use Rattle.service_answers.specs.Actions.{action_line}
 use Rattle.script_services.specs.Services.{without_settings, AsksIfAny, AnswersActions}
+use Rattle.script_services.specs.Waiting.{BeginsTelling}
 
 -- ---- a copy of what they offer takes no memory
 
@@ -93,3 +94,7 @@ actions_more side (y ∷ acts) x old mid new out first asks one (m, f, r, o, k, 
 -- an action without a command sends none
 pub asks_none : (side : Side) (command : Option Command) (world : WorldRecord) → command ≡ None → AsksIfAny side command world [] [] world
 asks_none side command world none = subst (λ (o : Option Command). AsksIfAny side o world [] [] world) (sym none) (refl, refl, refl)
+
+-- the first actions went to the store
+pub first_sent : (side : Side) (acts : List Action) (i : ℕ) (old new : WorldRecord) (out : List ℕ) (asks : List (Event × Outcome)) → AnswersActions side (take i acts) old out asks new → BeginsTelling side (Ok acts) old new
+first_sent side acts i old new out asks h = (take i acts, drop i acts, out, asks, sym (take-append-drop i acts), h)

@@ -1,5 +1,5 @@
 -- The commands of RS's actions, as events of a world.
-use Rattle.std.proofs.Common.{◌≡◌, List, [], ◌∷◌, ◌++◌, Option, Some, None, Result, Ok, Err, ℕ, refl, sym, ap, subst, ◌∙◌, inl, inr, append-nil, append_assoc, Contains}
+use Rattle.std.proofs.Common.{◌≡◌, List, [], ◌∷◌, ◌++◌, Option, Some, None, Result, Ok, Err, ℕ, sym, ap, subst, ◌∙◌, inl, inr, append-nil, append_assoc, Contains}
 use Rattle.std.proofs.lemmas.List.Elements.{Contains-append_cases}
 use Rattle.ds_entry.proofs.Members.{Contains-nil, Contains-single}
 use Rattle.ds_machine.specs.declared.command.Command.{Command}

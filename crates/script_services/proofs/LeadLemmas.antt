@@ -1,18 +1,16 @@
 -- From the tables that values stand for to the effects of lines on them.
-use Rattle.std.proofs.Common.{◌≡◌, ℕ, List, [], ◌∷◌, ◌++◌, Option, Some, None, Result, Ok, Err, refl, sym, ap, subst, ◌∙◌, append-nil}
+use Rattle.std.proofs.Common.{◌≡◌, ℕ, List, [], ◌++◌, Option, Some, None, Result, refl, sym, ap, subst, ◌∙◌, append-nil}
 use Rattle.ds_entry.specs.declared.item.Item.{Item}
 use Rattle.rs_core.specs.State.{RsRecord}
 use Rattle.driver_tables.specs.declared.fault.TableFault.{TableFault}
 use Rattle.driver_tables.specs.declared.moves.Move.{Move}
 use Rattle.driver_tables.specs.DriverTable.{DriverTable}
-use Rattle.driver_tables.specs.Run.{Call, TableStep, Submit}
+use Rattle.driver_tables.specs.Run.{Call, TableStep}
 use Rattle.driver_tables.specs.Stands.{TableRecord, TableStands}
-use Rattle.rs_to_store.specs.Following.{labels_of, Follows, HasFollowed}
-use Rattle.script_commands.specs.declared.service.Server.{Server}
 use Rattle.script_commands.specs.declared.service.Server.TheVariants.{File, Net}
-use Rattle.script_services.specs.Servers.{Servers, ServersRecord, ServersStand, ServersLead, servers_of}
+use Rattle.script_services.specs.Servers.{ServersLead, servers_of}
 use Rattle.rs_to_store.specs.Submitting.{FollowsAndTakes, FollowedAndTaken, all_in}
-use Rattle.script_services.specs.Tables.{AnswersCall, AnswersFollow, AnswersSubmit, BothFollow, FollowsNext, ended_by, moves_text}
+use Rattle.script_services.specs.Tables.{AnswersCall, AnswersFollow, AnswersSubmit, FollowsNext, ended_by, moves_text}
 use Rattle.script_services.specs.Kept.{FollowedNext, BothFollowed}
 
 -- ---- calls

@@ -1,5 +1,5 @@
 -- The bytes that a loop appended.
-use Rattle.std.proofs.Common.{◌≡◌, ℕ, List, ◌++◌, ap, append_assoc, ◌∙◌}
+use Rattle.std.proofs.Common.{ℕ, List, ◌++◌, ap, append_assoc, ◌∙◌}
 use Rattle.service_answers.specs.Appending.{AppendsSome}
 
 -- an extension of an extension is one

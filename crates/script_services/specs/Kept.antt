@@ -1,10 +1,9 @@
 -- The effects of follows and requests on what the code keeps, for each table that a value stands for.
-use Rattle.std.specs.Prelude.{◌≡◌, ℕ, List, ◌++◌, Option, Some, None, Result}
+use Rattle.std.specs.Prelude.{◌≡◌, List, Option, Some, None}
 use Rattle.ds_entry.specs.declared.item.Item.{Item}
 use Rattle.driver_tables.specs.declared.fault.TableFault.{TableFault}
 use Rattle.driver_tables.specs.declared.moves.Move.{Move}
-use Rattle.driver_tables.specs.DriverTable.{DriverTable}
-use Rattle.driver_tables.specs.Stands.{TableRecord, TableStands}
+use Rattle.driver_tables.specs.Stands.{TableRecord}
 use Rattle.rs_to_store.specs.Following.{HasFollowed}
 
 -- Whether a table, unless something ended earlier, followed a map, and its rounds were appended.

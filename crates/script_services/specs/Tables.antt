@@ -1,11 +1,10 @@
 -- The answers to lines for driver tables.
-use Rattle.std.specs.Prelude.{◌≡◌, ℕ, List, [], ◌∷◌, ◌++◌, length, Option, Some, None, Result, Ok, Err, codes}
+use Rattle.std.specs.Prelude.{◌≡◌, ℕ, List, [], ◌++◌, length, Option, Some, None, Result, Ok, Err, codes}
 use Rattle.std.specs.List.{flat_map}
 use Rattle.std.specs.Option.{option_map, option_to_list}
 use Rattle.ds_names.specs.Endpoint.{EndpointRecord}
 use Rattle.ds_entry.specs.declared.item.Item.{Item}
 use Rattle.driver_tables.specs.declared.fault.TableFault.{TableFault}
-use Rattle.driver_tables.specs.declared.file_table.FileClass.{FileClass}
 use Rattle.driver_tables.specs.declared.moves.Move.{Move}
 use Rattle.driver_tables.specs.Driver.{net_driver}
 use Rattle.driver_tables.specs.DriverTable.{DriverTable}

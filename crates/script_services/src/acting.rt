@@ -5,7 +5,7 @@ ghost use Rattle.std.specs.List.{AllByRecursion};
 ghost use Rattle.rs_core.specs.Action.{IsActionInPlace};
 ghost use Rattle.rs_to_store.specs.Asked.{command_of as command_for};
 ghost use Rattle.script_services.specs.Services.{without_settings as answer_without, ServicesAnswer};
-ghost use Rattle.script_services.specs.Waiting.{AppendsSome, AppendsService, AppendsTold, AppendsAsked};
+ghost use Rattle.script_services.specs.Waiting.{AppendsSome, AppendsService, AppendsTold, AppendsAsked, AsksOnly, BeginsService, BeginsTelling};
 
 use crate::servers::Servers;
 use ds_held::Limits;
@@ -23,7 +23,7 @@ use store_answers::{Wording, append_reply};
 /// which case nothing changes.
 ///
 /// Before settings are accepted no service is known, and no tick is remembered. `Err` means that memory ran out for the
-/// answer: none of it was appended, whatever RS and the store did.
+/// answer: none of it was appended. RS has taken its step, and the commands of its first actions went to the store.
 pub fn answer_event(
     alloc: Global,
     servers: &mut Servers,
@@ -36,6 +36,7 @@ pub fn answer_event(
     ensures answered { OnOk result (AppendsService event tick side
         output.old.items output.new.items servers.old world.old servers.new world.new) }
     ensures unanswered { OnErr result (output.new.items ≡ output.old.items) }
+    ensures begun { OnErr result (BeginsService event tick side servers.old world.old servers.new world.new) }
 {
     let start = output.len();
     let told = match tell(alloc, &mut servers.services, event, tick) {
@@ -91,6 +92,7 @@ fn pass_on(
     requires { AllByRecursion IsActionInPlace actions.now }
     ensures told { OnOk result (AppendsTold side (Ok actions.now) output.old.items output.new.items world.old world.new) }
     ensures some { OnErr result (AppendsSome output.old.items output.new.items) }
+    ensures begun { OnErr result (BeginsTelling side (Ok actions.now) world.old world.new) }
 {
     for index in 0..actions.len() {
         let Some(action) = actions.get(index) else {
@@ -107,6 +109,7 @@ fn ask(world: &mut World, side: Side, action: &Action, output: &mut Vec<u8>) -> 
     requires { IsActionInPlace action.now }
     ensures asked { OnOk result (AppendsAsked side (command_for action.now) output.old.items output.new.items world.old world.new) }
     ensures unanswered { OnErr result (output.new.items ≡ output.old.items) }
+    ensures sent { OnErr result (AsksOnly side (command_for action.now) world.old world.new) }
 {
     let Some(command) = command_of(action) else {
         return Ok(());

@@ -3,7 +3,7 @@
 ghost use Rattle.std.specs.Prelude.{◌≡◌, ◌++◌, OnOk, OnErr};
 ghost use Rattle.driver_tables.specs.Run.{no_moves, one_move};
 ghost use Rattle.script_services.specs.Tables.{assign_text, answer_text, AnswersAssign, AnswersReply};
-ghost use Rattle.script_services.specs.Waiting.{AppendsLed};
+ghost use Rattle.script_services.specs.Waiting.{AppendsLed, LeadsUnanswered};
 
 use crate::servers::Servers;
 use driver_tables::{Move, TableFault};
@@ -12,7 +12,8 @@ use script_commands::{Device, Server};
 use service_answers::{append_assigned, append_move, append_table_fault};
 
 impl Servers {
-    /// Assigns a device to the driver with a label, and appends `assigned`, or the refusal.
+    /// Assigns a device to the driver with a label, and appends `assigned`, or the refusal. At `Err` only the answer is
+    /// missing.
     pub fn assign(
         &mut self,
         device: Device,
@@ -21,6 +22,7 @@ impl Servers {
     ) -> Result<(), NoRoom>
         ensures answered { OnOk result (AppendsLed (AnswersAssign device label.now) output.old.items output.new.items self.old self.new) }
         ensures unanswered { OnErr result (output.new.items ≡ output.old.items) }
+        ensures carried { OnErr result (LeadsUnanswered (AnswersAssign device label.now) self.old self.new) }
     {
         match device {
             Device::File { major, class } => {
@@ -30,7 +32,8 @@ impl Servers {
         }
     }
 
-    /// Passes a driver's reply to a server's table, and appends the move that follows, or the refusal.
+    /// Passes a driver's reply to a server's table, and appends the move that follows, or the refusal. At `Err` only the
+    /// answer is missing.
     pub fn reply(
         &mut self,
         server: Server,
@@ -40,6 +43,7 @@ impl Servers {
     ) -> Result<(), NoRoom>
         ensures answered { OnOk result (AppendsLed (AnswersReply server endpoint id) output.old.items output.new.items self.old self.new) }
         ensures unanswered { OnErr result (output.new.items ≡ output.old.items) }
+        ensures carried { OnErr result (LeadsUnanswered (AnswersReply server endpoint id) self.old self.new) }
     {
         match server {
             Server::File => append_answer(self.file.reply(endpoint, id), output),

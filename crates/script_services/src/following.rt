@@ -7,7 +7,7 @@ ghost use Rattle.driver_tables.specs.Run.{one_move};
 ghost use Rattle.script_services.specs.Tables.{ended_by, map_items, nomap_line, own_moves, AnswersFollow, AnswersSubmit};
 ghost use Rattle.rs_to_store.specs.Submitting.{FollowedAndTaken};
 ghost use Rattle.script_services.specs.Kept.{BothFollowed};
-ghost use Rattle.script_services.specs.Waiting.{AppendsLed};
+ghost use Rattle.script_services.specs.Waiting.{AppendsLed, LeadsUnanswered};
 
 use crate::moves::append_moves;
 use crate::servers::Servers;
@@ -21,7 +21,8 @@ use std::alloc::Global;
 
 impl Servers {
     /// Follows a map with both tables: the file server's and then, unless memory runs out for the first, the network
-    /// server's. Appends all moves and their number; or, if memory runs out, the cause.
+    /// server's. Appends all moves and their number; or, if memory runs out, the cause. At `Err` only the answer is
+    /// missing.
     pub fn follow(
         &mut self,
         alloc: Global,
@@ -31,6 +32,7 @@ impl Servers {
         ensures answered { OnOk result (AppendsLed (AnswersFollow (map_items (option_copied map.entry)))
             output.old.items output.new.items self.old self.new) }
         ensures unanswered { OnErr result (output.new.items ≡ output.old.items) }
+        ensures carried { OnErr result (LeadsUnanswered (AnswersFollow (map_items (option_copied map.entry))) self.old self.new) }
     {
         let Some(map) = map else {
             return append_nomap(output);
@@ -41,7 +43,8 @@ impl Servers {
     }
 
     /// Follows a map with a server's table, which then takes request `id` to `unit`. Appends all moves and their
-    /// number; if the request is refused, or memory runs out, the moves that were made and then the cause.
+    /// number; if the request is refused, or memory runs out, the moves that were made and then the cause. At `Err` only
+    /// the answer is missing.
     pub fn submit(
         &mut self,
         alloc: Global,
@@ -54,6 +57,7 @@ impl Servers {
         ensures answered { OnOk result (AppendsLed (AnswersSubmit server id unit (map_items (option_copied map.entry)))
             output.old.items output.new.items self.old self.new) }
         ensures unanswered { OnErr result (output.new.items ≡ output.old.items) }
+        ensures carried { OnErr result (LeadsUnanswered (AnswersSubmit server id unit (map_items (option_copied map.entry))) self.old self.new) }
     {
         let Some(map) = map else {
             return append_nomap(output);

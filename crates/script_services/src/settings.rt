@@ -1,7 +1,6 @@
 //! The answer to `settings`.
 
 ghost use Rattle.std.specs.Prelude.{◌≡◌, OnOk, OnErr};
-ghost use Rattle.script_services.specs.Services.{AnswersSettings};
 ghost use Rattle.script_services.specs.Waiting.{AppendsLedOrRefuses};
 
 use crate::servers::Servers;
@@ -19,12 +18,12 @@ impl Servers {
     /// Reads a settings text, and begins RS with it; all of its services are down. Appends the numbers of services and
     /// slots, or the text's refusal. Once settings are accepted, later texts are refused unread.
     ///
-    /// A text that can't be allocated is answered `refused noroom`, and changes nothing. `Err` means that memory ran
-    /// out for the answer itself, and none of it was appended.
+    /// If memory runs out for a first text, it is answered `refused noroom`, and nothing changes. `Err` means that memory
+    /// ran out for the answer itself: none of it was appended, and nothing changes.
     pub fn accept(&mut self, alloc: Global, text: &[u8], output: &mut Vec<u8>) -> Result<(), NoRoom>
-        ensures answered { OnOk result (AppendsLedOrRefuses (AnswersSettings text.now)
-            output.old.items output.new.items self.old self.new) }
+        ensures answered { OnOk result (AppendsLedOrRefuses text.now output.old.items output.new.items self.old self.new) }
         ensures unanswered { OnErr result (output.new.items ≡ output.old.items) }
+        ensures kept { OnErr result (self.new ≡ self.old) }
     {
         if self.services.is_some() {
             return append_exists(output);

@@ -23,7 +23,6 @@ use Rattle.trace_walk.specs.declared.fault.WalkFault.TheVariants as walks
 use Rattle.trace_walk.specs.declared.passed.Passed.{Passed}
 use Rattle.trace_walk.specs.declared.passed.Passed.TheVariants.{AsItStands, Swept}
 use Rattle.trace_check.specs.declared.upgrading.UpgradeFault.{UpgradeFault}
-use Rattle.trace_check.specs.declared.upgrading.UpgradeFault.TheVariants.{NoRoom, WriteFault}
 use Rattle.trace_walk.specs.declared.walk.Walk.{Walk}
 use Rattle.trace_walk.specs.Passing.{HasPassed, IsWrittenAs}
 use Rattle.trace_walk.specs.Steps.{WalksAt, EndsThere, first_spot}
@@ -52,16 +51,6 @@ refused_first bytes fault f = let h = has_lines bytes in refused_for bytes [] []
 
 pub nothing_yet : (bytes : List ℕ) → IsUpgradedSoFar bytes []
 nothing_yet bytes = let h = has_lines bytes in ([], h.0, h.1, inl (refl, refl))
-
--- and no fault of a writer
-pub never_write : (fault : WalkFault) → upgrade_fault fault ≡ WriteFault → ⊥
-never_write (walks.IllegalAt number) e = absurd (cc)
-never_write (walks.BadLineAt number) e = absurd (cc)
-never_write walks.ReadFault e = absurd (cc)
-never_write walks.NoRoom e = absurd (cc)
-
-pub not_written : NoRoom ≡ WriteFault → ⊥
-not_written e = absurd (cc)
 
 -- ---- entries
 

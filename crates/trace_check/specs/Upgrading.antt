@@ -2,6 +2,9 @@
 use Rattle.std.specs.Prelude.{◌≡◌, ℕ, List, [], ◌++◌, length, Option}
 use Rattle.std.specs.Io.KnownBytes.{Appends}
 use Rattle.line_io.specs.Lines.{HasLines, joined}
+use Rattle.line_io.specs.Streams.{CallsLead, HasFailedRead, HasFailedWrite}
+use Rattle.line_io.specs.declared.streams.Source.{Ghosts as Reader}
+use Rattle.line_io.specs.declared.streams.Sink.{Ghosts as Writer}
 use Rattle.trace_model.specs.declared.header.Format.TheVariants.{One, Two}
 use Rattle.trace_model.specs.declared.header.Header.{Header}
 use Rattle.trace_model.specs.declared.verdict.Verdict.TheVariants as verdicts
@@ -52,6 +55,17 @@ Refuses NoRoom bytes output = IsUpgradedSoFar bytes output
 -- Whether the fault is right, and what was written in format 2 fits it.
 abbrev pub UpgradesInPart : List ℕ → (had has : Option (List ℕ)) → UpgradeFault → Type 0
 UpgradesInPart bytes had has fault = (output : List ℕ) × Appends had has output × Refuses fault bytes output
+
+-- The cause of a fault. ReadFault comes only if the last read failed, or 2^32 reads were made; WriteFault only if a
+-- write failed, or 2^64 - 1 were made.
+abbrev pub BlamesUpgrade : {R W : Type 0} → Reader R → Writer W → UpgradeFault → (old new : R) → W → Type 0
+BlamesUpgrade r w ReadFault old new writer = HasFailedRead r.reads r.fails old new
+BlamesUpgrade r w WriteFault old new writer = HasFailedWrite w.writes w.fails writer
+BlamesUpgrade r w _ old new writer = Unit {0}
+
+-- Like `BlamesUpgrade`, whichever reader the reads began with.
+abbrev pub BlamesUpgradeOn : {R W : Type 0} → Reader R → Writer W → ℕ → (old new : R) → W → UpgradeFault → Type 0
+BlamesUpgradeOn {R} r w made old new writer fault = (first : R) → CallsLead r.reads made first old → BlamesUpgrade r w fault first new writer
 
 -- ---- on the way
 

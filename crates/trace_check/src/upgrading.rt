@@ -1,9 +1,8 @@
 //! Traces of format 1, written in format 2.
 
 ghost use Rattle.std.specs.Prelude.{◌≡◌, IfOk, IfErr, IfSome};
-ghost use Rattle.line_io.specs.Streams.{HasFailedWrite};
 ghost use Rattle.trace_model.specs.Upgrade.{upgraded};
-ghost use Rattle.trace_check.specs.Upgrading.{EndsBehindHeader, EndsUpgraded, StopsBehindHeader, StopsUpgrading, UpgradesAll, UpgradesInPart};
+ghost use Rattle.trace_check.specs.Upgrading.{EndsBehindHeader, EndsUpgraded, BlamesUpgrade, BlamesUpgradeOn, StopsBehindHeader, StopsUpgrading, UpgradesAll, UpgradesInPart};
 
 use ds_names::NoRoom;
 use line_io::{Sink, Source, WriteFailed, write_out};
@@ -24,7 +23,7 @@ pub enum UpgradeFault {
     /// The trace is of format 2. Nothing was written.
     #[error("already 2")]
     AlreadyTwo,
-    /// The reader failed, or 2^32 reads were made, or 2^64 - 1 entries were counted.
+    /// The reader failed, or 2^32 reads were made.
     #[error("readfault")]
     ReadFault,
     /// The writer failed.
@@ -78,8 +77,9 @@ impl From<NoRoom> for UpgradeFault {
 /// refused, is left out. All other entries are unchanged.
 ///
 /// After IllegalAt and BadLineAt, all entries before the wrong line's are written; after ReadFault and NoRoom, those of
-/// some first lines, in whole entries; after AlreadyTwo, nothing; after WriteFault, a front of such a trace. WriteFault
-/// comes only if a write failed or took no bytes, or after 2^64 - 1 writes.
+/// some first lines, in whole entries; after AlreadyTwo, nothing; after WriteFault, a front of such a trace. ReadFault
+/// comes only if the last read failed, or 2^32 reads were made; WriteFault only if a write failed or took no bytes, or
+/// after 2^64 - 1 writes.
 pub fn upgrade<R: Source, W: Sink>(
     alloc: Global,
     reader: &mut R,
@@ -89,7 +89,7 @@ pub fn upgrade<R: Source, W: Sink>(
         (λ bytes. UpgradesAll bytes (W.contents writer.old) (W.contents writer.new) count)) }
     ensures stopped { IfErr result (λ fault. IfSome (R.remaining reader.old)
         (λ bytes. UpgradesInPart bytes (W.contents writer.old) (W.contents writer.new) fault)) }
-    ensures cause { IfErr result (λ fault. fault ≡ UpgradeFault.WriteFault → HasFailedWrite W.writes W.fails writer.new) }
+    ensures cause { IfErr result (λ fault. BlamesUpgrade R.Source W.Sink fault reader.old reader.new writer.new) }
 {
     let mut walk = Walk::begin(alloc, reader)?;
     upgrade_behind_header(alloc, &mut walk, reader, writer)
@@ -104,7 +104,7 @@ fn upgrade_behind_header<R: Source, W: Sink>(
 ) -> Result<u64, UpgradeFault>
     ensures upgraded { IfOk result (EndsBehindHeader walk.old (R.remaining reader.old) (W.contents writer.old) (W.contents writer.new)) }
     ensures stopped { IfErr result (StopsBehindHeader walk.old (R.remaining reader.old) (W.contents writer.old) (W.contents writer.new)) }
-    ensures cause { IfErr result (λ fault. fault ≡ UpgradeFault.WriteFault → HasFailedWrite W.writes W.fails writer.new) }
+    ensures cause { IfErr result (BlamesUpgradeOn R.Source W.Sink walk.old.lines.reads reader.old reader.new writer.new) }
 {
     let header = walk.header();
     match header.format {
@@ -139,7 +139,7 @@ fn upgrade_entries<R: Source, W: Sink>(
 ) -> Result<u64, UpgradeFault>
     ensures all { IfOk result (EndsUpgraded walk.old (R.remaining reader.old) (W.contents writer.old) (W.contents writer.new)) }
     ensures part { IfErr result (StopsUpgrading walk.old (R.remaining reader.old) (W.contents writer.old) (W.contents writer.new)) }
-    ensures cause { IfErr result (λ fault. fault ≡ UpgradeFault.WriteFault → HasFailedWrite W.writes W.fails writer.new) }
+    ensures cause { IfErr result (BlamesUpgradeOn R.Source W.Sink walk.old.lines.reads reader.old reader.new writer.new) }
 {
     let mut text = Vec::new(alloc);
     let mut written: u64 = 0;
@@ -150,10 +150,8 @@ fn upgrade_entries<R: Source, W: Sink>(
         text.clear();
         let count = append_passed(&mut text, walk, &passed)?;
         write_out(writer, text.as_slice())?;
-        match written.checked_add(count) {
-            Some(more) => written = more,
-            None => return Err(UpgradeFault::ReadFault),
-        }
+        written += count;
     }
+    // No input has this many entries: 2^32 reads bring fewer.
     Err(UpgradeFault::ReadFault)
 }

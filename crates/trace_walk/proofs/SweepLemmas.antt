@@ -11,7 +11,7 @@ use Rattle.std.proofs.lemmas.List.Elements.{All-nil, All-cons, All-append}
 use Rattle.std.proofs.lemmas.Option.{get_or_from_slice_get, slice_get_cases, slice_get_within}
 use Rattle.ds_entry.specs.Change.{ChangeRecord}
 use Rattle.ds_entry.specs.declared.item.Item.{Item}
-use Rattle.ds_held.specs.Limits.{LimitsRecord}
+use Rattle.ds_held.specs.Limits.{LimitsRecord, IsLimits}
 use Rattle.ds_held.specs.Held.{Holding, change_item, floor_item, held_changes, held_items}
 use Rattle.ds_content.specs.Content.{ContentRecord}
 use Rattle.ds_content.specs.Stands.{ContentStands}
@@ -27,6 +27,7 @@ use Rattle.ds_machine.proofs.ReachedLemmas.{with_accepted}
 use Rattle.ds_machine.proofs.OneStepLemmas.{none_some}
 use Rattle.ds_machine.specs.Batches.{AreFree}
 use Rattle.ds_machine.proofs.BatchLemmas.{free_in_parts, owed_in_parts}
+use Rattle.trace_model.proofs.HeaderLemmas.{few_limits}
 use Rattle.trace_model.specs.Sweep.{is_swept, tombstone, tombstones, older_sweep}
 use Rattle.trace_model.specs.Text.{TraceEntry, entry_text}
 use Rattle.trace_model.specs.Upgrade.{MergeInParts, IsPart, merge_entry}
@@ -95,6 +96,10 @@ module _ (owner : List ℕ) (generation : ℕ) (cs : List ChangeRecord) (i : ℕ
           by_test : (b : Bool) → is_swept owner generation c ≡ b → None ≡ cond b (Some (tombstone owner generation c)) None → gone_of owner generation (take i cs) ≡ gone_of owner generation (take (i + 1) cs)
           by_test true s g = absurd (none_some (tombstone owner generation c) g)
           by_test false s g = sym (one_more c at ∙ ap (λ (b : Bool). gone_of owner generation (take i cs) ++ cond b (tombstone owner generation c ∷ []) []) s ∙ append-nil (gone_of owner generation (take i cs)))
+
+-- limits have at most so many keys
+pub most_keys : (l : LimitsRecord) (count : ℕ) → count ≡ l.keys → IsLimits l → count ≤ 4096
+most_keys l count e is = omega (arith, e, (few_limits l is).1)
 
 -- ---- the batches of a sweep
 

@@ -1,6 +1,7 @@
 //! Compares the text of a reply with the lines of a trace.
 
 ghost use Rattle.std.specs.Prelude.{◌≡◌, ◌∷◌, IfOk, IfErr};
+ghost use Rattle.trace_walk.specs.Reads.{Advances, IsBlameless};
 ghost use Rattle.trace_walk.specs.Steps.{SaysAll, MissesReply, SaysRest, MissesRest, MissesSaid};
 
 use crate::fault::WalkFault;
@@ -16,6 +17,7 @@ pub(crate) fn expect<R: Source>(
 ) -> Result<(), WalkFault>
     ensures goes { IfOk result (λ u. SaysAll lines.old (R.remaining reader.old) lines.new (R.remaining reader.new) text.now) }
     ensures fails { IfErr result (λ fault. MissesReply lines.old (R.remaining reader.old) text.now fault) }
+    ensures reads { Advances R.Source result lines.old reader.old lines.new reader.new }
 {
     let Some((line, rest)) = split_line(text) else {
         return Ok(());
@@ -28,6 +30,7 @@ pub(crate) fn expect<R: Source>(
 fn further<R: Source>(lines: &mut Lines, reader: &mut R, text: &[u8]) -> Result<(), WalkFault>
     ensures goes { IfOk result (λ u. SaysRest lines.old (R.remaining reader.old) lines.new (R.remaining reader.new) text.now) }
     ensures fails { IfErr result (λ fault. MissesRest lines.old (R.remaining reader.old) text.now fault) }
+    ensures reads { Advances R.Source result lines.old reader.old lines.new reader.new }
 {
     let mut rest = text;
     while let Some((line, more)) = split_line(rest) {
@@ -42,6 +45,7 @@ fn further<R: Source>(lines: &mut Lines, reader: &mut R, text: &[u8]) -> Result<
 fn said(lines: &Lines, line: &[u8]) -> Result<(), WalkFault>
     ensures same { IfOk result (λ u. lines.now.line ≡ 60 ∷ 32 ∷ line.now) }
     ensures fails { IfErr result (λ fault. MissesSaid lines.now line.now fault) }
+    ensures blames { IfErr result (λ fault. IsBlameless fault) }
 {
     if !is_marked(lines.line(), line) {
         return Err(WalkFault::IllegalAt(lines.count()));

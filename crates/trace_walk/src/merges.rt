@@ -1,6 +1,6 @@
 //! Merges of tombstones, as entries of a trace.
 
-ghost use Rattle.std.specs.Prelude.{◌≡◌, ◌+◌, ◌-◌, ◌<◌, ◌^◌, ◌++◌, OnOk};
+ghost use Rattle.std.specs.Prelude.{◌≡◌, ◌+◌, ◌<◌, ◌++◌, OnOk};
 ghost use Rattle.trace_model.specs.Text.{entry_text};
 ghost use Rattle.trace_walk.specs.Merging.{told_merge, taking_entry, IsEmpty};
 
@@ -12,11 +12,11 @@ use std::alloc::Global;
 use store_answers::{Wording, append_reply};
 use trace_model::{append_marked, append_merge};
 
-/// Merges of tombstones, as the text of entries, and their count.
+/// Merges of tombstones, as the text of entries, and their count. A sweep leaves at most 4096 tombstones.
 #[derive(Drop)]
 pub struct Merges {
     pub(crate) text: Vec<u8>,
-    pub(crate) count: u64,
+    pub(crate) count: u8,
 }
 
 impl Merges {
@@ -39,7 +39,7 @@ impl Merges {
         items: &[Item],
         owed: u128,
     ) -> Result<(), NoRoom>
-        requires { self.old.count < 2 ^ 64 - 1 }
+        requires { self.old.count < 255 }
         ensures text { OnOk result (self.new.text.items ≡ self.old.text.items ++ entry_text limits (taking_entry pass items.now owed)) }
         ensures count { OnOk result (self.new.count ≡ self.old.count + 1) }
     {
@@ -61,7 +61,7 @@ impl Merges {
         items: &[Item],
         reply: &Reply,
     ) -> Result<(), NoRoom>
-        requires { self.old.count < 2 ^ 64 - 1 }
+        requires { self.old.count < 255 }
         ensures text { OnOk result (self.new.text.items ≡ self.old.text.items ++ entry_text limits (told_merge pass items.now reply.now)) }
         ensures count { OnOk result (self.new.count ≡ self.old.count + 1) }
     {

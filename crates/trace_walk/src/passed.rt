@@ -1,6 +1,6 @@
 //! An entry of format 1, written in format 2.
 
-ghost use Rattle.std.specs.Prelude.{IfOk};
+ghost use Rattle.std.specs.Prelude.{◌≤◌, IfOk};
 ghost use Rattle.trace_walk.specs.Passing.{IsWrittenAs};
 
 use crate::merges::Merges;
@@ -20,7 +20,8 @@ pub enum Passed {
 
 /// Appends the entry that the walk passed, in format 2, and returns how many entries that is.
 pub fn append_passed(text: &mut Vec<u8>, walk: &Walk, passed: &Passed) -> Result<u64, NoRoom>
-    ensures { IfOk result (IsWrittenAs walk.now passed.now text.old.items text.new.items) }
+    ensures written { IfOk result (IsWrittenAs walk.now passed.now text.old.items text.new.items) }
+    ensures few { IfOk result (λ count. count ≤ 255) }
 {
     match passed {
         Passed::AsItStands => {
@@ -30,7 +31,7 @@ pub fn append_passed(text: &mut Vec<u8>, walk: &Walk, passed: &Passed) -> Result
         }
         Passed::Swept(merges) => {
             append_all(text, &[merges.text.as_slice()])?;
-            Ok(merges.count)
+            Ok(merges.count as u64)
         }
     }
 }

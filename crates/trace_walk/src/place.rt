@@ -3,6 +3,7 @@
 ghost use Rattle.std.specs.Prelude.{◌≡◌, ◌≤◌, length, true, false, IfOk, IfErr};
 ghost use Rattle.line_io.specs.Lines.{EndsLine};
 ghost use Rattle.trace_walk.specs.Walking.{line_fault, is_reply};
+ghost use Rattle.trace_walk.specs.Reads.{Advances, CountsOn};
 ghost use Rattle.trace_walk.specs.Steps.{ComesToLine, ComesToLong, FindsNone, MissesLine};
 
 use crate::fault::WalkFault;
@@ -37,6 +38,7 @@ pub(crate) fn wanted_line<R: Source>(
 ) -> Result<(), WalkFault>
     ensures there { IfOk result (λ u. ComesToLine lines.old (R.remaining reader.old) lines.new (R.remaining reader.new)) }
     ensures fails { IfErr result (λ fault. MissesLine (is_reply place) lines.old (R.remaining reader.old) fault) }
+    ensures reads { Advances R.Source result lines.old reader.old lines.new reader.new }
 {
     if next_line(lines, reader, place)? {
         Ok(())
@@ -55,6 +57,8 @@ pub(crate) fn next_line<R: Source>(
     ensures short { IfOk result (λ s. s ≡ true → EndsLine lines.new.line × (length lines.new.line ≤ 4097)) }
     ensures long { IfErr result (λ fault. ComesToLong place lines.old (R.remaining reader.old) fault) }
     ensures none { IfOk result (λ s. s ≡ false → FindsNone lines.old (R.remaining reader.old) lines.new.count) }
+    ensures reads { Advances R.Source result lines.old reader.old lines.new reader.new }
+    ensures counts { IfOk result (λ s. s ≡ true → CountsOn lines.old lines.new) }
 {
     let number = lines.count() + 1;
     match lines.pull(reader) {

@@ -84,9 +84,12 @@ pub(crate) fn sweep_older(
 
 // Returns the tombstones of a sweep, in key order.
 fn tombstones(alloc: Global, held: &Held, sweep: &Sweep) -> Result<Items, NoRoom>
-    ensures { IfOk result (λ gone. gone ≡ tombstones (held_items held.now) sweep.now.owner sweep.now.generation) }
+    ensures all { IfOk result (λ gone. gone ≡ tombstones (held_items held.now) sweep.now.owner sweep.now.generation) }
+    ensures few { IfOk result (λ gone. length gone ≤ 4096) }
 {
     let mut gone = Items::new(alloc);
+    let most = held.limits().keys();
+    prove!(most <= 4096);
     for index in 0..held.len() {
         if let Some(tombstone) = tombstone_at(held, index, sweep) {
             gone.push(tombstone)?;

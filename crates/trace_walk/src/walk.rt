@@ -1,6 +1,7 @@
 //! A walk through a trace, entry by entry.
 
 ghost use Rattle.std.specs.Prelude.{◌≡◌, ◌++◌, ◌∷◌, [], IfOk, IfErr, IfSome, IfNone, OnOk};
+ghost use Rattle.trace_walk.specs.Reads.{Advances, BeginsReading, CountsOn};
 ghost use Rattle.trace_walk.specs.Steps.{BeginsKnown, IsFaultOfKnown, GoesPast, EndsThere, FailsFrom, ReadsHead, ReadsAsked, FailsBehindHead, ReadsItems, FailsInItems, AddsOne, FailsAtItem};
 
 mod judging;
@@ -36,6 +37,7 @@ impl Walk {
     pub fn begin<R: Source>(alloc: Global, reader: &mut R) -> Result<Walk, WalkFault>
         ensures begins { IfOk result (λ walk. BeginsKnown (R.remaining reader.old) walk (R.remaining reader.new)) }
         ensures fails { IfErr result (λ fault. IsFaultOfKnown (R.remaining reader.old) fault) }
+        ensures reads { BeginsReading R.Source result reader.old reader.new }
     {
         let mut lines = Lines::new(alloc)?;
         match next_line(&mut lines, reader, Place::Form) {
@@ -80,6 +82,8 @@ impl Walk {
         ensures goes { IfOk result (λ o. IfSome o (GoesPast self.old (R.remaining reader.old) self.new (R.remaining reader.new))) }
         ensures ends { IfOk result (λ o. IfNone o (EndsThere self.old (R.remaining reader.old))) }
         ensures fails { IfErr result (λ fault. FailsFrom self.old (R.remaining reader.old) fault) }
+        ensures reads { Advances R.Source result self.old.lines reader.old self.new.lines reader.new }
+        ensures counts { IfOk result (λ o. IfSome o (λ p. CountsOn self.old.lines self.new.lines)) }
     {
         let Some((pass, head)) = self.head(reader)? else {
             return Ok(None);
@@ -96,6 +100,8 @@ impl Walk {
         ensures some { IfOk result (λ o. IfSome o (ReadsHead self.old (R.remaining reader.old) self.new (R.remaining reader.new))) }
         ensures none { IfOk result (λ o. IfNone o (EndsThere self.old (R.remaining reader.old))) }
         ensures fails { IfErr result (λ fault. FailsFrom self.old (R.remaining reader.old) fault) }
+        ensures reads { Advances R.Source result self.old.lines reader.old self.new.lines reader.new }
+        ensures counts { IfOk result (λ o. IfSome o (λ p. CountsOn self.old.lines self.new.lines)) }
     {
         self.in_items = false;
         match next_line(&mut self.lines, reader, Place::Form) {
@@ -118,6 +124,7 @@ impl Walk {
     fn asked<R: Source>(&mut self, reader: &mut R, head: Head) -> Result<Asked, WalkFault>
         ensures goes { IfOk result (ReadsAsked self.old (R.remaining reader.old) head self.new (R.remaining reader.new)) }
         ensures fails { IfErr result (FailsBehindHead self.old (R.remaining reader.old) head) }
+        ensures reads { Advances R.Source result self.old.lines reader.old self.new.lines reader.new }
     {
         match head {
             Head::Line(command) => Ok(Asked::Line(command)),
@@ -129,6 +136,7 @@ impl Walk {
     fn items<R: Source>(&mut self, reader: &mut R, most: u64) -> Result<Items, WalkFault>
         ensures goes { IfOk result (ReadsItems self.old (R.remaining reader.old) most self.new (R.remaining reader.new)) }
         ensures fails { IfErr result (FailsInItems self.old (R.remaining reader.old) most) }
+        ensures reads { Advances R.Source result self.old.lines reader.old self.new.lines reader.new }
     {
         let mut items = Items::new(self.alloc);
         for _index in 0..most {
@@ -141,6 +149,7 @@ impl Walk {
     fn item<R: Source>(&mut self, reader: &mut R, items: &mut Items) -> Result<(), WalkFault>
         ensures goes { IfOk result (λ u. AddsOne self.old (R.remaining reader.old) items.old self.new (R.remaining reader.new) items.new) }
         ensures fails { IfErr result (FailsAtItem self.old (R.remaining reader.old) items.old) }
+        ensures reads { Advances R.Source result self.old.lines reader.old self.new.lines reader.new }
     {
         self.in_items = true;
         wanted_line(&mut self.lines, reader, Place::Form)?;

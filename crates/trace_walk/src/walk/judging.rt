@@ -3,6 +3,7 @@
 ghost use Rattle.std.specs.Prelude.{◌≡◌, ◌≢◌, ◌<◌, length, None, IfOk, IfErr};
 ghost use Rattle.trace_model.specs.declared.asked.Asked.TheVariants as askeds;
 ghost use Rattle.trace_model.specs.Noroom.{noroom_line, stopped_line};
+ghost use Rattle.trace_walk.specs.Reads.{Advances};
 ghost use Rattle.trace_walk.specs.Steps.{GoesBehind, FailsBehind, GoesPastReply, FailsAtReply, HasRefused, PassesLine, PassesSweep, PassesMerge, FailsAtMerge, PassesPlain, FailsAtPlain, PassesFor, FailsFor, SaysReply, FailsToSay, swept_line};
 ghost use Rattle.trace_walk.specs.Sweeping.{older_of};
 ghost use Rattle.trace_walk.specs.Passing.{IsRefusedAs};
@@ -33,6 +34,7 @@ impl Walk {
     ) -> Result<Passed, WalkFault>
         ensures goes { IfOk result (GoesBehind self.old (R.remaining reader.old) pass asked self.new (R.remaining reader.new)) }
         ensures fails { IfErr result (FailsBehind self.old (R.remaining reader.old) pass asked) }
+        ensures reads { Advances R.Source result self.old.lines reader.old self.new.lines reader.new }
     {
         match wanted_line(&mut self.lines, reader, Place::Reply) {
             Ok(()) => {
@@ -52,6 +54,7 @@ impl Walk {
     ) -> Result<Passed, WalkFault>
         ensures goes { IfOk result (GoesPastReply self.old (R.remaining reader.old) pass asked self.new (R.remaining reader.new)) }
         ensures fails { IfErr result (FailsAtReply self.old (R.remaining reader.old) pass asked) }
+        ensures reads { Advances R.Source result self.old.lines reader.old self.new.lines reader.new }
     {
         if is_noroom(self.lines.line()) {
             return self.judge_noroom(&asked);
@@ -82,6 +85,7 @@ impl Walk {
         requires { self.old.lines.line ≢ noroom_line }
         ensures goes { IfOk result (PassesLine self.old (R.remaining reader.old) pass command self.new (R.remaining reader.new)) }
         ensures fails { IfErr result (FailsAtReply self.old (R.remaining reader.old) pass (askeds.Line command)) }
+        ensures reads { Advances R.Source result self.old.lines reader.old self.new.lines reader.new }
     {
         match older(&command, self.header.format) {
             Some(swept) => self.judge_sweep(reader, pass, swept),
@@ -99,6 +103,7 @@ impl Walk {
         requires plain { older_of self.old.header.format command ≡ None }
         ensures goes { IfOk result (PassesPlain self.old (R.remaining reader.old) command self.new (R.remaining reader.new)) }
         ensures fails { IfErr result (FailsAtPlain self.old (R.remaining reader.old) command) }
+        ensures reads { Advances R.Source result self.old.lines reader.old self.new.lines reader.new }
     {
         let wording = command.wording();
         match command.into_store_command(self.alloc)? {
@@ -112,6 +117,7 @@ impl Walk {
         requires { self.old.lines.line ≢ noroom_line }
         ensures goes { IfOk result (PassesMerge self.old (R.remaining reader.old) items self.new (R.remaining reader.new)) }
         ensures fails { IfErr result (FailsAtMerge self.old (R.remaining reader.old) items) }
+        ensures reads { Advances R.Source result self.old.lines reader.old self.new.lines reader.new }
     {
         match stop_of(self.lines.line(), items.len()) {
             Some(done) => self.judge_stopped(reader, &items, done),
@@ -130,6 +136,7 @@ impl Walk {
         requires line { self.old.lines.line ≡ stopped_line done }
         ensures goes { IfOk result (PassesMerge self.old (R.remaining reader.old) items.now self.new (R.remaining reader.new)) }
         ensures fails { IfErr result (FailsAtMerge self.old (R.remaining reader.old) items.now) }
+        ensures reads { Advances R.Source result self.old.lines reader.old self.new.lines reader.new }
     {
         let number = self.lines.count();
         let reply = stopped(self.alloc, &mut self.store, items, done, number)?;
@@ -147,6 +154,7 @@ impl Walk {
         requires format { self.old.header.format ≡ Format.One }
         ensures goes { IfOk result (PassesSweep self.old (R.remaining reader.old) pass swept self.new (R.remaining reader.new)) }
         ensures fails { IfErr result (FailsAtReply self.old (R.remaining reader.old) pass (swept_line swept)) }
+        ensures reads { Advances R.Source result self.old.lines reader.old self.new.lines reader.new }
     {
         let (reply, merges) = sweep_older(
             self.alloc,
@@ -167,6 +175,7 @@ impl Walk {
     ) -> Result<Passed, WalkFault>
         ensures goes { IfOk result (PassesFor wording command self.old (R.remaining reader.old) self.new (R.remaining reader.new)) }
         ensures fails { IfErr result (FailsFor wording command self.old (R.remaining reader.old)) }
+        ensures reads { Advances R.Source result self.old.lines reader.old self.new.lines reader.new }
     {
         let reply = self.store.apply(command);
         if wants_room(&reply) {
@@ -186,6 +195,7 @@ impl Walk {
         ensures goes { IfOk result (λ p. (p ≡ passed)
             × SaysReply wording reply.now self.old (R.remaining reader.old) self.new (R.remaining reader.new)) }
         ensures fails { IfErr result (FailsToSay wording reply.now self.old (R.remaining reader.old)) }
+        ensures reads { Advances R.Source result self.old.lines reader.old self.new.lines reader.new }
     {
         self.reply.clear();
         append_reply(&mut self.reply, wording, reply, self.header.limits)?;

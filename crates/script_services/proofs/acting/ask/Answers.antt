@@ -1,4 +1,4 @@
-use Rattle.std.proofs.Common.{◌≡◌, ◌∙◌, ◌++◌, [], ◌∷◌, None, Some, Option, refl, sym, ap, subst, append-nil}
+use Rattle.std.proofs.Common.{◌∙◌, ◌++◌, [], ◌∷◌, Option, refl, sym, ap, subst, append-nil}
 use Rattle.ds_held.specs.Limits.{LimitsRecord, larger}
 use Rattle.ds_machine.specs.declared.command.Command.{Command}
 use Rattle.ds_replica.specs.declared.event.Event.TheVariants.{Ask}
@@ -7,6 +7,7 @@ use Rattle.store_answers.proofs.ResultLemmas.{on_ok}
 use Rattle.store_answers.specs.Reply.{reply_lines}
 use Rattle.store_answers.specs.declared.wording.Wording.TheVariants.{AsMerge}
 use Rattle.script_services.specs.Services.{AsksIfAny}
+use Rattle.service_answers.proofs.AppendLemmas.{on_each}
 use Rattle.script_services.proofs.ActionLemmas.{command_gives, asks_none}
 use Rattle.script_services.proofs.acting.ask.Goals as goal
 
@@ -29,3 +30,13 @@ returns-clause-asked c =
           (record { reply = reply; leads = c.reply-reply.ensures.leads; told = c.reply-reply.ensures.told; lines = refl; event = refl }),
     ))
     c.append_reply.ensures.written
+
+pub returns-clause-sent : goal.returns-clause-sent
+returns-clause-sent c =
+    let reply = c.reply-reply.result in
+    on_each c.append_reply.result (
+      reply_lines AsMerge reply larger,
+      (Ask c.args.side c.in-Some.command, Replied reply) ∷ [],
+      subst (λ (o : Option Command). AsksIfAny c.args.side o c.args.world.now (reply_lines AsMerge reply larger) ((Ask c.args.side c.in-Some.command, Replied reply) ∷ []) c.reply-reply.new.self) (sym c.in-Some.is ∙ c.command_of.ensures)
+          (record { reply = reply; leads = c.reply-reply.ensures.leads; told = c.reply-reply.ensures.told; lines = refl; event = refl }),
+    )

@@ -1,4 +1,4 @@
-use Rattle.std.proofs.Common.{◌≡◌, ℕ, List, [], ◌∷◌, ◌++◌, length, take, Some, Result, refl, sym, ap, subst, ◌∙◌, append-nil, append_assoc, arith}
+use Rattle.std.proofs.Common.{◌≡◌, ℕ, List, [], ◌++◌, length, take, Some, ◌+◌, refl, sym, ap, subst, ◌∙◌, append-nil, append_assoc, arith}
 use Rattle.std.specs.List.{slice_get}
 use Rattle.std.specs.Option.{option_copied}
 use Rattle.std.proofs.lemmas.List.{take_all}
@@ -6,10 +6,9 @@ use Rattle.rs_core.specs.declared.action.Action.{Action}
 use Rattle.service_answers.specs.Actions.{action_line, action_count_line}
 use Rattle.store_answers.proofs.ResultLemmas.{on_ok}
 use Rattle.script_services.specs.Services.{AnswersActions}
-use Rattle.script_services.specs.Waiting.{AppendsSome}
 use Rattle.rs_to_store.proofs.ListLemmas.{next_taken}
 use Rattle.service_answers.proofs.AppendLemmas.{lines_after, on_each, some_after}
-use Rattle.script_services.proofs.ActionLemmas.{actions_more, in_place_at}
+use Rattle.script_services.proofs.ActionLemmas.{actions_more, first_sent, in_place_at}
 use Rattle.script_services.proofs.acting.pass_on.Goals as goal
 
 pub loop-index-init : goal.loop-index-init
@@ -65,3 +64,26 @@ returns-clause-told c =
 pub returns-clause-some : goal.returns-clause-some
 returns-clause-some c =
     some_after c.append_action_count.result c.args.output.now.items c.loop-index.invariant.0 c.loop-index.output.items c.append_action_count.new.buffer.items c.loop-index.invariant.2 c.append_action_count.ensures.unchanged
+
+-- ---- what was sent when memory ran out
+
+pub returns-in_err-append_action-clause-begun : goal.returns-in_err-append_action-clause-begun
+returns-in_err-append_action-clause-begun c =
+    on_each c.from_residual.result (first_sent c.args.side c.args.actions.now c.loop-index.index c.args.world.now c.loop-index.world c.loop-index.invariant.0 c.loop-index.invariant.1 c.loop-index.invariant.3)
+
+pub returns-in_err-ask-clause-begun : goal.returns-in_err-ask-clause-begun
+returns-in_err-ask-clause-begun c =
+    let acts = c.args.actions.now in
+    let i = c.loop-index.index in
+    let x = c.in-Some.action.now in
+    let done = c.loop-index.invariant in
+    let one = (c.in_err-ask.ensures).sent in
+    let at : slice_get acts i ≡ Some x = sym (subst (λ o. option_copied o ≡ slice_get acts i) c.in-Some.is c.get.ensures) in
+    on_each c.from_residual-in_err-ask.result
+    (first_sent c.args.side acts (i + 1) c.args.world.now c.ask.new.world (done.0 ++ (action_line x ++ one.0)) (done.1 ++ one.1)
+    (subst (λ (l : List Action). AnswersActions c.args.side l c.args.world.now (done.0 ++ (action_line x ++ one.0)) (done.1 ++ one.1) c.ask.new.world) (next_taken acts i x at)
+    (actions_more c.args.side (take i acts) x c.args.world.now c.loop-index.world c.ask.new.world done.0 one.0 done.1 one.1 done.3 one.2)))
+
+pub returns-clause-begun : goal.returns-clause-begun
+returns-clause-begun c =
+    on_each c.append_action_count.result (first_sent c.args.side c.args.actions.now c.loop-index.index c.args.world.now c.loop-index.world c.loop-index.invariant.0 c.loop-index.invariant.1 c.loop-index.invariant.3)

@@ -1,4 +1,4 @@
-use Rattle.std.proofs.Common.{◌≤◌, length, take, arith}
+use Rattle.std.proofs.Common.{take, arith}
 use Rattle.rs_to_store.specs.Submitting.{all_in}
 use Rattle.script_services.proofs.ListLemmas.{some_more}
 use Rattle.service_answers.proofs.AppendLemmas.{on_each}

@@ -6,7 +6,7 @@ use Rattle.trace_model.specs.declared.header.Header.{Header}
 use Rattle.trace_model.specs.Text.{header_text}
 use Rattle.trace_model.specs.Upgrade.{upgraded}
 use Rattle.trace_walk.specs.Steps.{first_spot}
-use Rattle.trace_check.proofs.UpgradingLemmas.{begins_two, handed_on, header_upgrades, not_written, nothing_yet, stops_in_header}
+use Rattle.trace_check.proofs.UpgradingLemmas.{begins_two, handed_on, header_upgrades, nothing_yet, stops_in_header}
 use Rattle.trace_check.proofs.upgrading.upgrade_behind_header.Goals as goal
 
 pub returns-in-Two-clause-stopped : goal.returns-in-Two-clause-stopped
@@ -65,8 +65,8 @@ returns-clause-stopped g c =
     c.upgrade_entries.ensures.part
 
 pub returns-in_err-append_header-clause-cause : goal.returns-in_err-append_header-clause-cause
-returns-in_err-append_header-clause-cause g c = handed_on c.from_residual.result _ _ c.from_residual.ensures.1 (λ is. absurd (not_written is))
+returns-in_err-append_header-clause-cause g c = handed_on c.from_residual.result _ _ c.from_residual.ensures.1 (λ first led. tt)
 
 pub returns-in_err-write_out-clause-cause : goal.returns-in_err-write_out-clause-cause
 returns-in_err-write_out-clause-cause g c =
-    handed_on c.from_residual-in_err-write_out.result _ _ c.from_residual-in_err-write_out.ensures.1 (λ is. c.in_err-write_out.ensures.cause)
+    handed_on c.from_residual-in_err-write_out.result _ _ c.from_residual-in_err-write_out.ensures.1 (λ first led. c.in_err-write_out.ensures.cause)

@@ -1,4 +1,5 @@
-use Rattle.std.proofs.Common.{List, ℕ}
+use Rattle.std.proofs.Common.{◌≤◌, ◌+◌, ◌*◌, ◌^◌, List, ℕ}
+use Rattle.trace_walk.specs.Reads.{ReadsFurther}
 use Rattle.trace_walk.specs.Steps.{WalksAt}
 use Rattle.trace_check.specs.Upgrading.{Upgrades}
 use Rattle.trace_walk.specs.Walking.{Spot}
@@ -7,6 +8,11 @@ use Rattle.trace_check.proofs.upgrading.upgrade_entries.Given as goal
 
 -- what was passed is written in format 2
 abbrev pub invariant-loop-entry : goal.invariant-loop-entry
-invariant-loop-entry g l =
-    (b : Spot) (before : List ℕ) → WalksAt b l.fn.walk (g.R.Source.remaining l.fn.reader) → Upgrades b l.fn.walk.header before 0 →
-    IsUnderWay b before l.fn.walk.header l.walk (g.R.Source.remaining l.reader) (g.W.Sink.contents l.fn.writer) (g.W.Sink.contents l.writer) l.written
+invariant-loop-entry g l = record {
+  writes : (b : Spot) (before : List ℕ) → WalksAt b l.fn.walk (g.R.Source.remaining l.fn.reader) → Upgrades b l.fn.walk.header before 0 →
+      IsUnderWay b before l.fn.walk.header l.walk (g.R.Source.remaining l.reader) (g.W.Sink.contents l.fn.writer) (g.W.Sink.contents l.writer) l.written;
+  reads : ReadsFurther g.R.Source l.fn.walk.lines l.fn.reader l.walk.lines l.reader;
+  counted : l._entry ≤ l.walk.lines.count;
+  few : l._entry ≤ 2 ^ 49 + 1;
+  written : l.written ≤ 255 * l._entry;
+}

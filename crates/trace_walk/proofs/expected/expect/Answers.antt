@@ -1,6 +1,8 @@
 use Rattle.std.proofs.Common.{◌++◌, [], List, ℕ, length, sym, ap, refl, ◌∙◌, arith}
 use Rattle.std.proofs.lemmas.Result.{IfOk-weaker, IfErr-weaker}
 use Rattle.trace_walk.proofs.FaultLemmas.{carried, first_said}
+use Rattle.trace_walk.specs.Reads.{Advances}
+use Rattle.trace_walk.proofs.ReadLemmas.{carried_as, no_cause, stays}
 use Rattle.trace_walk.proofs.expected.expect.Goals as goal
 
 pub returns-in_default-clause-goes : goal.returns-in_default-clause-goes
@@ -28,3 +30,11 @@ returns-clause-fails g c =
     let whole = c.in-Some.ensures.1 ∙ ap (λ (l : List ℕ). l ++ c.in-Some.rest.now) ends.parts in
     fails start bytes base c.args.text.now ends.front whole given.further (first_said bytes base here c.in-Some.line.now c.args.lines.now (g.R.Source.remaining c.args.reader.now) ends h (sym line_is ∙ c.in_ok-said.ensures.same)))
     c.further.ensures.fails
+
+pub returns-in_default-clause-reads : goal.returns-in_default-clause-reads
+returns-in_default-clause-reads g c = stays g.R.Source c.args.lines.now c.args.reader.now
+
+pub returns-in_err-said-clause-reads : goal.returns-in_err-said-clause-reads
+returns-in_err-said-clause-reads g c =
+    carried_as c.from_residual.result c.in_err-said.field-0.0 (λ r. Advances g.R.Source r c.args.lines.now c.args.reader.now c.args.lines.now c.args.reader.now) c.from_residual.ensures.1
+    (λ first led. no_cause g.R.Source c.in_err-said.field-0.0 first c.args.reader.now c.in_err-said.ensures.blames)

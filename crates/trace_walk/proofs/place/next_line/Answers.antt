@@ -5,6 +5,7 @@ use Rattle.trace_walk.specs.declared.place.Place.{Place}
 use Rattle.trace_walk.specs.declared.place.Place.TheVariants.{Form, Reply}
 use Rattle.trace_walk.specs.Walking.{IsLongFault}
 use Rattle.trace_walk.proofs.WalkingLemmas.{line_comes, none_comes, long_comes, long_fault}
+use Rattle.trace_walk.proofs.ReadLemmas.{line_blames, no_cause}
 use Rattle.trace_walk.proofs.place.next_line.Goals as goal
 
 pub returns-in-Line-clause-there : goal.returns-in-Line-clause-there
@@ -31,3 +32,23 @@ returns-in-ReadFault-clause-long g c bytes front at = (unread c.args.place bytes
 
 pub returns-in-NoRoom-clause-long : goal.returns-in-NoRoom-clause-long
 returns-in-NoRoom-clause-long g c bytes front at = (unread c.args.place bytes front).1
+
+-- ---- reads and lines
+
+pub returns-in-Line-clause-reads : goal.returns-in-Line-clause-reads
+returns-in-Line-clause-reads g c = (λ first led. c.in-Line.ensures.told first led, omega (arith, c.in-Line.ensures.pulls.3))
+
+pub returns-in-End-clause-reads : goal.returns-in-End-clause-reads
+returns-in-End-clause-reads g c = (λ first led. c.in-End.ensures.told first led, omega (arith, c.in-End.ensures.pulls.1))
+
+pub returns-in-Long-clause-reads : goal.returns-in-Long-clause-reads
+returns-in-Long-clause-reads g c = λ first led. no_cause g.R.Source c.fault.result first c.pull.new.reader (line_blames c.args.place (c.count-number.result + 1) c.fault.result c.fault.ensures)
+
+pub returns-in-ReadFault-clause-reads : goal.returns-in-ReadFault-clause-reads
+returns-in-ReadFault-clause-reads g c = λ first led. c.in-ReadFault.ensures.told first led
+
+pub returns-in-NoRoom-clause-reads : goal.returns-in-NoRoom-clause-reads
+returns-in-NoRoom-clause-reads g c = λ first led. tt
+
+pub returns-in-Line-clause-counts : goal.returns-in-Line-clause-counts
+returns-in-Line-clause-counts g c = λ there. (omega (arith, c.count-number.ensures.value, c.count-number.ensures.limit), omega (arith, c.in-Line.ensures.pulls.3))

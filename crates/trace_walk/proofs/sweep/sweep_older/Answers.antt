@@ -23,7 +23,8 @@ use Rattle.trace_walk.proofs.sweep.sweep_older.Goals as goal
 
 pub loop-rest-init : goal.loop-rest-init
 loop-rest-init c = record {
-  count = omega (arith, c.new-merges.ensures.count);
+  some = λ more. omega (arith, c.new-merges.ensures.count, ap length c.as_slice-rest.ensures, c.in_ok-gone.ensures.few);
+  few = omega (arith, c.new-merges.ensures.count, ap length c.as_slice-rest.ensures, c.in_ok-gone.ensures.few);
   taken = λ s stands free. ([], refl, subst (λ (l : List Item). ContentStands c.args.store.now (with_accepted s l)) (sym (append-nil s.feed.accepted)) stands, sym (nothing_owed s), none_merged s c.args.pass c.args.limits c.new-merges.result c.new-merges.ensures);
 }
 
@@ -36,7 +37,8 @@ loop-rest-preserved c =
     let some : length rest ≢ 0 = eqb-false (length rest) 0 (sym c.loop-rest-test.ensures) in
     let first : 0 < c.min.result = least_some (length rest) c.min.result some c.min.ensures in
     record {
-      count = omega (arith, c.loop-rest.invariant.count, c.split_at.ensures.back_len, first, c.in_ok-add.ensures.count);
+      some = λ left. omega (arith, left, c.loop-rest.invariant.some (omega (arith, some)), c.split_at.ensures.back_len, c.min.ensures, c.in_ok-add.ensures.count);
+      few = omega (arith, c.loop-rest.invariant.some (omega (arith, some)), c.split_at.ensures.back_len, c.min.ensures, c.in_ok-add.ensures.count);
       taken = λ s stands free.
           let before = c.loop-rest.invariant.taken s stands free in
           let split = before.1 ∙ ap (λ (l : List Item). before.0 ++ l) c.split_at.ensures.by_index.0 in
@@ -67,7 +69,7 @@ returns c = (
     gone s = tombstones (held s) c.args.sweep.owner c.args.sweep.generation
 
     same_gone : (s : State) → ContentStands c.args.store.now s → c.in_ok-gone.gone ≡ gone s
-    same_gone s stands = c.in_ok-gone.ensures ∙ ap (λ (l : List Item). tombstones l c.args.sweep.owner c.args.sweep.generation) (c.held.ensures.value ∙ stands.held)
+    same_gone s stands = c.in_ok-gone.ensures.all ∙ ap (λ (l : List Item). tombstones l c.args.sweep.owner c.args.sweep.generation) (c.held.ensures.value ∙ stands.held)
 
     places_left : (s : State) → ContentStands c.args.store.now s → next_position s + length (gone s) ≤ last_place
     places_left s stands =
@@ -89,3 +91,9 @@ returns-then-ne c = (search rules, λ s stands traced. none_swept s c.args.pass 
 
 pub returns-then-cursor-len-gt-LAST_PLACE : goal.returns-then-cursor-len-gt-LAST_PLACE
 returns-then-cursor-len-gt-LAST_PLACE c = (search rules, λ s stands traced. none_swept s c.args.pass c.args.limits c.args.sweep refusals.Worn c.new-merges.result c.new-merges.ensures)
+
+pub add-requires : goal.add-requires
+add-requires c =
+    let rest = c.loop-rest.rest.now in
+    let some : length rest ≢ 0 = eqb-false (length rest) 0 (sym c.loop-rest-test.ensures) in
+    omega (arith, some, c.loop-rest.invariant.some (omega (arith, some)))

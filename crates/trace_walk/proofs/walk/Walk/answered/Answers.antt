@@ -5,6 +5,7 @@ use Rattle.trace_walk.specs.declared.fault.WalkFault.{WalkFault}
 use Rattle.trace_walk.specs.Walking.{IsFault}
 use Rattle.trace_walk.specs.Steps.{HearsAt}
 use Rattle.trace_walk.proofs.AskLemmas.{noroom_text, passed_over}
+use Rattle.trace_walk.proofs.ReadLemmas.{refused_there}
 use Rattle.trace_walk.proofs.walk.Walk.answered.Goals as goal
 
 pub returns-then-is_noroom-clause-goes : goal.returns-then-is_noroom-clause-goes
@@ -42,3 +43,10 @@ pub returns-in-Merge-clause-fails : goal.returns-in-Merge-clause-fails
 returns-in-Merge-clause-fails g c =
     IfErr-weaker c.judge_merge.result _ _
     (λ fault fails b x. fails b c.args.pass (subst (λ (a : Asked). HearsAt b c.args.self.now (g.R.Source.remaining c.args.reader.now) c.args.pass a) c.in-Merge.is x)) c.judge_merge.ensures.fails
+
+-- ---- reads and lines
+
+pub returns-then-is_noroom-clause-reads : goal.returns-then-is_noroom-clause-reads
+returns-then-is_noroom-clause-reads g c =
+    refused_there g.R.Source c.judge_noroom.result c.args.self.now.lines c.judge_noroom.new.self.lines c.args.reader.now
+    (IfOk-weaker c.judge_noroom.result _ _ (λ passed r. r.lines) c.judge_noroom.ensures.goes) c.judge_noroom.ensures.fault

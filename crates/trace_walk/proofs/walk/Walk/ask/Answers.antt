@@ -37,3 +37,8 @@ returns-clause-fails g c =
     answered_fails b old.lines old.store old.header from pass asked old.asked.items x c.args.command f.asks reply step.0 (f.steps b.state step.0 reply step.1)
     (reply_lines c.args.wording reply old.header.limits) (ap (λ (w : Wording). reply_lines w reply old.header.limits) f.words) fault fails (known_by b old.lines old.store old.header from pass asked old.asked.items x c.args.wording c.args.command reply step.0 f room step.1))
     c.says.ensures.fails
+
+-- ---- reads and lines
+
+pub returns-then-wants_room-clause-reads : goal.returns-then-wants_room-clause-reads
+returns-then-wants_room-clause-reads g c = λ first led. tt

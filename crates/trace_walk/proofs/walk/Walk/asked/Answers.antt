@@ -3,6 +3,8 @@ use Rattle.trace_model.specs.declared.asked.Head.{Head}
 use Rattle.trace_walk.specs.Steps.{HeadsAt}
 use Rattle.trace_walk.proofs.FaultLemmas.{carried}
 use Rattle.trace_walk.proofs.HeadLemmas.{asks_line, lists_none, asks_merge}
+use Rattle.trace_walk.specs.Reads.{Advances}
+use Rattle.trace_walk.proofs.ReadLemmas.{carried_as, stays}
 use Rattle.trace_walk.proofs.walk.Walk.asked.Goals as goal
 
 pub returns-in-Line-clause-goes : goal.returns-in-Line-clause-goes
@@ -32,3 +34,13 @@ returns-in_ok-items-in-Merge-clause-goes g c = (
       let k = c.in_ok-items-in-Merge.ensures.goes.1 b pass (lists_none b old.lines old.store old.header from pass old.asked.items c.in-Merge.count (subst (λ (k : Head). HeadsAt b old from pass k) c.in-Merge.is x)) in
       asks_merge b new.lines new.store new.header (g.R.Source.remaining c.items.new.reader) pass new.asked.items c.in-Merge.count c.in_ok-items-in-Merge.field-0 k.0 k.1,
 )
+
+-- ---- reads and lines
+
+pub returns-in-Line-clause-reads : goal.returns-in-Line-clause-reads
+returns-in-Line-clause-reads g c = stays g.R.Source c.args.self.now.lines c.args.reader.now
+
+pub returns-in_err-items-in-Merge-clause-reads : goal.returns-in_err-items-in-Merge-clause-reads
+returns-in_err-items-in-Merge-clause-reads g c =
+    carried_as c.from_residual.result c.in_err-items-in-Merge.field-0.0 (λ r. Advances g.R.Source r c.args.self.now.lines c.args.reader.now c.items.new.self.lines c.items.new.reader) c.from_residual.ensures.1
+    (λ first led. c.in_err-items-in-Merge.ensures.reads first led)

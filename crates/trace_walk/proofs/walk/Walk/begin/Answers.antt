@@ -4,6 +4,7 @@ use Rattle.trace_model.specs.Text.{HasNoHeader, header_text}
 use Rattle.trace_model.proofs.WalkLemmas.{header_behind}
 use Rattle.trace_walk.specs.Walking.{IsAt}
 use Rattle.trace_walk.proofs.BeginLemmas.{first_fails, input_empty, line_wrong, at_start, by_known}
+use Rattle.trace_walk.proofs.ReadLemmas.{none_read}
 use Rattle.trace_walk.proofs.walk.Walk.begin.Goals as goal
 
 pub returns-in-Ok-false-clause-fails : goal.returns-in-Ok-false-clause-fails
@@ -36,3 +37,11 @@ returns-clause-begins g c =
       stands = c.in-Ok.ensures.opened;
       behind = header_behind h c.in-Some.ensures.found.0;
     })
+
+-- ---- reads
+
+pub returns-in-Err-clause-reads : goal.returns-in-Err-clause-reads
+returns-in-Err-clause-reads g c = c.in-Err.ensures.reads c.args.reader.now (none_read g.R.Source c.in_ok-lines.lines c.args.reader.now c.in_ok-lines.ensures)
+
+pub returns-clause-reads : goal.returns-clause-reads
+returns-clause-reads g c = c.in-Ok-true.ensures.reads.0 c.args.reader.now (none_read g.R.Source c.in_ok-lines.lines c.args.reader.now c.in_ok-lines.ensures)

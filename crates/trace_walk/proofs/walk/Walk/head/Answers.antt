@@ -2,6 +2,9 @@ use Rattle.std.proofs.Common.{sym, subst}
 use Rattle.trace_model.specs.Head.{HasNoHead}
 use Rattle.trace_walk.specs.Walking.{IsFault}
 use Rattle.trace_walk.proofs.HeadLemmas.{head_wrong, head_long, ends_there}
+use Rattle.trace_walk.specs.Reads.{Advances}
+use Rattle.trace_walk.proofs.ReadLemmas.{asked_blames, carried_as, no_cause}
+use Rattle.trace_walk.specs.declared.fault.WalkFault.TheVariants.{NoRoom}
 use Rattle.trace_walk.proofs.walk.Walk.head.Goals as goal
 
 pub returns-in-Err-clause-fails : goal.returns-in-Err-clause-fails
@@ -24,3 +27,10 @@ returns-in-Err-read_head-clause-fails g c b w =
     subst (IsFault b.front b.bytes) (sym c.of_line.ensures)
     (head_wrong b old.lines new old.store old.header (g.R.Source.remaining c.args.reader.now) (g.R.Source.remaining c.next_line.new.reader) w there.0 c.in-Err-read_head.fault c.count.result there.1 there.2
     (λ bad. subst (HasNoHead old.header.format) c.line.ensures (c.in-Err-read_head.ensures.none bad)) c.count.ensures.value)
+
+pub returns-in_err-extend_from_slice-in-Ok-clause-reads : goal.returns-in_err-extend_from_slice-in-Ok-clause-reads
+returns-in_err-extend_from_slice-in-Ok-clause-reads g c =
+    carried_as c.from_residual.result NoRoom (λ r. Advances g.R.Source r c.args.self.now.lines c.args.reader.now c.next_line.new.lines c.next_line.new.reader) c.from_residual.ensures.1 (λ first led. tt)
+
+pub returns-in-Err-read_head-clause-reads : goal.returns-in-Err-read_head-clause-reads
+returns-in-Err-read_head-clause-reads g c = λ first led. no_cause g.R.Source c.of_line.result first c.next_line.new.reader (asked_blames c.in-Err-read_head.fault c.count.result c.of_line.result c.of_line.ensures)

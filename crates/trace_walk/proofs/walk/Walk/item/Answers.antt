@@ -5,6 +5,9 @@ use Rattle.trace_model.specs.Text.{merge_text, pass_text, plus_text}
 use Rattle.trace_walk.specs.Walking.{IsFault, Lists}
 use Rattle.trace_walk.proofs.FaultLemmas.{carried}
 use Rattle.trace_walk.proofs.HeadLemmas.{plus_place_short, plus_wrong, plus_on}
+use Rattle.trace_walk.specs.Reads.{Advances}
+use Rattle.trace_walk.proofs.ReadLemmas.{asked_blames, carried_as, no_cause}
+use Rattle.trace_walk.specs.declared.fault.WalkFault.TheVariants.{NoRoom}
 use Rattle.trace_walk.proofs.walk.Walk.item.Goals as goal
 
 pub returns-in_err-wanted_line-clause-fails : goal.returns-in_err-wanted_line-clause-fails
@@ -40,3 +43,21 @@ returns-in-Err-clause-fails g c b pass most less x =
     subst (IsFault b.front b.bytes) (sym c.of_line.ensures)
     (plus_wrong b old.lines new old.store old.header (g.R.Source.remaining c.args.reader.now) (g.R.Source.remaining c.wanted_line.new.reader) pass most items old.asked.items x there.0 c.in-Err.fault c.count.result less there.1 there.2
     (λ bad item may is. c.in-Err.ensures.none bad item may (c.line.ensures ∙ is)) c.count.ensures.value)
+
+-- ---- reads and lines
+
+pub returns-in_err-wanted_line-clause-reads : goal.returns-in_err-wanted_line-clause-reads
+returns-in_err-wanted_line-clause-reads g c =
+    carried_as c.from_residual.result c.in_err-wanted_line.field-0.0 (λ r. Advances g.R.Source r c.args.self.now.lines c.args.reader.now c.wanted_line.new.lines c.wanted_line.new.reader) c.from_residual.ensures.1
+    (λ first led. c.in_err-wanted_line.ensures.reads first led)
+
+pub returns-in_err-push-in-Ok-clause-reads : goal.returns-in_err-push-in-Ok-clause-reads
+returns-in_err-push-in-Ok-clause-reads g c =
+    carried_as c.from_residual-in_err-push-in-Ok.result NoRoom (λ r. Advances g.R.Source r c.args.self.now.lines c.args.reader.now c.wanted_line.new.lines c.wanted_line.new.reader) c.from_residual-in_err-push-in-Ok.ensures.1 (λ first led. tt)
+
+pub returns-in_err-extend_from_slice-in-Ok-clause-reads : goal.returns-in_err-extend_from_slice-in-Ok-clause-reads
+returns-in_err-extend_from_slice-in-Ok-clause-reads g c =
+    carried_as c.from_residual-in_err-extend_from_slice-in-Ok.result NoRoom (λ r. Advances g.R.Source r c.args.self.now.lines c.args.reader.now c.wanted_line.new.lines c.wanted_line.new.reader) c.from_residual-in_err-extend_from_slice-in-Ok.ensures.1 (λ first led. tt)
+
+pub returns-in-Err-clause-reads : goal.returns-in-Err-clause-reads
+returns-in-Err-clause-reads g c = λ first led. no_cause g.R.Source c.of_line.result first c.wanted_line.new.reader (asked_blames c.in-Err.fault c.count.result c.of_line.result c.of_line.ensures)

@@ -2,6 +2,7 @@ use Rattle.std.proofs.Common.{◌++◌}
 use Rattle.std.proofs.lemmas.Result.{IfOk-weaker, IfErr-weaker}
 use Rattle.trace_model.specs.Text.{asked_text}
 use Rattle.trace_walk.proofs.AskLemmas.{reply_wanted, hears}
+use Rattle.trace_walk.proofs.ReadLemmas.{on_then}
 use Rattle.trace_walk.proofs.walk.Walk.judge.Goals as goal
 
 pub returns-in-Err-clause-fails : goal.returns-in-Err-clause-fails
@@ -27,3 +28,11 @@ returns-in-Ok-clause-fails g c =
     let w = c.in-Ok.ensures.there b.bytes (b.front ++ asked_text c.args.pass c.args.asked) x.at in
     fails b (hears b old.lines c.wanted_line.new.lines old.store old.header (g.R.Source.remaining c.args.reader.now) (g.R.Source.remaining c.wanted_line.new.reader) c.args.pass c.args.asked old.asked.items x w.0 w.1 w.2))
     c.answered.ensures.fails
+
+-- ---- reads and lines
+
+pub returns-in-Err-clause-reads : goal.returns-in-Err-clause-reads
+returns-in-Err-clause-reads g c = λ first led. c.in-Err.ensures.reads first led
+
+pub returns-in-Ok-clause-reads : goal.returns-in-Ok-clause-reads
+returns-in-Ok-clause-reads g c = on_then g.R.Source c.answered.result c.args.self.now.lines c.wanted_line.new.lines c.answered.new.self.lines c.args.reader.now c.wanted_line.new.reader c.answered.new.reader c.in-Ok.ensures.reads c.answered.ensures.reads

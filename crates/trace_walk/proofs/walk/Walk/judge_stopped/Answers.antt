@@ -10,6 +10,8 @@ use Rattle.trace_walk.specs.Passing.{HasPassed}
 use Rattle.trace_walk.proofs.FaultLemmas.{carried}
 use Rattle.trace_walk.proofs.ToldLemmas.{stop_step}
 use Rattle.trace_walk.proofs.AskLemmas.{answered_fails, passes_said, stop_known, stop_fails}
+use Rattle.trace_walk.specs.Reads.{Advances}
+use Rattle.trace_walk.proofs.ReadLemmas.{carried_as, no_cause}
 use Rattle.trace_walk.proofs.walk.Walk.judge_stopped.Goals as goal
 
 pub returns-in_err-reply-clause-fails : goal.returns-in_err-reply-clause-fails
@@ -49,3 +51,10 @@ returns-clause-fails g c =
     answered_fails b old.lines old.store old.header from pass (askeds.Merge items) old.asked.items x (Merge items) refl reply st.0 (stop_step old.header.format b.state st.0 items reply c.args.done st.1)
     (reply_lines AsMerge reply old.header.limits) refl fault fails (λ m. stop_known b old.lines old.store old.header from pass items old.asked.items x c.args.done c.requires.few c.requires.line reply st.0 st.1))
     c.says.ensures.fails
+
+-- ---- reads and lines
+
+pub returns-in_err-reply-clause-reads : goal.returns-in_err-reply-clause-reads
+returns-in_err-reply-clause-reads g c =
+    carried_as c.from_residual.result c.in_err-reply.field-0.0 (λ r. Advances g.R.Source r c.args.self.now.lines c.args.reader.now c.args.self.now.lines c.args.reader.now) c.from_residual.ensures.1
+    (λ first led. no_cause g.R.Source c.in_err-reply.field-0.0 first c.args.reader.now c.in_err-reply.ensures.blames)

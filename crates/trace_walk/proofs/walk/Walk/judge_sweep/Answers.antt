@@ -12,6 +12,9 @@ use Rattle.trace_walk.specs.Passing.{HasPassed}
 use Rattle.trace_walk.specs.Steps.{swept_line}
 use Rattle.trace_walk.proofs.ToldLemmas.{sweep_step}
 use Rattle.trace_walk.proofs.AskLemmas.{answered_fails, passes_said, sweep_known}
+use Rattle.trace_walk.specs.Reads.{Advances}
+use Rattle.trace_walk.proofs.ReadLemmas.{carried_as}
+use Rattle.trace_walk.specs.declared.fault.WalkFault.TheVariants.{NoRoom}
 use Rattle.trace_walk.proofs.walk.Walk.judge_sweep.Goals as goal
 
 pub returns-clause-goes : goal.returns-clause-goes
@@ -48,3 +51,9 @@ returns-clause-fails g c =
     (sweep_step old.header.format b.state swept.caller swept.owner swept.generation reply c.requires.format r.0) (reply_lines AsMerge reply old.header.limits) refl fault fails
     (sweep_known b old.lines old.store old.header from c.args.pass swept.caller swept.owner swept.generation old.asked.items x c.requires.line reply c.requires.format r.0))
     c.says.ensures.fails
+
+-- ---- reads and lines
+
+pub returns-in_err-reply-clause-reads : goal.returns-in_err-reply-clause-reads
+returns-in_err-reply-clause-reads g c =
+    carried_as c.from_residual.result NoRoom (λ r. Advances g.R.Source r c.args.self.now.lines c.args.reader.now c.args.self.now.lines c.args.reader.now) c.from_residual.ensures.1 (λ first led. tt)
