@@ -171,8 +171,7 @@ def untold(error, wanted):
     word = WORD.fullmatch(wanted)
     if word:
         line = b"1" if word[1] == b"already" else word[2]
-        byte = rb"\d+" if word[3] == b"0" else word[3]  # a line that can't come there is refused at 0; the sentence may name a part of it
-        place = WRONG_LINE % line if byte is None else b"dsctl: line %s, byte %s: " % (line, byte)
+        place = WRONG_LINE % line if word[3] is None else b"dsctl: line %s, byte %s: " % (line, word[3])
         is_told = error.startswith(wanted) and re.fullmatch(place + rb".*\n", error[len(wanted) :])
         return None if is_told else f"standard error is {error[:200]!r}, wanted {wanted!r} and a sentence"
     if FAILED.fullmatch(wanted):

@@ -91,10 +91,24 @@ fn explain_word(rt: &impl Runtime, audience: Audience, number: u64, text: &[u8])
         );
         return;
     }
+    if audience != Audience::Prompt && is_prompts_own(word) {
+        let shown = Plain(word);
+        let _ = eprintln!(rt;
+            "dsctl: line {number}, byte 0: `{shown}` is a line of the prompt at a terminal only: see {help}"
+        );
+        return;
+    }
     match nearest(word, &COMMANDS) {
         Some(command) if command.as_bytes() == word => explain_first(rt, number, command),
         near => explain_unknown(rt, number, word, near, help),
     }
+}
+
+// Whether only the prompt has lines that begin with a word.
+fn is_prompts_own(word: &[u8]) -> bool {
+    [b"help".as_slice(), b"quit".as_slice(), b"exit".as_slice()]
+        .iter()
+        .any(|own| word.eq_ignore_ascii_case(own))
 }
 
 // Explains a command that is allowed on the first line only.

@@ -3,8 +3,8 @@
 use crate::bad_part::say_found_at;
 use crate::kind::TextKind;
 use crate::trace_fault::explain_trace;
-use crate::trace_line::{explain_asked, explain_command, explain_item};
-use ds_names::read_decimal;
+use crate::trace_line::{begins_command, explain_asked, explain_command, explain_item};
+use ds_names::{read_byte, read_decimal};
 use line_io::LONGEST_LINE;
 use std::rt::Runtime;
 use trace_check::{Stands, UpgradeFault, Wanted, WrongLine};
@@ -12,27 +12,16 @@ use trace_check::{Stands, UpgradeFault, Wanted, WrongLine};
 /// The greatest pass.
 const LAST_PASS: u64 = 63;
 
-/// How the lines of a store's commands begin.
-const COMMANDS: [&[u8]; 12] = [
-    b"publish ",
-    b"delete ",
-    b"sweep ",
-    b"retrieve ",
-    b"nameof ",
-    b"subscribe ",
-    b"check ",
-    b"since ",
-    b"snapshot ",
-    b"page ",
-    b"offer ",
-    b"merge ",
-];
-
 const ITEM_WANTED: &str =
     "a command was expected, or after `merge N` an item, `+ CHANGE` or `+ FLOOR`";
 
+const ITEM_MISSING: &str = "an item was expected, `+ CHANGE` or `+ FLOOR`";
+
+const PASS_WANTED: &str =
+    "a command was expected, perhaps after PASS, 0 to 63 with no leading zero, and a space";
+
 /// Writes to standard error which part of a line of commands can't be read. `text` is the line with its newline,
-/// if it was read. A failed write is ignored.
+/// if it was read, and `place` the part's first byte. A failed write is ignored.
 pub fn explain_recorded(
     rt: &(impl Runtime + AllocGlobal),
     number: u64,
@@ -45,35 +34,38 @@ pub fn explain_recorded(
         );
         return;
     };
-    if place == 0 && text.starts_with(b"+") {
-        return say_found_at(rt, number, 0, ITEM_WANTED, text);
-    }
-    if place == 0 && text.len() <= LONGEST_LINE && is_command(text) {
+    if place == 0 {
+        explain_front(rt, number, text);
+    } else if text.len() > LONGEST_LINE + 1 || !explain_line(rt, number, text) {
         let _ = eprintln!(rt;
-            "dsctl: line {number}, byte 0: a trace of this format has no such line here"
+            "dsctl: line {number}, byte {place}: a trace's line has at most 4096 bytes"
         );
-        return;
     }
+}
+
+// Explains a line that is bad from its first byte on: no command begins so, or an item was expected.
+fn explain_front(rt: &(impl Runtime + AllocGlobal), number: u64, text: &[u8]) {
     match TextKind::of(text) {
         Some(kind @ (TextKind::Trace | TextKind::Settings)) if number == 1 => {
             let _ = eprintln!(rt; "dsctl: line 1, byte 0: a command was expected; {kind}");
         }
-        _ if text.len() > LONGEST_LINE + 1 || !explain_line(rt, number, text) => {
-            let _ = eprintln!(rt;
-                "dsctl: line {number}, byte {place}: a trace's line has at most 4096 bytes"
-            );
+        _ if text.starts_with(b"+") => say_found_at(rt, number, 0, ITEM_WANTED, text),
+        _ if after_pass(text).is_some() || begins_command(text) => {
+            say_found_at(rt, number, 0, ITEM_MISSING, text);
         }
-        _ => {}
+        _ if text.first().is_some_and(|byte| byte.is_ascii_digit()) => {
+            say_found_at(rt, number, 0, PASS_WANTED, text);
+        }
+        _ => {
+            let _ = explain_asked(rt, number, text, 0);
+        }
     }
 }
 
-// Whether a line begins as that of a command, perhaps after a pass.
-fn is_command(text: &[u8]) -> bool {
-    let line = match read_decimal(text, LAST_PASS) {
-        Some((_, rest)) => rest.strip_prefix(b" ").unwrap_or(text),
-        None => text,
-    };
-    COMMANDS.iter().any(|word| line.starts_with(word))
+// Returns what follows a pass and a space at the front of a line.
+fn after_pass(text: &[u8]) -> Option<&[u8]> {
+    let (_, rest) = read_decimal(text, LAST_PASS)?;
+    read_byte(rest, b' ')
 }
 
 // Explains a line of commands: an item, or a command, perhaps after a pass. Returns whether a part of it is bad.
@@ -84,16 +76,9 @@ fn explain_line(rt: &(impl Runtime + AllocGlobal), number: u64, text: &[u8]) -> 
     if number == 1 && text.starts_with(b"ring") {
         return explain_command(rt, number, text, 0, 0);
     }
-    match read_decimal(text, LAST_PASS) {
-        Some((_, rest)) => match rest.strip_prefix(b" ") {
-            Some(command) => {
-                let before = text.len().saturating_sub(command.len());
-                explain_asked(rt, number, command, before)
-            }
-            None => explain_asked(rt, number, text, 0),
-        },
-        None => explain_asked(rt, number, text, 0),
-    }
+    let command = after_pass(text).unwrap_or(text);
+    let before = text.len().saturating_sub(command.len());
+    explain_asked(rt, number, command, before)
 }
 
 /// Writes to standard error why a trace can't be upgraded; nothing if it can, or if memory, reading or writing failed.

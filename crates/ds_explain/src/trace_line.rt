@@ -101,6 +101,12 @@ pub(crate) fn explain_asked(
     true
 }
 
+/// Whether a text begins with the word of a store's command.
+pub(crate) fn begins_command(text: &[u8]) -> bool {
+    let (word, _) = word_at(text);
+    is_among(word, &ASKED)
+}
+
 // Explains what comes after the word `merge`.
 fn explain_merge(rt: &impl Runtime, number: u64, rest: &[u8], before: usize) {
     let Some(count) = read_byte(rest, b' ') else {
