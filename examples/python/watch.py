@@ -7,24 +7,25 @@ import sys
 
 from pengtawis import Change, Client, read_item
 
-SUB, MOST = 127, 256  # the subscription, and the most items that one check shows
+MOST = 256  # items that one check shows
 
 
-def changes(client):
+def changes(client, sub):
     """Yields the changes that weren't shown yet."""
     shown = MOST
     while shown == MOST:
-        *lines, _ = client.ask(f"check {SUB} {MOST}")
+        *lines, _ = client.ask(f"check {sub} {MOST}")
         shown = len(lines)
         yield from (it for it in map(read_item, lines) if isinstance(it, Change))  # a check shows floors, too
 
 
 def watch(path):
     with Client(path) as client:
-        client.ask(f'subscribe {SUB} "eth0" 1 first over')
-        client.ask(f"listen {SUB}")
+        *_, told = client.ask('subscribe "eth0" 1 first new')
+        sub = told.removeprefix("sub ")  # the number of the subscription
+        client.ask(f"listen {sub}")
         while True:
-            for change in changes(client):
+            for change in changes(client, sub):
                 print(f"{change.name} is at {change.value}" if change.value else f"{change.name} is gone", flush=True)
             next(client.notices())
 

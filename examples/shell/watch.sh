@@ -3,7 +3,7 @@
 set -eu
 ask=${DSFLEET_ASK:-dsfleet-ask}
 socket=$1 name=$2
-sub=127 # the number of the subscription, which nobody else uses
+sub= # the number of the subscription, once it is known
 room=$(mktemp -d)
 trap 'rm -rf "$room"' EXIT
 trap 'exit 1' HUP INT TERM
@@ -14,10 +14,11 @@ $ask "$socket" < "$room/lines" > "$room/answers" &
 exec 3> "$room/lines" 4< "$room/answers"
 
 pattern=$(printf '%s' "$name" | sed 's/\./\\\\./g') # a dot in a pattern is written \\.
-printf 'subscribe %s "%s" 1 first over\nlisten %s\n' "$sub" "$pattern" "$sub" >&3
+printf 'subscribe "%s" 1 first new\n' "$pattern" >&3
 while read -r word kind owner version mark value; do
     case "$word $kind" in
-        "listening $sub" | "notice $sub") echo "check $sub 256" >&3 ;;
         "$name label") if [ "$mark" = "=" ]; then echo "$name is at $value"; else echo "$name is gone"; fi ;;
+        "listening $sub" | "notice $sub") echo "check $sub 256" >&3 ;;
+        "sub $kind") sub=$kind && echo "listen $sub" >&3 ;;
     esac
 done <&4

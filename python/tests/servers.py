@@ -25,7 +25,7 @@ class Fake:
         self.home = tempfile.mkdtemp(prefix="fake")
         self.path, self.store = f"{self.home}/{name}", model.Store(ring=4096, incarnation=7)
         self.hangs, self.random, self.cuts = hangs, random.Random(seed), cuts
-        self.lock, self.clients, self.threads = threading.RLock(), [], []
+        self.lock, self.clients, self.threads, self.free = threading.RLock(), [], [], 128
 
     def __enter__(self):
         self.listener = socket.socket(socket.AF_UNIX)
@@ -80,11 +80,19 @@ class Connection:
         if line.startswith(b"listen "):
             self.listens.add(int(line[7:]))
             return [b"listening " + line[7:]]
+        if line.startswith(b'subscribe "'):
+            return self.subscribe(line)
         lines = answered(self.server.store, line, self.lines)
         for it in lines:
             if it.startswith(b"owed "):
                 self.notify(int(it[5:], 16))
         return lines
+
+    def subscribe(self, line):
+        """Subscribes by a number that no other line has taken."""
+        self.server.free -= 1
+        lines = answered(self.server.store, b"subscribe %d" % self.server.free + line.removeprefix(b"subscribe"), self.lines)
+        return [*lines, b"sub %d" % self.server.free]
 
     def notify(self, mask):
         for client in self.server.clients:

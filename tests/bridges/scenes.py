@@ -772,6 +772,9 @@ def a_shell_script_watches(fleet, draw):
         late = threading.Timer(60, watch.kill)
         late.start()
         assert watch.stdout.readline() == "one.eth0 is at 3/16\n"
+        with subprocess.Popen(words, env=named, stdin=subprocess.DEVNULL, stdout=subprocess.PIPE, text=True) as second:
+            assert second.stdout.readline() == "one.eth0 is at 3/16\n"
+            second.terminate()
         here.ask("publish 0/2 new oneXeth0 label 1.0 = 1/17")
         here.ask("delete 0/2 one.eth0 label 3.1")
         assert watch.stdout.readline() == "one.eth0 is gone\n"
