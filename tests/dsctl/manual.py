@@ -107,14 +107,14 @@ def manual(version, whole, parts):
     short = whole["short"].about.split("\n")[0]
     help_ = whole["long"]
     lines = [f'.\\" {MADE}', f'.TH DSCTL 1 "" "{version}" "User Commands"', ".SH NAME", shown(f"dsctl - {short[0].lower()}{short[1:]}"), ".SH SYNOPSIS"]
-    for usage in [help_.usage, *(it.usage for it, _ in parts.values()), f"dsctl {HELP} [COMMAND]"]:
+    for usage in [help_.usage, *(it.usage for it, _ in parts.values()), f"dsctl {HELP} [COMMAND | WORD]"]:
         lines += [f"\\fB{shown(usage)}\\fR", ".br"]
     about, rest = blocks(help_.about), blocks(help_.rest)
     description, title, lines_of_scripts = about[""].partition("Lines of a script:\n")
     lines += [".SH DESCRIPTION", *paragraphs(description.strip()), ".SH OPTIONS", *entries(help_.arguments + help_.options), ".SH COMMANDS"]
     for name, (it, _) in parts.items():
         lines += [f".SS {name}", *paragraphs(it.about), *entries(it.arguments + it.options)]
-    lines += [f".SS {HELP}", shown(dict(help_.commands)[HELP])]
+    lines += [f".SS {HELP}", shown(dict(help_.commands)[HELP]), ".PP", "With a WORD of a line, an answer, a refusal or a kind, print what is said of it below."]
     limits = parts["replay"][0].rest.rpartition("\n\n")[2]
     lines += [".SH LINES", *paragraphs(title + lines_of_scripts), ".PP", *paragraphs(limits)]
     lines += [".SH REFUSALS", *paragraphs(rest[""]), ".SH EXIT STATUS", *paragraphs(rest["EXIT STATUS"])]

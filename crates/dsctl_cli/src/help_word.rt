@@ -3,6 +3,7 @@
 use crate::help::LONG_ABOUT;
 use crate::refusals::all_refusals;
 use crate::rows::{between, word_of_row};
+use std::io;
 use std::rt::Runtime;
 use typed_words::{Meant, Plain, Search};
 
@@ -15,23 +16,62 @@ const KINDS_BEGIN: &str = "kinds and their values:\n";
 
 const PARAGRAPH_ENDS: &str = "\n\n";
 
+/// The subcommands, which the command line's help has pages for.
+const SUBCOMMANDS: [&str; 6] = ["replay", "settings", "verify", "upgrade", "record", "live"];
+
 /// How many bytes of an unknown word are shown.
 const SHOWN: usize = 28;
 
+/// The stream that rows are written to.
+#[derive(Clone, Copy)]
+pub(crate) enum Stream {
+    Output,
+    Error,
+}
+
 /// Writes the help's rows about a word to standard error; for an unknown word, a sentence with the nearest known one.
+/// A failed write is ignored.
 pub(crate) fn explain_word(rt: &impl Runtime, word: &[u8]) {
     let mut search = Search::to(word);
-    let lines = print_rows(rt, lines(), word, &mut search);
-    let answers = print_rows(rt, answers(), word, &mut search);
-    let refusals = print_rows(rt, all_refusals(), word, &mut search);
-    let kinds = print_rows(rt, kinds(), word, &mut search);
-    if !(lines || answers || refusals || kinds) {
+    if let Ok(false) = print_word(rt, Stream::Error, word, &mut search) {
         let shown = Plain(&word[..word.len().min(SHOWN)]);
         let meant = Meant::of(word, search.found());
         let _ = eprintln!(rt;
             "dsctl: `{shown}` isn't a line, an answer, a refusal or a kind{meant}: see help"
         );
     }
+}
+
+/// Prints the help's rows about a word of the command line, and returns whether there are any. For an unknown word,
+/// writes a sentence to standard error with the nearest known one.
+pub(crate) fn print_explained(rt: &impl Runtime, word: &[u8]) -> io::Result<bool> {
+    let mut search = Search::to(word);
+    for it in SUBCOMMANDS {
+        search.compare(it);
+    }
+    let is_known = print_word(rt, Stream::Output, word, &mut search)?;
+    if !is_known {
+        let shown = Plain(&word[..word.len().min(SHOWN)]);
+        let meant = Meant::of(word, search.found());
+        let _ = eprintln!(rt;
+            "dsctl: `{shown}` isn't a command, a line, an answer, a refusal or a kind{meant}: see dsctl --help"
+        );
+    }
+    Ok(is_known)
+}
+
+// Writes the help's rows about a word, and returns whether there are any. Offers each row's word to the search.
+fn print_word(
+    rt: &impl Runtime,
+    stream: Stream,
+    word: &[u8],
+    search: &mut Search<'_>,
+) -> io::Result<bool> {
+    let lines = print_rows(rt, stream, lines(), word, search)?;
+    let answers = print_rows(rt, stream, answers(), word, search)?;
+    let refusals = print_rows(rt, stream, all_refusals(), word, search)?;
+    let kinds = print_rows(rt, stream, kinds(), word, search)?;
+    Ok(lines || answers || refusals || kinds)
 }
 
 fn lines() -> &'static str {
@@ -48,7 +88,13 @@ fn kinds() -> &'static str {
 
 // Writes the rows that begin with a word, with their further lines, and returns whether there are any. Offers each
 // row's word to the search.
-fn print_rows(rt: &impl Runtime, rows: &'static str, word: &[u8], search: &mut Search<'_>) -> bool {
+fn print_rows(
+    rt: &impl Runtime,
+    stream: Stream,
+    rows: &'static str,
+    word: &[u8],
+    search: &mut Search<'_>,
+) -> io::Result<bool> {
     let mut is_found = false;
     let mut is_shown = false;
     for line in rows.lines() {
@@ -60,8 +106,15 @@ fn print_rows(rt: &impl Runtime, rows: &'static str, word: &[u8], search: &mut S
             is_shown = false;
         }
         if is_shown {
-            let _ = rt.eprintln(line);
+            print_row(rt, stream, line)?;
         }
     }
-    is_found
+    Ok(is_found)
+}
+
+fn print_row(rt: &impl Runtime, stream: Stream, line: &str) -> io::Result<()> {
+    match stream {
+        Stream::Output => println!(rt; "{line}"),
+        Stream::Error => eprintln!(rt; "{line}"),
+    }
 }

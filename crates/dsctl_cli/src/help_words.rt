@@ -58,7 +58,7 @@ For lines to RS:
   oldendpoint     no service that is up is at ENDPOINT
 
 For settings, `exists` after accepted ones, else as in `dsctl settings --help`:
-  toml            the text isn't a TOML document
+  toml            the text isn't a TOML document; a line can't name a file
   unknownfield    a field has an unknown name
   missing         a service has no label, no class or no unit
   outofrange      a value has the wrong type, or is out of range

@@ -38,8 +38,8 @@ brought up to date, and then there are four lines:
 With `--seed` each worker pauses before each turn, for as long as is drawn from
 the seed: the threads meet otherwise. With `--for` runs follow one another, and
 the report is that of all: `differ` or `wrong` if it is so after any of them. At
-a terminal standard error shows each second how many turns there were so far, in
-one line.
+a terminal standard error shows how many turns began so far, in one line that is
+renewed between two runs, at most once a second.
 
 A run that fails prints nothing, has one word on standard error, and status 3:
   noroom           memory ran out

@@ -3,6 +3,7 @@
 use crate::described::{FILE, add, add_made, described, file, flag, named, with_file};
 use crate::help::{ABOUT, LINES, LONG_ABOUT};
 use crate::help_traces::{UPGRADE_ABOUT, UPGRADE_LONG_ABOUT, VERIFY_ABOUT, VERIFY_LONG_ABOUT};
+use crate::help_word::print_explained;
 use crate::help_words::{
     AFTER_HELP, ENDS_ABOUT, KEEP_GOING_ABOUT, SETTINGS_ABOUT, SETTINGS_LONG_ABOUT, STOP_ABOUT,
 };
@@ -258,12 +259,25 @@ const ONE_FILE: &str = "dsctl: one file is read, and another word is too many";
 const AFTER_REPLAY: &str =
     "dsctl: --keep-going, --stop and --ends follow a subcommand, as in dsctl replay --ends";
 
+// The tip for a value that isn't a number, or is out of its range. Only `live` has such options.
+const A_NUMBER: &str =
+    "dsctl: a number in the option's range was expected, which dsctl live --help shows";
+
 // Returns a tip to add to `clap`'s message about a wrong command line.
 fn tip(given: &[String]) -> Option<&'static str> {
     match given.get(1)?.as_str() {
         "--keep-going" | "--stop" | "--ends" => Some(AFTER_REPLAY),
         "live" => names_a_file(given).then_some(NOTHING),
         _ => (names_count(given) > 1).then_some(ONE_FILE),
+    }
+}
+
+// Likewise, by what is wrong.
+fn tip_for(error: &Error, given: &[String]) -> Option<&'static str> {
+    match error.kind() {
+        ErrorKind::InvalidSubcommand | ErrorKind::UnknownArgument => tip(given),
+        ErrorKind::ValueValidation => Some(A_NUMBER),
+        _ => None,
     }
 }
 
@@ -291,18 +305,37 @@ fn answer(rt: &impl Runtime, error: &Error, given: &[String]) -> Words {
     if matches!(error.kind(), ErrorKind::OutOfMemory) {
         return Words::NoRoom;
     }
+    if let Some(word) = word_asked(error, given) {
+        return answer_word(rt, word);
+    }
     let printed = error.print(rt);
-    if matches!(
-        error.kind(),
-        ErrorKind::InvalidSubcommand | ErrorKind::UnknownArgument
-    ) {
-        if let Some(tip) = tip(given) {
-            let _ = rt.eprintln(tip);
-        }
+    if let Some(tip) = tip_for(error, given) {
+        let _ = rt.eprintln(tip);
     }
     match (error.use_stderr(), printed) {
         (true, _) => Words::Usage,
         (false, Ok(())) => Words::Shown,
         (false, Err(error)) => Words::WriteFault(error),
+    }
+}
+
+// Returns the word that `dsctl help` is asked for, if it isn't a subcommand. An answer may be given as printed.
+fn word_asked<'a>(error: &Error, given: &'a [String]) -> Option<&'a str> {
+    if !matches!(error.kind(), ErrorKind::InvalidSubcommand) || given.get(1)?.as_str() != "help" {
+        return None;
+    }
+    match (given.len(), given.get(2)?.as_str()) {
+        (3, word) => Some(word),
+        (4, "refused") => Some(given.get(3)?.as_str()),
+        _ => None,
+    }
+}
+
+// Explains a word of lines. Of an unknown one standard error has a sentence.
+fn answer_word(rt: &impl Runtime, word: &str) -> Words {
+    match print_explained(rt, word.as_bytes()) {
+        Ok(true) => Words::Shown,
+        Ok(false) => Words::Usage,
+        Err(error) => Words::WriteFault(error),
     }
 }

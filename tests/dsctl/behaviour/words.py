@@ -134,6 +134,7 @@ def says_what_is_wrong_with_its_words(program):
     """Who names two files, gives `live` one, or gives an option of `replay` without it, is told so; others aren't."""
     tips = [(["a.ds", "b.ds"], b"dsctl: one file is read"), (["verify", "a.trace", "b.trace"], b"dsctl: one file is read")]
     tips += [(["live", "script.ds"], b"dsctl: live reads nothing")]
+    tips += [(["live", "--publishers", it], b"dsctl: a number in the option's range was expected") for it in ("x", "9", "")]
     tips += [([it], b"dsctl replay --ends") for it in ("--keep-going", "--stop", "--ends")]
     for words, tip in tips:
         ran = harness.run([program, *words], b"")
