@@ -48,8 +48,8 @@ pub record AnswersRequest (old : Session) (r : Request) (text : List ℕ) (answe
   pub stands : StandsFor r text command
   pub answered : Tells old AsMerge command answer new
 
--- The effect of a request with this text. The store answers its command. If the request isn't a command, the answer says so. If it has a
--- text, memory may run out for it.
+-- The effect of a request with this text. The store answers its command. If the request isn't a command, the answer says so. If its
+-- command has a text, a blob, a pattern or items, memory may run out for these.
 abbrev pub CalledWith : Session → Request → List ℕ → Answer → Session → Type 0
 CalledWith old r text answer new =
     AnswersRequest old r text answer new ⊎ ((StandsForNone r text × RestsForNone old answer new) ⊎ (IsTrue (has_text r) × RestsForRoom old answer new))

@@ -1,11 +1,14 @@
 -- What is read of a request, and when it stands for no command.
-use Rattle.std.proofs.Common.{◌≡◌, ◌≢◌, ℕ, List, refl, sym, inl, inr}
+use Rattle.std.proofs.Common.{◌≡◌, ◌≢◌, ℕ, List, refl, sym, ap, subst, inl, inr}
 use Rattle.std.specs.Prelude.{Option, Some, None, Result, Ok, Err, IfOk, OnErr, IsTrue}
 use Rattle.ds_entry.specs.declared.item.Item.{Item}
 use Rattle.c_values.specs.declared.request.Request.{Request}
-use Rattle.c_values.specs.Request.{command_of}
+use Rattle.std.specs.Option.{option_map}
+use Rattle.ds_names.specs.declared.key.Key.{Key}
+use Rattle.ds_names.specs.declared.kind.Kind.{Kind}
+use Rattle.c_values.specs.Request.{command_of, key_of, key_of_parts, kind_at}
 use Rattle.c_values.specs.Lines.{AreLines}
-use Rattle.c_values.specs.Asked.{StandsForNone, has_text, ReadsRequest}
+use Rattle.c_values.specs.Asked.{StandsForNone, is_long, has_text, ReadsRequest}
 use Rattle.ds_machine.specs.declared.command.Command.{Command}
 use Rattle.ds_names.specs.declared.room.NoRoom.{NoRoom}
 
@@ -30,3 +33,15 @@ pub of_parts : (r : Request) (text : List ℕ) (result : Result (Option Command)
 of_parts r text (Ok None) other read room = none_of_parts r text other (sym read)
 of_parts r text (Ok (Some command)) other read room = inl (sym read)
 of_parts r text (Err wanting) other read room = room
+
+-- ---- the kind of a key
+
+kind_of_parts : (name : Option (List ℕ)) (kind : Option Kind) (key : Key) → key_of_parts name kind ≡ Some key → kind ≡ Some key.kind
+kind_of_parts (Some n) (Some k) key e = ap (option_map (λ (x : Key). x.kind)) e
+kind_of_parts (Some n) None key e = absurd (cc)
+kind_of_parts None kind key e = absurd (cc)
+
+-- a request whose key is of a text or a blob is long
+pub long_by_key : (r : Request) (key : Key) → Some key ≡ key_of r → IsTrue (is_long (Some key.kind)) → IsTrue (is_long (kind_at r.kinds))
+unfolding key_of
+long_by_key r key e is = subst (λ (k : Option Kind). IsTrue (is_long k)) (sym (kind_of_parts _ (kind_at r.kinds) key (sym e))) is

@@ -1,11 +1,13 @@
 -- The commands of requests.
-use Rattle.std.specs.Prelude.{◌≡◌, ℕ, ◌+◌, ◌==◌, ◌||◌, ◌⊎◌, nat_le, cond, IsTrue, Bool, List, length, take, drop, Option, Some, None, Result, Ok, Err}
+use Rattle.std.specs.Prelude.{◌≡◌, ℕ, ◌+◌, ◌==◌, ◌||◌, ◌&&◌, ◌⊎◌, nat_le, not, true, false, cond, IsTrue, Bool, List, length, take, drop, Option, Some, None, Result, Ok, Err}
 use Rattle.ds_entry.specs.declared.item.Item.{Item}
 use Rattle.ds_machine.specs.declared.command.Command.{Command}
 use Rattle.ds_machine.specs.declared.command.Command.TheVariants.{Merge}
+use Rattle.ds_names.specs.declared.kind.Kind.{Kind}
+use Rattle.ds_names.specs.declared.kind.Kind.TheVariants as kinds
 use Rattle.ds_names.specs.declared.room.NoRoom.{NoRoom}
 use Rattle.c_values.specs.declared.request.Request.{Request}
-use Rattle.c_values.specs.Request.{command_of}
+use Rattle.c_values.specs.Request.{command_of, kind_at}
 use Rattle.c_values.specs.Lines.{AreLines}
 
 -- The `count` bytes of the texts from `at` on, if the texts have them.
@@ -31,9 +33,18 @@ StandsFor r text command = (command_of r text ≡ Some command) ⊎ IsMergeOf r 
 abbrev pub StandsForNone : Request → List ℕ → Type 0
 StandsForNone r text = (command : Command) → ¬ StandsFor r text command
 
--- Whether the request's command has a text, a pattern or items, which take memory.
+-- Whether a value of this kind is a text or a blob.
+abbrev pub is_long : Option Kind → Bool
+is_long (Some kinds.Str) = true
+is_long (Some kinds.Mem) = true
+is_long _ = false
+
+-- Whether reading the request's command takes memory: for a Publish of a text or a blob, for the pattern of a Subscribe or of the scope of
+-- a Since, a Snapshot or a Page, and for the items of a Merge.
 abbrev pub has_text : Request → Bool
-has_text r = r.command == 0 || (r.command == 5 || (r.command == 7 || (r.command == 8 || (r.command == 9 || r.command == 10))))
+has_text r =
+    (r.command == 0 && is_long (kind_at r.kinds))
+    || (r.command == 5 || (r.command == 10 || (not (r.under == 0) && (r.command == 7 || (r.command == 8 || r.command == 9)))))
 
 -- The result of reading a request: its command, `None` if it isn't one, or NoRoom if memory runs out for its text.
 abbrev pub ReadsRequest : Request → List ℕ → Result (Option Command) NoRoom → Type 0

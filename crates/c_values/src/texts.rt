@@ -1,10 +1,11 @@
 //! The parts of a request that take memory, and the commands that have them.
 
-ghost use Rattle.std.specs.Prelude.{◌≡◌, [], MatchOption, IfOk};
+ghost use Rattle.std.specs.Prelude.{◌≡◌, ◌==◌, [], not, MatchOption, IfOk, OnErr, IsTrue};
 ghost use Rattle.std.specs.Option.{option_map};
+ghost use Rattle.std.specs.declared.option.Option.TheVariants.{Some};
 ghost use Rattle.ds_machine.specs.declared.command.Command.TheVariants.{Snapshot};
-ghost use Rattle.c_values.specs.Asked.{request_text};
-ghost use Rattle.c_values.specs.Request.{string_at, memory_at, valued, query_at, scope_of};
+ghost use Rattle.c_values.specs.Asked.{is_long, request_text};
+ghost use Rattle.c_values.specs.Request.{string_at, memory_at, kind_at, valued, query_at, scope_of};
 ghost use Rattle.c_values.specs.Request.{publish_of, publish_command, subscribe_of, since_of_request, page_of_request};
 
 use crate::parts::{behind, caller_of, endpoint, key_of, version};
@@ -48,7 +49,8 @@ fn memory(alloc: Global, bytes: &[u8]) -> Result<Option<Value>, NoRoom>
 }
 
 fn value(alloc: Global, request: &Request, text: &[u8], kind: Kind) -> Result<Option<Value>, NoRoom>
-    ensures { IfOk result (λ value. value ≡ valued request.now text.now kind) }
+    ensures read { IfOk result (λ value. value ≡ valued request.now text.now kind) }
+    ensures room { OnErr result (IsTrue (is_long (Some kind))) }
 {
     match kind {
         Kind::Label => Ok(label(request)),
@@ -99,15 +101,16 @@ impl Publication {
 }
 
 /// Reads the parts of a Publish from a request with this text. Returns `None` if they aren't those of a Publish, and fails only if memory
-/// runs out.
+/// runs out for a text or a blob.
 #[inline(always)]
-#[tactic(auto, unfolding(crate::specs::Request::publish_of))]
+#[tactic(auto, using(crate::proofs::AskedLemmas::long_by_key), unfolding(crate::specs::Request::publish_of))]
 pub fn read_publication(
     alloc: Global,
     request: &Request,
     text: &[u8],
 ) -> Result<Option<Publication>, NoRoom>
-    ensures { IfOk result (λ asked. option_map publish_command asked ≡ publish_of request.now text.now) }
+    ensures read { IfOk result (λ asked. option_map publish_command asked ≡ publish_of request.now text.now) }
+    ensures room { OnErr result (IsTrue (is_long (kind_at request.now.kinds))) }
 {
     let Some(key) = key_of(request) else {
         return Ok(None);
@@ -135,7 +138,8 @@ pub(crate) fn publish(
     request: &Request,
     text: &[u8],
 ) -> Result<Option<Command>, NoRoom>
-    ensures { IfOk result (λ command. command ≡ publish_of request.now text.now) }
+    ensures read { IfOk result (λ command. command ≡ publish_of request.now text.now) }
+    ensures room { OnErr result (IsTrue (is_long (kind_at request.now.kinds))) }
 {
     match read_publication(alloc, request, text)? {
         Some(asked) => Ok(Some(asked.command())),
@@ -156,7 +160,8 @@ fn query(alloc: Global, bits: u8, text: &[u8]) -> Result<Option<Query>, NoRoom>
 
 #[tactic(auto, unfolding(crate::specs::Request::scope_of))]
 fn scope(alloc: Global, request: &Request, text: &[u8]) -> Result<Option<Scope>, NoRoom>
-    ensures { IfOk result (λ scope. scope ≡ scope_of request.now text.now) }
+    ensures read { IfOk result (λ scope. scope ≡ scope_of request.now text.now) }
+    ensures room { OnErr result (IsTrue (not (request.now.under == 0))) }
 {
     if request.under == 0 {
         return Ok(Some(Scope::All));
@@ -192,7 +197,8 @@ pub(crate) fn since(
     request: &Request,
     text: &[u8],
 ) -> Result<Option<Command>, NoRoom>
-    ensures { IfOk result (λ command. command ≡ since_of_request request.now text.now) }
+    ensures read { IfOk result (λ command. command ≡ since_of_request request.now text.now) }
+    ensures room { OnErr result (IsTrue (not (request.now.under == 0))) }
 {
     let Some(scope) = scope(alloc, request, text)? else {
         return Ok(None);
@@ -212,7 +218,8 @@ pub(crate) fn snapshot(
     request: &Request,
     text: &[u8],
 ) -> Result<Option<Command>, NoRoom>
-    ensures { IfOk result (λ command. command ≡ option_map Snapshot (scope_of request.now text.now)) }
+    ensures read { IfOk result (λ command. command ≡ option_map Snapshot (scope_of request.now text.now)) }
+    ensures room { OnErr result (IsTrue (not (request.now.under == 0))) }
 {
     let Some(scope) = scope(alloc, request, text)? else {
         return Ok(None);
@@ -222,7 +229,8 @@ pub(crate) fn snapshot(
 
 #[tactic(auto, unfolding(crate::specs::Request::page_of_request))]
 pub(crate) fn page(alloc: Global, request: &Request, text: &[u8]) -> Result<Option<Command>, NoRoom>
-    ensures { IfOk result (λ command. command ≡ page_of_request request.now text.now) }
+    ensures read { IfOk result (λ command. command ≡ page_of_request request.now text.now) }
+    ensures room { OnErr result (IsTrue (not (request.now.under == 0))) }
 {
     let Some(after) = behind(request) else {
         return Ok(None);

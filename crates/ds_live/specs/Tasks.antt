@@ -1,5 +1,5 @@
--- The pass of the second desk in a worker's task.
-use Rattle.std.specs.Prelude.{◌≡◌}
+-- What a worker's task has: a pass of the second desk, or a follower.
+use Rattle.std.specs.Prelude.{◌≡◌, List, [], ◌∷◌}
 use Rattle.atomic_table.specs.Seated.{TableId}
 use Rattle.desk_rule.specs.declared.view.View.{View}
 use Rattle.desk.specs.declared.pass.Sight.{Ghosts}
@@ -7,9 +7,15 @@ use Rattle.desk.specs.Pass.{desk_of}
 use Rattle.ds_machine.specs.declared.command.Command.{Command}
 use Rattle.ds_machine.specs.declared.reply.Reply.{Reply}
 use Rattle.ds_pass.specs.Record.{Boxed}
+use Rattle.ds_refresh.specs.Follower.{FollowerRecord}
 use Rattle.ds_workers.specs.declared.task.Task.{Task}
 use Rattle.ds_workers.specs.declared.task.Task.TheVariants.{Exchange, Follow, Publish}
 use Rattle.ds_workers.specs.Workers.{StorePass}
+
+-- The follower of a task, if it has one.
+abbrev pub followers_in : {P : Type 0} → Task P → List FollowerRecord
+followers_in (Follow follower) = follower ∷ []
+followers_in _ = []
 
 module _ {Z : Type 0} {G : Ghosts (View (Boxed Z) Command Reply)} where
   -- Whether the task's pass, if it has one, is of the desk.

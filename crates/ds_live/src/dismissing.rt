@@ -1,10 +1,11 @@
 //! The end of the workers, which hand their passes back.
 
-ghost use Rattle.std.specs.Prelude.{All, ◌≡◌, ◌≤◌, ◌+◌, [], length, sum_by, vec_capacity};
+ghost use Rattle.std.specs.Prelude.{All, ◌≡◌, ◌≤◌, ◌+◌, ◌++◌, [], length, sum_by, vec_capacity, OnOk, IfNone, IfSome};
+ghost use Rattle.std.specs.declared.option.Option.TheVariants.{Some};
 ghost use Rattle.desk.specs.Desk.{identity};
 ghost use Rattle.desk.specs.Pass.{desk_of};
-ghost use Rattle.ds_workers.specs.Workers.{ComesBack, IsOf, others_in};
-ghost use Rattle.ds_live.specs.Tasks.{IsOther};
+ghost use Rattle.ds_workers.specs.Workers.{ComesBack, IsDone, IsOf, others_in};
+ghost use Rattle.ds_live.specs.Tasks.{IsOther, followers_in};
 
 use crate::back::Back;
 use crate::fault::LiveFault;
@@ -53,7 +54,9 @@ fn finish<W: Wait>(
     fault: Option<LiveFault>,
 ) -> Option<LiveFault>
     requires { IsOf (identity desks.now.first) (identity desks.now.second) worker.old }
-    ensures { ComesBack worker.old worker.new }
+    ensures back { ComesBack worker.old worker.new }
+    ensures kept { IfSome fault (λ was. result ≡ Some was) }
+    ensures done { IfNone result (IsDone worker.new) }
 {
     if fault.is_some() {
         return fault;
@@ -77,6 +80,7 @@ fn collect(
     ensures all { length back.new.others.items ≡ others_in task + length back.old.others.items }
     ensures room { vec_capacity back.new.others ≡ vec_capacity back.old.others }
     ensures passes { back.new.passes ≡ back.old.passes }
+    ensures followers { OnOk result (back.new.followers.items ≡ back.old.followers.items ++ followers_in task) }
 {
     match task {
         Task::Publish => Ok(()),

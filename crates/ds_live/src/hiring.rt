@@ -1,9 +1,11 @@
 //! The beginning of a run.
 
-ghost use Rattle.std.specs.Prelude.{All, ◌≡◌, ◌≤◌, ◌<◌, ◌+◌, [], length, sum_by, vec_capacity, IfOk, IsTrue};
+ghost use Rattle.std.specs.Prelude.{All, ◌≡◌, ◌≤◌, ◌<◌, ◌+◌, ◌-◌, ◌*◌, [], length, sum_by, vec_capacity, IfOk, IsTrue};
 ghost use Rattle.desk.specs.Desk.{identity, pass_count};
 ghost use Rattle.desk.specs.Pass.{desk_of};
 ghost use Rattle.ds_pass.specs.Record.{pass_record};
+ghost use Rattle.ds_refresh.specs.Follower.{new_follower};
+ghost use Rattle.ds_workers.specs.Commands.{every_key};
 ghost use Rattle.ds_workers.specs.Workers.{IsOf, IsTask, others_in};
 ghost use Rattle.ds_live.specs.Sizes.{are_fit};
 
@@ -144,6 +146,9 @@ fn task_of(
     requires index { index < sizes.publishers + sizes.subscribers }
     ensures task { IfOk result (λ task. (second : _) → IsTask second index pass.now task) }
     ensures none { IfOk result (λ task. others_in task ≡ 0) }
+    ensures publishes { index < sizes.publishers → IfOk result (λ task. task ≡ Task.Publish) }
+    ensures follows { sizes.publishers ≤ index →
+        IfOk result (λ task. task ≡ Task.Follow (new_follower (8 * (index - sizes.publishers)) every_key)) }
 {
     if index < sizes.publishers {
         return Ok(Task::Publish);

@@ -1,9 +1,9 @@
 //! A run of threads.
 
-ghost use Rattle.std.specs.Prelude.{All, ◌≡◌, ◌≤◌, length, Err, true, false, IfOk, OnOk, IsTrue};
+ghost use Rattle.std.specs.Prelude.{All, ◌≡◌, ◌≤◌, length, Err, true, false, IfOk, IfSome, OnOk, IsTrue};
 ghost use Rattle.desk.specs.Desk.{identity, pass_count};
 ghost use Rattle.desk.specs.Pass.{desk_of};
-ghost use Rattle.ds_live.specs.Report.{are_exact};
+ghost use Rattle.ds_live.specs.Report.{IsReport, are_exact};
 ghost use Rattle.ds_live.specs.Sizes.{are_fit};
 
 use crate::back::Back;
@@ -70,6 +70,7 @@ fn close_both(
 ) -> Result<LiveReport, LiveFault>
     requires passes { All (λ p. desk_of p ≡ identity first) back.passes.items × (pass_count first ≤ length back.passes.items) }
     requires others { All (λ p. desk_of p ≡ identity second) back.others.items × (pass_count second ≤ length back.others.items) }
+    ensures fault { IfSome fault (λ was. result ≡ Err was) }
     ensures account { IfOk result (λ report. report.account ≡ true) }
 {
     let shared = share_notes(&first, &mut back.passes);
@@ -90,6 +91,8 @@ fn report_both(
 ) -> Result<LiveReport, LiveFault>
     requires left { IfOk left.now (λ closed. are_exact closed.account ≡ true) }
     requires right { IfOk right.now (λ closed. are_exact closed.account ≡ true) }
+    ensures report { IfOk left.now (λ here. IfOk right.now (λ there.
+        IfOk result (IsReport here.machine.value.held there.machine.value.held followers.now.items))) }
     ensures account { IfOk result (λ report. report.account ≡ true) }
 {
     match (left, right) {

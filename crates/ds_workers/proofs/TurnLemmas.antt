@@ -43,6 +43,7 @@ refreshed p q r f g fresh looked only ends = let some = some_made q r f g fresh 
   own = only.own;
   made = made_more p q r [] only.own looked only.made;
   some = omega (arith, as_many q r only.own some.0 only.made some.1, some.2);
+  few = only.few;
   theirs = only.theirs;
 }
 

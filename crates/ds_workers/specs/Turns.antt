@@ -1,5 +1,5 @@
 -- The effects of workers' turns on their passes.
-use Rattle.std.specs.Prelude.{◌≡◌, ◌⊎◌, ℕ, ◌<◌, Bool, true, false, List, length, Option, Some, None}
+use Rattle.std.specs.Prelude.{◌≡◌, ◌⊎◌, ℕ, ◌<◌, ◌≤◌, Bool, true, false, List, length, Option, Some, None}
 use Rattle.history.specs.declared.entry.Entry.{Entry}
 use Rattle.ds_feed.specs.declared.cursor.Cursor.{Cursor}
 use Rattle.ds_machine.specs.declared.command.Command.{Command}
@@ -30,11 +30,12 @@ pub record WasAccepted (p q : PassRecord) (command : Command) : Type 0 where
   pub call : MadeCall p q command reply place
   pub accepted : IsAccepted reply
 
--- Whether q is the pass p after some calls, each of them the follower's.
+-- Whether q is the pass p after 1 to 8 calls, each of them the follower's.
 pub record HasRefreshed (p q : PassRecord) (f : FollowerRecord) : Type 0 where
   pub own : List (Entry Command Reply)
   pub made : Made p q own
   pub some : 0 < length own
+  pub few : length own ≤ 8
   pub theirs : AreOfFollower f.sub f.map.query own
 
 -- Whether the map is what the store held under the map's query after all that the pass has seen.

@@ -1,5 +1,5 @@
 -- Workers that come back from their threads.
-use Rattle.std.specs.Prelude.{◌≡◌, ℕ, ◌<◌}
+use Rattle.std.specs.Prelude.{◌≡◌, ℕ, ◌<◌, Bool}
 use Rattle.atomic_table.specs.Seated.{TableId}
 use Rattle.desk_rule.specs.declared.view.View.{View}
 use Rattle.desk.specs.declared.pass.Sight.{Ghosts}
@@ -11,7 +11,8 @@ use Rattle.ds_refresh.specs.KeepsUp.{KeepsUpWith}
 use Rattle.ds_workers.specs.declared.task.Task.{Task}
 use Rattle.ds_workers.specs.declared.task.Task.TheVariants.{Exchange, Follow, Publish}
 use Rattle.ds_workers.specs.declared.worker.Worker.{Worker}
-use Rattle.ds_workers.specs.Turns.{HasCalled, IsBroughtUp, IsHandedOver}
+use Rattle.ds_workers.specs.Commands.{publisher_number}
+use Rattle.ds_workers.specs.Turns.{HasCalled, HasExchanged, HasRefreshed, IsBroughtUp, IsHandedOver, WasAccepted}
 
 -- The type of a pass at a store's desk.
 abbrev pub StorePass : (Z : Type 0) → Ghosts (View (Boxed Z) Command Reply) → Type 0
@@ -41,6 +42,17 @@ module _ {Z : Type 0} {G : Ghosts (View (Boxed Z) Command Reply)} where
     pub same_others : others_in w.task ≡ others_in v.task
     pub called : HasCalled (pass_record v.pass) (pass_record w.pass)
     pub still : (first second : TableId) → IsOf first second v → IsOf first second w
+
+  -- The effect of a turn that succeeds: the publisher's number was overwritten, the follower was refreshed, or one exchange was made.
+  abbrev pub TakesTask : ℕ → ℕ → StorePass Z G → StorePass Z G → Task (StorePass Z G) → Task (StorePass Z G) → Type 0
+  TakesTask index turn pass new Publish task = WasAccepted (pass_record pass) (pass_record new) (publisher_number index turn)
+  TakesTask index turn pass new (Follow follower) task = HasRefreshed (pass_record pass) (pass_record new) follower
+  TakesTask index turn pass new (Exchange other cursor) (Exchange given next) =
+      (more : Bool) × HasExchanged (pass_record pass) (pass_record new) (pass_record other) (pass_record given) cursor next more
+  TakesTask index turn pass new (Exchange other cursor) task = ⊥
+
+  abbrev pub TakesTurn : ℕ → Worker (StorePass Z G) → Worker (StorePass Z G) → Type 0
+  TakesTurn turn v w = TakesTask v.index turn v.pass w.pass v.task w.task
 
   -- Whether the task is done: a follower's map is up to date, or there is no more to exchange.
   abbrev pub IsTaskDone : StorePass Z G → Task (StorePass Z G) → Type 0

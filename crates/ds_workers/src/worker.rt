@@ -2,7 +2,7 @@
 
 ghost use Rattle.std.specs.Prelude.{◌≡◌, OnOk};
 ghost use Rattle.desk.specs.Desk.{identity};
-ghost use Rattle.ds_workers.specs.Workers.{ComesBack, IsDone, IsOf};
+ghost use Rattle.ds_workers.specs.Workers.{ComesBack, IsDone, IsOf, TakesTurn};
 
 use crate::exchanging::{exchange, hand_over};
 use crate::fault::WorkerFault;
@@ -90,7 +90,8 @@ impl Worker<Pass<Box<Store>>> {
         turn: u32,
     ) -> Result<(), WorkerFault>
         requires { IsOf (identity first.now) (identity second.now) self.old }
-        ensures { ComesBack self.old self.new }
+        ensures back { ComesBack self.old self.new }
+        ensures taken { OnOk result (TakesTurn turn self.old self.new) }
     {
         match &mut self.task {
             Task::Publish => {

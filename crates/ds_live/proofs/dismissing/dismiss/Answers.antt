@@ -10,7 +10,7 @@ use Rattle.ds_live.proofs.dismissing.dismiss.Goals as goal
 pub collect-room-requires-clause-task : goal.collect-room-requires-clause-task
 collect-room-requires-clause-task g c = let a = identity c.args.desks.now.first in let b = identity c.args.desks.now.second in
     let was = (popped (λ j. IsOf a b j.worker) c.pop.new.self.items c.loop-job.jobs.items c.in-Some.job c.in-Some.ensures.items c.loop-job.invariant.left).1 in
-    let came = c.finish-fault.ensures in
+    let came = c.finish-fault.ensures.back in
     let is = came.still a b was in
     other_of b c.finish-fault.new.worker.index c.finish-fault.new.worker.pass c.finish-fault.new.worker.task is.task
 
@@ -19,7 +19,7 @@ collect-room-requires-clause-others g c = c.loop-job.invariant.others
 
 pub collect-room-requires-clause-room : goal.collect-room-requires-clause-room
 collect-room-requires-clause-room g c = let i = c.loop-job.invariant in
-    let came = c.finish-fault.ensures in
+    let came = c.finish-fault.ensures.back in
     let less = longer_sum (λ j. others_in j.worker.task) c.pop.new.self.items c.loop-job.jobs.items c.in-Some.job c.in-Some.ensures.items in
     let same = came.same_others in let all = i.all_others in let room = i.others_room in
     omega (arith, all, less, same, room)
@@ -33,7 +33,7 @@ push_reserved-requires g c = let i = c.loop-job.invariant in
 pub loop-job-preserved : goal.loop-job-preserved
 loop-job-preserved g c = let i = c.loop-job.invariant in let a = identity c.args.desks.now.first in let b = identity c.args.desks.now.second in
     let both = popped (λ j. IsOf a b j.worker) c.pop.new.self.items c.loop-job.jobs.items c.in-Some.job c.in-Some.ensures.items i.left in
-    let came = c.finish-fault.ensures in
+    let came = c.finish-fault.ensures.back in
     let is = came.still a b both.1 in
     let fewer = length-last c.pop.new.self.items c.loop-job.jobs.items c.in-Some.job c.in-Some.ensures.items in
     let less = longer_sum (λ j. others_in j.worker.task) c.pop.new.self.items c.loop-job.jobs.items c.in-Some.job c.in-Some.ensures.items in
