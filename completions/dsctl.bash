@@ -1,6 +1,6 @@
 # Completions for bash, made by tests/dsctl/manual from the program's help.
 _dsctl() {
-    local at command= is_number= words="replay settings verify upgrade record live help -h --help -V --version"
+    local at command= is_number= file words="-h --help -V --version"
     local current=${COMP_WORDS[COMP_CWORD]} before=${COMP_WORDS[COMP_CWORD - 1]}
     for ((at = 1; at < COMP_CWORD; at++)); do
         case ${command:-${COMP_WORDS[at]}} in
@@ -31,8 +31,22 @@ _dsctl() {
         live:--seed) words="" is_number=1 ;;
         live:--for) words="" is_number=1 ;;
     esac
+    # options are offered after a dash; elsewhere bash completes a file by itself, if one is taken there
+    case $command:$is_number:$current in
+        *:1:*|*:*:-*|help:*) ;;
+        *) words= ;;
+    esac
+    [[ $COMP_CWORD != 1 || $current == -* ]] || words="replay settings verify upgrade record live help"
     COMPREPLY=($(compgen -W "$words" -- "$current"))
-    # a number is no file, so bash's own completion of files isn't asked for one
-    [[ -z $is_number ]] || compopt +o default 2> /dev/null || :
+    case $command:$is_number in
+        live:*|help:*|*:1) compopt +o default 2> /dev/null || : ;;
+    esac
+    # the first word may also be a file
+    if [[ $COMP_CWORD == 1 && $current != -* ]]; then
+        while IFS= read -r file; do
+            COMPREPLY+=("$file")
+        done < <(compgen -f -- "$current")
+        compopt -o filenames 2> /dev/null || :
+    fi
 }
 complete -o default -F _dsctl dsctl

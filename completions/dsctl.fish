@@ -1,15 +1,8 @@
 # Completions for fish, made by tests/dsctl/manual from the program's help.
 complete -c dsctl -f
-complete -c dsctl -n __fish_use_subcommand -a replay -d 'Answer a script; this is the default subcommand'
-complete -c dsctl -n __fish_use_subcommand -a settings -d 'Show the services of a settings text, or its first fault'
-complete -c dsctl -n __fish_use_subcommand -a verify -d 'Judge whether a recorded trace of a store is legal'
-complete -c dsctl -n __fish_use_subcommand -a upgrade -d 'Write a trace of format 1 in format 2'
-complete -c dsctl -n __fish_use_subcommand -a record -d 'Run a store on commands, and write the trace of that run'
-complete -c dsctl -n __fish_use_subcommand -a live -d 'Run threads that publish, follow and exchange, and report'
-complete -c dsctl -n __fish_use_subcommand -a help -d 'Print this message or the help of the given subcommand(s)'
+complete -c dsctl -n __fish_use_subcommand -k -a '(printf "%s\\t%s\\n" replay \'Answer a script; this is the default subcommand\' settings \'Show the services of a settings text, or its first fault\' verify \'Judge whether a recorded trace of a store is legal\' upgrade \'Write a trace of format 1 in format 2\' record \'Run a store on commands, and write the trace of that run\' live \'Run threads that publish, follow and exchange, and report\' help \'Print this message or the help of the given subcommand(s)\'; __fish_complete_path (commandline -ct))'
 complete -c dsctl -n __fish_use_subcommand -s h -l help -d 'Print help (see a summary with \'-h\')'
 complete -c dsctl -n __fish_use_subcommand -s V -l version -d 'Print version'
-complete -c dsctl -n __fish_use_subcommand -F
 complete -c dsctl -n '__fish_seen_subcommand_from replay settings verify upgrade record' -F
 complete -c dsctl -n '__fish_seen_subcommand_from replay' -l keep-going -d 'Continue after a bad line; status 1 at the end'
 complete -c dsctl -n '__fish_seen_subcommand_from replay' -l stop -d 'End at a bad line, at a terminal too'
@@ -27,4 +20,4 @@ complete -c dsctl -n '__fish_seen_subcommand_from live' -l changes -x -d 'How ma
 complete -c dsctl -n '__fish_seen_subcommand_from live' -l seed -x -d 'Draw pauses before turns, by 0 to 4294967295'
 complete -c dsctl -n '__fish_seen_subcommand_from live' -l for -x -d 'Repeat runs for seconds, 1 to 86400'
 complete -c dsctl -n '__fish_seen_subcommand_from live' -s h -l help -d 'Print help (see a summary with \'-h\')'
-complete -c dsctl -n '__fish_seen_subcommand_from help' -a 'replay settings verify upgrade record live'
+complete -c dsctl -n '__fish_seen_subcommand_from help' -k -a '(printf "%s\\t%s\\n" replay \'Answer a script; this is the default subcommand\' settings \'Show the services of a settings text, or its first fault\' verify \'Judge whether a recorded trace of a store is legal\' upgrade \'Write a trace of format 1 in format 2\' record \'Run a store on commands, and write the trace of that run\' live \'Run threads that publish, follow and exchange, and report\')'

@@ -8,12 +8,20 @@ from typing import List, Tuple
 
 ROOT = pathlib.Path(__file__).resolve().parents[2]
 MADE = "made by tests/dsctl/manual from the program's help"
+NO_MORE = "'*:no other argument, options begin with -: '"  # what zsh shows in place of the options where no dash is typed
 HELP = "help"  # the command whose words are those of the others
+TABBED = '"%s\\t%s\\n"'  # how fish prints each word and its text
 MANY = 16  # so many numbers aren't offered one by one
 EXAMPLES = ("Example session", "Two replicas", "A driver that dies")  # how the paragraphs begin that show something
 OF_LINES = "new over first later label u32 str mem file net block character up down refresh help quit exit".split()  # beside the first words
 SEE_ALSO = [
-    "\\fBrlwrap\\fR(1), which adds history, editing and words at the Tab key: \\fBrlwrap dsctl\\fR.",
+    "\\fBrlwrap\\fR(1), which adds history and editing, and words at the Tab key for a PREFIX of \\fB./install\\fR:",
+    ".PP",
+    "\\fBrlwrap \\-e \\(aq\\(aq \\-f PREFIX/share/rlwrap/completions/dsctl dsctl\\fR",
+    ".PP",
+    "\\(haC ends the session. This line ignores it, and keeps the session, in bash, zsh and fish:",
+    ".PP",
+    "\\fBsh \\-c \\(dqtrap \\(aq\\(aq INT; exec dsctl\\(dq\\fR",
     ".PP",
     "In the documents of Pengtawis: docs/guide/, a page for each task; docs/reference/lines.md, all lines and answers;",
     "docs/reference/refusals.md, a session for each refusal; docs/reference/minix.md, MINIX 3's calls; examples/README.md, scripts and pictures.",
@@ -149,10 +157,10 @@ def bash(whole, parts):
     cases = "".join(f'        {name}) words="{words}" ;;\n' for name, words in options.items())
     numbers = {(name, word): " ".join(few) for name, (it, _) in parts.items() for word, few in numbers_of(it.options).items()}
     values = "".join(f'        {name}:{word}) words="{few}" is_number=1 ;;\n' for (name, word), few in numbers.items())
-    first = " ".join([*options, *words_of(whole["long"].options)])
+    without = "|".join(f"{name}:*" for name in options if name == HELP or not parts[name][0].arguments)
     return f"""# Completions for bash, {MADE}.
 _dsctl() {{
-    local at command= is_number= words="{first}"
+    local at command= is_number= file words="{" ".join(words_of(whole["long"].options))}"
     local current=${{COMP_WORDS[COMP_CWORD]}} before=${{COMP_WORDS[COMP_CWORD - 1]}}
     for ((at = 1; at < COMP_CWORD; at++)); do
         case ${{command:-${{COMP_WORDS[at]}}}} in
@@ -169,9 +177,23 @@ _dsctl() {{
     fi
     case $command:$before in
 {values}    esac
+    # options are offered after a dash; elsewhere bash completes a file by itself, if one is taken there
+    case $command:$is_number:$current in
+        *:1:*|*:*:-*|{HELP}:*) ;;
+        *) words= ;;
+    esac
+    [[ $COMP_CWORD != 1 || $current == -* ]] || words="{" ".join(options)}"
     COMPREPLY=($(compgen -W "$words" -- "$current"))
-    # a number is no file, so bash's own completion of files isn't asked for one
-    [[ -z $is_number ]] || compopt +o default 2> /dev/null || :
+    case $command:$is_number in
+        {without}|*:1) compopt +o default 2> /dev/null || : ;;
+    esac
+    # the first word may also be a file
+    if [[ $COMP_CWORD == 1 && $current != -* ]]; then
+        while IFS= read -r file; do
+            COMPREPLY+=("$file")
+        done < <(compgen -f -- "$current")
+        compopt -o filenames 2> /dev/null || :
+    fi
 }}
 complete -o default -F _dsctl dsctl
 """
@@ -199,7 +221,7 @@ def zsh(whole, parts):
     def arguments(told):
         numbers = numbers_of(told.options)
         options = [argument(word, about, numbers) for names, about in told.options for word in names.split(", ")]
-        return " ".join(options + ["'1:file:_files'"] * bool(told.arguments))
+        return " ".join(options + ["'1:file:_files'"] * bool(told.arguments) + [NO_MORE])
 
     commands = " ".join(quoted_for_zsh(f"{name}:{told}") for name, told in whole["long"].commands)
     cases = "".join(f"        {name}) _arguments {arguments(it)} ;;\n" for name, (it, _) in parts.items())
@@ -241,13 +263,16 @@ def fish(whole, parts):
         return [option(condition, *row, numbers) for row in rows]
 
     lines = [f"# Completions for fish, {MADE}.", "complete -c dsctl -f"]
-    lines += [f"complete -c dsctl -n __fish_use_subcommand -a {name} -d {quoted_for_fish(told)}" for name, told in whole["long"].commands]
+    described = " ".join(f"{name} {quoted_for_fish(told)}" for name, told in whole["long"].commands)
+    first = f"(printf {TABBED} {described}; __fish_complete_path (commandline -ct))"  # in this order: -F would sort files to the front
+    lines.append(f"complete -c dsctl -n __fish_use_subcommand -k -a {quoted_for_fish(first)}")
     lines += options("__fish_use_subcommand", whole["long"].options)
     reading = [name for name, (it, _) in parts.items() if it.arguments]
-    lines += [f"complete -c dsctl -n {it} -F" for it in ("__fish_use_subcommand", f"'__fish_seen_subcommand_from {' '.join(reading)}'")]
+    lines.append(f"complete -c dsctl -n '__fish_seen_subcommand_from {' '.join(reading)}' -F")
     for name, (it, _) in parts.items():
         lines += options(f"'__fish_seen_subcommand_from {name}'", it.options)
-    lines.append(f"complete -c dsctl -n '__fish_seen_subcommand_from {HELP}' -a '{' '.join(parts)}'")
+    described = " ".join(f"{name} {quoted_for_fish(told)}" for name, told in whole["long"].commands if name != HELP)
+    lines.append(f"complete -c dsctl -n '__fish_seen_subcommand_from {HELP}' -k -a {quoted_for_fish(f'(printf {TABBED} {described})')}")
     return "\n".join(lines) + "\n"
 
 

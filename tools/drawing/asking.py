@@ -72,7 +72,7 @@ def rows_of(lines, maps, said):
         answer = [next(said)]
         bad = BAD_LINE.fullmatch(answer[0])
         if bad:
-            yield Row(number, line, [f"badline {number} {bad[1]}"], held, side)
+            yield Row(number, line, [f"badline {place + 1} {bad[1]}"], held, side)  # which counts commands alone
             return
         answer += iter(lambda: next(said), "side a")
         side = line.split(" ")[1] if answer[0] in ("side a", "side b") else side

@@ -103,7 +103,7 @@ class Layout:
             for it in self.subscribers(holder):
                 x = self.lane(it, f"sub. {it.split(' ')[2]}", x + 14, 54)
         is_last_maker = any(self.right(it) + 20 > x for it, _ in self.story.makers)
-        self.width = max(x + SIDE + 12 * is_last_maker, LEGEND)
+        self.width = max(x + SIDE + 18 * is_last_maker, LEGEND)
 
     def lane(self, key, title, left, wide):
         self.middle[key], self.wide[key], self.title[key] = left + wide / 2, wide, title

@@ -17,6 +17,8 @@ LEGEND = {
     "elsewhere": "A short arrow: from another replica, or a caller without a lane.",
     "dashed": "A dashed arrow: from the dead, or nothing new.",
     "bar": "A bar at the end of an arrow: refused or stale.",
+    "vain": "A gray bar: nothing new.",
+    "break": "A red dashed line: the store was restarted, or the map cleared.",
     "notice": "A triangle at a subscription: a notice is owed to it.",
 }
 LEAST, HIGH = 790, 13  # the least width of the words below a picture, and the height of their rows
@@ -92,7 +94,7 @@ class Picture:
         return self.near(stroke.begin, sign), end, sign
 
     def crossed(self, stroke):
-        """Returns what a stroke goes round: from where to where there is a driver's bar, tag or cross, in the stroke's order."""
+        """Returns what a stroke goes round, in its order: from where to where there is a driver's bar, tag or cross, and how far down it goes."""
         it, y = self.layout, self.layout.y(stroke.row, stroke.step)
         begin, end, sign = self.ends(stroke)
         found = []
@@ -110,7 +112,20 @@ class Picture:
                 joined[-1] = (joined[-1][0], max(right, joined[-1][1]))
             else:
                 joined.append((left, right))
-        return joined if sign > 0 else [(right, left) for left, right in reversed(joined)]
+        ways = [(left, right, self.way_round(left, right, y)) for left, right in joined]
+        ways = [it for it in ways if it[2]]
+        return ways if sign > 0 else [(right, left, down) for left, right, down in reversed(ways)]
+
+    def way_round(self, left, right, y):
+        """Returns how far down a bend goes: above a tag and a cross, or below; 0 if neither has room, and the stroke passes under the bar."""
+        it = self.layout
+        tags = [(it.middle[life.lane], it.tag[life.lane] / 2, it.y(*born)) for life in it.story.lives if (born := it.first_shown(life))]
+        crosses = [(it.middle[life.lane], 7, it.y(*life.died)) for life in it.story.lives if life.died and it.first_shown(life)]
+        near = [(middle, place) for middle, half, place in tags + crosses if middle + half > left - 7 and middle - half < right + 7 and place != y]
+        is_above_free = all(not 0 < y - place < BEND + 12 for _, place in near) and all(place != y or not left < middle < right for middle, _, place in crosses)
+        if is_above_free:
+            return -BEND
+        return BEND if all(not 0 < place - y < BEND + 12 for _, place in near) else 0
 
     def near(self, lane, sign):
         """Returns the edge of a lane at one side."""
@@ -139,7 +154,7 @@ class Picture:
             if it.is_delivery:
                 self.has.add("trail")
                 self.path(f"M{begin:.1f} {self.made[it.message][1] + 8:.1f} V{y:.1f}", "trail plain")
-            bends = "".join(f" H{left - sign * 4:.1f} l{sign * 4} -{BEND} H{right:.1f} l{sign * 4} {BEND}" for left, right in self.crossed(it))
+            bends = "".join(f" H{left - sign * 4:.1f} l{sign * 4} {down} H{right:.1f} l{sign * 4} {-down}" for left, right, down in self.crossed(it))
             self.path(f"M{begin:.1f} {y:.1f}{bends} H{end - sign * 4:.1f}", f"stroke {self.look_of(it)}{dashed}")
 
     # ---- bands ----
@@ -150,6 +165,7 @@ class Picture:
             for block in self.layout.blocks[holder]:
                 self.block(holder, block)
         for holder, row in self.layout.story.breaks:
+            self.has.add("break")
             y = self.layout.tops[row]
             self.path(f"M{self.layout.left(holder):.1f} {y:.1f} H{self.layout.right(holder):.1f}", "break")
 
@@ -227,8 +243,8 @@ class Picture:
         """Draws a stroke once more where it goes round drivers' bars, above these."""
         _, _, sign = self.ends(stroke)
         y = self.layout.y(stroke.row, stroke.step)
-        for left, right in self.crossed(stroke):
-            steps = f"M{left - sign * 4:.1f} {y:.1f} l{sign * 4} -{BEND} H{right:.1f} l{sign * 4} {BEND}"
+        for left, right, down in self.crossed(stroke):
+            steps = f"M{left - sign * 4:.1f} {y:.1f} l{sign * 4} {down} H{right:.1f} l{sign * 4} {-down}"
             self.path(steps, "round cut")
             self.path(steps, f"stroke {self.look_of(stroke)}" + (" dashed" if stroke.is_late or stroke.is_vain else ""))
 
@@ -240,12 +256,12 @@ class Picture:
             y = self.layout.y(it.row, it.step)
             tone = "fvain" if it.is_vain else "fplain" if it.tone is None else f"f{self.tone(it.tone)}"
             if it.is_stopped or it.is_vain:
-                self.has |= {"bar"} if it.is_stopped else {"dashed"}
+                self.has.add("bar" if it.is_stopped else "vain")
                 self.path(f"M{end - sign * 3:.1f} {y - 6:.1f} v12", "bar" if it.is_stopped else "bar vain")
             else:
                 self.path(f"M{end:.1f} {y:.1f} l{-sign * 8} -4 v8 z", tone)
             if it.message is not None:
-                self.circle(begin if abs(end - begin) < 30 else end - sign * 20, y, it.message)
+                self.circle(begin - sign * 12 if abs(end - begin) < 30 else end - sign * 20, y, it.message)
             elif it.word:
                 self.word(it, begin, end, sign, y)
         for number, (lane, row) in enumerate(self.layout.story.makers):

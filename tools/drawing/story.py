@@ -170,13 +170,12 @@ class Teller:
         self.from_caller(row, self.life_at(row.words[1]), (row.words[2], int(row.words[3])))
 
     def offer(self, row):
-        """Adds an item that came from elsewhere: RS's own, or one by way of another replica, and not the driver itself."""
+        """Adds an item that came from elsewhere, as by way of another replica, and not from its owner itself."""
         item = row.line[len("offer "):]
-        tone, change = tone_of(item), CHANGE.match(item)
+        tone = tone_of(item)
         life = self.life(*tone)
         is_late = life is not None and life.died is not None and life.died < (self.at, 0)
-        begin = RS if change and change[3] == "rs" else None
-        self.stroke(begin, row.side, tone=tone, is_late=is_late, is_stopped=stops(row.last), is_vain=row.last == "known")
+        self.stroke(None, row.side, tone=tone, is_late=is_late, is_stopped=stops(row.last), is_vain=row.last == "known")
         if row.last == "taken":
             self.change_lives(item)
 
