@@ -1,8 +1,9 @@
 //! The help about one word: a line, an answer, a refusal or a kind.
 
-use crate::help::LONG_ABOUT;
+use crate::help::{LINES, LONG_ABOUT};
 use crate::refusals::all_refusals;
 use crate::rows::{between, word_of_row};
+use std::io;
 use std::rt::Runtime;
 use typed_words::{Meant, Plain, Search};
 
@@ -21,17 +22,44 @@ const SHOWN: usize = 28;
 /// Writes the help's rows about a word to standard error; for an unknown word, a sentence with the nearest known one.
 pub(crate) fn explain_word(rt: &impl Runtime, word: &[u8]) {
     let mut search = Search::to(word);
-    let lines = print_rows(rt, lines(), word, &mut search);
-    let answers = print_rows(rt, answers(), word, &mut search);
-    let refusals = print_rows(rt, all_refusals(), word, &mut search);
-    let kinds = print_rows(rt, kinds(), word, &mut search);
-    if !(lines || answers || refusals || kinds) {
+    if let Ok(false) = print_all(rt, Stream::Error, word, &mut search) {
         let shown = Plain(&word[..word.len().min(SHOWN)]);
         let meant = Meant::of(word, search.found());
         let _ = eprintln!(rt;
             "dsctl: `{shown}` isn't a line, an answer, a refusal or a kind{meant}: see help"
         );
     }
+}
+
+/// Writes to standard output what the prompt has about a word: all lines for `all`, and else the help's rows. Returns
+/// whether there is anything. `Err`: the write failed.
+pub(crate) fn show_word(rt: &impl Runtime, word: &[u8]) -> io::Result<bool> {
+    if word == b"all".as_slice() {
+        rt.println(LINES)?;
+        return Ok(true);
+    }
+    print_all(rt, Stream::Output, word, &mut Search::to(word))
+}
+
+// Where rows are written.
+#[derive(Clone, Copy)]
+enum Stream {
+    Output,
+    Error,
+}
+
+// Writes the rows of all tables about a word, and returns whether there are any.
+fn print_all(
+    rt: &impl Runtime,
+    stream: Stream,
+    word: &[u8],
+    search: &mut Search<'_>,
+) -> io::Result<bool> {
+    let is_line = print_rows(rt, stream, lines(), word, search)?;
+    let is_answer = print_rows(rt, stream, answers(), word, search)?;
+    let is_refusal = print_rows(rt, stream, all_refusals(), word, search)?;
+    let is_kind = print_rows(rt, stream, kinds(), word, search)?;
+    Ok(is_line || is_answer || is_refusal || is_kind)
 }
 
 fn lines() -> &'static str {
@@ -48,7 +76,13 @@ fn kinds() -> &'static str {
 
 // Writes the rows that begin with a word, with their further lines, and returns whether there are any. Offers each
 // row's word to the search.
-fn print_rows(rt: &impl Runtime, rows: &'static str, word: &[u8], search: &mut Search<'_>) -> bool {
+fn print_rows(
+    rt: &impl Runtime,
+    stream: Stream,
+    rows: &'static str,
+    word: &[u8],
+    search: &mut Search<'_>,
+) -> io::Result<bool> {
     let mut is_found = false;
     let mut is_shown = false;
     for line in rows.lines() {
@@ -60,8 +94,11 @@ fn print_rows(rt: &impl Runtime, rows: &'static str, word: &[u8], search: &mut S
             is_shown = false;
         }
         if is_shown {
-            let _ = rt.eprintln(line);
+            match stream {
+                Stream::Output => rt.println(line)?,
+                Stream::Error => rt.eprintln(line)?,
+            }
         }
     }
-    is_found
+    Ok(is_found)
 }

@@ -3,6 +3,7 @@
 use crate::described::{FILE, add, add_made, described, file, flag, named, with_file};
 use crate::help::{ABOUT, LINES, LONG_ABOUT};
 use crate::help_traces::{UPGRADE_ABOUT, UPGRADE_LONG_ABOUT, VERIFY_ABOUT, VERIFY_LONG_ABOUT};
+use crate::help_word::show_word;
 use crate::help_words::{
     AFTER_HELP, ENDS_ABOUT, KEEP_GOING_ABOUT, SETTINGS_ABOUT, SETTINGS_LONG_ABOUT, STOP_ABOUT,
 };
@@ -126,15 +127,19 @@ fn listed(alloc: Global, given: Args) -> Result<Vec<String>, AllocError> {
 
 // Returns what the arguments ask for. Answers wrong ones, and requests for help.
 fn understood<R: Runtime + AllocGlobal>(rt: &R, words: &[String]) -> Asked {
-    match parse(rt.alloc(), words) {
+    match parse(rt, words) {
         Ok(asked) => asked,
         Err(error) => without_file(answer(rt, &error, words)),
     }
 }
 
-// Parses the arguments.
-fn parse(alloc: Global, words: &[String]) -> Result<Asked, Error> {
+// Parses the arguments. Answers a file's name before a subcommand.
+fn parse<R: Runtime + AllocGlobal>(rt: &R, words: &[String]) -> Result<Asked, Error> {
+    let alloc = rt.alloc();
     let matches = matches_of(alloc, words)?;
+    if refuses_file_before(rt, &matches) {
+        return Ok(without_file(Words::Usage));
+    }
     match asked_by(&matches) {
         Some(words) => Ok(Asked {
             words,
@@ -147,6 +152,21 @@ fn parse(alloc: Global, words: &[String]) -> Result<Asked, Error> {
 // Returns the arguments as `clap` parses them.
 fn matches_of<'a>(alloc: Global, words: &'a [String]) -> Result<ArgMatches<'a>, Error> {
     command(alloc)?.try_get_matches_from(words)
+}
+
+// Whether a file is named before a subcommand, which wouldn't read it. Standard error then says so.
+fn refuses_file_before(rt: &impl Runtime, matches: &ArgMatches<'_>) -> bool {
+    let (Some(name), Some((word, _))) = (matches.get_str(FILE), matches.subcommand()) else {
+        return false;
+    };
+    if word == "live" {
+        let _ = eprintln!(rt; "dsctl: `{name}` stands before `live`, which reads nothing");
+    } else {
+        let _ = eprintln!(rt;
+            "dsctl: `{name}` stands before `{word}`: name the file after it, as in dsctl {word} FILE"
+        );
+    }
+    true
 }
 
 // Returns what is asked for; `None` for a trace of format 1 with 4096 keys.
@@ -286,10 +306,29 @@ fn names_file(word: &str) -> bool {
     !word.starts_with('-') && (word.contains('.') || word.contains('/'))
 }
 
-// Prints `clap`'s message: a usage error to standard error, help or the version to standard output.
+// Returns the word that `help` is requested for, if it isn't a subcommand.
+fn word_of_help<'a>(error: &Error, given: &'a [String]) -> Option<&'a str> {
+    if !matches!(error.kind(), ErrorKind::InvalidSubcommand) || given.len() != 3 {
+        return None;
+    }
+    match given.get(1)?.as_str() {
+        "help" => Some(given.get(2)?.as_str()),
+        _ => None,
+    }
+}
+
+// Prints the help about a word, or `clap`'s message: a usage error to standard error, help or the version to standard
+// output.
 fn answer(rt: &impl Runtime, error: &Error, given: &[String]) -> Words {
     if matches!(error.kind(), ErrorKind::OutOfMemory) {
         return Words::NoRoom;
+    }
+    if let Some(word) = word_of_help(error, given) {
+        match show_word(rt, word.as_bytes()) {
+            Ok(true) => return Words::Shown,
+            Ok(false) => {}
+            Err(error) => return Words::WriteFault(error),
+        }
     }
     let printed = error.print(rt);
     if matches!(

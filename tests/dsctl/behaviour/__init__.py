@@ -66,6 +66,7 @@ ALL = [
     words.explains_each_refusal,
     words.says_what_is_wrong_with_its_words,
     words.shows_help_by_a_word,
+    words.shows_help_about_a_word,
     words.tells_its_version,
     second_opinion.every_front_of_a_line,
     second_opinion.every_byte_changed,

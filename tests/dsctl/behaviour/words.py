@@ -4,7 +4,7 @@ import re
 import harness
 import manual
 
-from .running import expect
+from .running import begin, end, expect
 from .samples import GOOD
 
 NAMES = ("replay", "settings", "verify", "upgrade", "record", "live")
@@ -152,6 +152,22 @@ def shows_help_by_a_word(program):
     for words in (["script.ds"], ["replya"], ["replay", "more"]):
         ran = harness.run([program, "help", *words], b"")
         assert (ran.status, ran.output) == (2, b"") and ran.error, f"{words}: {ran}"
+
+
+def shows_help_about_a_word(program):
+    """`dsctl help WORD` prints on standard output what the prompt has about a line, an answer, a refusal or a kind."""
+    rows = [("nocaller", [b"  nocaller "]), ("publish", [b"  publish CALLER "]), ("u32", [b"  u32 "]), ("taken", [b"  taken"])]
+    rows += [("all", [b"  publish CALLER ", b"  retrieve NAME KIND", b"  show "])]
+    for word, starts in rows:
+        ran = harness.run([program, "help", word], b"bad\n")
+        shown = all(any(row.startswith(start) for row in ran.output.splitlines()) for start in starts)
+        assert (ran.status, ran.error) == (0, b"") and shown, f"{word}: {ran}"
+    for words in (["nocalle"], ["nocaller", "more"], ["refused", "nocaller"]):
+        ran = harness.run([program, "help", *words], b"")
+        assert (ran.status, ran.output) == (2, b"") and ran.error, f"{words}: {ran}"
+    with open("/dev/full", "wb") as full:
+        told = end(begin(program, ["help", "nocaller"], stdout=full))
+    assert told.status == 3 and told.error.startswith(b"writefault\n"), told
 
 
 def tells_its_version(program):
