@@ -67,7 +67,7 @@ fn tell_unopened(rt: &impl Runtime, name: &str, error: io::Error) {
             );
         }
         None => {
-            let _ = eprintln!(rt; "dsctl: {name} can't be opened: {error}");
+            let _ = eprintln!(rt; "dsctl: `{name}` can't be opened: {error}");
         }
     }
 }

@@ -127,15 +127,19 @@ fn listed(alloc: Global, given: Args) -> Result<Vec<String>, AllocError> {
 
 // Returns what the arguments ask for. Answers wrong ones, and requests for help.
 fn understood<R: Runtime + AllocGlobal>(rt: &R, words: &[String]) -> Asked {
-    match parse(rt.alloc(), words) {
+    match parse(rt, words) {
         Ok(asked) => asked,
         Err(error) => without_file(answer(rt, &error, words)),
     }
 }
 
-// Parses the arguments.
-fn parse(alloc: Global, words: &[String]) -> Result<Asked, Error> {
+// Parses the arguments. Answers a file's name before a subcommand.
+fn parse<R: Runtime + AllocGlobal>(rt: &R, words: &[String]) -> Result<Asked, Error> {
+    let alloc = rt.alloc();
     let matches = matches_of(alloc, words)?;
+    if refuses_file_before(rt, &matches) {
+        return Ok(without_file(Words::Usage));
+    }
     match asked_by(&matches) {
         Some(words) => Ok(Asked {
             words,
@@ -148,6 +152,21 @@ fn parse(alloc: Global, words: &[String]) -> Result<Asked, Error> {
 // Returns the arguments as `clap` parses them.
 fn matches_of<'a>(alloc: Global, words: &'a [String]) -> Result<ArgMatches<'a>, Error> {
     command(alloc)?.try_get_matches_from(words)
+}
+
+// Whether a file is named before a subcommand, which wouldn't read it. Standard error then says so.
+fn refuses_file_before(rt: &impl Runtime, matches: &ArgMatches<'_>) -> bool {
+    let (Some(name), Some((word, _))) = (matches.get_str(FILE), matches.subcommand()) else {
+        return false;
+    };
+    if word == "live" {
+        let _ = eprintln!(rt; "dsctl: `{name}` stands before `live`, which reads nothing");
+    } else {
+        let _ = eprintln!(rt;
+            "dsctl: `{name}` stands before `{word}`: name the file after it, as in dsctl {word} FILE"
+        );
+    }
+    true
 }
 
 // Returns what is asked for; `None` for a trace of format 1 with 4096 keys.

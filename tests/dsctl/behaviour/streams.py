@@ -122,8 +122,8 @@ def reads_a_file_by_its_name(program):
 
 def a_file_that_cannot_be_opened(program):
     """A file that isn't there is told by its name and the system's reason, with status 2, and a word like a subcommand by that, too."""
-    rows = [([], "none.ds", b"dsctl: none.ds can't be opened: No such file or directory (os error 2)\n")]
-    rows += [(["verify"], "no/such.trace", b"dsctl: no/such.trace can't be opened: No such file or directory (os error 2)\n")]
+    rows = [([], "none.ds", b"dsctl: `none.ds` can't be opened: No such file or directory (os error 2)\n")]
+    rows += [(["verify"], "no/such.trace", b"dsctl: `no/such.trace` can't be opened: No such file or directory (os error 2)\n")]
     rows += [([], "repaly", b"dsctl: `repaly` is neither a command, the nearest is `replay`, nor a file: No such file or directory (os error 2)\n")]
     for words, name, told in rows:
         expect(harness.run([program, *words, name], b"show\n"), b"", 2, told)
