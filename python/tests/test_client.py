@@ -18,7 +18,7 @@ import stores
 from pengtawis import AsyncClient, BadLine, Client, Refused, refusals
 from pengtawis.client import _Inbox as Inbox
 
-DRAWN = 20000
+DRAWN = 25000
 AT_ONCE = 50  # calls of one asyncio client
 PATIENCE = 30  # seconds that an answer may take
 LABEL = "publish 0/2 new eth0 label 3.0 = 3/16"
