@@ -1,6 +1,7 @@
 /* calls WHAT COUNT: makes COUNT calls of a kind to a store with 16 drivers, each with its label, a number and 1024 bytes. line-WHAT makes them
  * by lines, told-WHAT also fetches the text of each answer, and bare-WHAT does so for lines without a newline. memory retrieves the bytes.
- * calls.rs and calls.py make the calls that aren't lines. See bench/README.md. */
+ * calls.rs and calls.py make the calls that aren't lines. beat, start and submit are of RS and of a driver table: heartbeats, at most 64
+ * starts, and requests with their replies. See bench/README.md. */
 #include "ds.h"
 #include <stdio.h>
 #include <stdlib.h>
@@ -81,6 +82,49 @@ static unsigned long told(void) {
     return given.length;
 }
 
+/* Opens RS with 64 services, and starts this many of them. */
+static int start(unsigned long count) {
+    static char settings[64 * 64];
+    struct ds_settings_fault fault;
+    struct ds_answer said;
+    char *to = settings;
+    for (int i = 0; i < 64; i++) to += sprintf(to, "[[service]]\nlabel = \"s%d\"\nclass = \"server\"\nlimit = 1\n", i);
+    if (ds_open(&store, 1, 0, 256) || ds_rs_open(&store, settings, (size_t)(to - settings), 1, 16, &fault)) return 0;
+    for (unsigned long i = 0; i < count; i++) {
+        struct ds_rs_event event = {.kind = DS_RS_UP};
+        event.label_length = (uint8_t)sprintf(event.label, "s%lu", i);
+        if (ds_rs_event(&store, &event, &said) || said.word != DS_ACTED) return 0;
+    }
+    return 1;
+}
+
+/* Heartbeats of one instance, each a tick after the last. */
+static int beat(unsigned long count) {
+    struct ds_answer said;
+    struct ds_rs_event event = {.kind = DS_RS_BEAT, .generation = 1, .slot = 16};
+    if (!start(1)) return 0;
+    for (; event.tick < count; event.tick++)
+        if (ds_rs_event(&store, &event, &said) || said.word != DS_ACTED) return 0;
+    return 1;
+}
+
+/* Requests to one block driver, each answered before the next. */
+static int submit(unsigned long count) {
+    static const char label[] = "disk label rs 4.0 = 4/16\n";
+    struct ds_map drivers = DS_CLOSED;
+    struct ds_table table = DS_CLOSED;
+    struct ds_answer said;
+    if (ds_map_new(&drivers, DS_LABEL, ".*", 2) || ds_map_take(&drivers, label, sizeof label - 1, &said)) return 0;
+    if (ds_table_new(&table, DS_TABLE_FILES) || ds_table_assign(&table, 3, DS_RS_BLOCK, "disk", 4, &said)) return 0;
+    for (unsigned long id = 1; id <= count; id++) {
+        struct ds_move move;
+        size_t moves;
+        if (ds_table_submit(&table, &drivers, id, 3, &said) || ds_table_moves(&table, 0, &move, 1, &moves) || move.kind != DS_MOVE_SEND) return 0;
+        if (ds_table_reply(&table, 4, 16, id, &said) || ds_table_moves(&table, 0, &move, 1, &moves) || move.kind != DS_MOVE_DONE) return 0;
+    }
+    return 1;
+}
+
 /* Opens the store, and writes what its drivers published. */
 static int prepare(const char *what, int fetches) {
     static const char bytes[BYTES];
@@ -107,6 +151,9 @@ int main(int count, char **given) {
     const char *what = given[1];
     int by_line = strchr(what, '-') != NULL, is_told = by_line && strncmp(what, "line-", 5), fetches = !strcmp(what, "memory");
     unsigned long calls = strtoul(given[2], NULL, 10), sum = 0;
+    if (!strcmp(what, "start")) return !start(calls);
+    if (!strcmp(what, "beat")) return !beat(calls);
+    if (!strcmp(what, "submit")) return !submit(calls);
     if (!prepare(what, fetches)) return 1;
     for (unsigned long i = 1; i <= calls; i++) {
         uint32_t d = i % DRIVERS;
