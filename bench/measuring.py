@@ -36,3 +36,9 @@ def instructions(program, path):
     with open(path) as given:
         ran = subprocess.run(tool, stdin=given, stdout=subprocess.DEVNULL, stderr=subprocess.PIPE, text=True, check=True)
     return int(re.search(r"I\s+refs:\s+([0-9,]+)", ran.stderr)[1].replace(",", ""))
+
+
+def answers(program, path):
+    """What a program prints for a script."""
+    with open(path) as given:
+        return subprocess.run([program], stdin=given, stdout=subprocess.PIPE, check=True).stdout
