@@ -25,7 +25,7 @@ PARTS = [
     (b"show ", 4, b"the end of the line was expected; a space was found\n"),
     (b"show\t", 4, b"the end of the line was expected; a tab was found\n"),
     (b"show\r", 4, b"the end of the line was expected; a carriage return was found\n"),
-    (b"show\xc3\xa9", 4, b"the end of the line was expected; a byte 195 was found\n"),
+    (b"show\xc3\xa9", 4, b"the end of the line was expected; byte 195 was found\n"),
     (b"retrieve\teth0 label", 8, b"a space was expected, and then NAME; a tab was found\n"),
     (b"a" * 4097, 4096, b"a line has at most 4096 bytes"),
     (b"offer ?", 6, b"NAME was expected"),

@@ -25,7 +25,7 @@ impl fmt::Display for Found<'_> {
                 let word = Plain(visible(self.0));
                 write!(f, "`{word}`")
             }
-            Some(byte) => write!(f, "a byte {byte}"),
+            Some(byte) => write!(f, "byte {byte}"),
         }
     }
 }

@@ -1,5 +1,6 @@
 //! Explains a trace that isn't legal, by its first wrong line.
 
+use crate::found::Found;
 use crate::kind::TextKind;
 use crate::stray::BYTE_ORDER_MARK;
 use crate::trace_line::{explain_marked, without_newline};
@@ -11,13 +12,53 @@ use typed_words::Plain;
 /// Writes to standard error which line a trace was expected to have, and which it has; of a line with the mark of an
 /// entry or of an item, which part is bad. A failed write is ignored.
 pub fn explain_trace(rt: &(impl Runtime + AllocGlobal), wrong: &WrongLine<'_>) {
-    if explain_marked(rt, wrong) {
+    if explain_marked(rt, wrong) || explain_unmarked(rt, wrong) {
         return;
     }
     let number = wrong.number;
     let wanted = WantedThere(*wrong);
     let stood = StoodThere(*wrong);
     let _ = eprintln!(rt; "dsctl: line {number}: {wanted}{stood}");
+}
+
+/// The marks of a trace's lines below its header.
+const MARKS: [&str; 3] = ["> ", "+ ", "< "];
+
+// Explains a line without any mark in the place of a reply. Returns whether it is one.
+fn explain_unmarked(rt: &impl Runtime, wrong: &WrongLine<'_>) -> bool {
+    let (Wanted::Reply, Stands::Line(line)) = (wrong.wanted, wrong.stands) else {
+        return false;
+    };
+    if MARKS.iter().any(|mark| line.starts_with(mark.as_bytes())) {
+        return false;
+    }
+    let number = wrong.number;
+    let reply = ReplyThere(*wrong);
+    let found = Found(line);
+    let _ = eprintln!(rt;
+        "dsctl: line {number}, byte 0: `< ` was expected, and then {reply}; {found} was found"
+    );
+    true
+}
+
+// The reply that was expected.
+#[derive(Clone, Copy)]
+struct ReplyThere<'a>(WrongLine<'a>);
+
+impl fmt::Display for ReplyThere<'_> {
+    fn fmt<W: fmt::Write>(&self, f: &mut fmt::Formatter<W>) -> fmt::Result {
+        if self.0.asked.is_empty() {
+            return f.write_str("the store's reply");
+        }
+        let asked = Plain(command_of(self.0.asked));
+        match self.0.reply {
+            Some(reply) => {
+                let reply = Plain(without_newline(reply));
+                write!(f, "the reply to {asked}, \"{reply}\"")
+            }
+            None => write!(f, "the reply to {asked}"),
+        }
+    }
 }
 
 // What was expected.
