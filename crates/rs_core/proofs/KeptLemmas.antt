@@ -141,17 +141,17 @@ has_none first freed given before after was is = record {
 -- ---- what RS keeps
 
 kept_slots : (old new : SlotsRecord) (states : List State) (at : ℕ) (after : State) → new.first ≡ old.first → SlotsFit old states → at < length states →
-    Follows old.first old.freed new.freed old.given new.given (get_or states at Down) after → new.given ≤ length states →
+    Follows old.first old.freed new.freed old.given new.given (get_or states at Down) after → new.given ≤ 64 →
     SlotsFit new (set states at after)
 kept_slots old new states at after same kept within follows few = record {
   once = λ key. rw same (omega (arith, kept.once key, follows.once key, sum_by-set (λ s. one (is_at old.first key s)) states at after Down within));
   taken = omega (arith, kept.taken, follows.taken, sum_by-set (λ s. one (is_up s)) states at after Down within);
-  few = omega (arith, few, length-set states at after);
+  few = few;
 }
 
 kept_on : (settings : SettingsRecord) (states : List State) (tick now next more : ℕ) (old new : SlotsRecord) (at : ℕ) (after : State)
     → new.first ≡ old.first → IsRs settings states tick next old → at < length states → now ≤ 2 ^ 62 → next ≤ more → more ≤ 2097152 → IsState old.first more after
-    → Follows old.first old.freed new.freed old.given new.given (get_or states at Down) after → new.given ≤ length states → new.given ≤ settings.slots
+    → Follows old.first old.freed new.freed old.given new.given (get_or states at Down) after → new.given ≤ 64 → new.given ≤ settings.slots
     → IsRs settings (set states at after) now more new
 kept_on settings states tick now next more old new at after same kept within worn le spent here follows few own = record {
   checked = kept.checked;
@@ -207,14 +207,14 @@ some_up states at within up =
     let is : one (is_up (get_or states at Down)) ≡ 1 = ap one up in
     omega (arith, is, get_or-le-sum_by (λ s. one (is_up s)) states at Down within)
 
--- no more keys are taken than there are services
+-- no more keys are taken than services may run at once
 giving_few : (settings : SettingsRecord) (states : List State) (tick next : ℕ) (slots : SlotsRecord) (at : ℕ) →
     IsRs settings states tick next slots → at < length states →
-    is_up (get_or states at Down) ≡ false → (giving slots.first slots.freed slots.given).given ≤ length states
+    is_up (get_or states at Down) ≡ false → (giving slots.first slots.freed slots.given).given ≤ 64
 giving_few settings states tick next slots at kept within rest = by slots.freed kept.fit.taken
   where
-    by : (freed : List ℕ) → length freed + up_count states ≡ slots.given → (giving slots.first freed slots.given).given ≤ length states
-    by [] taken = omega (arith, taken, fewer_up states at within rest)
+    by : (freed : List ℕ) → length freed + up_count states ≡ slots.given → (giving slots.first freed slots.given).given ≤ 64
+    by [] taken = omega (arith, taken, fewer_up states at within rest, kept.count, kept.checked.count)
     by (k ∷ freed) taken = kept.fit.few
 
 -- nor more than the settings have slots
@@ -304,7 +304,7 @@ pub stop_has_room : (settings : SettingsRecord) (states : List State) (tick next
     IsRs settings states tick next slots → at < length states →
     is_up (get_or states at Down) ≡ true → length slots.freed < 64
 stop_has_room settings states tick next slots at kept within up =
-    omega (arith, kept.fit.taken, kept.fit.few, kept.count, kept.checked.count, some_up states at within up)
+    omega (arith, kept.fit.taken, kept.fit.few, some_up states at within up)
 
 -- the first slot stays
 giving_first : (first : ℕ) (freed : List ℕ) (given : ℕ) → (giving first freed given).first ≡ first

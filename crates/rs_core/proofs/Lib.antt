@@ -4,3 +4,4 @@ pub mod RunLemmas
 pub mod SaysLemmas
 pub mod RefusalLemmas
 pub mod ReadingLemmas
+pub mod RenewalLemmas

@@ -1,19 +1,16 @@
 -- What is due, what a tick does then, and which service a step gives up.
-use Rattle.std.proofs.Common.{◌≡◌, ◌≢◌, ℕ, zero, suc, ◌+◌, ◌-◌, ◌*◌, ◌≤◌, ◌<◌, ◌^◌, nat_lt, nat_le, Bool, true, false, ◌&&◌, cond, List, [], ◌∷◌, ◌++◌, length, get_or, drop, min, Option, Some, None, Ok, Err, Result, refl, sym, ap, ◌∙◌, subst, arith, inl, inr, ◌⊎◌}
-use Rattle.std.specs.Prelude.{◌||◌, ◌↔◌, is_some, option_map}
+use Rattle.std.proofs.Common.{◌≡◌, ◌≢◌, ℕ, zero, suc, ◌+◌, ◌-◌, ◌*◌, ◌≤◌, ◌<◌, nat_lt, nat_le, Bool, true, false, ◌&&◌, cond, List, [], ◌∷◌, length, get_or, drop, Option, Some, None, Ok, Result, refl, sym, ap, ◌∙◌, subst, arith, inl, inr, ◌⊎◌}
+use Rattle.std.specs.Prelude.{◌||◌, is_some, option_map}
 use Rattle.std.specs.List.{slice_get}
 use Rattle.std.specs.Option.{option_or}
-use Rattle.std.proofs.Math.ListN.{set, length-set}
+use Rattle.std.proofs.Math.ListN.{set}
 use Rattle.std.proofs.lemmas.Bool.{cases_lt, le-leb, lt-leb}
-use Rattle.std.proofs.lemmas.Bool.Decides.{nat_tests}
 use Rattle.std.proofs.lemmas.List.{drop_more, drop_all, get_or-set_same}
 use Rattle.std.proofs.lemmas.Option.{get_or_from_slice_get, same_Some}
 use Rattle.rs_settings.specs.declared.service.Service.{Service}
-use Rattle.rs_core.specs.declared.action.Action.{Action}
 use Rattle.rs_core.specs.declared.deed.Deed.{Deed}
 use Rattle.rs_core.specs.declared.deed.Deed.TheVariants.{Begin, Resume, Halt, Replace, Lose, Forget, Hear, Ping}
 use Rattle.rs_core.specs.declared.deed.Plan.{Plan}
-use Rattle.rs_core.specs.declared.event.Event.{Event}
 use Rattle.rs_core.specs.declared.event.Event.TheVariants.{Tick}
 use Rattle.rs_core.specs.declared.fault.RsFault.{RsFault}
 use Rattle.rs_core.specs.declared.finding.Sought.{Sought}
@@ -22,12 +19,10 @@ use Rattle.rs_core.specs.declared.state.State.{State}
 use Rattle.rs_core.specs.declared.state.State.TheVariants.{Down, Up, Waiting, GaveUp}
 use Rattle.rs_core.specs.declared.state.Running.{Running}
 use Rattle.rs_core.specs.declared.state.Pause.{Pause}
-use Rattle.rs_core.specs.Action.{stop_actions}
 use Rattle.rs_core.specs.State.{RsRecord, state_at, service_at, no_service}
 use Rattle.rs_core.specs.Finding.{is_sought, first_sought, service_place, when_up, when_waiting}
 use Rattle.rs_core.specs.Machine.{asked, due, failed, failures_left, plan, state_after, actions_of}
-use Rattle.rs_core.specs.Step.{RsStep, IsCarriedOut}
-use Rattle.rs_core.specs.Reading.{is_due, any_due, is_from, IsFrom, TicksActWhenDue, gives_up, given_up, given_up_in, StepsGiveUp}
+use Rattle.rs_core.specs.Reading.{is_due, any_due, TicksActWhenDue, gives_up, given_up, given_up_in, StepsGiveUp}
 use Rattle.rs_core.proofs.SaysLemmas.{written}
 
 -- ---- or

@@ -5,6 +5,7 @@ use Rattle.ds_names.specs.Endpoint.{EndpointRecord}
 use Rattle.ds_names.specs.declared.key.Key.{Key}
 use Rattle.ds_names.specs.declared.version.Version.{Version}
 use Rattle.ds_entry.specs.Change.{ChangeRecord}
+use Rattle.ds_entry.specs.SingleNumbered.{IsSingleNumbered}
 use Rattle.ds_entry.proofs.Members.{In, In-from_Contains}
 use Rattle.rs_settings.specs.declared.service.Service.{Service}
 use Rattle.rs_core.specs.declared.action.Action.{Action}
@@ -18,6 +19,7 @@ use Rattle.rs_core.specs.State.{RsRecord, state_at, service_at}
 use Rattle.rs_core.specs.Machine.{actions_of, next_after, new_endpoint, same_slot}
 use Rattle.rs_core.specs.Step.{IsCarriedOut}
 use Rattle.rs_core.specs.Run.{RsRun, starts, offers, AreRising, StartsRise, LabelsAreSingleNumbered}
+use Rattle.rs_core.specs.Renewal.{IsRenewal, RsLife, StartsRiseThroughRenewals, LabelsStaySingleNumbered}
 use Rattle.rs_core.specs.Numbering.{NumbererRecord, AreNumbered, NumbersRise}
 use Rattle.ds_names.specs.Name.{rs_name}
 
@@ -165,14 +167,46 @@ one_label low high es c d rise (inr (l, g, p)) (inr (m, h, q)) k v =
     let epoch : g ≡ h = sym (ap (λ (z : ChangeRecord). z.version.epoch) p) ∙ ap (λ (z : Version). z.epoch) v ∙ ap (λ (z : ChangeRecord). z.version.epoch) q in
     p ∙ ap (λ (n : List ℕ). label_gone n g) name ∙ ap (λ (n : ℕ). label_gone m n) epoch ∙ sym q
 
-pub labels_single_numbered : LabelsAreSingleNumbered
-labels_single_numbered s t steps run = record {
-  one_change = λ c d i j k v. one_label s.next t.next (flat_map starts steps) c d (starts_rise s t steps run) (label c i) (label d j) k v;
-  one_owner = λ c d i j k. owner_of_label (flat_map starts steps) c (label c i) ∙ sym (owner_of_label (flat_map starts steps) d (label d j));
+-- rising starts have single-numbered labels
+single_numbered : (low high : ℕ) (steps : List (List Action)) → AreRising low (flat_map starts steps) high
+    → ((c : ChangeRecord) → In c (flat_map offers steps) → IsLabelOf (flat_map starts steps) c) → IsSingleNumbered (flat_map offers steps)
+single_numbered low high steps rise label = record {
+  one_change = λ c d i j k v. one_label low high (flat_map starts steps) c d rise (of c i) (of d j) k v;
+  one_owner = λ c d i j k. owner_of_label (flat_map starts steps) c (of c i) ∙ sym (owner_of_label (flat_map starts steps) d (of d j));
 }
   where
-    label : (c : ChangeRecord) → Contains (flat_map offers steps) c → IsLabelOf (flat_map starts steps) c
-    label c i = run_labels s t steps c run (In-from_Contains c (flat_map offers steps) i)
+    of : (c : ChangeRecord) → Contains (flat_map offers steps) c → IsLabelOf (flat_map starts steps) c
+    of c i = label c (In-from_Contains c (flat_map offers steps) i)
+
+pub labels_single_numbered : LabelsAreSingleNumbered
+labels_single_numbered s t steps run = single_numbered s.next t.next steps (starts_rise s t steps run) (λ c i. run_labels s t steps c run i)
+
+-- ---- renewals
+
+-- a renewal starts none, and keeps the next generation
+renewal_rises : (s t : RsRecord) (actions : List Action) → IsRenewal s actions t → AreRising s.next (starts actions) t.next
+renewal_rises s t actions (settings, free, none, after) =
+    let n : t.next ≡ s.next = ap (λ (r : RsRecord). r.next) after in
+    subst (λ (z : List Action). AreRising s.next (starts z) t.next) (sym none) (omega (arith, n))
+
+pub lives_rise : StartsRiseThroughRenewals
+lives_rise s t [] run = let n : s.next ≡ t.next = ap (λ (r : RsRecord). r.next) run in omega arith
+lives_rise s t (actions ∷ rest) (m, inl (event, tick, step), run) = rises_on s.next m.next t.next (starts actions) (flat_map starts rest) (follow_rises s tick step.0 actions m step.3) (lives_rise m t rest run)
+lives_rise s t (actions ∷ rest) (m, inr renewal, run) = rises_on s.next m.next t.next (starts actions) (flat_map starts rest) (renewal_rises s m actions renewal) (lives_rise m t rest run)
+
+life_labels : (s t : RsRecord) (steps : List (List Action)) (c : ChangeRecord) → RsLife s steps t → In c (flat_map offers steps) → IsLabelOf (flat_map starts steps) c
+life_labels s t [] c run i = absurd i
+life_labels s t (actions ∷ rest) c (m, inl (event, tick, step), run) i = elim (In-cases c (offers actions) (flat_map offers rest) i) [
+  | inl here ↦ label_left (starts actions) (flat_map starts rest) c (follow_labels s tick step.0 actions m c step.3 here)
+  | inr later ↦ label_right (starts actions) (flat_map starts rest) c (life_labels m t rest c run later)
+]
+life_labels s t (actions ∷ rest) c (m, inr (settings, free, none, after), run) i = elim (In-cases c (offers actions) (flat_map offers rest) i) [
+  | inl here ↦ absurd (subst (λ (z : List Action). In c (offers z)) none here)
+  | inr later ↦ label_right (starts actions) (flat_map starts rest) c (life_labels m t rest c run later)
+]
+
+pub labels_stay_single_numbered : LabelsStaySingleNumbered
+labels_stay_single_numbered s t steps life = single_numbered s.next t.next steps (lives_rise s t steps life) (λ c i. life_labels s t steps c life i)
 
 -- ---- numbers
 

@@ -40,8 +40,8 @@ pub record SlotsFit (slots : SlotsRecord) (states : List State) : Type 0 where
   pub once : (key : ℕ) → count_by (λ k. k == key) slots.freed + count_by (is_at slots.first key) states ≡ times_given slots.given key
   -- the keys that were taken and not freed are as many as the services that are up
   pub taken : length slots.freed + up_count states ≡ slots.given
-  -- no more keys were ever taken than there are services
-  pub few : slots.given ≤ length states
+  -- no more keys were ever taken than services may run at once
+  pub few : slots.given ≤ 64
 
 -- Whether the generation of the first start isn't 1 to 2097152, or the slots don't lie within 16 to 1023.
 abbrev pub IsOutOfRange : ℕ → ℕ → ℕ → Type 0

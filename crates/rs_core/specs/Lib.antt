@@ -12,3 +12,4 @@ pub mod Run
 pub mod Says
 pub mod Numbering
 pub mod Reading
+pub mod Renewal

@@ -47,3 +47,21 @@ pub enum NewFault {
     #[error("out of memory")]
     NoRoom,
 }
+
+/// Why RS doesn't take other settings, in the order of judgement.
+#[derive(Clone, Copy, Debug, PartialEq, Eq, Error)]
+pub enum RenewFault {
+    /// The settings have fewer slots than those in force.
+    #[error("fewer slots than before")]
+    FewerSlots,
+    /// The last slot would be above 1023.
+    #[error("the last slot is out of its range")]
+    OutOfRange,
+    /// The service with this index of the settings in force runs, or waits for its next start, and the new settings have
+    /// none with its label.
+    #[error("a service that is left out is still up")]
+    StillUp(usize),
+    /// The states can't be allocated.
+    #[error("out of memory")]
+    NoRoom,
+}

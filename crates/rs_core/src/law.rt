@@ -4,6 +4,7 @@ ghost use Rattle.rs_core.specs.Run.{StartsRise, LabelsAreSingleNumbered};
 ghost use Rattle.rs_core.specs.Says.{StepsSay, QuietStepsAreEmpty, LabelsAreFound};
 ghost use Rattle.rs_core.specs.Reading.{StepsGiveUp, TicksActWhenDue};
 ghost use Rattle.rs_core.specs.Numbering.{NumbersRise};
+ghost use Rattle.rs_core.specs.Renewal.{LabelsStaySingleNumbered, StartsRiseThroughRenewals};
 
 /// A law: whatever the events, each start has a generation above those of all earlier starts.
 pub fn starts_rise()
@@ -13,6 +14,12 @@ pub fn starts_rise()
 /// A law: over any events, no two of the label changes that RS offers contradict each other.
 pub fn labels_are_single_numbered()
     ensures { LabelsAreSingleNumbered }
+{}
+
+/// A law: both hold across renewals too, since a renewal keeps the next generation and has no action.
+pub fn renewals_keep_numbers()
+    ensures starts { StartsRiseThroughRenewals }
+    ensures labels { LabelsStaySingleNumbered }
 {}
 
 /// A law: what a step does. At most one instance begins; it has the next generation, and its label is put. Otherwise

@@ -21,8 +21,11 @@ mod state;
 
 pub use action::{Action, Actions};
 pub use event::Event;
-pub use fault::{NewFault, RsFault};
-pub use law::{labels_are_single_numbered, numbers_rise, readings_hold, starts_rise, steps_say};
+pub use fault::{NewFault, RenewFault, RsFault};
+pub use law::{
+    labels_are_single_numbered, numbers_rise, readings_hold, renewals_keep_numbers, starts_rise,
+    steps_say,
+};
 pub use numberer::{Numberer, SeqSpent};
 pub use rs::Rs;
 pub use state::{Pause, Running, State};

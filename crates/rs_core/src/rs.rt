@@ -15,6 +15,7 @@ ghost use Rattle.rs_core.specs.Says.{place_of_label};
 mod asking;
 mod doing;
 mod reading;
+mod renewing;
 
 use crate::action::Actions;
 use crate::event::Event;

@@ -1,4 +1,4 @@
-use Rattle.std.proofs.Common.{◌≡◌, ◌<◌, ◌-◌, ◌∙◌, sym, subst, ap, arith, length, get_or}
+use Rattle.std.proofs.Common.{◌≡◌, ◌<◌, ◌-◌, ◌∙◌, sym, subst, ap, length, get_or}
 use Rattle.std.specs.Prelude.{slice_set}
 use Rattle.rs_core.specs.declared.state.State.TheVariants.{Down, Up}
 use Rattle.rs_core.specs.Slots.{SlotsRecord, with_freed}
