@@ -286,8 +286,9 @@ uint32_t ds_close(struct ds_handle *handle);
 /* Why a settings text is refused, and where. */
 struct ds_settings_fault {
     uint64_t line;    /* of DS_TOML: from 1, where TOML can't be read. 0: not known, or another cause */
-    uint32_t cause;   /* of enum ds_refusal: DS_TOML to DS_SHAREDNAME, or DS_NOROOM */
-    uint32_t service; /* from 0, in the order of the text; of a fault between two services, the second. UINT32_MAX: the whole text */
+    uint32_t cause;   /* of enum ds_refusal: DS_TOML to DS_SHAREDNAME, DS_ALREADYUP, or DS_NOROOM */
+    uint32_t service; /* from 0, in the order of the text; of a fault between two services, the second. UINT32_MAX: the whole text. Of
+                       * DS_ALREADYUP: from 0, as ds_rs_service counts */
 };
 
 enum ds_rs_event_kind {
@@ -367,6 +368,19 @@ struct ds_rs_service {
  *   - DS_NOROOM, for the states of the services. fault is unchanged. */
 uint32_t ds_rs_open(struct ds_handle *handle, const char *settings, size_t settings_length, uint32_t next, uint16_t slot,
                     struct ds_settings_fault *fault);
+
+/* Gives RS other settings while services run. settings is the whole text of a TOML file. A service whose label stays keeps its instance,
+ * state and failures, whatever else is new about it; a new service is down. The store, the last tick, the next generation and the slots are
+ * unchanged. From then on ds_rs_service counts in the order of the new settings, and the others judge by them. What the last answer left
+ * for ds_items, ds_text and ds_rs_action is forgotten.
+ * Returns 0; or the first of these that applies, and nothing changes:
+ *   - DS_ISCLOSED, or DS_NOTFOUND if RS isn't open. fault is unchanged;
+ *   - the first fault of the text, DS_TOML to DS_SHAREDNAME, and fault says where; or DS_NOROOM, for the text or for its services;
+ *   - DS_NOSLOT, if the text has fewer slots than the settings in force. fault is unchanged;
+ *   - DS_BADFIRST, if the last slot would be above 1023. fault is unchanged;
+ *   - DS_ALREADYUP, if a service that isn't in the text is up or waits. fault has it: report DS_RS_DOWN first;
+ *   - DS_NOROOM, for the states of the services. fault is unchanged. */
+uint32_t ds_rs_renew(struct ds_handle *handle, const char *settings, size_t settings_length, struct ds_settings_fault *fault);
 
 /* Reports an event, and writes the answer:
  *   - DS_ACTED: RS took the event, and the store took RS's label changes and sweeps;

@@ -10,3 +10,4 @@ pub mod Action
 pub mod Service
 pub mod Reading
 pub mod Text
+pub mod Renewing

@@ -36,8 +36,8 @@ impl SettingsRefusal {
     }
 }
 
-// Returns the number of a service, of which there are 64 at most.
-fn service_number(index: Option<usize>) -> u32
+/// Returns the number of a service, of which there are 64 at most.
+pub(crate) fn service_number(index: Option<usize>) -> u32
     ensures { result ≡ service_number index }
 {
     match index {

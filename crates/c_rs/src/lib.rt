@@ -11,6 +11,7 @@ mod line;
 mod lines;
 mod opening;
 mod reading;
+mod renewing;
 mod running;
 mod service;
 mod session;

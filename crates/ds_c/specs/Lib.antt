@@ -3,3 +3,4 @@ pub mod Calls
 pub mod Maps
 pub mod Services
 pub mod Tables
+pub mod Renewing

@@ -6,6 +6,7 @@ mod lines;
 mod loose;
 mod map_handle;
 mod maps;
+mod renewing;
 mod runs;
 mod services;
 mod table_handle;
@@ -23,6 +24,7 @@ pub use handle::Handle;
 pub use lines::{ds_call_line, ds_text};
 pub use map_handle::MapHandle;
 pub use maps::{ds_map_close, ds_map_label, ds_map_new, ds_map_take};
+pub use renewing::ds_rs_renew;
 pub use runs::ds_run;
 pub use services::{
     ds_rs_action, ds_rs_due, ds_rs_event, ds_rs_may_complain, ds_rs_may_connect, ds_rs_may_publish,

@@ -4,3 +4,4 @@ pub mod Owed
 pub mod Serving
 pub mod Turns
 pub mod Laws
+pub mod Renewing

@@ -8,13 +8,16 @@ ghost use Rattle.ds_machine.specs.State.{opening};
 ghost use Rattle.ds_names.specs.Limits.{last_place};
 ghost use Rattle.ds_content.specs.Stands.{ContentStands};
 ghost use Rattle.ds_store.specs.Opening.{IsOpenRefusal};
+ghost use Rattle.rs_store.specs.Renewing.{Renews};
 ghost use Rattle.rs_store.specs.Turns.{RsTurn};
 
 use crate::call::{RsCommand, RsReply};
+use crate::renewing::renew;
 use crate::serving::{ask, begin, serve};
 use ds_machine::Refusal;
 use ds_store::Store;
-use rs_core::Rs;
+use rs_core::{RenewFault, Rs};
+use rs_settings::Settings;
 use std::alloc::Global;
 use std::marker::Model;
 
@@ -77,6 +80,14 @@ impl RsStore {
                 tick,
             ),
         }
+    }
+
+    /// Gives RS other settings, as `renew` does, between two turns. The store is unchanged, with its subscriptions.
+    pub fn renew(&mut self, settings: Settings) -> Option<Result<(), RenewFault>>
+        ensures services { Renews self.old.services settings result self.new.services }
+        ensures store { self.new.store ≡ self.old.store }
+    {
+        renew(&mut self.services, settings)
     }
 
     /// Returns the store, for reads.
