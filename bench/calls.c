@@ -1,7 +1,7 @@
 /* calls WHAT COUNT: makes COUNT calls of a kind to a store with 16 drivers, each with its label, a number and 1024 bytes. line-WHAT makes them
  * by lines, told-WHAT also fetches the text of each answer, and bare-WHAT does so for lines without a newline. memory retrieves the bytes.
- * calls.rs and calls.py make the calls that aren't lines. beat, start and submit are of RS and of a driver table: heartbeats, at most 64
- * starts, and requests with their replies. See bench/README.md. */
+ * calls.rs and calls.py make the calls that aren't lines. check checks a subscription that was shown everything. beat, start and submit are
+ * of RS and of a driver table: heartbeats, at most 64 starts, and requests with their replies. See bench/README.md. */
 #include "ds.h"
 #include <stdio.h>
 #include <stdlib.h>
@@ -85,16 +85,18 @@ static unsigned long told(void) {
 /* Opens RS with 64 services, and starts this many of them. */
 static int start(unsigned long count) {
     static char settings[64 * 64];
+    static struct ds_rs_event ups[64];
     struct ds_settings_fault fault;
     struct ds_answer said;
     char *to = settings;
-    for (int i = 0; i < 64; i++) to += sprintf(to, "[[service]]\nlabel = \"s%d\"\nclass = \"server\"\nlimit = 1\n", i);
-    if (ds_open(&store, 1, 0, 256) || ds_rs_open(&store, settings, (size_t)(to - settings), 1, 16, &fault)) return 0;
-    for (unsigned long i = 0; i < count; i++) {
-        struct ds_rs_event event = {.kind = DS_RS_UP};
-        event.label_length = (uint8_t)sprintf(event.label, "s%lu", i);
-        if (ds_rs_event(&store, &event, &said) || said.word != DS_ACTED) return 0;
+    for (int i = 0; i < 64; i++) {
+        to += sprintf(to, "[[service]]\nlabel = \"s%d\"\nclass = \"server\"\nlimit = 1\n", i);
+        ups[i].kind = DS_RS_UP;
+        ups[i].label_length = (uint8_t)sprintf(ups[i].label, "s%d", i);
     }
+    if (ds_open(&store, 1, 0, 256) || ds_rs_open(&store, settings, (size_t)(to - settings), 1, 16, &fault)) return 0;
+    for (unsigned long i = 0; i < count; i++)
+        if (ds_rs_event(&store, &ups[i], &said) || said.word != DS_ACTED) return 0;
     return 1;
 }
 
@@ -125,6 +127,16 @@ static int submit(unsigned long count) {
     return 1;
 }
 
+/* Subscribes to everything from now on, and lets each driver's call be a check, which finds nothing. */
+static int subscribe(void) {
+    static const char all[] = ".*";
+    struct ds_request ask = {.command = DS_SUBSCRIBE, .kinds = 15, .text_length = sizeof all - 1};
+    struct ds_answer said;
+    if (ds_call(&store, &ask, all, sizeof all - 1, &said) || said.word != DS_SUBSCRIBED) return 0;
+    for (uint32_t d = 0; d < DRIVERS; d++) asks[d] = (struct ds_request){.command = DS_CHECK, .max = 256};
+    return 1;
+}
+
 /* Opens the store, and writes what its drivers published. */
 static int prepare(const char *what, int fetches) {
     static const char bytes[BYTES];
@@ -143,7 +155,7 @@ static int prepare(const char *what, int fetches) {
         lines[d] = line_of(what, d);
         if (strncmp(what, "bare-", 5)) lines[d].text[lines[d].length++] = '\n';
     }
-    return 1;
+    return strcmp(what, "check") || subscribe();
 }
 
 int main(int count, char **given) {

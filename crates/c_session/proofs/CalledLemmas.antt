@@ -29,26 +29,26 @@ use Rattle.c_values.specs.Asked.{StandsFor, StandsForNone, is_long, has_text}
 use Rattle.c_values.specs.Request.{command_of, publish_of, publish_command, key_of, kind_at, caller_of}
 use Rattle.c_values.proofs.AskedLemmas.{none_of_parts}
 use Rattle.c_session.specs.declared.session.Session.{Session}
-use Rattle.c_session.specs.Called.{CalledWith, Called, Rests}
+use Rattle.c_session.specs.Called.{CalledWith, Called, Rests, Tells}
 use Rattle.c_session.specs.declared.last.Last.TheVariants.{Reply as Replied}
 use Rattle.c_session.specs.Kept.{copy_reply}
 
 pub called : (old new : Session) (r : Request) (o : Option (List ℕ)) (text : List ℕ) (answer : Answer) → o ≡ Some text → CalledWith old r text answer new → Called old r o answer new
 called old new r o text answer is given = subst (λ (p : Option (List ℕ)). Called old r p answer new) (sym is) given
 
--- A request that a turn of the store answers, which leaves the store unchanged.
-pub answered : (old new : Session) (r : Request) (text : List ℕ) (answer : Answer) (command : Command) (reply : Reply) → StandsFor r text command → Turn old.store command reply old.store
-    → Rests old (answer_of reply) (Replied reply AsMerge) answer new → CalledWith old r text answer new
-answered old new r text answer command reply stands turn rests = inl (record {
-  command = command;
-  stands = stands;
-  answered = record {
-    reply = reply;
-    turn = subst (λ (w : ContentRecord). Turn old.store command reply w) (sym rests.store_is) turn;
-    told = rests.told_is;
-    kept = rests.kept;
-  };
-})
+-- A command that a turn of the store answers, which leaves the store unchanged. Before the answer, the last one may be let go.
+pub told_so : (old mid new : Session) (answer : Answer) (command : Command) (reply : Reply) → mid.store ≡ old.store → Turn mid.store command reply mid.store
+    → Rests mid (answer_of reply) (Replied reply AsMerge) answer new → Tells old AsMerge command answer new
+told_so old mid new answer command reply same turn rests = record {
+  reply = reply;
+  turn = subst (λ (w : ContentRecord). Turn old.store command reply w) (sym rests.store_is) (subst (λ (w : ContentRecord). Turn w command reply mid.store) same turn);
+  told = rests.told_is;
+  kept = rests.kept;
+}
+
+-- A request whose command is answered.
+pub answered : (old new : Session) (r : Request) (text : List ℕ) (answer : Answer) (command : Command) → StandsFor r text command → Tells old AsMerge command answer new → CalledWith old r text answer new
+answered old new r text answer command stands tells = inl (record { command = command; stands = stands; answered = tells })
 
 -- ---- what a Publish, a Retrieve and a NameOf stand for
 

@@ -28,7 +28,7 @@ impl Session {
         match request.command {
             0 => self.fast_publish(alloc, request, text, answer),
             3 => self.fast_retrieve(alloc, request, answer),
-            4 => self.fast_name_of(alloc, request, text, answer),
+            4 => self.fast_name_of(request, answer),
             _ => self.ask(alloc, request, text, answer),
         }
     }

@@ -4,17 +4,19 @@
 //! command, and borrow what the store finds. docs/design/fast-ways.md says what that saves.
 
 ghost use Rattle.std.specs.Prelude.{◌≡◌, ℕ, List};
-ghost use Rattle.c_session.specs.Called.{CalledWith, Rests};
+ghost use Rattle.ds_machine.specs.declared.command.Command.TheVariants.{Retrieve, NameOf};
+ghost use Rattle.c_session.specs.Called.{CalledWith, Rests, Tells};
 ghost use Rattle.c_session.specs.Kept.{copy_reply};
 ghost use Rattle.c_values.specs.Answer.{answer_of};
 ghost use Rattle.store_answers.specs.declared.wording.Wording.TheVariants.{AsMerge};
 ghost use Rattle.c_session.specs.declared.last.Last.TheVariants.{Reply as Replied};
 
+use crate::last::{Last, overwrite};
 use crate::session::Session;
-use c_values::{Answer, Request, caller_of, key_of, read_publication};
+use c_values::{Answer, Request, caller_of, key_of, named, read_publication};
 use ds_entry::Value;
-use ds_machine::{Refusal, Reply};
-use ds_names::NoRoom;
+use ds_machine::{Command, Refusal, Reply};
+use ds_names::{Endpoint, Key, NoRoom};
 use std::alloc::Global;
 use store_answers::Wording;
 
@@ -38,7 +40,7 @@ impl Session {
         }
     }
 
-    /// Answers a Retrieve. Writes a number without a copy, and copies any other value first.
+    /// Answers a Retrieve.
     #[inline(never)]
     pub(crate) fn fast_retrieve(&mut self, alloc: Global, request: &Request, answer: &mut Answer)
         requires { request.now.command ≡ 3 }
@@ -47,8 +49,16 @@ impl Session {
         let Some(key) = key_of(request) else {
             return self.decline(answer);
         };
+        self.fast_find(alloc, &key, answer);
+    }
+
+    /// Answers the Retrieve of a key. Writes a number without a copy, and copies any other value first.
+    #[inline(always)]
+    pub fn fast_find(&mut self, alloc: Global, key: &Key, answer: &mut Answer)
+        ensures { Tells self.old AsMerge (Retrieve key.now) answer.new self.new }
+    {
         let _stood = self.store.cursor();
-        match self.store.fast_retrieve(&key) {
+        match self.store.fast_retrieve(key) {
             Some(Value::U32(number)) => {
                 let found = Reply::Found(Value::U32(*number));
                 self.tell(Wording::AsMerge, found, answer);
@@ -72,29 +82,45 @@ impl Session {
         }
     }
 
-    /// Answers a NameOf. Writes the name of a label without a copy. RS goes the general way.
-    #[inline(never)]
-    pub(crate) fn fast_name_of(
-        &mut self,
-        alloc: Global,
-        request: &Request,
-        text: &[u8],
-        answer: &mut Answer,
-    )
+    /// Answers a NameOf. Inlined, because it needs few locals.
+    #[inline(always)]
+    pub(crate) fn fast_name_of(&mut self, request: &Request, answer: &mut Answer)
         requires { request.now.command ≡ 4 }
-        ensures { CalledWith self.old request.now text.now answer.new self.new }
+        ensures { (text : List ℕ) → CalledWith self.old request.now text answer.new self.new }
     {
         let Some(endpoint) = caller_of(request) else {
             return self.decline(answer);
         };
+        self.fast_name(endpoint, answer);
+    }
+
+    /// Answers the NameOf of an endpoint. Copies the name of a label once, to where it is kept. RS goes the general way.
+    #[inline(always)]
+    pub fn fast_name(&mut self, endpoint: Endpoint, answer: &mut Answer)
+        ensures { Tells self.old AsMerge (NameOf endpoint) answer.new self.new }
+    {
+        if endpoint.is_rs() {
+            return self.name(endpoint, answer);
+        }
+        self.let_go();
         let _stood = self.store.cursor();
         match self.store.fast_name_of(endpoint) {
             Some(name) => {
-                let named = Reply::Named(*name);
-                self.tell(Wording::AsMerge, named, answer);
+                overwrite(&mut self.last, Last::Reply {
+                    reply: Reply::Named(*name),
+                    wording: Wording::AsMerge,
+                });
+                *answer = named();
             }
-            None if endpoint.is_rs() => self.ask(alloc, request, text, answer),
             None => self.tell(Wording::AsMerge, Reply::Refused(Refusal::NotFound), answer),
         }
+    }
+
+    // Answers the NameOf of any endpoint. Not inlined, because only RS's needs a command.
+    #[inline(never)]
+    fn name(&mut self, endpoint: Endpoint, answer: &mut Answer)
+        ensures { Tells self.old AsMerge (NameOf endpoint) answer.new self.new }
+    {
+        self.answer(Wording::AsMerge, Command::NameOf { endpoint }, answer);
     }
 }

@@ -1,6 +1,6 @@
 //! The last answer of a session.
 
-ghost use Rattle.std.specs.Prelude.{◌≡◌, drop, IfOk};
+ghost use Rattle.std.specs.Prelude.{◌≡◌, false, drop, IfOk};
 ghost use Rattle.ds_held.specs.Held.{held_items};
 ghost use Rattle.c_values.specs.Pieces.{GivesPieces};
 ghost use Rattle.c_session.specs.Kept.{holds_memory, reply_holds_memory};
@@ -12,6 +12,7 @@ use ds_held::Held;
 use ds_machine::Reply;
 use ds_names::NoRoom;
 use std::alloc::Global;
+use std::mem::{forget, replace};
 use store_answers::Wording;
 
 /// The last answer of a session.
@@ -67,6 +68,15 @@ impl Last {
             Last::Shown(items) => give_items(alloc, items.as_slice(), first, room),
         }
     }
+}
+
+/// Replaces a last answer, which holds no memory and needs no drop.
+#[inline(always)]
+pub(crate) fn overwrite(kept: &mut Last, last: Last)
+    requires { holds_memory kept.old ≡ false }
+    ensures { kept.new ≡ last }
+{
+    forget(replace(kept, last));
 }
 
 /// Copies everything held, or only the puts. Fails only if memory runs out.

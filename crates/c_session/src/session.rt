@@ -13,14 +13,13 @@ ghost use Rattle.c_session.specs.Kept.{holds_memory};
 ghost use Rattle.c_session.specs.Called.{Tells, Rests, RestsForRoom, ShowsIfRoom, pieces_in};
 ghost use Rattle.c_session.specs.declared.last.Last.TheVariants.{Nothing, Reply as Replied, Shown};
 
-use crate::last::{Last, held_shown};
+use crate::last::{Last, held_shown, overwrite};
 use c_values::{Answer, Given, answer_of, no_room};
 use ds_entry::Items;
 use ds_machine::{Command, Refusal, Reply};
 use ds_names::NoRoom;
 use ds_store::Store;
 use std::alloc::Global;
-use std::mem::{forget, replace};
 use store_answers::Wording;
 
 /// A store, and its last answer.
@@ -53,11 +52,31 @@ impl Session {
     }
 
     /// Carries out a command, writes the answer, and keeps the reply with the wording that a script has for it.
+    #[inline(always)]
     pub fn answer(&mut self, wording: Wording, command: Command, answer: &mut Answer)
         ensures { Tells self.old wording command answer.new self.new }
     {
         let _stood = self.store.cursor();
         let reply = self.store.apply(command);
+        self.tell_reply(wording, reply, answer);
+    }
+
+    // Writes the answer of a reply, and keeps the reply. A change, the most frequent one, is written by itself.
+    #[inline(always)]
+    fn tell_reply(&mut self, wording: Wording, reply: Reply, answer: &mut Answer)
+        ensures { Rests self.old (answer_of reply) (Replied reply wording) answer.new self.new }
+    {
+        match reply {
+            Reply::Changed { owed } => self.tell(wording, Reply::Changed { owed }, answer),
+            reply => self.tell_any(wording, reply, answer),
+        }
+    }
+
+    // The same for any reply. Not inlined, because a change needs none of its locals.
+    #[inline(never)]
+    fn tell_any(&mut self, wording: Wording, reply: Reply, answer: &mut Answer)
+        ensures { Rests self.old (answer_of reply) (Replied reply wording) answer.new self.new }
+    {
         self.tell(wording, reply, answer);
     }
 
@@ -68,12 +87,12 @@ impl Session {
     {
         *answer = answer_of(&reply);
         self.let_go();
-        self.overwrite(Last::Reply { reply, wording });
+        overwrite(&mut self.last, Last::Reply { reply, wording });
     }
 
     // Drops the last answer if it holds allocated memory. The store is unchanged.
     #[inline(always)]
-    fn let_go(&mut self)
+    pub(crate) fn let_go(&mut self)
         ensures store { self.new.store ≡ self.old.store }
         ensures let_go { holds_memory self.new.last ≡ false }
     {
@@ -89,16 +108,6 @@ impl Session {
         ensures dropped { self.new.last ≡ Nothing }
     {
         self.last = Last::Nothing;
-    }
-
-    // Replaces the last answer, which holds no memory and needs no drop. The store is unchanged.
-    #[inline(always)]
-    fn overwrite(&mut self, last: Last)
-        requires { holds_memory self.old.last ≡ false }
-        ensures store { self.new.store ≡ self.old.store }
-        ensures last { self.new.last ≡ last }
-    {
-        forget(replace(&mut self.last, last));
     }
 
     /// Writes an answer without a text. The store is unchanged.

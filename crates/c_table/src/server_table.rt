@@ -79,18 +79,21 @@ impl ServerTable {
     pub fn reply(&mut self, generation: u32, slot: u16, id: u64, answer: &mut Answer)
         ensures { TableReplies generation slot id self.old answer.new self.new }
     {
-        self.moves.set(None);
         let Some(endpoint) = endpoint(generation, slot) else {
+            self.moves.set(None);
             *answer = Answer::no_request();
             return;
         };
-        *answer = match self.drivers.reply(endpoint, id) {
+        match self.drivers.reply(endpoint, id) {
             Ok(step) => {
                 self.moves.set(Some(step));
-                told_moves(&self.moves, None)
+                *answer = told_moves(&self.moves, None);
             }
-            Err(fault) => told_fault(fault),
-        };
+            Err(fault) => {
+                self.moves.set(None);
+                *answer = told_fault(fault);
+            }
+        }
     }
 
     /// Writes the moves of the last answer to a buffer, from the one at index `first` on: as many as fit. Returns how many. It takes no

@@ -18,5 +18,5 @@ pub use lines::read_items;
 pub use parts::{caller_of, endpoint, key_of, kind, name_in};
 pub use reading::read_request;
 pub use request::Request;
-pub use telling::{answer_of, no_room, refusal_number};
+pub use telling::{answer_of, named, no_room, refusal_number};
 pub use texts::{Publication, read_publication, text_of};

@@ -1,7 +1,8 @@
 //! Turns replies into answers.
 
-ghost use Rattle.std.specs.Prelude.{◌≡◌};
+ghost use Rattle.std.specs.Prelude.{◌≡◌, ℕ, List};
 ghost use Rattle.std.specs.Int.{to_le_bytes, w128};
+ghost use Rattle.ds_machine.specs.declared.reply.Reply.TheVariants.{Named};
 ghost use Rattle.c_values.specs.Answer.{refusal_number, told_of_items, told_refusal, told_no_room, told_value, told_reply, answer_of};
 
 use crate::answer::{Answer, Word};
@@ -163,6 +164,18 @@ fn owed_bytes(owed: u128) -> [u8; 16]
         [0; 16]
     } else {
         owed.to_le_bytes()
+    }
+}
+
+/// Returns the answer that tells a name, whichever it is.
+#[inline(always)]
+#[tactic(auto, unfolding(crate::specs::Answer::answer_of))]
+pub fn named() -> Answer
+    ensures { (name : List ℕ) → result ≡ answer_of (Named name) }
+{
+    Answer {
+        pieces: 1,
+        ..Answer::of(Word::Named)
     }
 }
 

@@ -26,6 +26,7 @@ pub fn text_of<'a>(texts: &'a [u8], request: &Request) -> Option<&'a [u8]>
     behind.get(..request.text_length as usize)
 }
 
+#[inline(never)]
 #[tactic(auto, unfolding(crate::specs::Request::string_at))]
 fn string(alloc: Global, text: &[u8]) -> Result<Option<Value>, NoRoom>
     ensures { IfOk result (λ value. value ≡ string_at text.now) }
@@ -37,6 +38,7 @@ fn string(alloc: Global, text: &[u8]) -> Result<Option<Value>, NoRoom>
     }
 }
 
+#[inline(never)]
 #[tactic(auto, unfolding(crate::specs::Request::memory_at))]
 fn memory(alloc: Global, bytes: &[u8]) -> Result<Option<Value>, NoRoom>
     ensures { IfOk result (λ value. value ≡ memory_at bytes.now) }
@@ -48,6 +50,7 @@ fn memory(alloc: Global, bytes: &[u8]) -> Result<Option<Value>, NoRoom>
     }
 }
 
+#[inline(always)]
 fn value(alloc: Global, request: &Request, text: &[u8], kind: Kind) -> Result<Option<Value>, NoRoom>
     ensures read { IfOk result (λ value. value ≡ valued request.now text.now kind) }
     ensures room { OnErr result (IsTrue (is_long (Some kind))) }

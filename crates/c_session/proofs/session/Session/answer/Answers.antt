@@ -9,8 +9,8 @@ returns c =
     let reply = c.apply-reply.result in
     record {
       reply = reply;
-      turn = subst (λ (w : ContentRecord). Turn v c.args.command reply w) (sym c.tell.ensures.store_is)
+      turn = subst (λ (w : ContentRecord). Turn v c.args.command reply w) (sym c.tell_reply.ensures.store_is)
           (record { stood = c.cursor-stood.ensures.stood; steps = c.apply-reply.ensures.step; last = c.apply-reply.ensures.last });
-      told = c.tell.ensures.told_is;
-      kept = c.tell.ensures.kept;
+      told = c.tell_reply.ensures.told_is;
+      kept = c.tell_reply.ensures.kept;
     }
