@@ -4,7 +4,7 @@ ghost use Rattle.std.specs.Prelude.{◌≡◌, drop};
 ghost use Rattle.c_values.specs.Pieces.{GivesPieces};
 ghost use Rattle.c_rs.specs.Requests.{CallsRs, is_for_rs_alone, is_rs_request, answer_pieces};
 
-use crate::session::RsSession;
+use crate::session::{RsSession, let_go};
 use c_values::{Answer, Given, Request};
 use ds_machine::Refusal;
 use std::alloc::Global;
@@ -18,7 +18,7 @@ impl RsSession {
         if self.is_barred(request) {
             return self.refuse(Refusal::NotAllowed, answer);
         }
-        self.told = None;
+        let_go(&mut self.told);
         self.session.call(alloc, request, texts, answer);
     }
 

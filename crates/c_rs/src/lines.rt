@@ -3,7 +3,7 @@
 ghost use Rattle.std.specs.Prelude.{◌≡◌};
 ghost use Rattle.c_rs.specs.Lines.{CallsRsLine, CarriesOutBesideRs, CarriesOutCommand, CarriesOutWithRs, PassesOn, refusal_beside_rs};
 
-use crate::session::RsSession;
+use crate::session::{RsSession, let_go};
 use c_line::{carry_out, read_bytes};
 use c_values::Answer;
 use ds_machine::Refusal;
@@ -67,7 +67,7 @@ impl RsSession {
     fn pass_on(&mut self, alloc: Global, command: ScriptCommand, answer: &mut Answer)
         ensures { PassesOn command self.old answer.new self.new }
     {
-        self.told = None;
+        let_go(&mut self.told);
         carry_out(alloc, &mut self.session, command, answer);
     }
 }

@@ -67,3 +67,21 @@ impl RsSession {
         self.session.tell(Wording::AsMerge, reply, answer);
     }
 }
+
+/// Drops the last reply of RS, if there is one.
+#[inline(always)]
+pub(crate) fn let_go(told: &mut Option<RsReply>)
+    ensures { told.new ≡ None }
+{
+    if told.is_some() {
+        drop_reply(told);
+    }
+}
+
+// Drops a reply. Not inlined, because most last replies are the session's.
+#[inline(never)]
+fn drop_reply(told: &mut Option<RsReply>)
+    ensures { told.new ≡ None }
+{
+    *told = None;
+}

@@ -106,10 +106,13 @@ impl Session {
         let _stood = self.store.cursor();
         match self.store.fast_name_of(endpoint) {
             Some(name) => {
-                overwrite(&mut self.last, Last::Reply {
-                    reply: Reply::Named(*name),
-                    wording: Wording::AsMerge,
-                });
+                overwrite(
+                    &mut self.last,
+                    Last::Reply {
+                        reply: Reply::Named(*name),
+                        wording: Wording::AsMerge,
+                    },
+                );
                 *answer = named();
             }
             None => self.tell(Wording::AsMerge, Reply::Refused(Refusal::NotFound), answer),

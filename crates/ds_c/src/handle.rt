@@ -68,13 +68,15 @@ impl Handle {
         }
     }
 
-    /// Puts a session in, and drops the one that was there.
+    /// Puts a session into a closed handle.
+    #[inline(always)]
     pub(crate) fn put(&mut self, alloc: Global, session: Box<RsSession>)
+        requires { self.old.value ≡ None }
         ensures { self.new.value ≡ Some session.value }
     {
         let before = replace(self, Handle::of(Loose::of(session)));
-        if let Some(session) = before.into_loose(alloc) {
-            drop(session.into_box());
+        if let Some(_session) = before.into_loose(alloc) {
+            unreachable!()
         }
     }
 }

@@ -70,13 +70,15 @@ impl MapHandle {
         }
     }
 
-    /// Puts a map in, and drops the one that was there.
+    /// Puts a map into a closed handle.
+    #[inline(always)]
     pub(crate) fn put(&mut self, alloc: Global, map: Box<SubMap>)
+        requires { self.old.value ≡ None }
         ensures { self.new.value ≡ Some map.value }
     {
         let before = replace(self, MapHandle::of(Loose::of(map)));
-        if let Some(map) = before.into_loose(alloc) {
-            drop(map.into_box());
+        if let Some(_map) = before.into_loose(alloc) {
+            unreachable!()
         }
     }
 }

@@ -68,13 +68,15 @@ impl TableHandle {
         }
     }
 
-    /// Puts a table in, and drops the one that was there.
+    /// Puts a table into a closed handle.
+    #[inline(always)]
     pub(crate) fn put(&mut self, alloc: Global, table: Box<ServerTable>)
+        requires { self.old.value ≡ None }
         ensures { self.new.value ≡ Some table.value }
     {
         let before = replace(self, TableHandle::of(Loose::of(table)));
-        if let Some(table) = before.into_loose(alloc) {
-            drop(table.into_box());
+        if let Some(_table) = before.into_loose(alloc) {
+            unreachable!()
         }
     }
 }
