@@ -3,6 +3,7 @@
 #include "heard.h"
 #include "notify.h"
 #include "place.h"
+#include "reload.h"
 #include "rs.h"
 #include <dirent.h>
 #include <errno.h>
@@ -52,7 +53,7 @@ static const char help[] =
     "  -h, --help          prints this\n"
     "\n"
     "Signals: TERM and INT stop all services, the last one first, and end it; a second one kills them. HUP reads the\n"
-    "settings again: unless they have a fault, all services stop, and those of the new settings start.\n"
+    "settings again: unless they have a fault, what they leave out stops, and what is new in them starts.\n"
     "Statuses: 0 ended by a signal, 2 usage, 3 a failure, which standard error tells.\n";
 
 #define STREAM "DSRS_STREAM"
@@ -73,7 +74,6 @@ struct host {
     char folder[FOLDER];
     struct watch listener, signals, timer, heard;
     const char *cgroup;
-    bool reloads;                 /* all services go down because settings are read again */
     int epoll;
     uint64_t timer_at, admit_at; /* by clock_now: for when the timer is set; when clients are taken in again */
 };
@@ -214,14 +214,13 @@ static int open_all(struct host *host) {
     if (!heard_open(&host->heard, host->epoll, host->folder)) return failed(host, "notify");
     if (prctl(PR_SET_CHILD_SUBREAPER, 1)) return failed(host, "subreaper"); /* what a dead instance leaves is ours */
     if (!cgroups_open(&rs->instances.cgroups, host->cgroup, &rs->events)) return FAILED;
-    if (!rs_read(rs) || !rs_open(rs)) return FAILED;
+    if (!rs_open(rs)) return FAILED;
     return open_place(host);
 }
 
 static void close_all(struct host *host) {
     peers_close(&host->rs.peers);
     rs_close(&host->rs);
-    text_free(&host->rs.settings);
     cgroups_close(&host->rs.instances.cgroups);
     if (host->heard.file >= 0) empty_folder(host->folder), rmdir(host->folder);
     place_leave(&host->place);
@@ -232,7 +231,7 @@ static void close_all(struct host *host) {
 
 static void begin_end(struct host *host) {
     struct rs *rs = &host->rs;
-    notify(host->reloads ? "RELOADING=1" : "STOPPING=1");
+    notify("STOPPING=1");
     events_tell(&rs->events, LOG_INFO, "ends: all services go down");
     rs->ending = true;
     rs->left = rs->services;
@@ -241,20 +240,11 @@ static void begin_end(struct host *host) {
 /* The first signal stops services with their grace, and a second one without. */
 static void take_end(struct host *host) {
     struct rs *rs = &host->rs;
-    bool is_second = rs->ending && !host->reloads;
-    host->reloads = false;
-    if (!rs->ending) begin_end(host);
-    if (!is_second) return;
-    for (struct instance *it = rs->instances.first; it; it = it->next)
+    bool is_second = rs->ending;
+    if (!is_second) begin_end(host);
+    else rs->instances.grace = 0;
+    for (struct instance *it = rs->instances.first; it && is_second; it = it->next)
         if (it->kill_at) it->kill_at = clock_now();
-    rs->instances.grace = 0;
-}
-
-/* Settings with a fault, or the same ones, change nothing. */
-static void take_reload(struct host *host) {
-    if (host->rs.ending || !rs_read(&host->rs)) return;
-    host->reloads = true;
-    begin_end(host);
 }
 
 static void read_signals(struct host *host) {
@@ -263,7 +253,7 @@ static void read_signals(struct host *host) {
     host->signals.ready = 0;
     while (read(host->signals.file, &signal, sizeof signal) == sizeof signal) {
         if (signal.ssi_signo == SIGTERM || signal.ssi_signo == SIGINT) take_end(host);
-        if (signal.ssi_signo == SIGHUP) take_reload(host);
+        if (signal.ssi_signo == SIGHUP && !host->rs.ending) reload_begin(&host->rs);
         if (signal.ssi_signo == SIGCHLD && !instances->sweep_at) instances->sweep_at = clock_now();
     }
 }
@@ -298,8 +288,8 @@ static void reap(struct rs *rs) {
 }
 
 static void pass_output(struct rs *rs) {
-    for (size_t i = 0; i < rs->services; i++)
-        if (rs->service[i].output.from.ready) output_pass(&rs->service[i].output, rs->service[i].label, rs->events.log);
+    for (struct service *it = rs->kept; it < rs->kept + KEPT; it++)
+        if (it->output.from.ready) output_pass(&it->output, it->label, rs->events.log);
 }
 
 /* Instances that were started get their voice. */
@@ -352,7 +342,7 @@ static bool turn(struct host *host, bool *more) {
     rs_tick(rs);
     instances_turn(&rs->instances);
     rs_bury(rs); /* what couldn't begin */
-    *more = rs->ending && rs_go_down(rs);
+    *more = rs->ending ? rs_go_down(rs) : reload_turn(rs);
     take_in(rs);
     rs_keep_step(rs);
     *more |= peers_send(&rs->peers);
@@ -367,19 +357,12 @@ static bool turn(struct host *host, bool *more) {
     return !is_down || logs;
 }
 
-/* Serves until a signal ends it. A reload ends all services, and begins with a new store: RS takes settings once. */
-static int run(struct host *host) {
+/* Serves until a signal ends it. */
+static void run(struct host *host) {
     bool more = true;
-    do {
-        host->reloads = false;
-        rs_begin(&host->rs);
-        notify("READY=1");
-        while (turn(host, &more)) {}
-        if (!host->reloads) return DONE;
-        peers_close(&host->rs.peers); /* so that clients notice */
-        rs_close(&host->rs);
-    } while (rs_open(&host->rs));
-    return FAILED;
+    rs_begin(&host->rs);
+    notify("READY=1");
+    while (turn(host, &more)) {}
 }
 
 static void prepare(struct host *host, const struct options *options) {
@@ -411,7 +394,7 @@ int main(int count, char **words) {
     log_open(&host.log, options.logs_json);
     prepare(&host, &options);
     status = open_all(&host);
-    if (status == DONE) status = run(&host);
+    if (status == DONE) run(&host);
     close_all(&host);
     return status;
 }

@@ -73,7 +73,7 @@ static bool open_cgroup(const struct instances *all, struct instance *it) {
 
 static bool begin_process(struct instances *all, struct instance *it) {
     if (!open_cgroup(all, it)) return false;
-    uint64_t silence = 2 * it->service->period * all->tick * 1000; /* RS takes it for dead after two periods */
+    uint64_t silence = 2 * (uint64_t)it->service->settings.period * all->tick * 1000; /* RS takes it for dead after two periods */
     const struct service *service = it->service;
     struct process process = {
         .services = all->services, .folder = service->label, .label = service->label, .input = -1, .output = service->output.to,

@@ -10,7 +10,7 @@
 
 enum { ACTIONS = 8 /* of one event; the library has six at most */, FIRST_GENERATION = 1 };
 
-/* ---- opening and closing ---- */
+/* ---- services ---- */
 
 /* What it prints goes to its log program, if it has one. */
 static void open_output(struct rs *rs, struct service *service) {
@@ -19,43 +19,92 @@ static void open_output(struct rs *rs, struct service *service) {
     bool has_logger = length < (int)sizeof program && !access(program, F_OK);
     output_open(&service->output, rs->instances.epoll, has_logger);
     logger_open(&service->logger, has_logger ? service->output.from.file : -1);
-    service->logger.next = rs->instances.loggers;
-    rs->instances.loggers = &service->logger;
 }
 
-static void learn_services(struct rs *rs) {
-    struct ds_rs_service it;
-    uint64_t shortest = UINT64_MAX;
-    int servers = 0;
-    for (rs->services = 0; rs->services < SERVICES && !ds_rs_service(&rs->store, rs->services, &it); rs->services++) {
-        struct service *service = &rs->service[rs->services];
-        *service = (struct service){.period = it.period, .server = -1};
-        memcpy(service->label, it.label, it.label_length);
-        open_output(rs, service);
-        if (it.service_class == DS_RS_SERVER && servers < SERVERS - 1) service->server = servers++; /* the last one's are the public's */
-        if (it.period && it.period < shortest) shortest = it.period;
+/* Processes of log programs aren't strays. */
+static void list_loggers(struct rs *rs) {
+    rs->instances.loggers = NULL;
+    for (struct service *it = rs->kept; it < rs->kept + KEPT; it++) {
+        if (!*it->label) continue;
+        it->logger.next = rs->instances.loggers;
+        rs->instances.loggers = &it->logger;
     }
+}
+
+static bool is_label(const char *label, const char *bytes, size_t length) { return strlen(label) == length && !memcmp(label, bytes, length); }
+
+bool rs_find(struct ds_handle *store, const char *label, struct ds_rs_service *found) {
+    for (size_t i = 0; !ds_rs_service(store, i, found); i++)
+        if (is_label(label, found->label, found->label_length)) return true;
+    return false;
+}
+
+/* The number of a server that has none is one that was never given, if possible: the store has the subscriptions of older
+ * ones. The last one's are the public's. */
+static int number_server(struct rs *rs) {
+    for (int tried = 0; tried < SERVERS - 1; tried++) {
+        int number = rs->servers++ % (SERVERS - 1);
+        bool is_free = true;
+        for (const struct service *it = rs->kept; it < rs->kept + KEPT; it++) is_free &= !*it->label || it->server != number;
+        if (is_free) return number;
+    }
+    return -1;
+}
+
+bool rs_keeps_down(const struct rs *rs, const struct service *service) {
+    char path[PATH_MAX];
+    int length = snprintf(path, sizeof path, "%s/%s/down", rs->instances.services, service->label);
+    return length >= (int)sizeof path || !access(path, F_OK);
+}
+
+static struct service *add_service(struct rs *rs, const struct ds_rs_service *settings) {
+    struct service *it = rs->kept;
+    while (*it->label) it++; /* a reload waits until nothing of the last one is left */
+    *it = (struct service){.server = -1};
+    memcpy(it->label, settings->label, settings->label_length);
+    open_output(rs, it);
+    it->wish = rs_keeps_down(rs, it) ? WISH_NOTHING : WISH_START;
+    return it;
+}
+
+/* A process gets its period at its start, and whether it is a server; what else is new holds at once. */
+static bool needs_another_instance(const struct ds_rs_service *old, const struct ds_rs_service *new) {
+    return old->period != new->period || old->service_class != new->service_class || old->has_unit != new->has_unit || old->unit != new->unit;
+}
+
+static struct service *learn(struct rs *rs, const struct ds_rs_service *settings) {
+    struct service *it = rs->kept;
+    while (it < rs->kept + KEPT && !is_label(it->label, settings->label, settings->label_length)) it++;
+    if (it == rs->kept + KEPT) it = add_service(rs, settings);
+    else if (it->was_up) it->wish = WISH_START;
+    else if (needs_another_instance(&it->settings, settings)) it->wish = WISH_REFRESH;
+    it->leaves = it->is_left_out = it->was_up = false;
+    it->settings = *settings;
+    if (settings->service_class != DS_RS_SERVER) it->server = -1;
+    else if (it->server < 0) it->server = number_server(rs);
+    return it;
+}
+
+void rs_learn(struct rs *rs) {
+    struct ds_rs_service settings;
+    uint64_t shortest = UINT64_MAX;
+    for (struct service *it = rs->kept; it < rs->kept + KEPT; it++) it->leaves = it->is_left_out = *it->label != '\0';
+    for (rs->services = 0; rs->services < SERVICES && !ds_rs_service(&rs->store, rs->services, &settings); rs->services++) {
+        rs->service[rs->services] = learn(rs, &settings);
+        if (settings.period && settings.period < shortest) shortest = settings.period;
+    }
+    list_loggers(rs);
     rs->ticks.leap = shortest > 3 ? shortest / 2 : 1; /* RS misses nobody before two periods */
 }
 
-static bool is_in_use(struct rs *rs, const struct text *settings) {
-    if (settings->length != rs->settings.length || memcmp(settings->bytes, rs->settings.bytes, settings->length)) return false;
-    events_tell(&rs->events, LOG_INFO, "settings: %s: they are in use", rs->path);
-    return true;
-}
-
-bool rs_read(struct rs *rs) {
-    struct ds_handle judged = DS_CLOSED;
-    struct text settings = {0};
-    bool fine = settings_read(rs->path, &settings, &rs->events) && !(rs->services && is_in_use(rs, &settings))
-                && settings_open(&judged, rs->path, &settings, FIRST_GENERATION, rs->slot, &rs->events);
-    ds_close(&judged);
-    text_free(fine ? &rs->settings : &settings);
-    if (fine) rs->settings = settings;
-    return fine;
-}
+/* ---- opening and closing ---- */
 
 bool rs_open(struct rs *rs) {
+    struct ds_handle judged = DS_CLOSED;
+    bool fine = settings_read(rs->path, &rs->settings, &rs->events)
+                && settings_open(&judged, rs->path, &rs->settings, FIRST_GENERATION, rs->slot, &rs->events);
+    ds_close(&judged);
+    if (!fine) return false;
     uint32_t next = generations_open(&rs->generations, rs->generations.path);
     if (!next) {
         const char *why = errno == EINVAL ? "it holds no generation" : strerror(errno);
@@ -64,21 +113,20 @@ bool rs_open(struct rs *rs) {
     if (!next || !settings_open(&rs->store, rs->path, &rs->settings, next, rs->slot, &rs->events)) return false;
     if (!stream_open(&rs->stream, &rs->store, rs->instances.epoll, rs->events.log)) return false;
     ticks_open(&rs->ticks, rs->ticks.length);
-    learn_services(rs);
-    rs->ending = false;
+    rs_learn(rs);
     return true;
 }
 
 void rs_close(struct rs *rs) {
     uint32_t next = 0;
-    for (size_t i = 0; i < rs->services; i++)
-        output_close(&rs->service[i].output, rs->instances.epoll, rs->service[i].label, rs->events.log);
-    rs->services = 0;
-    rs->instances.loggers = NULL;
+    for (struct service *it = rs->kept; it < rs->kept + KEPT; it++)
+        if (*it->label) output_close(&it->output, rs->instances.epoll, it->label, rs->events.log);
     if (ds_rs_next(&rs->store, &next)) next = 0;
     generations_close(&rs->generations, next);
     stream_close(&rs->stream, rs->instances.epoll);
     ds_close(&rs->store);
+    text_free(&rs->settings);
+    text_free(&rs->other);
 }
 
 /* ---- events, and what answers them ---- */
@@ -96,10 +144,8 @@ struct ds_rs_event rs_of_instance(enum ds_rs_event_kind kind, uint32_t generatio
 }
 
 static struct service *service_of(struct rs *rs, const struct ds_rs_action *action) {
-    for (size_t i = 0; i < rs->services; i++) {
-        const char *label = rs->service[i].label;
-        if (strlen(label) == action->label_length && !memcmp(label, action->label, action->label_length)) return &rs->service[i];
-    }
+    for (size_t i = 0; i < rs->services; i++)
+        if (is_label(rs->service[i]->label, action->label, action->label_length)) return rs->service[i];
     return NULL;
 }
 
@@ -196,6 +242,11 @@ static bool has_learnt(struct rs *rs, struct ds_rs_event *event) {
     return !ran_out;
 }
 
+bool rs_tell(struct rs *rs, enum ds_rs_event_kind kind, const char *label) {
+    struct ds_rs_event event = rs_of_label(kind, label, strlen(label));
+    return has_learnt(rs, &event);
+}
+
 bool rs_event(struct rs *rs, struct ds_rs_event *event, struct text *to) {
     struct ds_answer answer;
     return report(rs, event, to, &answer);
@@ -237,42 +288,49 @@ uint64_t rs_due(struct rs *rs) {
 }
 
 void rs_begin(struct rs *rs) {
-    char path[PATH_MAX];
     for (size_t i = 0; i < rs->services; i++) {
-        const char *label = rs->service[i].label;
-        int length = snprintf(path, sizeof path, "%s/%s/down", rs->instances.services, label);
-        if (length >= (int)sizeof path || !access(path, F_OK)) continue;
-        struct ds_rs_event up = rs_of_label(DS_RS_UP, label, strlen(label));
-        if (!has_learnt(rs, &up)) events_tell(&rs->events, LOG_ERROR, "noroom: %s isn't started", label);
+        struct service *it = rs->service[i];
+        if (it->wish == WISH_START && !rs_tell(rs, DS_RS_UP, it->label))
+            events_tell(&rs->events, LOG_ERROR, "noroom: %s isn't started", it->label);
+        it->wish = WISH_NOTHING;
     }
 }
 
 bool rs_go_down(struct rs *rs) {
     bool is_last = rs->left == rs->services;
-    if (!rs->left || (!is_last && instances_has(&rs->instances, &rs->service[rs->left]))) return false;
-    const char *label = rs->service[rs->left - 1].label;
-    struct ds_rs_event down = rs_of_label(DS_RS_DOWN, label, strlen(label));
-    if (!has_learnt(rs, &down)) return false;
+    if (!rs->left || (!is_last && instances_has(&rs->instances, rs->service[rs->left]))) return false;
+    if (!rs_tell(rs, DS_RS_DOWN, rs->service[rs->left - 1]->label)) return false;
     rs->left--;
     return true;
 }
 
 /* ---- log programs ---- */
 
+/* What is left of its output is passed on. */
+static void forget_service(struct rs *rs, struct service *service) {
+    output_close(&service->output, rs->instances.epoll, service->label, rs->events.log);
+    *service->label = '\0';
+    list_loggers(rs);
+}
+
 bool rs_turn_logs(struct rs *rs, uint64_t *due) {
     bool runs = false;
-    for (size_t i = 0; i < rs->services; i++) {
-        struct service *it = &rs->service[i];
-        runs |= logger_turn(&it->logger, rs->instances.services, it->label, rs->instances.epoll, &rs->events);
+    for (struct service *it = rs->kept; it < rs->kept + KEPT; it++) {
+        if (!*it->label) continue;
+        bool is_there = logger_turn(&it->logger, rs->instances.services, it->label, rs->instances.epoll, &rs->events);
         if (it->logger.due && (!*due || it->logger.due < *due)) *due = it->logger.due;
+        if (it->is_left_out && !is_there) forget_service(rs, it);
+        runs |= is_there;
     }
     return runs;
 }
 
+void rs_end_log(struct rs *rs, struct service *it) {
+    if (it->output.to < 0) return;
+    output_end(&it->output);
+    logger_end(&it->logger, rs->instances.grace);
+}
+
 void rs_end_logs(struct rs *rs) {
-    for (size_t i = 0; i < rs->services; i++) {
-        if (rs->service[i].output.to < 0) continue;
-        output_end(&rs->service[i].output);
-        logger_end(&rs->service[i].logger, rs->instances.grace);
-    }
+    for (size_t i = 0; i < rs->services; i++) rs_end_log(rs, rs->service[i]);
 }

@@ -12,13 +12,18 @@
 #include "ticks.h"
 #include <stdbool.h>
 
+enum { KEPT = 2 * SERVICES /* those of the settings, and those that a reload left out */ };
+
 struct rs {
     const char *path;     /* of the settings */
     struct text settings; /* the text of those in use */
     uint16_t slot;        /* the first one */
     struct ds_handle store;
-    struct service service[SERVICES]; /* in the order of the settings */
+    struct service kept[KEPT]; /* without a label: unused */
+    struct service *service[SERVICES]; /* those of the settings, in their order */
     size_t services;
+    struct text other;        /* the settings of a reload that isn't done; without bytes there is none */
+    int servers;              /* where the search for a server's number begins */
     struct instances instances;
     struct peers peers;
     struct ticks ticks;
@@ -32,11 +37,15 @@ struct rs {
     bool is_gentle;   /* by SIGTERM first */
 };
 
-/* Reads and judges the file of settings, and keeps their text for rs_open. Returns false after an event that says why: they
- * have a fault, or are those that it has already. */
-bool rs_read(struct rs *rs);
-/* Opens a store with RS for the settings that were read, at tick 0. Returns false after an event that says why. */
+/* Opens a store with RS for the file of settings, at tick 0. Returns false after an event that says why. */
 bool rs_open(struct rs *rs);
+/* Learns which services the settings have: new ones get their output, and others keep theirs and their instances. Notes
+ * which are to be started, and which refreshed. */
+void rs_learn(struct rs *rs);
+/* Finds a service of a store's RS by its label. */
+bool rs_find(struct ds_handle *store, const char *label, struct ds_rs_service *found);
+/* Whether the service's folder has a file `down`. */
+bool rs_keeps_down(const struct rs *rs, const struct service *service);
 /* Starts each service, unless its folder has a file `down`. */
 void rs_begin(struct rs *rs);
 /* Events, at the current tick. */
@@ -45,6 +54,8 @@ struct ds_rs_event rs_of_instance(enum ds_rs_event_kind kind, uint32_t generatio
 /* Reports an event, and carries out the actions. Puts the lines that answer it, unless `to` is NULL. Returns false where
  * memory runs out for these lines. */
 bool rs_event(struct rs *rs, struct ds_rs_event *event, struct text *to);
+/* Reports what RS has to learn, without an answer. Returns false where memory ran out for it: it is to be reported again. */
+bool rs_tell(struct rs *rs, enum ds_rs_event_kind kind, const char *label);
 /* Reports instances that died. */
 void rs_bury(struct rs *rs);
 /* Reports the time if something is due, until nothing is. */
@@ -57,7 +68,8 @@ void rs_keep_step(struct rs *rs);
 bool rs_go_down(struct rs *rs);
 /* Starts, reaps and kills log programs, and brings `due` forward to when the next of them is due. Returns whether one runs. */
 bool rs_turn_logs(struct rs *rs, uint64_t *due);
-/* Once nothing of the services is left: log programs read what is left, and end. */
+/* Once nothing of a service is left: its log program reads what is left, and ends. */
+void rs_end_log(struct rs *rs, struct service *service);
 void rs_end_logs(struct rs *rs);
 void rs_close(struct rs *rs);
 

@@ -2,6 +2,7 @@
 #ifndef DSRS_SERVICE_H
 #define DSRS_SERVICE_H
 
+#include "ds.h"
 #include "logger.h"
 #include "output.h"
 #include <stdbool.h>
@@ -18,10 +19,17 @@ enum {
 /* Why an instance ended, as RS numbers it; CAUSE_NONE: by `service down`. */
 enum cause { CAUSE_NONE, CAUSE_EXIT, CAUSE_EXCEPTION, CAUSE_SIGNAL, CAUSE_HEARTBEAT, CAUSE_COMPLAINT, CAUSE_UPDATE };
 
+/* What RS has still to learn of a service after a reload. */
+enum wish { WISH_NOTHING, WISH_START, WISH_REFRESH };
+
 struct service {
     char label[SERVICE_LABEL];
+    bool leaves;      /* the settings of a reload that isn't done don't have it, */
+    bool was_up;      /* and the reload took it down */
+    bool is_left_out; /* those in use don't have it: its log program reads what is left */
+    enum wish wish;
+    struct ds_rs_service settings; /* as RS has them */
     int server;      /* its number among the servers that have subscriptions, or -1 */
-    uint64_t period; /* ticks between two heartbeats, or 0 */
     uint64_t since;  /* when its last instance was started or ended, by clock_now */
     enum cause cause; /* why the last instance ended */
     char status[SERVICE_STATUS]; /* the last STATUS= of its instance */

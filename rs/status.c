@@ -13,7 +13,7 @@ static const char *state_of(const struct ds_rs_service *it, const struct instanc
 }
 
 static bool put_service(struct rs *rs, size_t index, struct text *to) {
-    const struct service *service = &rs->service[index];
+    const struct service *service = rs->service[index];
     const struct instance *instance = NULL;
     struct ds_rs_service it;
     if (ds_rs_service(&rs->store, index, &it)) return true;

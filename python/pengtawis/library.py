@@ -51,6 +51,7 @@ CALLS: Any = {
     "ds_text": ROOM_OF_TEXT,
     "ds_close": (),
     "ds_rs_open": (*TEXT, c_uint32, c_uint16, c_void_p),
+    "ds_rs_renew": (*TEXT, c_void_p),
     "ds_rs_event": (c_char_p, ANSWER),
     "ds_rs_action": (c_size_t, c_void_p),
     "ds_rs_service": (c_size_t, c_void_p),

@@ -100,14 +100,17 @@ class Rs(Store):
 
     def __init__(self, settings: str, next: int = 1, slot: int = 16, **words: Any) -> None:
         super().__init__(**words)
-        text, fault = settings.encode(), FaultOfC()
         packed(INSTANCE, next, slot)  # which refuses what is out of range
-        try:
-            self._call("ds_rs_open", text, len(text), next, slot, byref(fault))
-        except Refused as refused:
-            refused.line = fault.line or None
-            refused.service = None if not fault.cause or fault.service == WHOLE_TEXT else fault.service
-            raise
+        self._settle("ds_rs_open", settings, next, slot)
+
+    def renew(self, settings: str) -> None:
+        """Gives RS other settings while services run. A service whose label stays keeps its instance, state and failures; a new one is
+        down. The store and the next generation stay.
+
+        AlreadyUp is a service that is up or waits, and isn't in the text: its `service` counts as `services` does. Stop it first.
+        NoSlot are fewer slots than before, and BadFirst is a last slot above 1023. What is refused changes nothing.
+        """
+        self._settle("ds_rs_renew", settings)
 
     def up(self, label: str, tick: int) -> Acted:
         """Starts a service that is down or was given up."""
@@ -166,6 +169,15 @@ class Rs(Store):
     def may_connect(self, endpoint: Pair, label: str) -> bool:
         """Returns whether an instance is up and may connect to a service."""
         return self._may("ds_rs_may_connect", endpoint, label.encode())
+
+    def _settle(self, call: str, settings: str, *numbers: int) -> None:
+        text, fault = settings.encode(), FaultOfC()
+        try:
+            self._call(call, text, len(text), *numbers, byref(fault))
+        except Refused as refused:
+            refused.line = fault.line or None
+            refused.service = None if not fault.cause or fault.service == WHOLE_TEXT else fault.service
+            raise
 
     def _may(self, call: str, endpoint: Pair, spelled: bytes, *kind: int) -> bool:
         packed(INSTANCE, *endpoint)

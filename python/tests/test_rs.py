@@ -24,6 +24,8 @@ publishes = ["eth0.mtu"]
 label = "log"
 class = "server"
 """
+ETH0 = '[[service]]\nlabel = "eth0"\nclass = "network"\nunit = 1\nlimit = 9\n'
+TTY = '[[service]]\nlabel = "tty"\nclass = "character"\nunit = 4\n'
 FIRST = Endpoint(1, 16)
 MOST_CAUSE = 2**32 - 1  # for which an event has room
 
@@ -171,10 +173,36 @@ class Calls(unittest.TestCase):
         with opened(next=kept, slot=40) as rs:
             self.assertEqual(rs.up("eth0", tick=0).actions[0], Start("eth0", Endpoint(2, 40)))
 
+    def test_other_settings_keep_what_runs(self):
+        with opened() as rs:
+            rs.subscribe(7, ".*", initial=False)
+            rs.up("eth0", tick=0), rs.up("log", tick=0)
+            rs.death(Endpoint(2, 17), Cause.EXIT, tick=1)
+            rs.renew("slots = 2\n" + TTY + ETH0)
+            tty, eth = rs.services()
+            self.assertEqual((tty.label, tty.state), ("tty", State.DOWN))
+            self.assertEqual(eth, ("eth0", Class.NETWORK, 1, 0, 9, State.UP, 0, FIRST, None))
+            self.assertEqual(rs.up("tty", tick=1), ([Start("tty", Endpoint(3, 17)), Offer("tty", Endpoint(3, 17), None)], {7}))
+            self.assertFalse(rs.may_publish(FIRST, "eth0.mtu", int))
+            self.assertEqual(rs.retrieve("eth0", Endpoint), FIRST)
+            self.assertRaises(refusals.UnknownLabel, rs.up, "log", tick=1)
+
+    def test_other_settings_that_are_refused(self):
+        with opened() as rs:
+            rs.up("log", tick=0)
+            before = rs.services()
+            for text, word, service, has_line in (*TEXTS_REFUSED, ("slots = 1", "noslot", None, False), ("slots = 2\n" + ETH0, "alreadyup", 1, False)):
+                with self.subTest(word):
+                    with self.assertRaises(Refused) as told:
+                        rs.renew(text)
+                    fault = told.exception
+                    self.assertEqual((fault.word, fault.service, fault.line is not None), (word, service, has_line))
+                    self.assertEqual(rs.services(), before)
+
     def test_after_a_close_nothing_is_known(self):
         rs = opened()
         rs.close()
-        for call in (lambda: rs.due, lambda: rs.next_generation, rs.services, lambda: rs.tick(1)):
+        for call in (lambda: rs.due, lambda: rs.next_generation, rs.services, lambda: rs.tick(1), lambda: rs.renew(SETTINGS)):
             self.assertRaises(refusals.IsClosed, call)
 
 

@@ -259,6 +259,70 @@ static void forgetting(void) {
     show(0);
 }
 
+/* Other settings while services run: what is refused and changes nothing, what stays by its label, what is new. The second pair has the
+ * services in another order. */
+static void rs_renew(const char *what, const char *text) {
+    memset(&fault, 0xee, sizeof fault);
+    uint32_t call = ds_rs_renew(&store, text, strlen(text), &fault);
+    printf("%s: %s", what, ds_refusal_text(call));
+    if (fault.cause != 0xeeeeeeee) printf(", %s of service %d, line %" PRIu64, ds_refusal_text(fault.cause), (int)fault.service, fault.line);
+    puts("");
+}
+
+#define DISK "{label = \"disk\", class = \"block\", unit = 3, limit = 5, publishes = [\"disk.size\"]}"
+#define VFS "{label = \"vfs\", class = \"server\"}"
+#define NET "{label = \"net\", class = \"network\", unit = 0, limit = 5}"
+#define TTY "{label = \"tty\", class = \"character\", unit = 4, limit = 9}"
+#define MTU "{label = \"net\", class = \"network\", unit = 1, limit = 7, period = 50, publishes = [\"mtu\"]}"
+
+static void renewals(void) {
+    static const char all[] = "slots = 4\nservice = [" DISK ", " VFS ", " NET "]\n";
+    rs_renew("before RS is open", all);
+    rs_open("RS to be renewed", all, sizeof all - 1, 1, 17);
+    report("up disk", of_label(DS_RS_UP, "disk", 1));
+    report("up vfs", of_label(DS_RS_UP, "vfs", 1));
+    report("up net", of_label(DS_RS_UP, "net", 1));
+    report("disk dies", of_instance(DS_RS_DEATH, 1, 17, DS_RS_EXIT, 2));
+    rs_renew("no TOML in line 2", "slots = 4\nservice\n");
+    rs_renew("a second service without a class", "service = [" DISK ", {label = \"vfs\"}]");
+    rs_renew("a slot fewer, and none of the services", "slots = 3");
+    rs_renew("a last slot of 1024, and none of the services", "slots = 1008");
+    rs_renew("without disk, which waits, and vfs", "slots = 4\nservice = [" NET "]");
+    rs_renew("without vfs", "slots = 4\nservice = [" NET ", " DISK "]");
+    printf("actions: %d\n", ds_rs_action(&store, 0, &action) == 0);
+    show(0), show(1), show(2);
+    report("down vfs", of_label(DS_RS_DOWN, "vfs", 2));
+    rs_renew("without vfs, which is down", "slots = 5\nservice = [" MTU ", " TTY ", " DISK "]");
+    printf("actions: %d\n", ds_rs_action(&store, 0, &action) == 0);
+    show(0), show(1), show(2), show(3);
+    due();
+    may("net", 3, 19, DS_U32, "mtu");
+    report("up vfs", of_label(DS_RS_UP, "vfs", 2));
+    report("disk's wait is over", event(DS_RS_TICK, 3));
+    report("up tty", of_label(DS_RS_UP, "tty", 3));
+    report("net dies", of_instance(DS_RS_DEATH, 3, 19, DS_RS_KILLED, 4));
+    rs_renew("the first ones, without vfs and tty", "slots = 5\nservice = [" DISK ", " NET "]");
+    report("down tty", of_label(DS_RS_DOWN, "tty", 4));
+    rs_renew("the first ones, without vfs", "slots = 5\nservice = [" DISK ", " NET "]");
+    show(0), show(1), show(2);
+    line("retrieve disk label");
+    line("retrieve tty label");
+}
+
+/* One that was given up may be left out. */
+static void renewal_of_one_given_up(void) {
+    static const char two[] = "service = [{label = \"tty\", class = \"character\", unit = 4}, " VFS "]";
+    rs_open("RS with one that is given up", two, sizeof two - 1, 1, 16);
+    report("up tty", of_label(DS_RS_UP, "tty", 1));
+    report("tty dies", of_instance(DS_RS_DEATH, 1, 16, DS_RS_EXIT, 2));
+    rs_renew("without tty", "service = [" VFS "]");
+    show(0), show(1);
+    rs_renew("without any", "");
+    show(0);
+    rs_renew("with tty again", "service = [" TTY "]");
+    show(0);
+}
+
 /* A history with memory for n allocations. What is refused for memory is reported again: nothing has changed. */
 static uint32_t again(uint32_t refusal) {
     if (refusal == DS_NOROOM) left = -1, waited++;
@@ -296,6 +360,34 @@ static void run(long n, uint64_t *wanted) {
     bad += ds_close(&store);
 }
 
+/* Reports an event until there is memory for it. */
+static void insist(struct ds_rs_event it) {
+    do bad += ds_rs_event(&store, &it, &answer) != 0;
+    while (again(answer.refusal));
+    bad += answer.word != DS_ACTED;
+}
+
+/* Other settings with memory for n allocations. A refused call leaves what RS knows, and the next one has it all. */
+static void renew_with(long n) {
+    static const char more[] = "slots = 4\nservice = [" TTY ", " DISK "]\n";
+    uint32_t refusal;
+    left = n;
+    while (again(ds_open(&store, 1, 0, 256))) {}
+    while (again(ds_rs_open(&store, settings, sizeof settings - 1, 1, 16, &fault))) {}
+    insist(of_label(DS_RS_UP, "disk", 1));
+    insist(of_instance(DS_RS_DEATH, 1, 16, DS_RS_KILLED, 2));
+    do {
+        refusal = ds_rs_renew(&store, more, sizeof more - 1, &fault);
+        size_t disk = refusal ? 0 : 1;
+        bad += refusal && refusal != DS_NOROOM;
+        bad += ds_rs_service(&store, disk, &service) || service.state != DS_RS_ISWAITING || service.failures != 1;
+        bad += service.limit != (refusal ? 1 : 5) || ds_rs_service(&store, 2, &service) != DS_NOTFOUND;
+    } while (again(refusal));
+    bad += ds_rs_service(&store, 0, &service) || service.state != DS_RS_ISDOWN || service.limit != 9;
+    left = -1;
+    bad += ds_close(&store);
+}
+
 int main(void) {
     uint64_t wanted[8];
     nothing();
@@ -313,11 +405,23 @@ int main(void) {
     if (ds_open(&store, 1, 0, 256)) return 1;
     forgetting();
     bad += ds_close(&store);
+    rs_renew("in a closed handle", settings);
+    if (ds_open(&store, 1, 0, 256)) return 1;
+    renewals();
+    bad += ds_close(&store);
+    if (ds_open(&store, 1, 0, 256)) return 1;
+    renewal_of_one_given_up();
+    bad += ds_close(&store);
     long before = asked;
     run(-1, wanted);
     before = asked - before;
     for (once = 0; once < 2; once++)
         for (long n = 0; n < before; n++) run(n, wanted);
+    before = asked;
+    renew_with(-1);
+    before = asked - before;
+    for (once = 0; once < 2; once++)
+        for (long n = 0; n < before; n++) renew_with(n);
     printf("each refused: some waited %d; wrong %ld\n", waited > 0, bad);
     return bad != 0;
 }

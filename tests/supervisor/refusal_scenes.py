@@ -7,7 +7,7 @@ import subprocess
 import time
 
 from scenes import scene
-from supervisors import Gone, Host, Skipped, equal, lives, until
+from supervisors import Gone, Host, Skipped, equal, lives, toml, until
 
 HERE = pathlib.Path(__file__).resolve().parent
 AT_ONCE = 6
@@ -42,10 +42,28 @@ def run(host, library, number, count):
     assert not lives(first)
     asked(host, "service refresh b")
     until(lambda: both_are_up(host), lambda: f"it is replaced: {host.log()}")
+    reload(host)
     host.process.send_signal(signal.SIGTERM)
     host.ended(0)  # the folder of sockets may be left, if it couldn't be listed
     equal(host.processes(), [])
     return made.exists()
+
+
+def reload(host):
+    """Has settings read that leave b out, and have c, until they are in force. The process of a is the same."""
+    host.service("c", LIVES)
+    (host.home / "settings.toml").write_text(toml({"a": {"limit": 9}, "c": {"limit": 9}}))
+    first, next_time = processes(host)[0], time.monotonic()
+
+    def is_done():
+        nonlocal next_time
+        if time.monotonic() >= next_time:
+            host.process.send_signal(signal.SIGHUP)
+            next_time = time.monotonic() + 0.3
+        return "\nc up " in asked(host, "status") and both_are_up(host)
+
+    until(is_done, lambda: f"it has the other settings: {host.log()}")
+    equal(processes(host)[0], first)
 
 
 class Ended(Exception):

@@ -619,37 +619,6 @@ def hangs_up_when_the_supervisor_ends(host):
         equal((it.wait(20), "it hung up" in it.stderr.read()), (1, True))
 
 
-# ---- reload ----
-
-
-@scene
-def reads_its_settings_again(host):
-    """SIGHUP: settings with a fault change nothing, and neither do the same ones; others replace all services, under higher generations."""
-    host.start({"a": ({}, LIVES), "b": ({}, LIVES)})
-    host.logged("began b 2/17")
-    settings = host.home / "settings.toml"
-    good = settings.read_text()
-    settings.write_text(good + "[[service]]\n")
-    host.process.send_signal(signal.SIGHUP)
-    host.logged("settings")
-    settings.write_text(good)
-    host.process.send_signal(signal.SIGHUP)
-    host.logged(f"settings {settings}: they are in use")
-    assert not host.has_logged("kill"), host.log()
-    settings.write_text(good.replace('label = "a"', 'label = "c"'))
-    host.service("c", LIVES)
-    host.process.send_signal(signal.SIGHUP)
-    host.logged("began b 4/17")
-    host.clients = {}
-    equal(list(host.status()), ["c", "b"])
-    equal([host.ask(f"retrieve {it} label") for it in "abc"], ["refused notfound", "found 4/17", "found 3/16"])
-    order = [it.split()[:2] for it in host.events() if it.startswith(("kill", "began"))]
-    equal(order, [["began", "a"], ["began", "b"], ["kill", "b"], ["kill", "a"], ["began", "c"], ["began", "b"]])
-    settings.write_text(good)
-    host.process.send_signal(signal.SIGHUP)
-    host.end()
-
-
 # ---- the guide ----
 
 

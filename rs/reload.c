@@ -1,0 +1,103 @@
+/* Other settings while services run. See reload.h. */
+#include "reload.h"
+#include "notify.h"
+#include "settings.h"
+#include <string.h>
+
+static bool is_in_use(struct rs *rs, const struct text *settings) {
+    if (settings->length != rs->settings.length || memcmp(settings->bytes, rs->settings.bytes, settings->length)) return false;
+    events_tell(&rs->events, LOG_INFO, "settings: %s: they are in use", rs->path);
+    return true;
+}
+
+/* Ends a reload that is done, refused or called off: what it took down and the settings in force have is started again. */
+static void finish(struct rs *rs) {
+    for (size_t i = 0; i < rs->services; i++) {
+        struct service *it = rs->service[i];
+        if (it->was_up) it->wish = WISH_START;
+        it->leaves = it->was_up = false;
+    }
+    text_free(&rs->other);
+    notify("READY=1");
+}
+
+/* Judges the settings, and notes which services they leave out. */
+static bool judge(struct rs *rs, const struct text *settings) {
+    struct ds_handle judged = DS_CLOSED;
+    struct ds_rs_service found;
+    if (!settings_open(&judged, rs->path, settings, 1, rs->slot, &rs->events)) return false;
+    for (size_t i = 0; i < rs->services; i++) rs->service[i]->leaves = !rs_find(&judged, rs->service[i]->label, &found);
+    ds_close(&judged);
+    return true;
+}
+
+void reload_begin(struct rs *rs) {
+    struct text settings = {0};
+    bool is_read = settings_read(rs->path, &settings, &rs->events), is_same = is_read && is_in_use(rs, &settings);
+    if (is_same && rs->other.bytes) finish(rs);
+    if (is_read && !is_same && judge(rs, &settings)) {
+        text_free(&rs->other);
+        rs->other = settings;
+        notify("RELOADING=1");
+    } else {
+        text_free(&settings);
+    }
+}
+
+/* Whether RS has a service that is left out up, or waiting for its next start. */
+static bool is_one_up(struct rs *rs) {
+    struct ds_rs_service it;
+    for (size_t i = 0; i < rs->services; i++) {
+        if (!rs->service[i]->leaves || ds_rs_service(&rs->store, i, &it)) continue;
+        if (it.state == DS_RS_ISUP || it.state == DS_RS_ISWAITING) return true;
+    }
+    return false;
+}
+
+/* Whether something runs of a service that is left out, by this reload or by the last one. */
+static bool is_something_left(const struct rs *rs) {
+    for (const struct service *it = rs->kept; it < rs->kept + KEPT; it++)
+        if (*it->label && (it->is_left_out || (it->leaves && instances_has(&rs->instances, it)))) return true;
+    return false;
+}
+
+/* RS has the settings. */
+static void take(struct rs *rs) {
+    text_free(&rs->settings);
+    rs->settings = rs->other;
+    rs->other = (struct text){0};
+    events_tell(&rs->events, LOG_INFO, "settings: %s: in force", rs->path);
+    rs_learn(rs);
+    for (struct service *it = rs->kept; it < rs->kept + KEPT; it++)
+        if (*it->label && it->is_left_out) rs_end_log(rs, it);
+}
+
+/* RS judges the settings before it says who is still up, so those that it refuses stop nobody. */
+static bool renew(struct rs *rs) {
+    struct ds_settings_fault fault = {.service = UINT32_MAX};
+    if (!is_one_up(rs) && is_something_left(rs)) return false;
+    uint32_t refusal = ds_rs_renew(&rs->store, rs->other.bytes, rs->other.length, &fault);
+    if (refusal == DS_ALREADYUP) {
+        struct service *it = rs->service[fault.service];
+        it->was_up |= rs_tell(rs, DS_RS_DOWN, it->label);
+        return it->was_up;
+    }
+    rs->repeats |= refusal == DS_NOROOM;
+    if (refusal == DS_NOROOM) return false;
+    if (!refusal) take(rs);
+    else events_tell(&rs->events, LOG_ERROR, "settings: %s: %s", rs->path, ds_refusal_text(refusal));
+    finish(rs);
+    return true;
+}
+
+/* Where memory runs out for it, RS learns it a little later. */
+static void grant(struct rs *rs, struct service *it) {
+    if (it->wish == WISH_NOTHING) return;
+    if (rs_tell(rs, it->wish == WISH_START ? DS_RS_UP : DS_RS_REFRESH, it->label)) it->wish = WISH_NOTHING;
+}
+
+bool reload_turn(struct rs *rs) {
+    bool more = rs->other.bytes && renew(rs);
+    for (size_t i = 0; i < rs->services; i++) grant(rs, rs->service[i]);
+    return more;
+}
