@@ -110,7 +110,7 @@ static void look_for_loss(struct ds_fleet *fleet, const struct stock *stock, boo
     }
     if (is_replaced) {
         bridge_begin_anew(fleet);
-        server_reopen_listener(fleet);
+        server_reopen_listener(&fleet->server);
     } else {
         trail_looked(&fleet->telling.trail);
         trail_looked(&reading->trail);
@@ -178,7 +178,7 @@ enum ds_fleet_word comparing_answered(struct ds_fleet *fleet) {
     fleet->server.pause = 0;
     if (!items_may_regain(&fleet->items)) return DS_FLEET_INSTEP;
     bridge_read_from_start(fleet);
-    server_reopen_listener(fleet);
+    server_reopen_listener(&fleet->server);
     return DS_FLEET_INSTEP;
 }
 

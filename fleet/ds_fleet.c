@@ -19,7 +19,6 @@ enum {
     RUN_BYTES = 16,    /* of the name of this run, which has two digits for each */
     RINGERS = 5,       /* of the bell: the timer, look-ups, two connections, and a Sentinel's */
     SOON = 100,        /* milliseconds to the next step if something is due that can't be done now */
-    SECOND = 1000,     /* milliseconds */
     NANOSECONDS = 1000000 /* of one millisecond */
 };
 
@@ -202,18 +201,27 @@ static bool ends_step(enum ds_fleet_word word) {
     return word == DS_FLEET_INSTEP || word == DS_FLEET_CLOSED || word == DS_FLEET_BADSCOPE || word == DS_FLEET_BADNAME;
 }
 
+/* Whether there is news that can be sent at once. */
+static bool has_news(const struct ds_fleet *fleet) {
+    return fleet->items.untold.length && fleet->server.state == SERVER_MET && fleet->server.round == ROUND_NONE;
+}
+
+/* The bell is heard at least once. News is sent before that, so that one wait is for its answer, too. */
 enum ds_fleet_word ds_fleet_step(struct ds_fleet *fleet, unsigned patience) {
     uint64_t end = clock_now() + patience;
-    hear_bell(fleet, 0);
+    enum ds_fleet_word gathered = items_gather(&fleet->items);
+    bool has_heard = !has_news(fleet);
+    if (has_heard) hear_bell(fleet, 0);
     for (;;) {
-        enum ds_fleet_word word = items_gather(&fleet->items);
-        if (word == DS_FLEET_INSTEP) word = turn_both(fleet);
+        if (gathered != DS_FLEET_INSTEP) gathered = items_gather(&fleet->items);
+        enum ds_fleet_word word = gathered == DS_FLEET_INSTEP ? turn_both(fleet) : gathered;
         set_bell(fleet, word);
         fleet->state.word = word;
         if (word == DS_FLEET_INSTEP) fleet->state.caught_up = true;
-        uint64_t time = clock_now();
-        if (ends_step(word) || time >= end) return word;
-        hear_bell(fleet, end - time < PERIOD ? (int)(end - time) : PERIOD);
+        uint64_t time = clock_now(), left = time < end ? end - time : 0;
+        if (ends_step(word) || (has_heard && !left)) return word;
+        hear_bell(fleet, left < PERIOD ? (int)left : PERIOD);
+        has_heard = true;
     }
 }
 

@@ -2,7 +2,6 @@
 #include "bridge.h"
 #include "clock.h"
 #include <stdio.h>
-#include <stdlib.h>
 #include <string.h>
 #include <sys/random.h>
 
@@ -88,10 +87,6 @@ enum ds_fleet_word server_denied(struct ds_fleet *fleet, const redisReply *error
 
 /* ---- it is called ---- */
 
-static bool opens(struct ds_fleet *fleet, struct link *link) {
-    return link_open(link, &fleet->server.master.call, clock_now());
-}
-
 enum ds_fleet_word server_call(struct ds_fleet *fleet) {
     struct server *server = &fleet->server;
     uint64_t time = clock_now();
@@ -104,13 +99,13 @@ enum ds_fleet_word server_call(struct ds_fleet *fleet) {
     case HOST_UNKNOWN: return server_went(fleet, server->master.said);
     case HOST_SOUGHT: server->call_at = time + HOST_PATIENCE; return server->parted; /* or when a bell rings */
     }
-    if (!opens(fleet, &server->teller)) return server_went(fleet, server->teller.said);
-    if (!opens(fleet, &server->listener)) return server_went(fleet, server->listener.said);
+    if (!link_open(&server->teller, &server->master.call, time)) return server_went(fleet, server->teller.said);
+    if (!link_open(&server->listener, &server->master.call, time)) return server_went(fleet, server->listener.said);
     server->state = SERVER_CALLED;
     return DS_FLEET_INSTEP;
 }
 
-void server_reopen_listener(struct ds_fleet *fleet) { opens(fleet, &fleet->server.listener); }
+void server_reopen_listener(struct server *server) { link_open(&server->listener, &server->master.call, clock_now()); }
 
 /* ---- meeting ---- */
 
@@ -191,36 +186,17 @@ enum ds_fleet_word meeting_answered(struct ds_fleet *fleet) {
 
 /* ---- opening and closing ---- */
 
-static enum ds_fleet_word read_address(struct link_address *address, const char *url) {
-    switch (url ? link_read(address, url) : LINK_BAD) {
-    case LINK_BAD: return DS_FLEET_BADURL;
-    case LINK_TLS: return DS_FLEET_NOTLS;
-    case LINK_NOROOM: return DS_FLEET_NOROOM;
-    case LINK_GOOD: break;
-    }
-    return DS_FLEET_INSTEP;
-}
-
 enum ds_fleet_word server_open(struct ds_fleet *fleet, const struct ds_fleet_options *options) {
     struct server *server = &fleet->server;
-    enum ds_fleet_word word = read_address(&server->address, options->url);
-    if (word != DS_FLEET_INSTEP) return word;
     server->parted = DS_FLEET_AWAY;
     server->logs_meeting = true;
-    if (options->password) {
-        if (strlen(options->password) >= sizeof server->password) return DS_FLEET_BADURL;
-        snprintf(server->password, sizeof server->password, "%s", options->password);
-        server->address.password = server->password;
-    }
-    if (!master_open(&server->master, &server->address)) return DS_FLEET_SYSTEM;
     snprintf(server->name, sizeof server->name, "dsfleet-%.8s", fleet->me);
     server->master.call.name = server->name;
-    return DS_FLEET_INSTEP;
+    return master_open(&server->master, options->url, options->password);
 }
 
 void server_close(struct server *server) {
     link_close(&server->teller);
     link_close(&server->listener);
     master_close(&server->master);
-    link_forget(&server->address);
 }

@@ -975,6 +975,7 @@ from history_scenes import *
 from master_scenes import *
 from right_scenes import *
 from state_scenes import *
+from tunnel_scenes import *
 
 SCENES = [it for it in dict(globals()).values() if callable(it) and getattr(it, "__code__", None) and it.__code__.co_varnames[:2] == ("fleet", "draw")]
 COMPACTED = (  # with few entries kept
