@@ -93,11 +93,10 @@ def at_work(costs, hosts, rate, draw):
 
 
 def failover(costs, hosts, draw):
-    """How long after a failover all of a server's hosts are in step. Each reads the snapshot, and tells all that it holds."""
+    """How long after a failover all of a server's hosts are in step. Each reads the snapshot, and tells one entry of what was lost."""
     streams = max(1, round(hosts / GROUP))
     batches = KEYS // BATCH
-    whole = batches * costs.push_batch
-    telling = batches * (costs.add_batch + OTHERS * costs.push_batch)
+    whole, telling = batches * costs.push_batch, costs.change()
     server, last = Server(), 0.0
     waiting = [(draw.uniform(*PAUSES), costs.join + whole, at < hosts) for at in range(hosts + streams * READERS)]
     heapq.heapify(waiting)
@@ -106,8 +105,7 @@ def failover(costs, hosts, draw):
         last = server.does(time, cost)
         if is_reading:
             heapq.heappush(waiting, (last + TRIP + batches * costs.own_merge_batch, telling, False))
-    merged = GROUP * batches * costs.own_merge_batch  # what each bridge has to merge of the others
-    return max(last, merged)
+    return last
 
 
 def breaking(costs, rate):

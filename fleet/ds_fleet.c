@@ -28,14 +28,24 @@ void bridge_read_from_start(struct ds_fleet *fleet) {
     fleet->reading.last = NO_ENTRY;
     fleet->reading.state = READING_BEHIND;
     *fleet->reading.passed = '\0';
-    items_begin_anew(&fleet->items);
+    items_begin_anew(&fleet->items, fleet->telling.owes_all);
 }
 
-void bridge_begin_anew(struct ds_fleet *fleet) {
+enum ds_fleet_word bridge_look(struct ds_fleet *fleet, struct redisReply **looked, struct stock *stock) {
+    const redisReply *error = error_of(looked, LOOK_QUESTIONS);
+    if (is_no_stream(error)) error = error_of(looked + 1, LOOK_QUESTIONS - 1);
+    if (error) return server_denied(fleet, error);
+    if (!is_list_of(looked[LOOK_SNAPSHOT], LOOK_FIELDS)) return server_puzzles(fleet, "no snapshot");
+    fleet->compacting.length = (long)count_of(field_of(looked[LOOK_STREAM], "length"));
+    *stock = look_answered(looked);
+    return DS_FLEET_INSTEP;
+}
+
+void bridge_begin_anew(struct ds_fleet *fleet, const struct stock *stock) {
     bridge_read_from_start(fleet);
     fleet->reading.read_up_to = NO_ENTRY;
     fleet->telling.trail = fleet->reading.trail = (struct trail){.sure = NO_ENTRY};
-    comparing_forget(&fleet->comparing);
+    comparing_begin_anew(&fleet->comparing, stock);
 }
 
 static enum ds_fleet_word round_answered(struct ds_fleet *fleet) {
@@ -68,6 +78,7 @@ static enum ds_fleet_word ask_next(struct ds_fleet *fleet) {
     if (is_at_end && fleet->telling.owes_all) {
         word = items_gather_all(&fleet->items);
         fleet->telling.owes_all = word != DS_FLEET_INSTEP;
+        if (word == DS_FLEET_INSTEP) items_forget_noted(&fleet->items);
     }
     if (fleet->server.state != SERVER_MET) {
         meeting_ask(fleet);
@@ -296,6 +307,7 @@ static bool is_watched(struct ds_fleet *fleet, int descriptor, void *ringer) {
 static bool name_run(struct ds_fleet *fleet) {
     unsigned char bytes[RUN_BYTES];
     if (getrandom(bytes, sizeof bytes, 0) != sizeof bytes) return false;
+    if (getrandom(&fleet->items.seed, sizeof fleet->items.seed, 0) != sizeof fleet->items.seed) return false;
     for (int i = 0; i < RUN_BYTES; i++) snprintf(fleet->me + 2 * i, sizeof "ff", "%02x", bytes[i]);
     return true;
 }
@@ -317,7 +329,7 @@ enum ds_fleet_word ds_fleet_open(struct ds_fleet **fleet, struct ds_handle *stor
     made->items.store = store;
     made->bell = made->timer = made->server.master.bell = -1;
     made->state.word = DS_FLEET_LATE;
-    comparing_forget(&made->comparing);
+    comparing_begin_anew(&made->comparing, &(struct stock){.bytes = 0});
     enum ds_fleet_word word = name_run(made) ? read_options(made, options) : DS_FLEET_SYSTEM;
     if (word == DS_FLEET_INSTEP) word = items_gather_all(&made->items);
     if (word == DS_FLEET_INSTEP) word = make_bell(made);

@@ -5,7 +5,7 @@
  *   AWAY    | the pause is over, master found    | CALLED: opens both connections
  *   AWAY    | no master is found                 | AWAY: a longer pause
  *   CALLED  | a meeting answered, as it should   | MET
- *   CALLED  | .. by another server or history    | MET: everything is read, and then told again
+ *   CALLED  | .. by another server or history    | MET: everything is read, and then told what isn't there
  *   CALLED  | .. with another scope              | AWAY: badscope
  *   CALLED  | .. by a cluster, keys on many nodes| AWAY: badname
  *   CALLED  | .. by a replica, others are listed | AWAY: denied
