@@ -247,14 +247,14 @@ static void count_unread(struct items *items, const char *entry, const char *lin
 }
 
 /* Merges lines, and says how many bytes of them are done: up to a line that is refused, and with it. */
-static enum ds_fleet_word merge_lines(struct items *items, const char *entry, const char *lines, size_t length, unsigned count, size_t *done) {
+static enum ds_fleet_word merge_lines(struct items *items, const char *entry, const char *lines, size_t length, bool is_one, size_t *done) {
     struct ds_request request = {.command = DS_MERGE, .text_length = length};
     struct ds_answer answer;
     *done = 0;
     if (ds_call(items->store, &request, lines, length, &answer)) return DS_FLEET_CLOSED;
     if (answer.word == DS_REFUSED && answer.refusal == DS_NOROOM) return DS_FLEET_NOROOM;
     if (answer.word == DS_NOREQUEST || answer.word == DS_REFUSED) {
-        if (count > 1) return DS_FLEET_INSTEP; /* none is done, and they come one by one */
+        if (!is_one) return DS_FLEET_INSTEP; /* none is done, and they come one by one */
         *done = length;
         count_unread(items, entry, lines, length);
         return DS_FLEET_INSTEP;
@@ -270,16 +270,16 @@ static enum ds_fleet_word merge_lines(struct items *items, const char *entry, co
     return word;
 }
 
-/* Merges lines each of which has its newline. */
+/* Merges lines each of which has its newline. After one that ends a merge they come one by one, and then more and more again: those past
+ * it are read anew, and many may be refused. */
 static enum ds_fleet_word take_ended(struct items *items, const char *entry, const char *lines, size_t length) {
     unsigned count = ITEMS_MOST;
-    size_t singly = 0; /* how many bytes come one by one, since they can't be read together */
     while (length) {
-        size_t done, part = first_lines(lines, length, singly ? 1 : count);
-        enum ds_fleet_word word = merge_lines(items, entry, lines, part, singly || first_lines(lines, part, 1) == part ? 1 : count, &done);
+        size_t done, part = first_lines(lines, length, count);
+        enum ds_fleet_word word = merge_lines(items, entry, lines, part, first_lines(lines, part, 1) == part, &done);
         if (word != DS_FLEET_INSTEP) return word;
-        if (!done) singly = part;
-        else singly -= done < singly ? done : singly;
+        if (done < part) count = 1;
+        else if (count < ITEMS_MOST) count *= 2;
         lines += done;
         length -= done;
     }
