@@ -94,27 +94,23 @@ static bool lacks_witness(const struct comparing *comparing, const redisReply *t
     return false;
 }
 
-/* A bridge tells again what the server lost. A stream that took the place of another one is read whole, too: one of another history, one that
- * ends before what was read or has had fewer entries, and one that lacks a witness. */
-static void look_for_loss(struct ds_fleet *fleet, const struct stock *stock, bool is_replaced) {
+/* A stream that lost something is read again, and the bridge tells what isn't there: one of another history, one that lacks a witness, one
+ * that ends before what was read, and one that has less than before. */
+static void look_for_loss(struct ds_fleet *fleet, const struct stock *stock, bool has_less) {
     struct comparing *comparing = &fleet->comparing;
     struct reading *reading = &fleet->reading;
     fleet->state.behind = stock->newest.first > reading->last.first ? stock->newest.first - reading->last.first : 0;
-    is_replaced = is_replaced || is_above(comparing->asked, stock->generated) || stock->added < comparing->stock.added;
-    if (is_replaced || has_lost(&comparing->stock, stock)) {
+    if (has_less || is_above(comparing->asked, stock->generated) || has_lost(&comparing->stock, stock)) {
         items_say(&fleet->items, "lost: the server no longer has what it had, which is told again");
-        items_forget_noted(&fleet->items);
         fleet->telling.owes_all = true;
-    }
-    comparing->stock = *stock;
-    if (is_replaced) {
         bridge_begin_anew(fleet, stock);
         server_reopen_listener(&fleet->server);
-    } else {
-        trail_looked(&fleet->telling.trail);
-        trail_looked(&reading->trail);
-        if (!is_above(stock->newest, reading->last)) reading->read_up_to = stock->generated;
+        return;
     }
+    comparing->stock = *stock;
+    trail_looked(&fleet->telling.trail);
+    trail_looked(&reading->trail);
+    if (!is_above(stock->newest, reading->last)) reading->read_up_to = stock->generated;
 }
 
 /* Whether an entry that was there a second ago hasn't come: the connection that waits for it may be dead, and nobody told us. */
@@ -130,9 +126,9 @@ static enum ds_fleet_word look_at_stream(struct ds_fleet *fleet, struct redisRep
     if (word != DS_FLEET_INSTEP) return word;
     if (is_error(looked[LOOKED_ENTRIES])) return server_denied(fleet, looked[LOOKED_ENTRIES]);
     if (is_deaf(fleet)) return server_went(fleet, "what was there a second ago didn't come");
-    bool is_replaced = server_changed_history(&fleet->server, replication);
-    is_replaced |= lacks_witness(&fleet->comparing, looked[LOOKED_ENTRIES], &stock);
-    look_for_loss(fleet, &stock, is_replaced);
+    bool has_less = server_changed_history(&fleet->server, replication);
+    has_less |= lacks_witness(&fleet->comparing, looked[LOOKED_ENTRIES], &stock);
+    look_for_loss(fleet, &stock, has_less);
     const redisReply *scope = looked[LOOK_SNAPSHOT]->element[LOOK_SCOPE];
     return server_has_other_scope(fleet, scope) ? server_refuse_scope(fleet, scope) : DS_FLEET_INSTEP;
 }

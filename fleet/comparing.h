@@ -5,8 +5,7 @@
  *   state | event                                    | does
  *   ------+------------------------------------------+-------------------------------------------------------------------
  *   any   | good answers                             | keeps what the stream has
- *   any   | .. of a server that has less than before | tells everything again
- *   any   | .. of a stream in place of another one   | reads everything again, and then tells what isn't there
+ *   any   | .. of a server that lost something       | reads everything again, and then tells what isn't there
  *   any   | .. with another scope                    | badscope, and the connections end
  *   any   | an entry of a second ago hasn't come     | away, both connections are made anew
  *   any   | others differ, and this is the first of its kind | tells everything again, less and less often

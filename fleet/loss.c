@@ -23,7 +23,7 @@ struct stock look_answered(struct redisReply **looked) {
 }
 
 bool has_lost(const struct stock *before, const struct stock *now) {
-    if (is_above(before->snapshot, now->snapshot) || now->gone > before->gone) return true;
+    if (is_above(before->snapshot, now->snapshot) || now->gone > before->gone || now->added < before->added) return true;
     return now->bytes < before->bytes && !is_above(now->snapshot, before->snapshot);
 }
 
