@@ -54,12 +54,12 @@ class Costs:
 
     def __str__(self):
         micro = {it: f"{1e6 * value:.1f}" for it, value in vars(self).items()}
-        return (
-            f"server: a bridge that comes {micro['join']} us; at rest {micro['rest']} us/s, {micro['rest_other']} for each other one, and {self.memory / 1024:.0f} KB;"
-            f" an entry {micro['add']} us, {micro['push']} for each that gets it; of 256 items {micro['add_batch']} and {micro['push_batch']} us\n"
-            f"bridge: at rest {micro['own_rest']} us/s, {micro['own_rest_other']} for each other one; an entry told {micro['own_tell']} us, merged {micro['own_merge']} us,"
-            f" of 256 items {micro['own_merge_batch']} us"
-        )
+        return "\n".join((
+            f"server: a bridge that comes {micro['join']} us; at rest {micro['rest']} us/s, {micro['rest_other']} for each other one, {self.memory / 1024:.0f} KB",
+            f"server: an entry {micro['add']} us, {micro['push']} for each that gets it; of {BATCH} items {micro['add_batch']} and {micro['push_batch']} us",
+            f"bridge: at rest {micro['own_rest']} us/s, {micro['own_rest_other']} for each other one",
+            f"bridge: an entry told {micro['own_tell']} us, merged {micro['own_merge']} us, of {BATCH} items {micro['own_merge_batch']} us",
+        ))
 
 
 class Server:
@@ -131,7 +131,8 @@ def report(costs, seed):
             if busy <= BUSY:
                 break
         middle, slow = (took[int(len(took) * part)] for part in (0.5, 0.99))
-        print(f"{HOSTS} hosts, {rate} changes/s each: {servers} servers are {100 * busy:.0f} % busy; answered in {1000 * middle:.1f} ms, 99 % in {1000 * slow:.1f} ms")
+        answered = f"answered in {1000 * middle:.1f} ms, 99 % in {1000 * slow:.1f} ms"
+        print(f"{HOSTS} hosts, {rate} changes/s each: {servers} servers are {100 * busy:.0f} % busy; {answered}")
     for servers in (1, 4, 16, 64):
         print(f"failover of one of {servers} servers: its hosts are in step after {failover(costs, HOSTS // servers, draw):.0f} s")
     for rate in RATES:

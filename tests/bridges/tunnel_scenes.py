@@ -43,7 +43,8 @@ class Tunnel:
     def __init__(self, home, port, name=NAME):
         lines = re.search(r"^    client = yes\n(?:    .*\n|\n)+", (ROOT / "docs" / "reference" / "fleet.md").read_text(), re.MULTILINE)[0]
         self.socket, self.conf = f"{home}/tunnel-{name}", f"{home}/{name}.conf"
-        for there, here in ((r"/run/\S+", self.socket), ("/etc/stunnel", home), (rf"connect = {NAME}:\d+", f"connect = 127.0.0.1:{port}"), (NAME, name)):
+        replaced = {r"/run/\S+": self.socket, "/etc/stunnel": home, rf"connect = {NAME}:\d+": f"connect = 127.0.0.1:{port}", NAME: name}
+        for there, here in replaced.items():
             lines, count = re.subn(there, here, lines)
             assert count, f"the page's tunnel has no {there}"
         with open(self.conf, "w", encoding="ascii") as conf:
