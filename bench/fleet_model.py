@@ -114,7 +114,7 @@ def breaking(costs, rate):
     yield "the server's maxclients", MAXCLIENTS / (CONNECTIONS * each)
     yield "the server's processor", BUSY / (each * costs.at_rest() + rate * costs.change())
     yield "the processor of a host that follows all streams", BUSY / (costs.own_at_rest() / GROUP + rate * costs.own_merge)
-    least, most = GROUP, HOSTS
+    least, most = GROUP, 4 * HOSTS
     while most - least > GROUP:
         middle = (least + most) // 2
         least, most = (middle, most) if failover(costs, middle, random.Random(1)) <= RECOVERY else (least, middle)

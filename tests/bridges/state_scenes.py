@@ -251,13 +251,15 @@ def states_of_reading(fleet, draw):
             more = numbers(front, 2)
             entry = fleet.ask("XADD", "ds:items", "*", "from", "x", "items", "".join(f"{it}\n" for it in more)).decode()
             fleet.ask("HSET", "ds:snapshot", "at", entry, "items", "".join(f"{it}\n" for it in lines + more))
-            fleet.ask("XTRIM", "ds:items", "MAXLEN", 0)
+            fleet.ask("HINCRBY", "ds:snapshot", "trimmed", fleet.ask("XTRIM", "ds:items", "MAXLEN", 0))
             lines.extend(more)
 
         def gap(front):
+            """It hasn't read what is compacted, and reads past it."""
             bridge.pause()
             add(1, f"{front}.seen")
             snapshot(front)
+            add(1, f"{front}.after")
             bridge.resume()
 
         gap("d")
