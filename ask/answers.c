@@ -15,24 +15,22 @@ size_t answer_length(const char *bytes, size_t length) {
     return end ? (size_t)(end - bytes) + 2 : 0;
 }
 
-static bool begins(const char *bytes, size_t length, const char *word) {
-    return length >= strlen(word) && !memcmp(bytes, word, strlen(word));
-}
-
-bool answer_is_notice(const char *answer, size_t length) { return begins(answer, length, "notice "); }
+bool answer_is_notice(const char *answer, size_t length) { return text_begins(answer, length, "notice "); }
 
 /* Written at once, so a pipe's reader has each answer as soon as it came. */
 static bool write_out(const char *bytes, size_t length) {
     while (length) {
         ssize_t put = write(STDOUT_FILENO, bytes, length);
         if (put < 0 && errno != EINTR) return false;
-        if (put > 0) bytes += put, length -= (size_t)put;
+        if (put < 0) continue;
+        bytes += put;
+        length -= (size_t)put;
     }
     return true;
 }
 
 static bool is_refusal(const char *answer, size_t length) {
-    return begins(answer, length, "refused ") || begins(answer, length, "badline ") || begins(answer, length, "norequest\n");
+    return text_begins(answer, length, "refused ") || text_begins(answer, length, "badline ") || text_begins(answer, length, "norequest\n");
 }
 
 bool printing_put(struct printing *printing, const char *answer, size_t length) {
@@ -56,15 +54,15 @@ static bool take_items(const struct watching *watching, const char *answer, size
     const char *end = answer + length - 1, *count = NULL;
     for (const char *line = answer; line < end;) {
         size_t used = (size_t)((const char *)memchr(line, '\n', (size_t)(end - line)) - line) + 1;
-        if (begins(line, used, "checked ")) count = line + strlen("checked ");
-        else if (!begins(line, used, "owed ") && !write_out(line, used)) return false;
+        if (text_begins(line, used, "checked ")) count = line + strlen("checked ");
+        else if (!text_begins(line, used, "owed ") && !write_out(line, used)) return false;
         line += used;
     }
     return !count || *count == '0' || text_print(to, "check %d %d\n", watching->sub, MOST);
 }
 
 bool watching_take(struct watching *watching, const char *answer, size_t length, struct text *to) {
-    if (begins(answer, length, "refused notallowed\n") && watching->sub < watching->last_sub) {
+    if (text_begins(answer, length, "refused notallowed\n") && watching->sub < watching->last_sub) {
         watching->sub++;
         return watching_begin(watching, to);
     }
@@ -74,7 +72,7 @@ bool watching_take(struct watching *watching, const char *answer, size_t length,
         errno = EPIPE;
         return false;
     }
-    if (begins(answer, length, "subscribed ")) return text_print(to, "listen %d\ncheck %d %d\n", watching->sub, watching->sub, MOST);
+    if (text_begins(answer, length, "subscribed ")) return text_print(to, "listen %d\ncheck %d %d\n", watching->sub, watching->sub, MOST);
     if (answer_is_notice(answer, length)) return text_print(to, "check %d %d\n", watching->sub, MOST);
-    return begins(answer, length, "listening ") || take_items(watching, answer, length, to);
+    return text_begins(answer, length, "listening ") || take_items(watching, answer, length, to);
 }

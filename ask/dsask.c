@@ -165,7 +165,8 @@ static bool take_answers(struct asking *asking) {
 static bool receive(struct asking *asking) {
     if (!text_room(&asking->came, PIECE)) return false;
     ssize_t length = recv(asking->socket, asking->came.bytes + asking->came.length, PIECE, 0);
-    if (length <= 0) return errno = ECONNRESET, false;
+    if (length <= 0) errno = ECONNRESET;
+    if (length <= 0) return false;
     asking->came.length += (size_t)length;
     return take_answers(asking);
 }
@@ -197,7 +198,10 @@ static bool run(struct asking *asking) {
 
 static int ask(const struct options *options, struct asking *asking) {
     bool fine = true;
-    if (options->watching.pattern) fine = watching_begin(asking->watching, &asking->unsent), asking->owed = 1;
+    if (options->watching.pattern) {
+        fine = watching_begin(asking->watching, &asking->unsent);
+        asking->owed = 1;
+    }
     for (int i = 0; fine && i < options->count; i++)
         fine = give(asking, options->line[i], strlen(options->line[i])) && give(asking, "\n", 1);
     if (!fine) return out_of_memory();

@@ -143,7 +143,8 @@ static void singly(struct teller *it, struct board *board, int others, int port)
         double before = now(), own = spent();
         put(it, 1);
         told(it->fleet);
-        answered[i] = now() - before, used += spent() - own;
+        answered[i] = now() - before;
+        used += spent() - own;
         wait_for(board, others, it->items);
         seen[i] = now() - before;
     }

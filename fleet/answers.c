@@ -1,10 +1,11 @@
 /* Answers of a redis server. See answers.h. */
 #include "answers.h"
+#include "text.h"
 #include <limits.h>
 #include <stdio.h>
 #include <string.h>
 
-static const long long most_counted = 1LL << 53; /* sums of a few of these don't overflow */
+static const unsigned long long most_counted = 1ULL << 53; /* sums of a few of these don't overflow */
 
 bool is_above(struct entry_id a, struct entry_id b) {
     return a.first > b.first || (a.first == b.first && a.second > b.second);
@@ -12,22 +13,12 @@ bool is_above(struct entry_id a, struct entry_id b) {
 
 bool is_same_entry(struct entry_id a, struct entry_id b) { return a.first == b.first && a.second == b.second; }
 
-const char *read_digits(const char *text, unsigned long long *number) {
-    const char *at = text;
-    for (*number = 0; *at >= '0' && *at <= '9'; at++) {
-        unsigned digit = (unsigned)(*at - '0');
-        if (*number > (ULLONG_MAX - digit) / 10) return NULL;
-        *number = *number * 10 + digit;
-    }
-    return at == text ? NULL : at;
-}
-
 bool read_entry_id(const char *text, struct entry_id *id) {
     struct entry_id read;
-    const char *at = text ? read_digits(text, &read.first) : NULL;
-    if (!at || *at != '-') return false;
-    at = read_digits(at + 1, &read.second);
-    if (!at || *at) return false;
+    size_t length = strlen(text), first = read_digits(text, length, ULLONG_MAX, &read.first);
+    if (!first || text[first] != '-') return false;
+    size_t second = read_digits(text + first + 1, length - first - 1, ULLONG_MAX, &read.second);
+    if (!second || first + 1 + second != length) return false;
     *id = read;
     return true;
 }
@@ -65,16 +56,12 @@ struct entry_id id_of(const redisReply *answer) {
 
 bool read_count(const redisReply *answer, long long *count) {
     unsigned long long number = 0;
-    const char *end = is_text(answer) ? read_digits(answer->str, &number) : NULL;
-    *count = 0;
-    if (answer && answer->type == REDIS_REPLY_INTEGER && answer->integer >= 0) {
-        number = (unsigned long long)answer->integer;
-    } else if (!end || *end) {
-        return false;
-    }
-    if (number > (unsigned long long)most_counted) return false;
-    *count = (long long)number;
-    return true;
+    size_t digits = is_text(answer) ? read_digits(answer->str, answer->len, most_counted, &number) : 0;
+    bool is_integer = answer && answer->type == REDIS_REPLY_INTEGER && answer->integer >= 0;
+    if (is_integer) number = (unsigned long long)answer->integer;
+    bool is_count = is_integer ? number <= most_counted : digits && digits == answer->len;
+    *count = is_count ? (long long)number : 0;
+    return is_count;
 }
 
 long long count_of(const redisReply *answer) {

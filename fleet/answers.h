@@ -16,9 +16,6 @@ bool is_same_entry(struct entry_id a, struct entry_id b);
 bool read_entry_id(const char *text, struct entry_id *id);
 void write_entry_id(char text[DS_FLEET_ID], struct entry_id id);
 
-/* Reads decimal digits. Returns the text past them, or NULL: there are none, or the number is above 2^64 - 1. */
-const char *read_digits(const char *text, unsigned long long *number);
-
 bool is_text(const redisReply *answer);
 bool is_error(const redisReply *answer);
 /* Whether the answer is a list of `count` elements. */

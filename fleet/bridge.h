@@ -32,7 +32,9 @@ struct ds_fleet {
 
 /* Reads everything once more, from the stream's start. */
 void bridge_read_from_start(struct ds_fleet *fleet);
-/* Forgets what the server has: it is another one, or its stream is. */
-void bridge_begin_anew(struct ds_fleet *fleet);
+/* Reads what a server has of the stream. Returns INSTEP, or how an answer is refused. */
+enum ds_fleet_word bridge_look(struct ds_fleet *fleet, struct redisReply **looked, struct stock *stock);
+/* Forgets what the server had: it is another one, or its stream is, and has this. */
+void bridge_begin_anew(struct ds_fleet *fleet, const struct stock *stock);
 
 #endif

@@ -3,6 +3,7 @@
 #include "answers.h"
 #include "clock.h"
 #include "master.h"
+#include "options.h"
 #include <poll.h>
 #include <stdio.h>
 #include <stdlib.h>
@@ -80,24 +81,26 @@ static bool judge(const struct link *link, const char *stream) {
     return is_good;
 }
 
-bool check_server(const struct ds_fleet_options *options) {
-    struct link_address address;
-    struct master master = {.bell = -1};
+/* Asks each address until one answers. Returns whether that server will do. */
+static bool check_master(struct master *master, const char *stream) {
     struct link link = {0};
-    const char *stream = options->stream ? options->stream : "ds";
-    bool is_good = false;
-    if (!options->url || link_read(&address, options->url) != LINK_GOOD) return judged(false, fault, "address", "it can't be read");
-    if (options->password) address.password = (char *)options->password;
-    bool is_open = master_open(&master, &address);
-    const char *why = is_open ? asked(&master, &link, stream) : "out of descriptors";
-    for (size_t tries = 1; why && tries < address.count; tries++) {
+    const char *why = asked(master, &link, stream);
+    for (size_t tries = 1; why && tries < master->count; tries++) {
         judged(false, warning, "server", why);
-        master_failed(&master);
-        why = asked(&master, &link, stream);
+        master_failed(master);
+        why = asked(master, &link, stream);
     }
-    if (judged(!why, fault, "server", why)) is_good = judge(&link, stream);
+    bool is_good = judged(!why, fault, "server", why) && judge(&link, stream);
     link_close(&link);
+    return is_good;
+}
+
+bool check_server(const struct ds_fleet_options *options) {
+    struct master master = {.bell = -1};
+    enum ds_fleet_word word = master_open(&master, options->url, options->password);
+    bool is_good = word == DS_FLEET_INSTEP;
+    if (is_good) is_good = check_master(&master, options->stream ? options->stream : "ds");
+    else judged(false, fault, "address", options_explained(word));
     master_close(&master);
-    link_forget(&address);
     return is_good;
 }

@@ -77,9 +77,7 @@ static bool is_slow(const struct client *client, uint64_t now) {
     return client->out.length || (!ioctl(client->socket, SIOCOUTQ, &unread) && unread > 0);
 }
 
-/* Drops the client that has read nothing for longest, where the slow ones have more than half of the places, or of
- * the room. */
-static bool drop_slowest(struct clients *clients, bool for_place) {
+bool clients_drop_slowest(struct clients *clients, bool for_place) {
     uint64_t now = clock_now();
     size_t places = 0, room = 0, slowest = 0;
     for (size_t i = 0; i < clients->count; i++) {
@@ -105,8 +103,6 @@ void clients_drop_idle(struct clients *clients) {
         if (is_idle) drop_client(clients, i);
     }
 }
-
-bool clients_make_place(struct clients *clients) { return drop_slowest(clients, true); }
 
 /* ---- lines ---- */
 
@@ -245,7 +241,7 @@ bool clients_write(struct clients *clients) {
         if (is_done(client)) drop_client(clients, i);
         else clients->waiting += backlog(client);
     }
-    if (clients->crowded && clients->waiting >= clients->limits.all_output) ready = drop_slowest(clients, false);
+    if (clients->crowded && clients->waiting >= clients->limits.all_output) ready = clients_drop_slowest(clients, false);
     for (size_t i = 0; i < clients->count && !ready; i++) ready = is_ready(clients, clients->client[i]);
     return ready;
 }

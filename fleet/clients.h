@@ -74,8 +74,9 @@ struct clients {
 bool clients_add(struct clients *clients, int socket);
 /* Drops clients that sent nothing for as long as the limit says, are owed no answer, and listen to nothing. */
 void clients_drop_idle(struct clients *clients);
-/* Drops a slow client for one that waits to be taken in, where slow clients have more than half of the places. */
-bool clients_make_place(struct clients *clients);
+/* Drops the client that has read nothing for longest, for another one that needs its place or its room, where slow
+ * clients have more than half of the places, or of the room. */
+bool clients_drop_slowest(struct clients *clients, bool for_place);
 /* How a client is to be watched by poll: for reading while its last lines are answered and it reads its answers, for
  * writing where something is to be written; and always for hanging up, which poll reports by itself. */
 struct pollfd clients_watched(const struct clients *clients, const struct client *client);

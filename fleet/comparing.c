@@ -10,11 +10,10 @@ static const uint64_t not_digested = UINT64_MAX;
 /* The questions of a comparing, in their order; up to two more come after them. One transaction looks at the stream before anything is
  * written, so that a replica is looked at, too. */
 enum {
-    ASKED_REPLICATION, ASKED_MULTI, ASKED_STREAM, ASKED_SNAPSHOT, ASKED_BYTES, ASKED_ENTRIES, ASKED_EXEC,
-    ASKED_DIGESTS, ASKED_CLAIM
+    ASKED_REPLICATION, ASKED_MULTI, ASKED_LOOK,
+    ASKED_ENTRIES = ASKED_LOOK + LOOK_QUESTIONS, ASKED_EXEC, ASKED_DIGESTS, ASKED_CLAIM
 };
-enum { LOOKED_STREAM, LOOKED_SNAPSHOT, LOOKED_BYTES, LOOKED_ENTRIES, LOOKED_AT };
-enum { SNAPSHOT_AT, SNAPSHOT_TRIMMED, SNAPSHOT_SCOPE, SNAPSHOT_FIELDS };
+enum { LOOKED_ENTRIES = LOOK_QUESTIONS, LOOKED_AT };
 
 /* ---- digests ---- */
 
@@ -71,9 +70,7 @@ enum ds_fleet_word comparing_ask(struct ds_fleet *fleet) {
     comparing->asked = fleet->reading.last;
     link_ask(teller, "INFO replication");
     link_ask(teller, "MULTI");
-    link_ask(teller, "XINFO STREAM %s:items", fleet->stream);
-    link_ask(teller, "HMGET %s:snapshot at trimmed scope", fleet->stream);
-    link_ask(teller, "HSTRLEN %s:snapshot items", fleet->stream);
+    look_ask(teller, fleet->stream);
     ask_for_witnesses(fleet);
     link_ask(teller, "EXEC");
     link_ask(teller, "HGETALL %s:digests", fleet->stream);
@@ -97,48 +94,42 @@ static bool lacks_witness(const struct comparing *comparing, const redisReply *t
     return false;
 }
 
-/* A bridge tells again what the server lost. A stream that took the place of another one is read whole, too: one of another history, one that
- * ends before what was read or has had fewer entries, and one that lacks a witness. */
-static void look_for_loss(struct ds_fleet *fleet, const struct stock *stock, bool is_replaced) {
+/* A stream that lost something is read again, and the bridge tells what isn't there: one of another history, one that lacks a witness, one
+ * that ends before what was read, and one that has less than before. */
+static void look_for_loss(struct ds_fleet *fleet, const struct stock *stock, bool has_less) {
     struct comparing *comparing = &fleet->comparing;
     struct reading *reading = &fleet->reading;
     fleet->state.behind = stock->newest.first > reading->last.first ? stock->newest.first - reading->last.first : 0;
-    is_replaced = is_replaced || is_above(comparing->asked, stock->generated) || stock->added < comparing->stock.added;
-    if (is_replaced || (comparing->state == COMPARING_LOOKED && has_lost(&comparing->stock, stock))) {
-        items_say(&fleet->items, "lost: the server no longer has what it had, all is told again");
+    if (has_less || is_above(comparing->asked, stock->generated) || has_lost(&comparing->stock, stock)) {
+        items_say(&fleet->items, "lost: the server no longer has what it had, which is told again");
         fleet->telling.owes_all = true;
-    }
-    if (is_replaced) {
-        bridge_begin_anew(fleet);
-        server_reopen_listener(fleet);
-    } else {
-        trail_looked(&fleet->telling.trail);
-        trail_looked(&reading->trail);
-        if (!is_above(stock->newest, reading->last)) reading->read_up_to = stock->generated;
+        bridge_begin_anew(fleet, stock);
+        server_reopen_listener(&fleet->server);
+        return;
     }
     comparing->stock = *stock;
-    comparing->state = COMPARING_LOOKED;
+    trail_looked(&fleet->telling.trail);
+    trail_looked(&reading->trail);
+    if (!is_above(stock->newest, reading->last)) reading->read_up_to = stock->generated;
 }
 
 /* Whether an entry that was there a second ago hasn't come: the connection that waits for it may be dead, and nobody told us. */
 static bool is_deaf(const struct ds_fleet *fleet) {
-    if (fleet->comparing.state != COMPARING_LOOKED || fleet->reading.state != READING_END) return false;
+    if (fleet->reading.state != READING_END) return false;
     return is_above(fleet->comparing.stock.newest, fleet->reading.last) && clock_now() > fleet->server.listener.heard + PERIOD;
 }
 
 /* Looks at the answers to what was asked in one transaction. */
 static enum ds_fleet_word look_at_stream(struct ds_fleet *fleet, struct redisReply **looked, const redisReply *replication) {
-    struct redisReply *stream = looked[LOOKED_STREAM], *snapshot = looked[LOOKED_SNAPSHOT];
-    const redisReply *error = is_error(stream) && !is_no_stream(stream) ? stream : error_of(looked + 1, LOOKED_AT - 1);
-    if (error) return server_denied(fleet, error);
-    if (!is_list_of(snapshot, SNAPSHOT_FIELDS)) return server_puzzles(fleet, "no snapshot");
-    fleet->compacting.length = (long)count_of(field_of(stream, "length"));
+    struct stock stock = {.bytes = 0};
+    enum ds_fleet_word word = bridge_look(fleet, looked, &stock);
+    if (word != DS_FLEET_INSTEP) return word;
+    if (is_error(looked[LOOKED_ENTRIES])) return server_denied(fleet, looked[LOOKED_ENTRIES]);
     if (is_deaf(fleet)) return server_went(fleet, "what was there a second ago didn't come");
-    struct stock stock = read_stock(stream, snapshot->element[SNAPSHOT_AT], snapshot->element[SNAPSHOT_TRIMMED], looked[LOOKED_BYTES]);
-    bool is_replaced = server_changed_history(&fleet->server, replication);
-    is_replaced |= lacks_witness(&fleet->comparing, looked[LOOKED_ENTRIES], &stock);
-    look_for_loss(fleet, &stock, is_replaced);
-    const redisReply *scope = snapshot->element[SNAPSHOT_SCOPE];
+    bool has_less = server_changed_history(&fleet->server, replication);
+    has_less |= lacks_witness(&fleet->comparing, looked[LOOKED_ENTRIES], &stock);
+    look_for_loss(fleet, &stock, has_less);
+    const redisReply *scope = looked[LOOK_SNAPSHOT]->element[LOOK_SCOPE];
     return server_has_other_scope(fleet, scope) ? server_refuse_scope(fleet, scope) : DS_FLEET_INSTEP;
 }
 
@@ -178,14 +169,13 @@ enum ds_fleet_word comparing_answered(struct ds_fleet *fleet) {
     fleet->server.pause = 0;
     if (!items_may_regain(&fleet->items)) return DS_FLEET_INSTEP;
     bridge_read_from_start(fleet);
-    server_reopen_listener(fleet);
+    server_reopen_listener(&fleet->server);
     return DS_FLEET_INSTEP;
 }
 
-void comparing_forget(struct comparing *comparing) {
-    comparing->state = COMPARING_BLIND;
+void comparing_begin_anew(struct comparing *comparing, const struct stock *stock) {
     comparing->asked = NO_ENTRY;
-    comparing->stock = (struct stock){.bytes = 0};
+    comparing->stock = *stock;
     comparing->digested = not_digested;
     peers_forget_own(&comparing->peers);
 }

@@ -1,16 +1,15 @@
 /* Comparing: each second, whether the server has what it had, and whether others hold the same at the same entry.
  *
- *   state  | event                                      | becomes, and does
- *   -------+--------------------------------------------+---------------------------------------------------------------
- *   BLIND  | good answers                               | LOOKED: keeps what the stream has
- *   LOOKED | good answers                               | LOOKED: the same
- *   LOOKED | .. of a server that has less than before   | LOOKED: tells everything again
- *   any    | .. of a stream in place of another one     | LOOKED: reads everything again, and then tells it
- *   any    | .. with another scope                      | unchanged: badscope, and the connections end
- *   LOOKED | an entry of a second ago hasn't come       | unchanged: away, both connections are made anew
- *   any    | others differ, and this is the first of its kind | unchanged: tells everything again, less and less often
- *   any    | an error                                   | unchanged: denied
- *   any    | the server or its stream is another one    | BLIND */
+ * `stock` is what the stream had at the look before, the first one of which is that of the meeting.
+ *
+ *   state | event                                    | does
+ *   ------+------------------------------------------+-------------------------------------------------------------------
+ *   any   | good answers                             | keeps what the stream has
+ *   any   | .. of a server that lost something       | reads everything again, and then tells what isn't there
+ *   any   | .. with another scope                    | badscope, and the connections end
+ *   any   | an entry of a second ago hasn't come     | away, both connections are made anew
+ *   any   | others differ, and this is the first of its kind | tells everything again, less and less often
+ *   any   | an error                                 | denied */
 #ifndef DS_FLEET_COMPARING_H
 #define DS_FLEET_COMPARING_H
 
@@ -21,13 +20,7 @@ struct ds_fleet;
 
 enum { WITNESSES = 4 /* entries that have to be there: a stream that took the place of another one lacks one of them */ };
 
-enum comparing_state {
-    COMPARING_BLIND, /* nothing of this stream was looked at */
-    COMPARING_LOOKED /* `stock` is what it had at the comparing before */
-};
-
 struct comparing {
-    enum comparing_state state;
     uint64_t due_at;
     struct stock stock;
     struct entry_id asked;                /* the last entry read at the comparing before */
@@ -45,7 +38,7 @@ enum ds_fleet_word comparing_answered(struct ds_fleet *fleet);
 /* Another entry is about to be read. While entries come, all bridges take a digest where the second of the ids changes, so that they
  * take it at the same entry. */
 void comparing_next(struct ds_fleet *fleet, struct entry_id next);
-/* The server, or its stream, is another one. */
-void comparing_forget(struct comparing *comparing);
+/* The server, or its stream, is another one, which has this. */
+void comparing_begin_anew(struct comparing *comparing, const struct stock *stock);
 
 #endif

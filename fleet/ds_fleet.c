@@ -19,7 +19,6 @@ enum {
     RUN_BYTES = 16,    /* of the name of this run, which has two digits for each */
     RINGERS = 5,       /* of the bell: the timer, look-ups, two connections, and a Sentinel's */
     SOON = 100,        /* milliseconds to the next step if something is due that can't be done now */
-    SECOND = 1000,     /* milliseconds */
     NANOSECONDS = 1000000 /* of one millisecond */
 };
 
@@ -29,14 +28,24 @@ void bridge_read_from_start(struct ds_fleet *fleet) {
     fleet->reading.last = NO_ENTRY;
     fleet->reading.state = READING_BEHIND;
     *fleet->reading.passed = '\0';
-    items_begin_anew(&fleet->items);
+    items_begin_anew(&fleet->items, fleet->telling.owes_all);
 }
 
-void bridge_begin_anew(struct ds_fleet *fleet) {
+enum ds_fleet_word bridge_look(struct ds_fleet *fleet, struct redisReply **looked, struct stock *stock) {
+    const redisReply *error = error_of(looked, LOOK_QUESTIONS);
+    if (is_no_stream(error)) error = error_of(looked + 1, LOOK_QUESTIONS - 1);
+    if (error) return server_denied(fleet, error);
+    if (!is_list_of(looked[LOOK_SNAPSHOT], LOOK_FIELDS)) return server_puzzles(fleet, "no snapshot");
+    fleet->compacting.length = (long)count_of(field_of(looked[LOOK_STREAM], "length"));
+    *stock = look_answered(looked);
+    return DS_FLEET_INSTEP;
+}
+
+void bridge_begin_anew(struct ds_fleet *fleet, const struct stock *stock) {
     bridge_read_from_start(fleet);
     fleet->reading.read_up_to = NO_ENTRY;
     fleet->telling.trail = fleet->reading.trail = (struct trail){.sure = NO_ENTRY};
-    comparing_forget(&fleet->comparing);
+    comparing_begin_anew(&fleet->comparing, stock);
 }
 
 static enum ds_fleet_word round_answered(struct ds_fleet *fleet) {
@@ -69,6 +78,7 @@ static enum ds_fleet_word ask_next(struct ds_fleet *fleet) {
     if (is_at_end && fleet->telling.owes_all) {
         word = items_gather_all(&fleet->items);
         fleet->telling.owes_all = word != DS_FLEET_INSTEP;
+        if (word == DS_FLEET_INSTEP) items_forget_noted(&fleet->items);
     }
     if (fleet->server.state != SERVER_MET) {
         meeting_ask(fleet);
@@ -202,18 +212,27 @@ static bool ends_step(enum ds_fleet_word word) {
     return word == DS_FLEET_INSTEP || word == DS_FLEET_CLOSED || word == DS_FLEET_BADSCOPE || word == DS_FLEET_BADNAME;
 }
 
+/* Whether there is news that can be sent at once. */
+static bool has_news(const struct ds_fleet *fleet) {
+    return fleet->items.untold.length && fleet->server.state == SERVER_MET && fleet->server.round == ROUND_NONE;
+}
+
+/* The bell is heard at least once. News is sent before that, so that one wait is for its answer, too. */
 enum ds_fleet_word ds_fleet_step(struct ds_fleet *fleet, unsigned patience) {
     uint64_t end = clock_now() + patience;
-    hear_bell(fleet, 0);
+    enum ds_fleet_word gathered = items_gather(&fleet->items);
+    bool has_heard = !has_news(fleet);
+    if (has_heard) hear_bell(fleet, 0);
     for (;;) {
-        enum ds_fleet_word word = items_gather(&fleet->items);
-        if (word == DS_FLEET_INSTEP) word = turn_both(fleet);
+        if (gathered != DS_FLEET_INSTEP) gathered = items_gather(&fleet->items);
+        enum ds_fleet_word word = gathered == DS_FLEET_INSTEP ? turn_both(fleet) : gathered;
         set_bell(fleet, word);
         fleet->state.word = word;
         if (word == DS_FLEET_INSTEP) fleet->state.caught_up = true;
-        uint64_t time = clock_now();
-        if (ends_step(word) || time >= end) return word;
-        hear_bell(fleet, end - time < PERIOD ? (int)(end - time) : PERIOD);
+        uint64_t time = clock_now(), left = time < end ? end - time : 0;
+        if (ends_step(word) || (has_heard && !left)) return word;
+        hear_bell(fleet, left < PERIOD ? (int)left : PERIOD);
+        has_heard = true;
     }
 }
 
@@ -288,6 +307,7 @@ static bool is_watched(struct ds_fleet *fleet, int descriptor, void *ringer) {
 static bool name_run(struct ds_fleet *fleet) {
     unsigned char bytes[RUN_BYTES];
     if (getrandom(bytes, sizeof bytes, 0) != sizeof bytes) return false;
+    if (getrandom(&fleet->items.seed, sizeof fleet->items.seed, 0) != sizeof fleet->items.seed) return false;
     for (int i = 0; i < RUN_BYTES; i++) snprintf(fleet->me + 2 * i, sizeof "ff", "%02x", bytes[i]);
     return true;
 }
@@ -309,7 +329,7 @@ enum ds_fleet_word ds_fleet_open(struct ds_fleet **fleet, struct ds_handle *stor
     made->items.store = store;
     made->bell = made->timer = made->server.master.bell = -1;
     made->state.word = DS_FLEET_LATE;
-    comparing_forget(&made->comparing);
+    comparing_begin_anew(&made->comparing, &(struct stock){.bytes = 0});
     enum ds_fleet_word word = name_run(made) ? read_options(made, options) : DS_FLEET_SYSTEM;
     if (word == DS_FLEET_INSTEP) word = items_gather_all(&made->items);
     if (word == DS_FLEET_INSTEP) word = make_bell(made);

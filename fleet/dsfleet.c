@@ -21,14 +21,13 @@
 
 enum {
     RING = 4096,
-    SECOND = 1000,     /* milliseconds */
     LAST = 2 * SECOND, /* for what clients wait for at the end */
     REST = 100,        /* before a client is taken in again, where none could be */
     DESCRIPTORS = 32,  /* that aren't clients' */
     LARGE = 1 << 20    /* bytes of a large block of memory */
 };
 
-struct host {
+struct program {
     struct ds_handle store;
     struct ds_fleet *fleet;
     struct clients clients;
@@ -45,100 +44,96 @@ static void tell(void *context, const char *line) {
     log_say(context, is_fine ? LOG_INFO : LOG_WARN, "%s", line);
 }
 
-static int failed(struct host *host, const char *what) {
-    log_say(&host->log, LOG_ERROR, "%s: %s", what, strerror(errno));
-    return FAILED;
-}
-
 /* ---- a turn ---- */
 
 /* Takes in the clients that wait, up to the limit. Where one can't be, as out of descriptors, the listener rests, since
  * poll would report it again and again. */
-static void admit(struct host *host) {
-    struct pollfd waiting = {.fd = host->place.listener, .events = POLLIN};
+static void admit(struct program *program) {
+    struct pollfd waiting = {.fd = program->place.listener, .events = POLLIN};
     while (poll(&waiting, 1, 0) > 0) {
-        bool is_full = host->clients.count == host->clients.limits.clients && !clients_make_place(&host->clients);
-        int client = is_full ? -1 : accept4(host->place.listener, NULL, NULL, SOCK_NONBLOCK | SOCK_CLOEXEC);
-        if (client >= 0 && clients_add(&host->clients, client)) continue;
-        host->admit_at = clock_now() + REST;
+        bool is_full = program->clients.count == program->clients.limits.clients && !clients_drop_slowest(&program->clients, true);
+        int client = is_full ? -1 : accept4(program->place.listener, NULL, NULL, SOCK_NONBLOCK | SOCK_CLOEXEC);
+        if (client >= 0 && clients_add(&program->clients, client)) continue;
+        program->admit_at = clock_now() + REST;
         return;
     }
 }
 
 /* Waits until there is something to do, and reads what clients sent. */
-static void wait_and_read(struct host *host, bool ready) {
+static void wait_and_read(struct program *program, bool ready) {
     struct pollfd polled[CLIENTS + 3];
-    size_t count = host->clients.count;
-    bool rests = clock_now() < host->admit_at;
-    polled[0] = (struct pollfd){.fd = host->signals, .events = POLLIN};
-    polled[1] = (struct pollfd){.fd = ds_fleet_bell(host->fleet), .events = POLLIN};
-    polled[2] = (struct pollfd){.fd = rests ? -1 : host->place.listener, .events = POLLIN};
-    for (size_t i = 0; i < count; i++) polled[i + 3] = clients_watched(&host->clients, host->clients.client[i]);
+    size_t count = program->clients.count;
+    bool rests = clock_now() < program->admit_at;
+    polled[0] = (struct pollfd){.fd = program->signals, .events = POLLIN};
+    polled[1] = (struct pollfd){.fd = ds_fleet_bell(program->fleet), .events = POLLIN};
+    polled[2] = (struct pollfd){.fd = rests ? -1 : program->place.listener, .events = POLLIN};
+    for (size_t i = 0; i < count; i++) polled[i + 3] = clients_watched(&program->clients, program->clients.client[i]);
     int patience = rests ? REST : SECOND;
     if (poll(polled, count + 3, ready ? 0 : patience) <= 0) return;
     struct signalfd_siginfo signal;
-    host->ended |= polled[0].revents && read(host->signals, &signal, sizeof signal) > 0;
-    for (size_t i = 0; i < count; i++) clients_read(host->clients.client[i], polled[i + 3].revents);
-    if (polled[2].revents) admit(host);
+    program->ended |= polled[0].revents && read(program->signals, &signal, sizeof signal) > 0;
+    for (size_t i = 0; i < count; i++) clients_read(program->clients.client[i], polled[i + 3].revents);
+    if (polled[2].revents) admit(program);
 }
 
 /* The address without its user and password. */
 static const char *public_part(const char *url) {
-    const char *front = strstr(url, "://"), *rest = front ? front + 3 : url;
+    static const char mark[] = "://";
+    const char *front = strstr(url, mark), *rest = front ? front + strlen(mark) : url;
     const char *at = *rest == '/' ? NULL : strrchr(rest, '@');
     return at ? at + 1 : rest;
 }
 
 /* Says once what it waits for, where the socket isn't made at once. */
-static void tell_waiting(struct host *host, enum ds_fleet_word word) {
-    bool is_soon = word == DS_FLEET_LATE && clock_now() < host->begun + SECOND;
-    if (host->told_waiting || host->place.listener >= 0 || is_soon) return;
-    host->told_waiting = true;
-    log_say(&host->log, LOG_INFO, "waits: for the redis server %s; the socket %s is made once the store has caught up",
-            public_part(host->url), host->place.path);
+static void tell_waiting(struct program *program, enum ds_fleet_word word) {
+    bool is_soon = word == DS_FLEET_LATE && clock_now() < program->begun + SECOND;
+    if (program->told_waiting || program->place.listener >= 0 || is_soon) return;
+    program->told_waiting = true;
+    log_say(&program->log, LOG_INFO, "waits: for the redis server %s; the socket %s is made once the store has caught up",
+            public_part(program->url), program->place.path);
 }
 
 /* What is done each second. */
-static void look_after(struct host *host, enum ds_fleet_word word) {
+static void look_after(struct program *program, enum ds_fleet_word word) {
     uint64_t now = clock_now();
-    if (now < host->looked_at + SECOND) return;
-    host->looked_at = now;
-    place_keep(&host->place);
-    clients_drop_idle(&host->clients);
-    log_count(&host->log);
-    notify("STATUS=%s, %zu clients\nWATCHDOG=1", ds_fleet_word(word), host->clients.count);
+    if (now < program->looked_at + SECOND) return;
+    program->looked_at = now;
+    place_keep(&program->place);
+    clients_drop_idle(&program->clients);
+    log_count(&program->log);
+    notify("STATUS=%s, %zu clients\nWATCHDOG=1", ds_fleet_word(word), program->clients.count);
 }
 
 /* -1: continue; else the status to end with. */
-static int turn(struct host *host, bool *ready) {
+static int turn(struct program *program, bool *ready) {
     uint8_t owed[16] = {0};
-    wait_and_read(host, *ready);
-    clients_answer(&host->clients);
-    enum ds_fleet_word word = ds_fleet_step(host->fleet, 0);
-    ds_fleet_owed(host->fleet, owed);
-    clients_owe(&host->clients, owed);
-    *ready = clients_write(&host->clients);
-    if (word == DS_FLEET_INSTEP && host->place.listener < 0) {
-        if (!place_serve(&host->place)) return FAILED;
+    wait_and_read(program, *ready);
+    clients_answer(&program->clients);
+    enum ds_fleet_word word = ds_fleet_step(program->fleet, 0);
+    ds_fleet_owed(program->fleet, owed);
+    clients_owe(&program->clients, owed);
+    *ready = clients_write(&program->clients);
+    if (word == DS_FLEET_INSTEP && program->place.listener < 0) {
+        if (!place_serve(&program->place)) return FAILED;
         notify("READY=1");
     }
-    tell_waiting(host, word);
-    look_after(host, word);
+    tell_waiting(program, word);
+    look_after(program, word);
     bool is_unfit = word == DS_FLEET_BADSCOPE || word == DS_FLEET_BADNAME;
-    bool is_misused = is_unfit && host->place.listener < 0; /* one that serves may find its scope again */
+    bool is_misused = is_unfit && program->place.listener < 0; /* one that serves may find its scope again */
     if (word != DS_FLEET_CLOSED && !is_misused) return -1;
-    log_say(&host->log, LOG_ERROR, "%s: %s", ds_fleet_word(word), options_explained(word));
+    log_say(&program->log, LOG_ERROR, "%s: %s", ds_fleet_word(word), options_explained(word));
     return is_misused ? USAGE : FAILED;
 }
 
 /* Serves until a signal comes, and then as long as clients wait for answers, but not for ever. */
-static int run(struct host *host) {
+static int run(struct program *program) {
     bool ready = false;
     int status = -1;
-    while (!host->ended && status < 0) status = turn(host, &ready);
+    while (!program->ended && status < 0) status = turn(program, &ready);
     notify("STOPPING=1");
     uint64_t end = clock_now() + LAST;
-    while (status < 0 && !clients_are_done(&host->clients) && clock_now() < end) status = turn(host, &ready);
+    while (status < 0 && !clients_are_done(&program->clients) && clock_now() < end) status = turn(program, &ready);
     return status < 0 ? DONE : status;
 }
 
@@ -153,20 +148,20 @@ static void give_memory_back(void) {
 }
 
 /* Allows as many descriptors as there may be clients, if the system does. */
-static void allow_descriptors(struct host *host) {
+static void allow_descriptors(struct program *program) {
     struct rlimit limit;
-    rlim_t wanted = host->clients.limits.clients + DESCRIPTORS;
+    rlim_t wanted = program->clients.limits.clients + DESCRIPTORS;
     if (getrlimit(RLIMIT_NOFILE, &limit) || limit.rlim_cur >= wanted) return;
     rlim_t allowed = limit.rlim_cur;
     limit.rlim_cur = limit.rlim_max < wanted ? limit.rlim_max : wanted;
     if (!setrlimit(RLIMIT_NOFILE, &limit)) allowed = limit.rlim_cur;
     if (allowed == wanted) return;
-    log_say(&host->log, LOG_WARN, "descriptors: %llu are allowed, so fewer than %zu clients are served at once",
-            (unsigned long long)allowed, host->clients.limits.clients);
+    log_say(&program->log, LOG_WARN, "descriptors: %llu are allowed, so fewer than %zu clients are served at once",
+            (unsigned long long)allowed, program->clients.limits.clients);
 }
 
 /* Lets signals be read from a descriptor. A write to a client that hung up raises none. */
-static bool hold_signals(struct host *host) {
+static bool hold_signals(struct program *program) {
     sigset_t ends;
     sigemptyset(&ends);
     sigaddset(&ends, SIGTERM);
@@ -174,48 +169,48 @@ static bool hold_signals(struct host *host) {
     sigaddset(&ends, SIGHUP);
     sigprocmask(SIG_BLOCK, &ends, NULL);
     signal(SIGPIPE, SIG_IGN);
-    host->signals = signalfd(-1, &ends, SFD_CLOEXEC);
-    return host->signals >= 0;
+    program->signals = signalfd(-1, &ends, SFD_CLOEXEC);
+    return program->signals >= 0;
 }
 
-static int open_all(struct host *host, const struct options *options) {
+static int open_all(struct program *program, const struct options *options) {
     struct timespec it;
     give_memory_back();
     if (options->shows_password) {
-        log_say(&host->log, LOG_WARN, "password: other users saw it in the URL until now: use --password-file, or DSFLEET_PASSWORD");
+        log_say(&program->log, LOG_WARN, "password: other users saw it in the URL until now: use --password-file, or DSFLEET_PASSWORD");
     }
-    allow_descriptors(host);
+    allow_descriptors(program);
     clock_gettime(CLOCK_REALTIME, &it); /* each run has another incarnation */
-    if (ds_open(&host->store, (uint64_t)it.tv_sec * 1000000000 + (uint64_t)it.tv_nsec, 0, RING)) {
-        log_say(&host->log, LOG_ERROR, "noroom: out of memory");
+    if (ds_open(&program->store, (uint64_t)it.tv_sec * 1000000000 + (uint64_t)it.tv_nsec, 0, RING)) {
+        log_say(&program->log, LOG_ERROR, "noroom: out of memory");
         return FAILED;
     }
-    enum ds_fleet_word word = ds_fleet_open(&host->fleet, &host->store, &options->fleet);
-    if (word == DS_FLEET_SYSTEM) return failed(host, ds_fleet_word(word));
+    enum ds_fleet_word word = ds_fleet_open(&program->fleet, &program->store, &options->fleet);
     if (word != DS_FLEET_INSTEP) {
-        log_say(&host->log, LOG_ERROR, "%s: %s", ds_fleet_word(word), options_explained(word));
-        return word == DS_FLEET_NOROOM ? FAILED : USAGE;
+        log_say(&program->log, LOG_ERROR, "%s: %s", ds_fleet_word(word), options_explained(word));
+        return word == DS_FLEET_NOROOM || word == DS_FLEET_SYSTEM ? FAILED : USAGE;
     }
-    host->clients.store = &host->store;
-    host->clients.fleet = host->fleet;
-    host->clients.log = &host->log;
-    host->begun = clock_now();
-    if (!hold_signals(host)) return failed(host, "signalfd");
-    return place_lock(&host->place) ? DONE : FAILED;
+    program->clients.store = &program->store;
+    program->clients.fleet = program->fleet;
+    program->clients.log = &program->log;
+    program->begun = clock_now();
+    if (hold_signals(program)) return place_lock(&program->place) ? DONE : FAILED;
+    log_say(&program->log, LOG_ERROR, "signalfd: %s", strerror(errno));
+    return FAILED;
 }
 
-static void close_all(struct host *host) {
-    clients_close(&host->clients);
-    place_leave(&host->place);
-    if (host->signals >= 0) close(host->signals);
-    ds_fleet_close(host->fleet);
-    ds_close(&host->store);
-    log_close(&host->log);
+static void close_all(struct program *program) {
+    clients_close(&program->clients);
+    place_leave(&program->place);
+    if (program->signals >= 0) close(program->signals);
+    ds_fleet_close(program->fleet);
+    ds_close(&program->store);
+    log_close(&program->log);
 }
 
 int main(int count, char **words) {
     struct options options = {.fleet = {.tell = tell}};
-    struct host host = {.store = DS_CLOSED, .place = {.lock = -1, .listener = -1}, .signals = -1};
+    struct program program = {.store = DS_CLOSED, .place = {.lock = -1, .listener = -1}, .signals = -1};
     int status = options_read(count, words, &options);
     if (status >= 0) return status;
     if (options.checks) {
@@ -223,17 +218,17 @@ int main(int count, char **words) {
         free(options.url);
         return status;
     }
-    log_open(&host.log, options.logs_json);
-    host.place.path = options.socket;
-    host.place.access = options.access;
-    host.place.log = &host.log;
-    host.clients.limits = options.limits;
-    host.clients.rights = options.rights;
-    host.url = options.fleet.url;
-    options.fleet.context = &host.log;
-    status = open_all(&host, &options);
-    if (status == DONE) status = run(&host);
-    close_all(&host);
+    log_open(&program.log, options.logs_json);
+    program.place.path = options.socket;
+    program.place.access = options.access;
+    program.place.log = &program.log;
+    program.clients.limits = options.limits;
+    program.clients.rights = options.rights;
+    program.url = options.fleet.url;
+    options.fleet.context = &program.log;
+    status = open_all(&program, &options);
+    if (status == DONE) status = run(&program);
+    close_all(&program);
     free(options.url);
     return status;
 }

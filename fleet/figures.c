@@ -2,10 +2,14 @@
 #include "figures.h"
 #include <string.h>
 
-static const char show[] = "show"; /* the line that counts the live entries */
+static const char state_word[] = "state", metrics_word[] = "metrics";
+
+static bool is_word(const char *line, size_t length, const char *word) {
+    return length == strlen(word) && !memcmp(line, word, length);
+}
 
 bool figures_asked(const char *line, size_t length) {
-    return (length == 5 && !memcmp(line, "state", 5)) || (length == 7 && !memcmp(line, "metrics", 7));
+    return is_word(line, length, state_word) || is_word(line, length, metrics_word);
 }
 
 static bool put_count(struct text *to, const char *name, uint64_t count) {
@@ -41,6 +45,7 @@ static bool put_heads(struct text *to, const char *name, const char *help) {
 
 /* The live entries, or -1 where memory runs out. */
 static double entries_of(struct ds_handle *store) {
+    static const char show[] = "show";
     struct ds_answer answer;
     return ds_call_line(store, show, sizeof show - 1, &answer) || answer.word != DS_SHOWN ? -1 : (double)answer.count;
 }
@@ -81,5 +86,5 @@ static bool put_metrics(const struct clients *clients, const struct ds_fleet_sta
 bool figures_put(const struct clients *clients, const char *line, struct text *to) {
     struct ds_fleet_state state;
     ds_fleet_state(clients->fleet, &state);
-    return *line == 's' ? put_state(clients, &state, to) : put_metrics(clients, &state, to);
+    return *line == *state_word ? put_state(clients, &state, to) : put_metrics(clients, &state, to);
 }

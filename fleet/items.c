@@ -67,12 +67,52 @@ static enum ds_fleet_word fetch_items(struct ds_handle *store, const struct ds_a
     return DS_FLEET_INSTEP;
 }
 
+/* ---- what the server has ---- */
+
+static int compare_hashes(const void *a, const void *b) {
+    const uint64_t *one = a, *other = b;
+    return (*one > *other) - (*one < *other);
+}
+
+/* Without memory nothing is noted, and everything goes there again. */
+void items_note(struct items *items, const char *lines, size_t length) {
+    while (items->notes && length) {
+        size_t line = first_lines(lines, length, 1);
+        uint64_t hash = hashed(items->seed, lines, lines[line - 1] == '\n' ? line - 1 : line);
+        if (!text_put(&items->noted, &hash, sizeof hash)) items_forget_noted(items);
+        lines += line;
+        length -= line;
+    }
+}
+
+void items_forget_noted(struct items *items) {
+    items->notes = false;
+    text_free(&items->noted);
+}
+
+/* Drops the lines of what is untold, from a place on, that the server has. */
+static void drop_noted(struct items *items, size_t from) {
+    struct text *untold = &items->untold, *noted = &items->noted;
+    size_t kept = from, count = noted->length / sizeof(uint64_t);
+    if (!count) return;
+    qsort(noted->bytes, count, sizeof(uint64_t), compare_hashes);
+    for (size_t at = from, line; at < untold->length; at += line) {
+        line = first_lines(untold->bytes + at, untold->length - at, 1);
+        uint64_t hash = hashed(items->seed, untold->bytes + at, line - 1);
+        if (bsearch(&hash, noted->bytes, count, sizeof hash, compare_hashes)) continue;
+        memmove(untold->bytes + kept, untold->bytes + at, line);
+        kept += line;
+    }
+    untold->length = kept;
+}
+
 /* ---- own news ---- */
 
 static enum ds_fleet_word keep_untold(struct items *items, const struct ds_answer *answer) {
     size_t before = items->untold.length;
     enum ds_fleet_word word = fetch_items(items->store, answer, &items->untold);
     if (word != DS_FLEET_INSTEP) return word;
+    if (answer->word == DS_SNAPPED) drop_noted(items, before);
     items->gathered += items->untold.length - before;
     items->incarnation = answer->before;
     items->position = answer->after;
@@ -140,7 +180,11 @@ bool items_may_regain(const struct items *items) {
     return items->lost && refused_now(items) <= items->lost_beside / 2;
 }
 
-void items_begin_anew(struct items *items) { items->lost = items->lost_beside = 0; }
+void items_begin_anew(struct items *items, bool notes) {
+    items->lost = items->lost_beside = 0;
+    items_forget_noted(items);
+    items->notes = notes;
+}
 
 /* Keeps a refused line in the second store, by which a newer one of the same key takes its place. */
 static enum ds_fleet_word set_aside(struct items *items, const char *entry, const char *line, size_t length, uint32_t refusal) {
@@ -203,14 +247,14 @@ static void count_unread(struct items *items, const char *entry, const char *lin
 }
 
 /* Merges lines, and says how many bytes of them are done: up to a line that is refused, and with it. */
-static enum ds_fleet_word merge_lines(struct items *items, const char *entry, const char *lines, size_t length, unsigned count, size_t *done) {
+static enum ds_fleet_word merge_lines(struct items *items, const char *entry, const char *lines, size_t length, bool is_one, size_t *done) {
     struct ds_request request = {.command = DS_MERGE, .text_length = length};
     struct ds_answer answer;
     *done = 0;
     if (ds_call(items->store, &request, lines, length, &answer)) return DS_FLEET_CLOSED;
     if (answer.word == DS_REFUSED && answer.refusal == DS_NOROOM) return DS_FLEET_NOROOM;
     if (answer.word == DS_NOREQUEST || answer.word == DS_REFUSED) {
-        if (count > 1) return DS_FLEET_INSTEP; /* none is done, and they come one by one */
+        if (!is_one) return DS_FLEET_INSTEP; /* none is done, and they come one by one */
         *done = length;
         count_unread(items, entry, lines, length);
         return DS_FLEET_INSTEP;
@@ -226,16 +270,16 @@ static enum ds_fleet_word merge_lines(struct items *items, const char *entry, co
     return word;
 }
 
-/* Merges lines each of which has its newline. */
+/* Merges lines each of which has its newline. After one that ends a merge they come one by one, and then more and more again: those past
+ * it are read anew, and many may be refused. */
 static enum ds_fleet_word take_ended(struct items *items, const char *entry, const char *lines, size_t length) {
     unsigned count = ITEMS_MOST;
-    size_t singly = 0; /* how many bytes come one by one, since they can't be read together */
     while (length) {
-        size_t done, part = first_lines(lines, length, singly ? 1 : count);
-        enum ds_fleet_word word = merge_lines(items, entry, lines, part, singly || first_lines(lines, part, 1) == part ? 1 : count, &done);
+        size_t done, part = first_lines(lines, length, count);
+        enum ds_fleet_word word = merge_lines(items, entry, lines, part, first_lines(lines, part, 1) == part, &done);
         if (word != DS_FLEET_INSTEP) return word;
-        if (!done) singly = part;
-        else singly -= done < singly ? done : singly;
+        if (done < part) count = 1;
+        else if (count < ITEMS_MOST) count *= 2;
         lines += done;
         length -= done;
     }
@@ -246,6 +290,7 @@ enum ds_fleet_word items_take(struct items *items, const char *entry, const char
     enum ds_fleet_word word = items_gather(items);
     struct text ended = {0};
     if (word != DS_FLEET_INSTEP || !length) return word;
+    items_note(items, lines, length);
     if (lines[length - 1] == '\n') return take_ended(items, entry, lines, length);
     bool fits = text_put(&ended, lines, length) && text_put(&ended, "\n", 1);
     word = fits ? take_ended(items, entry, ended.bytes, ended.length) : DS_FLEET_NOROOM;
@@ -286,4 +331,5 @@ void items_close(struct items *items) {
     if (items->has_aside) ds_close(&items->aside[items->here]);
     text_free(&items->scope);
     text_free(&items->untold);
+    text_free(&items->noted);
 }

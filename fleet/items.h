@@ -21,6 +21,9 @@ struct items {
     uint64_t incarnation, position; /* how far the journal was read */
     struct text untold;             /* the lines of what took effect, until a server has answered for them */
     uint64_t gathered;              /* bytes that untold ever got */
+    bool notes;                     /* while all is read, the server's lines are noted, so that only what it lacks goes there again: */
+    struct text noted;              /* hashes of lines, */
+    uint64_t seed;                  /* with a seed of this run, so that no publisher can make two lines of one hash */
     bool news;                      /* something is refused since items_retry */
     uint64_t tried;                 /* the store's position then */
     uint64_t unread;
@@ -38,19 +41,23 @@ struct items {
 
 /* Puts what took effect since to what is untold. */
 enum ds_fleet_word items_gather(struct items *items);
-/* Puts all that is held to what is untold, and continues from the store's end. */
+/* Puts all that is held to what is untold, but for what is noted, and continues from the store's end. */
 enum ds_fleet_word items_gather_all(struct items *items);
 /* Merges lines of an entry, whose id is for the log of what is refused. Own news is gathered first: what comes after it
  * in the journal is then what was merged, and isn't sent again. A refused line ends nothing. */
 enum ds_fleet_word items_take(struct items *items, const char *entry, const char *lines, size_t length);
+/* Notes lines that the server has, if they are to be noted. */
+void items_note(struct items *items, const char *lines, size_t length);
+/* Forgets what is noted, and notes no more. */
+void items_forget_noted(struct items *items);
 /* Counts and logs an entry that has no items. */
 void items_unread_entry(struct items *items, const char *entry);
 /* Offers what was refused again, where something changed since. */
 enum ds_fleet_word items_retry(struct items *items);
 /* Whether half of what was refused when items were lost has been taken in since: then there is room to read what was lost once more. */
 bool items_may_regain(const struct items *items);
-/* All is read anew: what was lost comes again. */
-void items_begin_anew(struct items *items);
+/* All is read anew: what was lost comes again. `notes`: it is noted. */
+void items_begin_anew(struct items *items, bool notes);
 /* Appends everything held, and everything refused, to the text. */
 enum ds_fleet_word items_all(struct items *items, struct text *to);
 /* A number that differs, but for a slip in 2^64, where another store holds something else. */

@@ -12,30 +12,9 @@ struct redisReply;
 
 enum {
     LINK_MOST = 40,      /* questions of one round */
-    LINK_ADDRESSES = 8,  /* in one URL */
     LINK_WORDS = 256,    /* bytes of what a server said, with its zero */
     LINK_SILENCE = 5000  /* milliseconds in which something of an answer has to come */
 };
-
-/* Where a server is, and the user and password for it. */
-struct link_address {
-    char *text; /* what the others point into; to be freed by link_forget */
-    struct { char *host; int port; } at[LINK_ADDRESSES]; /* servers to be tried in order, or Sentinels */
-    size_t count;   /* of these; 0: */
-    char *path;     /* the server's socket */
-    char *master;   /* the name by which the Sentinels know the server; NULL: there are none */
-    char *user;     /* or NULL */
-    char *password; /* or NULL */
-    int database;
-};
-
-enum link_url { LINK_GOOD, LINK_BAD, LINK_TLS, LINK_NOROOM };
-
-/* Reads redis://[[USER]:PASSWORD@]HOST[:PORT][,HOST[:PORT]..][/DATABASE], redis-sentinel://[[USER]:PASSWORD@]HOST[:PORT][,..]/NAME[/DATABASE]
- * or unix://[[USER]:PASSWORD@]/PATH; %XX is a byte of USER and PASSWORD. LINK_TLS: it is rediss://. If it isn't LINK_GOOD there is
- * nothing to forget. */
-enum link_url link_read(struct link_address *address, const char *url);
-void link_forget(struct link_address *address);
 
 /* How a server is called. */
 struct link_call {

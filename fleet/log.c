@@ -11,7 +11,6 @@
 #include <unistd.h>
 
 enum {
-    SECOND = 1000,
     COUNTED_EACH = 10 * SECOND,
     LOG_WHOLE = 6 * LOG_PASSED + 200, /* bytes of the longest line: in JSON a byte may take six */
     LOG_NAME = 100
@@ -107,7 +106,8 @@ void log_pass(struct log *log, const char *name, const char *line, size_t length
 void log_count(struct log *log) {
     char line[LOG_LINE];
     if (!log->left_out || clock_now() < log->count_at) return;
-    const char *format = log->as_json ? "{\"level\":\"" LOG_WARN "\",\"event\":\"left_out\",\"lines\":%llu}\n" : LOG_WARN " event=left_out lines=%llu\n";
+    const char *format = LOG_WARN " event=left_out lines=%llu\n";
+    if (log->as_json) format = "{\"level\":\"" LOG_WARN "\",\"event\":\"left_out\",\"lines\":%llu}\n";
     int length = snprintf(line, sizeof line, format, (unsigned long long)log->left_out);
     if (!written(log, line, (size_t)length)) return;
     log->left_out = 0;

@@ -1,12 +1,20 @@
 /* How a loss is noticed. See loss.h. */
 #include "loss.h"
 
-struct stock read_stock(const redisReply *stream, const redisReply *at, const redisReply *trimmed, const redisReply *bytes) {
-    const redisReply *newest = field_of(stream, "last-entry");
-    struct stock stock = {.snapshot = id_of(at), .generated = id_of(field_of(stream, "last-generated-id")), .bytes = count_of(bytes)};
+void look_ask(struct link *link, const char *stream) {
+    link_ask(link, "XINFO STREAM %s:items", stream);
+    link_ask(link, "HMGET %s:snapshot at trimmed scope", stream);
+    link_ask(link, "HSTRLEN %s:snapshot items", stream);
+}
+
+struct stock look_answered(struct redisReply **looked) {
+    const redisReply *stream = looked[LOOK_STREAM], *newest = field_of(stream, "last-entry");
+    redisReply **fields = looked[LOOK_SNAPSHOT]->element;
+    struct stock stock = {.snapshot = id_of(fields[LOOK_AT]), .generated = id_of(field_of(stream, "last-generated-id"))};
     if (is_list_of(newest, 2)) stock.newest = id_of(newest->element[0]);
+    stock.bytes = count_of(looked[LOOK_BYTES]);
     stock.added = count_of(field_of(stream, "entries-added"));
-    stock.gone = stock.added - count_of(field_of(stream, "length")) - count_of(trimmed);
+    stock.gone = stock.added - count_of(field_of(stream, "length")) - count_of(fields[LOOK_TRIMMED]);
     if (is_above(stock.snapshot, stock.generated)) { /* of no entry that there ever was */
         stock.snapshot = NO_ENTRY;
         stock.bytes = 0;
@@ -15,7 +23,7 @@ struct stock read_stock(const redisReply *stream, const redisReply *at, const re
 }
 
 bool has_lost(const struct stock *before, const struct stock *now) {
-    if (is_above(before->snapshot, now->snapshot) || now->gone > before->gone) return true;
+    if (is_above(before->snapshot, now->snapshot) || now->gone > before->gone || now->added < before->added) return true;
     return now->bytes < before->bytes && !is_above(now->snapshot, before->snapshot);
 }
 

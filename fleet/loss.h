@@ -4,6 +4,11 @@
 #define DS_FLEET_LOSS_H
 
 #include "answers.h"
+#include "link.h"
+
+/* The questions of a look at a stream, and the fields of the snapshot. They come in one transaction. */
+enum { LOOK_STREAM, LOOK_SNAPSHOT, LOOK_BYTES, LOOK_QUESTIONS };
+enum { LOOK_AT, LOOK_TRIMMED, LOOK_SCOPE, LOOK_FIELDS };
 
 /* What a server has of a stream. */
 struct stock {
@@ -14,9 +19,11 @@ struct stock {
     long long added, gone;     /* entries that were ever added; those that went otherwise than into the snapshot */
 };
 
-/* Reads the answers to XINFO STREAM, and to `at`, `trimmed` and the length of `items` of the snapshot. */
-struct stock read_stock(const redisReply *stream, const redisReply *at, const redisReply *trimmed, const redisReply *bytes);
-/* Whether a server has less than before: the snapshot is older or smaller, or entries went and not into it. */
+/* Asks the questions of a look, after a MULTI. */
+void look_ask(struct link *link, const char *stream);
+/* Reads what the transaction answered to them; to LOOK_SNAPSHOT a list of LOOK_FIELDS. Another answer of another kind counts as none. */
+struct stock look_answered(struct redisReply **looked);
+/* Whether a server has less than before: the snapshot is older or smaller, entries went and not into it, or fewer were ever added. */
 bool has_lost(const struct stock *before, const struct stock *now);
 
 /* Entries of one origin, as those that a bridge told. While the stream is the same one, each of them is in it, or in the snapshot. A

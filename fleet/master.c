@@ -1,22 +1,147 @@
 /* Where the master is. See master.h. */
 #include "master.h"
 #include "answers.h"
+#include "text.h"
 #include <stdio.h>
 #include <stdlib.h>
 #include <string.h>
 #include <sys/eventfd.h>
 #include <unistd.h>
 
+enum {
+    SERVER_PORT = 6379,
+    SENTINEL_PORT = 26379,
+    LAST_PORT = 65535,
+    LAST_DATABASE = 1 << 20,
+    MOST_PASSWORD = 255 /* bytes of a password beside the URL */
+};
+
 enum { NAMED_HOST, NAMED_PORT, NAMED_PARTS }; /* a Sentinel's answer */
 
-bool master_open(struct master *master, const struct link_address *address) {
-    master->address = address;
-    master->call = (struct link_call){
-        .path = address->path, .user = address->user, .password = address->password, .database = address->database};
-    master->bell = eventfd(0, EFD_NONBLOCK | EFD_CLOEXEC);
-    for (size_t i = 0; i < address->count; i++) host_open(&master->host[i], address->at[i].host, master->bell);
-    return master->bell >= 0;
+/* ---- the URL ---- */
+
+static int hex_digit(char byte) {
+    if (byte >= '0' && byte <= '9') return byte - '0';
+    if (byte >= 'a' && byte <= 'f') return byte - 'a' + 10;
+    return byte >= 'A' && byte <= 'F' ? byte - 'A' + 10 : -1;
 }
+
+/* Replaces each %XX by its byte. */
+static bool decode_percents(char *text) {
+    char *to = text;
+    for (const char *from = text; *from; from++, to++) {
+        *to = *from;
+        if (*from != '%') continue;
+        if (hex_digit(from[1]) < 0 || hex_digit(from[2]) < 0) return false;
+        *to = (char)(hex_digit(from[1]) * 16 + hex_digit(from[2]));
+        if (!*to) return false;
+        from += 2;
+    }
+    *to = '\0';
+    return true;
+}
+
+/* Reads a number of at most this, or -1. */
+static int read_number(const char *text, int most) {
+    unsigned long long number;
+    size_t digits = read_digits(text, strlen(text), (unsigned long long)most, &number);
+    return digits && !text[digits] ? (int)number : -1;
+}
+
+/* Cuts the text at the first slash. Returns what is after it, or NULL. */
+static char *cut_at_slash(char *text) {
+    char *slash = strchr(text, '/');
+    if (!slash) return NULL;
+    *slash = '\0';
+    return slash + 1;
+}
+
+/* Cuts off what is before the last `@`, and returns what is after it. NULL: it can't be read. */
+static char *read_user(struct master *master, char *text) {
+    char *at = *text == '/' ? NULL : strrchr(text, '@');
+    if (!at) return text;
+    *at = '\0';
+    char *colon = strchr(text, ':');
+    if (!colon) return NULL;
+    *colon = '\0';
+    master->call.user = *text ? text : NULL;
+    master->call.password = colon + 1;
+    return decode_percents(text) && decode_percents(colon + 1) ? at + 1 : NULL;
+}
+
+/* Reads one address of the list, HOST[:PORT]. */
+static bool read_address(struct master *master, char *text, int port) {
+    char *bracket = *text == '[' ? strchr(text, ']') : NULL;
+    char *colon = strrchr(bracket ? bracket : text, ':');
+    if (master->count == MASTER_ADDRESSES) return false;
+    if (bracket) {
+        *bracket = '\0';
+        text++;
+    }
+    if (colon) {
+        port = read_number(colon + 1, LAST_PORT);
+        *colon = '\0';
+    }
+    struct address *address = &master->listed[master->count++];
+    host_open(&address->host, text, master->bell);
+    address->port = port;
+    return *text && port > 0;
+}
+
+static bool read_addresses(struct master *master, char *text, int port) {
+    bool good = true;
+    for (char *each; good && (each = strsep(&text, ","));) good = read_address(master, each, port);
+    return good;
+}
+
+static bool read_database(struct master *master, const char *text) {
+    if (text && *text) master->call.database = read_number(text, LAST_DATABASE);
+    return master->call.database >= 0;
+}
+
+static bool read_servers(struct master *master, char *text) {
+    return read_database(master, cut_at_slash(text)) && read_addresses(master, text, SERVER_PORT);
+}
+
+static bool read_sentinels(struct master *master, char *text) {
+    char *name = cut_at_slash(text);
+    master->known_as = name;
+    return name && read_database(master, cut_at_slash(name)) && *name && read_addresses(master, text, SENTINEL_PORT);
+}
+
+static bool read_path(struct master *master, char *text) {
+    master->call.path = text;
+    return *text == '/';
+}
+
+static enum ds_fleet_word read_url(struct master *master, const char *url) {
+    static const struct { const char *front; bool (*read)(struct master *, char *); } kinds[] = {
+        {"redis://", read_servers}, {"redis-sentinel://", read_sentinels}, {"unix://", read_path},
+    };
+    if (text_begins(url, strlen(url), "rediss://")) return DS_FLEET_NOTLS;
+    for (size_t i = 0; i < sizeof kinds / sizeof *kinds; i++) {
+        if (!text_begins(url, strlen(url), kinds[i].front)) continue;
+        master->url = strdup(url);
+        if (!master->url) return DS_FLEET_NOROOM;
+        char *rest = read_user(master, master->url + strlen(kinds[i].front));
+        return rest && kinds[i].read(master, rest) ? DS_FLEET_INSTEP : DS_FLEET_BADURL;
+    }
+    return DS_FLEET_BADURL;
+}
+
+enum ds_fleet_word master_open(struct master *master, const char *url, const char *password) {
+    if (!url || (password && strlen(password) > MOST_PASSWORD)) return DS_FLEET_BADURL;
+    master->bell = eventfd(0, EFD_NONBLOCK | EFD_CLOEXEC);
+    if (master->bell < 0) return DS_FLEET_SYSTEM;
+    enum ds_fleet_word word = read_url(master, url);
+    if (word != DS_FLEET_INSTEP) return word;
+    master->password = password ? strdup(password) : NULL;
+    if (password && !master->password) return DS_FLEET_NOROOM;
+    if (password) master->call.password = master->password;
+    return DS_FLEET_INSTEP;
+}
+
+/* ---- finding it ---- */
 
 static enum host_found unknown(struct master *master, const char *why) {
     master->state = MASTER_LISTED;
@@ -24,29 +149,29 @@ static enum host_found unknown(struct master *master, const char *why) {
     return HOST_UNKNOWN;
 }
 
-/* Finds the address of a host, and how to call its port. */
-static enum host_found find_port(struct master *master, struct host *host, int port, uint64_t now) {
-    enum host_found found = host_find(host, now);
-    if (found == HOST_UNKNOWN) return unknown(master, host->said);
-    master->call.host = host->address;
-    master->call.port = port;
+/* Finds how to call an address. */
+static enum host_found find_address(struct master *master, struct address *address, uint64_t now) {
+    enum host_found found = host_find(&address->host, now);
+    if (found == HOST_UNKNOWN) return unknown(master, address->host.said);
+    master->call.host = address->host.address;
+    master->call.port = address->port;
     return found;
 }
 
 static void name_master(struct master *master, const char *host, int port) {
-    bool is_known = master->named.bell && !strncmp(master->named.name, host, HOST_NAME - 1);
-    if (!is_known) { /* else its last address is kept */
-        host_close(&master->named);
-        host_open(&master->named, host, master->bell);
+    struct address *named = &master->named;
+    if (strncmp(named->host.name, host, HOST_NAME - 1)) { /* else its last address is kept */
+        host_close(&named->host);
+        host_open(&named->host, host, master->bell);
     }
-    master->named_port = port;
+    named->port = port;
     master->state = MASTER_NAMED;
 }
 
 static enum host_found ask_sentinel(struct master *master, uint64_t now) {
     struct link_call call = {.host = master->call.host, .port = master->call.port};
     if (!link_open(&master->sentinel, &call, now)) return unknown(master, master->sentinel.said);
-    link_ask(&master->sentinel, "SENTINEL get-master-addr-by-name %s", master->address->master);
+    link_ask(&master->sentinel, "SENTINEL get-master-addr-by-name %s", master->known_as);
     master->state = MASTER_ASKED;
     return HOST_SOUGHT;
 }
@@ -64,16 +189,15 @@ static enum host_found hear_sentinel(struct master *master, uint64_t now) {
     if (port > 0) name_master(master, answer->element[NAMED_HOST]->str, (int)port);
     link_close(&master->sentinel);
     if (port <= 0) return unknown(master, "the Sentinel knows no such master");
-    return find_port(master, &master->named, master->named_port, now);
+    return find_address(master, &master->named, now);
 }
 
 enum host_found master_find(struct master *master, uint64_t now) {
-    size_t turn = master->turn;
-    if (master->address->path) return HOST_FOUND;
+    if (master->call.path) return HOST_FOUND;
     if (master->state == MASTER_ASKED) return hear_sentinel(master, now);
-    if (master->state == MASTER_NAMED) return find_port(master, &master->named, master->named_port, now);
-    enum host_found found = find_port(master, &master->host[turn], master->address->at[turn].port, now);
-    return found == HOST_FOUND && master->address->master ? ask_sentinel(master, now) : found;
+    if (master->state == MASTER_NAMED) return find_address(master, &master->named, now);
+    enum host_found found = find_address(master, &master->listed[master->turn], now);
+    return found == HOST_FOUND && master->known_as ? ask_sentinel(master, now) : found;
 }
 
 void master_hear(struct master *master) {
@@ -82,7 +206,7 @@ void master_hear(struct master *master) {
 }
 
 static struct host *host_in_use(struct master *master) {
-    return master->state == MASTER_NAMED ? &master->named : &master->host[master->turn];
+    return master->state == MASTER_NAMED ? &master->named.host : &master->listed[master->turn].host;
 }
 
 void master_worked(struct master *master) { host_worked(host_in_use(master)); }
@@ -91,26 +215,27 @@ void master_failed(struct master *master) {
     host_failed(host_in_use(master));
     link_close(&master->sentinel);
     master->state = MASTER_LISTED;
-    if (master->address->count) master->turn = (master->turn + 1) % master->address->count;
+    if (master->count) master->turn = (master->turn + 1) % master->count;
 }
 
 void master_moved(struct master *master, const char *place) {
     char host[HOST_NAME];
     const char *colon = strrchr(place, ':');
     size_t length = colon ? (size_t)(colon - place) : 0;
-    int port = colon ? atoi(colon + 1) : 0;
-    if (!length || length >= sizeof host || port <= 0 || master->address->path) return;
+    int port = colon ? read_number(colon + 1, LAST_PORT) : 0;
+    if (!length || length >= sizeof host || port <= 0 || master->call.path) return;
     memcpy(host, place, length);
     host[length] = '\0';
     name_master(master, host, port);
 }
 
-bool master_has_others(const struct master *master) { return master->address->count > 1 || master->address->master; }
+bool master_has_others(const struct master *master) { return master->count > 1 || master->known_as; }
 
 void master_close(struct master *master) {
-    if (!master->address) return;
-    for (size_t i = 0; i < master->address->count; i++) host_close(&master->host[i]);
-    host_close(&master->named);
+    for (size_t i = 0; i < master->count; i++) host_close(&master->listed[i].host);
+    host_close(&master->named.host);
     link_close(&master->sentinel);
     if (master->bell >= 0) close(master->bell);
+    free(master->url);
+    free(master->password);
 }

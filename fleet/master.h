@@ -1,5 +1,5 @@
-/* Where the master is: one of the addresses of the URL in order, the one that a Sentinel names, or the one to which a node of a cluster
- * sends. Used by server.c alone.
+/* Where the master is: one of the addresses of a URL in order, the one that a Sentinel names, or the one to which a node of a cluster
+ * sends. Used by server.c and check.c.
  *
  *   state   | event                       | becomes, and does
  *   --------+-----------------------------+--------------------------------------------------------------
@@ -15,27 +15,34 @@
 #ifndef DS_FLEET_MASTER_H
 #define DS_FLEET_MASTER_H
 
+#include "ds_fleet.h"
 #include "host.h"
 #include "link.h"
 
+enum { MASTER_ADDRESSES = 8 /* in one URL */ };
+
 enum master_state { MASTER_LISTED, MASTER_ASKED, MASTER_NAMED };
 
-/* It begins with zeros. */
+struct address { struct host host; int port; };
+
+/* It begins with zeros, but for the bell. */
 struct master {
     enum master_state state;
-    const struct link_address *address;
-    struct host host[LINK_ADDRESSES]; /* those of the URL */
-    struct host named;                /* in NAMED: the one that was named, */
-    int named_port;                   /* and its port */
-    struct link sentinel;             /* in ASKED */
-    size_t turn;                      /* which address of the URL is due */
-    int bell;                         /* an eventfd, which rings when a look-up has ended */
-    struct link_call call;            /* once it is found: how it is called */
-    const char *said;                 /* why it is unknown */
+    struct address listed[MASTER_ADDRESSES]; /* servers to be tried in order, or Sentinels; */
+    size_t count, turn;                      /* how many, and which of them is due */
+    struct address named;                    /* in NAMED */
+    struct link sentinel;                    /* in ASKED */
+    int bell;                                /* an eventfd, which rings when a look-up has ended; -1: there is none */
+    struct link_call call;                   /* once it is found: how it is called */
+    char *url, *password;                    /* copies, into which `call` and `known_as` point */
+    const char *known_as;                    /* the name by which the Sentinels know it; NULL: there are none */
+    const char *said;                        /* why it is unknown */
 };
 
-/* Returns false if there is no descriptor for the bell; errno says why. */
-bool master_open(struct master *master, const struct link_address *address);
+/* Reads redis://[[USER]:PASSWORD@]HOST[:PORT][,HOST[:PORT]..][/DATABASE], redis-sentinel://[[USER]:PASSWORD@]HOST[:PORT][,..]/NAME[/DATABASE]
+ * or unix://[[USER]:PASSWORD@]/PATH; %XX is a byte of USER and PASSWORD. A `password` replaces the URL's. Either may be NULL.
+ * Returns INSTEP, BADURL, NOTLS for rediss://, NOROOM, or SYSTEM, and then errno says why. In each case it is ended by master_close. */
+enum ds_fleet_word master_open(struct master *master, const char *url, const char *password);
 /* Finds where to call, without waiting. HOST_SOUGHT: call again when the bell or the Sentinel's connection rings, or after HOST_PATIENCE. */
 enum host_found master_find(struct master *master, uint64_t now);
 /* Silences the bell. */

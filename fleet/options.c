@@ -1,6 +1,7 @@
 /* The command line of dsfleet. See options.h. */
 #include "options.h"
 #include "log.h"
+#include <errno.h>
 #include <fcntl.h>
 #include <getopt.h>
 #include <stdio.h>
@@ -221,6 +222,8 @@ const char *options_explained(enum ds_fleet_word word) {
         return "the pattern of the scope can't be read, or isn't the one that the stream has";
     case DS_FLEET_NOROOM:
         return "out of memory";
+    case DS_FLEET_SYSTEM:
+        return strerror(errno);
     default:
         return "no store is open";
     }

@@ -1,5 +1,7 @@
 /* The other bridges of a stream. See peers.h. */
 #include "peers.h"
+#include "text.h"
+#include <limits.h>
 #include <stdio.h>
 #include <stdlib.h>
 #include <string.h>
@@ -35,8 +37,9 @@ static bool read_digest(const char *text, struct digest *digest, unsigned long l
     if (strspn(text, "0123456789abcdef") != HEX_DIGITS || text[HEX_DIGITS] != '-') return false;
     memcpy(hex, text, HEX_DIGITS);
     digest->value = strtoull(hex, NULL, 16);
-    const char *at = read_digits(text + HEX_DIGITS + 1, beat);
-    return at && *at == '-' && read_entry_id(at + 1, &digest->at);
+    const char *rest = text + HEX_DIGITS + 1;
+    size_t digits = read_digits(rest, strlen(rest), ULLONG_MAX, beat);
+    return digits && rest[digits] == '-' && read_entry_id(rest + digits + 1, &digest->at);
 }
 
 static struct peer *peer_of(struct peers *peers, const char *id) {

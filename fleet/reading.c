@@ -38,7 +38,9 @@ static enum ds_fleet_word take_entry(struct ds_fleet *fleet, const redisReply *e
     comparing_next(fleet, id);
     if (!is_text(lines)) {
         items_unread_entry(&fleet->items, name->str);
-    } else if (!is_text(from) || strcmp(from->str, fleet->me)) {
+    } else if (is_text(from) && !strcmp(from->str, fleet->me)) {
+        items_note(&fleet->items, lines->str, lines->len);
+    } else {
         word = items_take(&fleet->items, name->str, lines->str, lines->len);
         fleet->state.entries_read++;
     }

@@ -2,7 +2,6 @@
 #include "bridge.h"
 #include "clock.h"
 #include <stdio.h>
-#include <stdlib.h>
 #include <string.h>
 #include <sys/random.h>
 
@@ -88,10 +87,6 @@ enum ds_fleet_word server_denied(struct ds_fleet *fleet, const redisReply *error
 
 /* ---- it is called ---- */
 
-static bool opens(struct ds_fleet *fleet, struct link *link) {
-    return link_open(link, &fleet->server.master.call, clock_now());
-}
-
 enum ds_fleet_word server_call(struct ds_fleet *fleet) {
     struct server *server = &fleet->server;
     uint64_t time = clock_now();
@@ -104,25 +99,27 @@ enum ds_fleet_word server_call(struct ds_fleet *fleet) {
     case HOST_UNKNOWN: return server_went(fleet, server->master.said);
     case HOST_SOUGHT: server->call_at = time + HOST_PATIENCE; return server->parted; /* or when a bell rings */
     }
-    if (!opens(fleet, &server->teller)) return server_went(fleet, server->teller.said);
-    if (!opens(fleet, &server->listener)) return server_went(fleet, server->listener.said);
+    if (!link_open(&server->teller, &server->master.call, time)) return server_went(fleet, server->teller.said);
+    if (!link_open(&server->listener, &server->master.call, time)) return server_went(fleet, server->listener.said);
     server->state = SERVER_CALLED;
     return DS_FLEET_INSTEP;
 }
 
-void server_reopen_listener(struct ds_fleet *fleet) { opens(fleet, &fleet->server.listener); }
+void server_reopen_listener(struct server *server) { link_open(&server->listener, &server->master.call, clock_now()); }
 
 /* ---- meeting ---- */
 
 /* The questions of a meeting, in their order. */
-enum { MEETING_INFO, MEETING_CLAIM, MEETING_SCOPE };
+enum { MEETING_INFO, MEETING_CLAIM, MEETING_MULTI, MEETING_LOOK, MEETING_EXEC = MEETING_LOOK + LOOK_QUESTIONS, MEETING_QUESTIONS };
 
 void meeting_ask(struct ds_fleet *fleet) {
     struct link *teller = &fleet->server.teller;
     fleet->server.round = ROUND_MEETING;
     link_ask(teller, "INFO");
     link_ask(teller, "HSETNX %s:snapshot scope %s", fleet->stream, fleet->scope);
-    link_ask(teller, "HGET %s:snapshot scope", fleet->stream);
+    link_ask(teller, "MULTI");
+    look_ask(teller, fleet->stream);
+    link_ask(teller, "EXEC");
 }
 
 bool server_changed_history(struct server *server, const redisReply *replication) {
@@ -133,8 +130,8 @@ bool server_changed_history(struct server *server, const redisReply *replication
     return is_another;
 }
 
-/* A server process that wasn't met, or that took over another one's history, may have lost its end: everything is read again, and then
- * told again. Returns whether it is such a one. */
+/* A server process that wasn't met, or that took over another one's history, may have lost its end: the bridge reads everything again, and
+ * then tells what isn't there. Returns whether it is such a one. */
 static bool note_server(struct ds_fleet *fleet, const redisReply *info) {
     struct server *server = &fleet->server;
     char run[DS_FLEET_ID];
@@ -170,15 +167,21 @@ static void log_meeting(struct ds_fleet *fleet, bool may_evict) {
 /* A replica takes no scope. If it has the right one, and no other server is known, it is met: a bridge sees what becomes of the stream. */
 enum ds_fleet_word meeting_answered(struct ds_fleet *fleet) {
     struct server *server = &fleet->server;
-    struct redisReply **answers = server->teller.answers, *info = answers[MEETING_INFO], *scope = answers[MEETING_SCOPE];
+    struct redisReply **answers = server->teller.answers, *info = answers[MEETING_INFO], *looked = answers[MEETING_EXEC];
     if (is_error(info)) return server_denied(fleet, info);
     bool may_evict = info_may_evict(info);
     if (info_splits(info, fleet->stream)) {
         return server_hang_up(fleet, DS_FLEET_BADNAME, "the server is of a cluster: give the stream a name in braces, as {ds}");
     }
     if (info_says(info, "role:slave") && master_has_others(&server->master)) return server_hang_up(fleet, DS_FLEET_DENIED, "it is a replica");
-    if (note_server(fleet, info)) bridge_begin_anew(fleet);
-    if (is_error(scope)) return server_denied(fleet, scope);
+    const redisReply *error = error_of(answers + MEETING_MULTI, MEETING_QUESTIONS - MEETING_MULTI);
+    if (error) return server_denied(fleet, error);
+    if (!is_list_of(looked, LOOK_QUESTIONS)) return server_puzzles(fleet, "no transaction");
+    struct stock stock = {.bytes = 0};
+    enum ds_fleet_word word = bridge_look(fleet, looked->element, &stock);
+    if (word != DS_FLEET_INSTEP) return word;
+    const redisReply *scope = looked->element[LOOK_SNAPSHOT]->element[LOOK_SCOPE];
+    if (note_server(fleet, info)) bridge_begin_anew(fleet, &stock);
     if (server_has_other_scope(fleet, scope)) return server_refuse_scope(fleet, scope);
     if (!is_text(scope) && is_error(answers[MEETING_CLAIM])) return server_denied(fleet, answers[MEETING_CLAIM]);
     server->state = SERVER_MET;
@@ -191,36 +194,17 @@ enum ds_fleet_word meeting_answered(struct ds_fleet *fleet) {
 
 /* ---- opening and closing ---- */
 
-static enum ds_fleet_word read_address(struct link_address *address, const char *url) {
-    switch (url ? link_read(address, url) : LINK_BAD) {
-    case LINK_BAD: return DS_FLEET_BADURL;
-    case LINK_TLS: return DS_FLEET_NOTLS;
-    case LINK_NOROOM: return DS_FLEET_NOROOM;
-    case LINK_GOOD: break;
-    }
-    return DS_FLEET_INSTEP;
-}
-
 enum ds_fleet_word server_open(struct ds_fleet *fleet, const struct ds_fleet_options *options) {
     struct server *server = &fleet->server;
-    enum ds_fleet_word word = read_address(&server->address, options->url);
-    if (word != DS_FLEET_INSTEP) return word;
     server->parted = DS_FLEET_AWAY;
     server->logs_meeting = true;
-    if (options->password) {
-        if (strlen(options->password) >= sizeof server->password) return DS_FLEET_BADURL;
-        snprintf(server->password, sizeof server->password, "%s", options->password);
-        server->address.password = server->password;
-    }
-    if (!master_open(&server->master, &server->address)) return DS_FLEET_SYSTEM;
     snprintf(server->name, sizeof server->name, "dsfleet-%.8s", fleet->me);
     server->master.call.name = server->name;
-    return DS_FLEET_INSTEP;
+    return master_open(&server->master, options->url, options->password);
 }
 
 void server_close(struct server *server) {
     link_close(&server->teller);
     link_close(&server->listener);
     master_close(&server->master);
-    link_forget(&server->address);
 }

@@ -5,7 +5,7 @@
  *   AWAY    | the pause is over, master found    | CALLED: opens both connections
  *   AWAY    | no master is found                 | AWAY: a longer pause
  *   CALLED  | a meeting answered, as it should   | MET
- *   CALLED  | .. by another server or history    | MET: everything is read, and then told again
+ *   CALLED  | .. by another server or history    | MET: everything is read, and then told what isn't there
  *   CALLED  | .. with another scope              | AWAY: badscope
  *   CALLED  | .. by a cluster, keys on many nodes| AWAY: badname
  *   CALLED  | .. by a replica, others are listed | AWAY: denied
@@ -31,7 +31,6 @@ enum round { ROUND_NONE, ROUND_MEETING, ROUND_TELLING, ROUND_FETCHING, ROUND_COM
 struct server {
     enum server_state state;
     enum round round;                              /* ROUND_NONE in AWAY */
-    struct link_address address;
     struct master master;
     struct link teller, listener;                  /* open in CALLED and MET */
     enum ds_fleet_word parted;                     /* in AWAY: AWAY, or why there is no connection by choice */
@@ -39,7 +38,7 @@ struct server {
     char run[DS_FLEET_ID], history[DS_FLEET_ID];   /* of the server that was met last, or nothing */
     uint64_t pause;                                /* milliseconds of the last pause; 0: the server was of use since */
     uint64_t call_at, ask_at;                      /* in AWAY, when a server is called; when what was denied is tried again */
-    char password[DS_FLEET_SAID], name[DS_FLEET_ID];
+    char name[DS_FLEET_ID];                        /* of both connections */
 };
 
 enum ds_fleet_word server_open(struct ds_fleet *fleet, const struct ds_fleet_options *options);
@@ -49,7 +48,7 @@ bool server_is_connected(const struct server *server);
 /* Calls a server if there is none. Returns INSTEP if both connections are open, else why not. */
 enum ds_fleet_word server_call(struct ds_fleet *fleet);
 /* Opens the listener's connection anew: a reading may wait there for what comes after an entry that is no longer the last one read. */
-void server_reopen_listener(struct ds_fleet *fleet);
+void server_reopen_listener(struct server *server);
 
 /* Both connections end. What got no answer is sent to the next server. */
 enum ds_fleet_word server_hang_up(struct ds_fleet *fleet, enum ds_fleet_word word, const char *why);

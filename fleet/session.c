@@ -10,37 +10,32 @@ static const char listen[] = "listen ", subscribe[] = "subscribe ", check[] = "c
 
 /* ---- the parts of a line ---- */
 
-static bool begins(const char *line, size_t length, const char *front) {
-    return length >= strlen(front) && !memcmp(line, front, strlen(front));
-}
-
 /* Reads a number without leading zeros up to `most`, followed by `end`, or by the line's end where `end` is 0. Returns its length, or 0. */
-static size_t read_number(const char *text, size_t length, long most, char end, long *number) {
-    size_t digits = 0;
-    for (*number = 0; digits < length && text[digits] >= '0' && text[digits] <= '9' && *number <= most; digits++) {
-        *number = *number * 10 + (text[digits] - '0');
-    }
-    bool is_number = digits && *number <= most && (digits == 1 || *text != '0');
+static size_t read_number(const char *text, size_t length, unsigned most, char end, long *number) {
+    unsigned long long value;
+    size_t digits = read_digits(text, length, most, &value);
+    bool is_plain = digits == 1 || (digits && *text != '0');
     bool is_ended = end ? digits < length && text[digits] == end : digits == length;
-    return is_number && is_ended ? digits : 0;
+    *number = (long)value;
+    return is_plain && is_ended ? digits : 0;
 }
 
 /* The subscription that `listen SUB` names, or -1. */
 static long listened(const char *line, size_t length) {
     long sub;
-    if (!begins(line, length, listen)) return -1;
+    if (!text_begins(line, length, listen)) return -1;
     return read_number(line + strlen(listen), length - strlen(listen), CLIENT_SUBS - 1, 0, &sub) ? sub : -1;
 }
 
 /* The subscription that `subscribe SUB ..` or `check SUB ..` names, or -1. */
 static long named_sub(const char *line, size_t length, const char *front) {
     long sub;
-    if (!begins(line, length, front)) return -1;
+    if (!text_begins(line, length, front)) return -1;
     return read_number(line + strlen(front), length - strlen(front), CLIENT_SUBS - 1, ' ', &sub) ? sub : -1;
 }
 
 bool session_is_short(const char *line, size_t length) {
-    return lines_is_short(line, length) || figures_asked(line, length) || listened(line, length) >= 0 || begins(line, length, as);
+    return lines_is_short(line, length) || figures_asked(line, length) || listened(line, length) >= 0 || text_begins(line, length, as);
 }
 
 /* ---- what a client may ---- */
@@ -49,7 +44,7 @@ bool session_is_short(const char *line, size_t length) {
 static bool is_change(const char *line, size_t length, const char **sender, size_t *sender_length) {
     static const char *const changes[] = {"publish ", "delete ", "sweep ", "offer "};
     for (size_t i = 0; i < sizeof changes / sizeof *changes; i++) {
-        if (!begins(line, length, changes[i])) continue;
+        if (!text_begins(line, length, changes[i])) continue;
         *sender = line + strlen(changes[i]);
         const char *space = memchr(*sender, ' ', length - strlen(changes[i]));
         *sender_length = space && strcmp(changes[i], "offer ") ? (size_t)(space - *sender) : 0;
@@ -129,7 +124,7 @@ static bool rewrite(struct text *to, long sub, const char *rest, size_t length, 
 
 /* Notes that the client has a subscription from now on, if the answer from `before` on says so. `is_chosen`: a line `sub SUB` names it. */
 static bool note_subscribed(struct client *client, long sub, size_t before, bool is_chosen) {
-    if (!begins(client->held.bytes + before, client->held.length - before, "subscribed ")) return true;
+    if (!text_begins(client->held.bytes + before, client->held.length - before, "subscribed ")) return true;
     client->owns[sub / 8] |= (uint8_t)(1 << sub % 8);
     return !is_chosen || text_print(&client->held, "sub %ld\n", sub);
 }
@@ -148,7 +143,7 @@ static bool answer_subscribe(struct clients *clients, struct client *client, con
     bool fits = rewrite(&rewritten, sub, query, left - (size_t)(query - rest), owns(client, sub));
     fits = fits && put_answer(clients, client, rewritten.bytes, rewritten.length, holds);
     text_free(&rewritten);
-    if (!fits || !begins(client->held.bytes + before, client->held.length - before, "badline ")) {
+    if (!fits || !text_begins(client->held.bytes + before, client->held.length - before, "badline ")) {
         return fits && note_subscribed(client, sub, before, is_chosen);
     }
     client->held.length = before;
@@ -168,8 +163,8 @@ bool session_answer(struct clients *clients, struct client *client, const char *
     }
     if (checked >= 0 && is_owned(clients, client, checked)) return refuse(client, "notallowed");
     if (figures_asked(line, length)) return figures_put(clients, line, &client->held);
-    if (begins(line, length, as)) return bind_endpoint(client, line + strlen(as), length - strlen(as));
-    if (begins(line, length, subscribe)) return answer_subscribe(clients, client, line, length, holds);
+    if (text_begins(line, length, as)) return bind_endpoint(client, line + strlen(as), length - strlen(as));
+    if (text_begins(line, length, subscribe)) return answer_subscribe(clients, client, line, length, holds);
     return put_answer(clients, client, line, length, holds);
 }
 
@@ -178,7 +173,7 @@ void session_carry_out(struct clients *clients, struct client *client, const cha
     bool is_whole = !client->too_long;
     client->too_long = false;
     if (!is_whole || !lines_is_short(line, length) || refusal_of(client, line, length)) return;
-    if (begins(line, length, subscribe)) return; /* it would be nobody's */
+    if (text_begins(line, length, subscribe)) return; /* it would be nobody's */
     lines_answer(clients->store, line, length, NULL, &said);
     clients_owe(clients, said.owed);
 }

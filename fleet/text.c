@@ -67,3 +67,17 @@ size_t first_lines(const char *bytes, size_t length, unsigned lines) {
     }
     return end;
 }
+
+bool text_begins(const char *bytes, size_t length, const char *front) {
+    return length >= strlen(front) && !memcmp(bytes, front, strlen(front));
+}
+
+size_t read_digits(const char *bytes, size_t length, unsigned long long most, unsigned long long *number) {
+    size_t digits = 0;
+    for (*number = 0; digits < length && bytes[digits] >= '0' && bytes[digits] <= '9'; digits++) {
+        unsigned digit = (unsigned)(bytes[digits] - '0');
+        if (digit > most || *number > (most - digit) / 10) return 0;
+        *number = *number * 10 + digit;
+    }
+    return digits;
+}

@@ -1,4 +1,4 @@
-/* Bytes that grow. A text begins with zeros and ends with text_free. */
+/* Bytes that grow, and how the front of bytes is read. A text begins with zeros and ends with text_free. */
 #ifndef DS_FLEET_TEXT_H
 #define DS_FLEET_TEXT_H
 
@@ -16,7 +16,12 @@ bool text_move(struct text *text, struct text *from);
 /* Drops bytes from the front. A text that becomes empty gives large memory back. */
 void text_drop(struct text *text, size_t length);
 void text_free(struct text *text);
+
 /* How many bytes the first lines have, as many as there are at most. */
 size_t first_lines(const char *bytes, size_t length, unsigned lines);
+/* Whether bytes begin with a text. */
+bool text_begins(const char *bytes, size_t length, const char *front);
+/* Reads the decimal digits at the front. Returns how many there are, or 0: there are none, or the number is above `most`. */
+size_t read_digits(const char *bytes, size_t length, unsigned long long most, unsigned long long *number);
 
 #endif

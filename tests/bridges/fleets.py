@@ -26,6 +26,10 @@ class Gone(Exception):
     """The bridge ended, or hung up, before it answered."""
 
 
+class Skipped(Exception):
+    """Why a scene can't be played here."""
+
+
 def until(so, what, seconds=PATIENCE):
     """Waits until it is so, and gives that; else it fails with what was waited for."""
     end = time.monotonic() + seconds

@@ -12,6 +12,7 @@ import stores
 from fleets import ROOT, Fleet, Gone, Names, Proxy, until
 from model import lines as reader
 from model.store import Store
+from scripted import Scripted
 
 REST = 2.6  # seconds in which bridges compare twice
 
@@ -155,6 +156,44 @@ def a_server_that_lost_its_end(fleet, draw):
     fleet.ask("XADD", "ds:items", "*", "from", "x", "items", number("other", 1, 1) + "\n")
     until(lambda: {it.encode() for it in lines + late} <= set(fleet.told()), "what it lost is told again", 5)
     shows(fleet.start(), [*lines, *late, number("other", 1, 1)])
+
+
+def only_what_is_lost_is_told_again(fleet, draw):
+    """What a server has that comes back, nobody tells it again."""
+    bridges = [fleet.start() for _ in range(3)]
+    lines, late = numbers("a", 300), numbers("late", 5)
+    offer(bridges[0], *lines)
+    for bridge in bridges:
+        shows(bridge, lines)
+    fleet.keep_copy()
+    offer(bridges[1], *late)
+    for bridge in bridges:
+        shows(bridge, lines + late)
+    fleet.restore_copy()
+    until(lambda: {it.encode() for it in lines + late} <= set(fleet.told()), "what it lost is told again", 5)
+    time.sleep(REST)
+    told = len(fleet.told())
+    assert told <= len(lines) + len(bridges) * len(late), f"{told} lines are told, of {len(lines)} that it has and {len(late)} that it lost"
+
+
+def a_snapshot_lost_while_it_is_read(fleet, draw):
+    """A snapshot that somebody deletes once another server's bridge has read it, and before that compares, is told again."""
+    script = Scripted(fleet.port)
+    bridge, lines = fleet.start(url=script.url()), numbers("a", 60)
+    for line in lines:
+        offer(bridge, line)
+    until(lambda: fleet.entries() <= 20, "the stream is compacted")
+
+    def lose(raw):
+        fleet.ask("HDEL", "ds:snapshot", "items")
+        return raw
+
+    lost = script.script("HMGET ds:snapshot at items", lose)
+    script.script("INFO", lambda raw: raw.replace(b"run_id:", b"run_id:0", 1).replace(b"\r\nredis_git_sha1:00000000", b"\r\nredis_git_sha1:0000000", 1), 1 << 30)
+    script.cut()
+    until(lost.is_used, "the snapshot is read", 10)
+    until(lambda: {it.encode() for it in lines} <= set(fleet.told()), "what was in it is told again", 10)
+    script.close()
 
 
 # ---- reading ----
@@ -975,9 +1014,10 @@ from history_scenes import *
 from master_scenes import *
 from right_scenes import *
 from state_scenes import *
+from tunnel_scenes import *
 
 SCENES = [it for it in dict(globals()).values() if callable(it) and getattr(it, "__code__", None) and it.__code__.co_varnames[:2] == ("fleet", "draw")]
 COMPACTED = (  # with few entries kept
     "a_start_behind_a_compaction", "a_snapshot_that_is_lost", "paused_and_trimmed_under", "a_clash", "meddled_types", "counts_that_are_forged",
-    "more_than_two_stores_hold", "a_stream_of_another_scope", "a_scope_that_changes", "states_of_compacting",
+    "more_than_two_stores_hold", "a_snapshot_lost_while_it_is_read", "a_stream_of_another_scope", "a_scope_that_changes", "states_of_compacting",
 )

@@ -88,12 +88,14 @@ def states_of_the_server(fleet, draw):
         entries = fleet.entries()
         script.script("INFO", lambda raw: raw.replace(b"run_id:", b"run_id:0", 1).replace(b"\r\nredis_git_sha1:00000000", b"\r\nredis_git_sha1:0000000", 1))
         reconnects(bridge, script.cut)
-        until(lambda: fleet.entries() > entries, "everything is told again", 5)
+        says(bridge, "event=met", 2)
+        assert fleet.entries() == entries, "what is there is told again"
         walk("CALLED | .. by another server or history")
 
-        script.script("HGET ds:snapshot scope", b"$1\r\nx\r\n")
+        scope = script.script("EXEC", lambda raw: raw.replace(b"$10\r\neverything", b"$1\r\nx") if raw.startswith(b"*3") else raw, 1 << 30)
         script.cut()
         says(bridge, "event=badscope")
+        scope.left = 0
         in_step(bridge)
         walk("CALLED | .. with another scope")
 
@@ -249,13 +251,15 @@ def states_of_reading(fleet, draw):
             more = numbers(front, 2)
             entry = fleet.ask("XADD", "ds:items", "*", "from", "x", "items", "".join(f"{it}\n" for it in more)).decode()
             fleet.ask("HSET", "ds:snapshot", "at", entry, "items", "".join(f"{it}\n" for it in lines + more))
-            fleet.ask("XTRIM", "ds:items", "MAXLEN", 0)
+            fleet.ask("HINCRBY", "ds:snapshot", "trimmed", fleet.ask("XTRIM", "ds:items", "MAXLEN", 0))
             lines.extend(more)
 
         def gap(front):
+            """It hasn't read what is compacted, and reads past it."""
             bridge.pause()
             add(1, f"{front}.seen")
             snapshot(front)
+            add(1, f"{front}.after")
             bridge.resume()
 
         gap("d")
@@ -346,17 +350,14 @@ def states_of_comparing(fleet, draw):
             offer(bridge, line)
         time.sleep(2 * REST)
         assert "event=lost" not in bridge.said()
-        walk("BLIND | good answers")
-        walk("LOOKED | good answers")
+        walk("any | good answers")
         fleet.ask("XDEL", "ds:items", fleet.ask("XRANGE", "ds:items", "-", "+")[4][0])
         says(bridge, "event=lost")
         told(fleet, *lines)
-        walk("LOOKED | .. of a server that has less than before")
         fleet.ask("DEL", "ds:items")
         says(bridge, "event=lost", 2)
         told(fleet, *lines)
-        walk("any | .. of a stream in place of another one")
-        walk("any | the server or its stream is another one")
+        walk("any | .. of a server that lost something")
         fleet.ask("HSET", "ds:snapshot", "scope", "x")
         says(bridge, "event=badscope")
         fleet.ask("HSET", "ds:snapshot", "scope", "everything")
@@ -378,7 +379,7 @@ def states_of_comparing(fleet, draw):
         fleet.ask("XADD", "ds:items", "*", "from", "x", "items", lines[-1] + "\n")
         reconnects(bridge, lambda: says(bridge, "what was there a second ago didn't come"))
         shows(bridge, lines)
-        walk("LOOKED | an entry of a second ago hasn't come")
+        walk("any | an entry of a second ago hasn't come")
 
 
 def differing(bridge):

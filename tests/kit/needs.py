@@ -50,6 +50,7 @@ NEEDS = (
     program("valgrind", "valgrind", "memory errors of the programs in C"),
     Need("sanitizers of the C compiler", "gcc", "the programs in C, a second time", lambda: compiles("int main(void) { return 0; }\n", SANITIZERS)),
     program("redis-server", "redis-server", "dsfleet"),
+    program("stunnel", "stunnel4", "dsfleet over TLS"),
     Need("hiredis", "libhiredis-dev", "dsfleet", lambda: compiles("#include <hiredis/hiredis.h>\n", "-fsyntax-only")),
 )
 
