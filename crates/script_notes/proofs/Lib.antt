@@ -2,3 +2,4 @@ pub mod LeftLemmas
 pub mod LineLemmas
 pub mod SourceLemmas
 pub mod ReplayLemmas
+pub mod CauseLemmas

@@ -1,2 +1,3 @@
 pub mod Left
 pub mod Stops
+pub mod Causes

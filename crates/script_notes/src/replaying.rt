@@ -3,6 +3,7 @@
 ghost use Rattle.std.specs.Prelude.{ℕ, List, IfOk, IfErr, IfSome};
 ghost use Rattle.std.specs.Io.KnownBytes.{Appends};
 ghost use Rattle.ds_script.specs.Replay.{IsReplayed};
+ghost use Rattle.script_notes.specs.Causes.{IsCausedBy};
 ghost use Rattle.script_notes.specs.Left.{text_left};
 ghost use Rattle.script_notes.specs.Stops.{StopsWhatIsLeft};
 ghost use Rattle.script_notes.specs.declared.place.Place.TheVariants.{Begins};
@@ -27,6 +28,7 @@ pub fn replay_without_notes<R: Source, W: Sink, B: Report>(
         × IsReplayed bad_lines (text_left Begins text) done.lines done.bad output)) }
     ensures stopped { IfErr result (λ fault. IfSome (R.remaining reader.old) (λ text.
         StopsWhatIsLeft bad_lines fault (W.contents writer.old) (W.contents writer.new) text)) }
+    ensures cause { IfErr result (λ fault. IsCausedBy R.Source W.Sink fault reader.old reader.new writer.new) }
 {
     let mut left = WithoutNotes {
         reader,

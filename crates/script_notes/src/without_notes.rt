@@ -11,10 +11,18 @@ pub(crate) struct WithoutNotes<'a, R> {
 }
 
 impl<R: Source> Source for WithoutNotes<'_, R> {
+    ghost use Rattle.script_notes.specs.Causes.{EndsReading, SomeReadsLead};
     ghost use Rattle.script_notes.specs.Left.{text_left};
+    ghost use Rattle.std.specs.Prelude.{◌≡◌, ◌-◌, ◌^◌};
     ghost use Rattle.std.specs.Option.{option_map};
 
     ghost remaining = { λ s. option_map (λ text. text_left s.place text) (R.remaining s.reader.now) };
+
+    ghost reads = { λ old new. (new.reader.ghost_name ≡ old.reader.ghost_name)
+        × SomeReadsLead R.reads old.reader.now new.reader.now };
+
+    ghost fails = { λ old new. (new.reader.ghost_name ≡ old.reader.ghost_name)
+        × EndsReading (2 ^ 64 - 1) R.reads R.fails old.reader.now new.reader.now };
 
     fn read(&mut self, buf: &mut [u8]) -> Result<usize, Missed> {
         for _again in 0..u64::MAX {

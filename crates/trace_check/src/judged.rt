@@ -1,8 +1,7 @@
 //! The line that a verdict names.
 
-ghost use Rattle.std.specs.Prelude.{◌≡◌, ◌≢◌, IfSome, IfNone};
-ghost use Rattle.trace_walk.specs.declared.wrong_line.Wanted.TheVariants as wanteds;
-ghost use Rattle.trace_check.specs.Telling.{IsOfLine, TellsNoLine};
+ghost use Rattle.std.specs.Prelude.{◌≡◌, IfSome, IfNone};
+ghost use Rattle.trace_check.specs.Telling.{IsOfLine, TellsNoLine, wanted_by};
 
 use trace_model::Verdict;
 use trace_walk::{Stands, Walk, Wanted, WrongLine};
@@ -18,7 +17,7 @@ pub struct Judged {
 impl Judged {
     /// Returns the first wrong line, if there is one.
     pub fn wrong_line(&self) -> Option<WrongLine<'_>>
-        ensures found { IfSome result (λ line. IsOfLine self.now.verdict line.number line.wanted) }
+        ensures found { IfSome result (λ line. IsOfLine self.now line.number line.wanted) }
         ensures none { IfNone result (TellsNoLine self.now.verdict) }
     {
         match self.verdict {
@@ -30,7 +29,7 @@ impl Judged {
 
     // Returns the sort of line that was expected instead of a bad one.
     fn wanted(&self) -> Wanted
-        ensures { result ≢ wanteds.Reply }
+        ensures { result ≡ wanted_by self.now.walk }
     {
         match &self.walk {
             None => Wanted::Header,

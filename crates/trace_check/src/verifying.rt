@@ -2,6 +2,7 @@
 
 ghost use Rattle.std.specs.Prelude.{IfSome};
 ghost use Rattle.trace_model.specs.Verdict.{IsVerdict};
+ghost use Rattle.trace_check.specs.Telling.{EndsWanting, WantsRightly};
 ghost use Rattle.trace_check.specs.Verifying.{EndsWith, IsVerdictCause, IsWalkedCause};
 
 use crate::judged::Judged;
@@ -25,6 +26,7 @@ pub fn verify<R: Source>(alloc: Global, reader: &mut R) -> Verdict
 /// Judges a trace as `verify` does, and keeps what is needed to explain its first wrong line.
 pub fn judge<R: Source>(alloc: Global, reader: &mut R) -> Judged
     ensures verdict { IfSome (R.remaining reader.old) (λ bytes. IsVerdict bytes result.verdict) }
+    ensures wanted { IfSome (R.remaining reader.old) (λ bytes. WantsRightly bytes result) }
     ensures cause { IsVerdictCause R.Source result.verdict reader.old reader.new }
 {
     match Walk::begin(alloc, reader) {
@@ -45,6 +47,7 @@ pub fn judge<R: Source>(alloc: Global, reader: &mut R) -> Judged
 // Passes all entries.
 fn walk_through<R: Source>(walk: &mut Walk, reader: &mut R) -> Verdict
     ensures ends { EndsWith walk.old (R.remaining reader.old) result }
+    ensures wanted { EndsWanting walk.old (R.remaining reader.old) walk.new result }
     ensures cause { IsWalkedCause R.Source result walk.old.lines.reads reader.old reader.new }
 {
     for length in 0..u64::MAX {

@@ -31,9 +31,19 @@ pub record IsPart (part : List Item) : Type 0 where
   pub some : 0 < length part
   pub few : length part ≤ most_items
 
--- Whether the entries merge the tombstones, in their order. The mask of each doesn't depend on the entries before it.
+-- Whether the list has as many items as a Merge can have.
+abbrev pub IsFullPart : List Item → Type 0
+IsFullPart part = length part ≡ most_items
+
+-- Whether all parts before the last one are full.
+abbrev pub AreFilled : List (List Item) → Type 0
+AreFilled parts = (front : List (List Item)) (last : List Item) → parts ≡ front ++ last ∷ [] → All IsFullPart front
+
+-- Whether the entries merge the tombstones, in their order, each but the last as many as a Merge can have. The mask of
+-- each doesn't depend on the entries before it.
 abbrev pub MergeInParts : State → ℕ → List Item → List TraceEntry → Type 0
-MergeInParts s pass gone entries = (parts : List (List Item)) × All IsPart parts × (flat_map (λ (part : List Item). part) parts ≡ gone) × (entries ≡ map (merge_entry s pass) parts)
+MergeInParts s pass gone entries =
+    (parts : List (List Item)) × All IsPart parts × (flat_map (λ (part : List Item). part) parts ≡ gone) × (entries ≡ map (merge_entry s pass) parts) × AreFilled parts
 
 -- The entries for a sweep: Merges of its tombstones if it is answered with their count, none if it is refused.
 abbrev pub SweepBecomes : State → ℕ → List ℕ → ℕ → Reply → List TraceEntry → Type 0

@@ -160,8 +160,8 @@ module _ (b : Spot) (old : LinesContent) (store : ContentRecord) (h : Header) (f
 
   pub stop_fails : (fault : WalkFault) (number : ℕ) → IsStopFault b.state items done number fault → number ≡ old.count → IsFault b.front b.bytes fault
   stop_fails (IllegalAt n) number k e =
-      wrong_there Reply b.front b.bytes (b.front ++ asked_text pass (askeds.Merge items)) x.line old from n (MayReply h.format h.limits b.state (askeds.Merge items)) x.here (place b old store h from pass (askeds.Merge items) kept x)
-      (λ m. k.1 (stop_told h.format h.limits pass b.state items done (with_newline x.line) x.behind.traced x.may less (sym x.line_is ∙ is) m)) (k.0 ∙ e)
+      (wrong_there Reply b.front b.bytes (b.front ++ asked_text pass (askeds.Merge items)) x.line old from n (MayReply h.format h.limits b.state (askeds.Merge items)) x.here (place b old store h from pass (askeds.Merge items) kept x)
+      (λ m. k.1 (stop_told h.format h.limits pass b.state items done (with_newline x.line) x.behind.traced x.may less (sym x.line_is ∙ is) m)) (k.0 ∙ e)).0
   stop_fails (BadLineAt n) number k e = absurd k
   stop_fails ReadFault number k e = tt
   stop_fails NoRoom number k e = tt

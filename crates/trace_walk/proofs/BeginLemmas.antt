@@ -14,12 +14,14 @@ use Rattle.trace_model.specs.declared.header.Header.{Header}
 use Rattle.trace_model.specs.declared.verdict.Verdict.TheVariants as verdicts
 use Rattle.trace_model.specs.Legal.{IsTrace}
 use Rattle.trace_model.specs.Text.{IsHeader, FormatHas, HasNoHeader, header_text, format_text, numbers_text, limits_text}
-use Rattle.trace_model.specs.Verdict.{IsLegal, MayBegin, WantsReply, IsVerdict}
+use Rattle.trace_model.specs.Verdict.{IsLegal, IsWrongAt, MayBegin, WantsReply, IsVerdict}
 use Rattle.trace_model.proofs.HeaderLemmas.{few_limits}
 use Rattle.trace_model.proofs.WalkLemmas.{header_behind, bad_header}
 use Rattle.trace_walk.specs.declared.fault.WalkFault.{WalkFault}
 use Rattle.trace_walk.specs.declared.fault.WalkFault.TheVariants as faults
 use Rattle.trace_walk.specs.declared.place.Place.TheVariants.{Form}
+use Rattle.trace_walk.specs.declared.wrong_line.Wanted.TheVariants.{Header as AHeader}
+use Rattle.trace_walk.specs.Wanting.{IsWanted}
 use Rattle.trace_walk.specs.Walking.{Spot, Walks, IsAt, IsRead, IsLongFault, HasLine, IsFault, verdict_of}
 use Rattle.trace_walk.proofs.FaultLemmas.{none_here}
 
@@ -98,25 +100,31 @@ long_none line long h is e = omega (arith, long, header_short h is, ap length e,
 
 -- ---- why no walk begins
 
--- the first line isn't a header
-pub wrong_first : (bytes line : List ℕ) (number : ℕ) (before more : List (List ℕ)) → HasLines bytes (before ++ line ∷ more) → [] ≡ joined before → number ≡ suc (length before) → IsUnbroken line → HasNoHeader (with_newline line) → IsFault [] bytes (faults.BadLineAt number)
-wrong_first bytes line number before more lines behind counted whole none =
-    ([], record { before = before; rest = line ∷ more; lines = lines; behind = behind; counted = counted; begins = nothing_begins; fails = bad_header line more whole none }, no_reply_first, none_here [])
+-- the fault is the verdict, and a header must be there
+abbrev pub WantsHeader : List ℕ → WalkFault → Type 0
+WantsHeader bytes fault = IsFault [] bytes fault × IsWanted bytes AHeader fault
 
-pub line_wrong : (bytes line : List ℕ) (number : ℕ) (l : LinesContent) (to : Option (List ℕ)) → HasLine bytes [] line l to → number ≡ 1 → HasNoHeader (with_newline line) → IsFault [] bytes (faults.BadLineAt number)
+-- the first line isn't a header
+pub wrong_first : (bytes line : List ℕ) (number : ℕ) (before more : List (List ℕ)) → HasLines bytes (before ++ line ∷ more) → [] ≡ joined before → number ≡ suc (length before) → IsUnbroken line → HasNoHeader (with_newline line) → WantsHeader bytes (faults.BadLineAt number)
+wrong_first bytes line number before more lines behind counted whole none =
+    let wrong : IsWrongAt bytes number [] = record { before = before; rest = line ∷ more; lines = lines; behind = behind; counted = counted; begins = nothing_begins; fails = bad_header line more whole none } in
+    (([], wrong, no_reply_first, none_here []), ([], wrong, refl))
+
+pub line_wrong : (bytes line : List ℕ) (number : ℕ) (l : LinesContent) (to : Option (List ℕ)) → HasLine bytes [] line l to → number ≡ 1 → HasNoHeader (with_newline line) → WantsHeader bytes (faults.BadLineAt number)
 line_wrong bytes line number l to h one none =
     wrong_first bytes line number h.before h.more h.lines h.front_is (one ∙ ap (λ (b : List (List ℕ)). suc (length b)) (sym (joined_none h.before h.front_is))) h.whole none
 
-pub input_empty : (bytes : List ℕ) (number : ℕ) → IsRead bytes [] number → IsFault [] bytes (faults.BadLineAt 1)
+pub input_empty : (bytes : List ℕ) (number : ℕ) → IsRead bytes [] number → WantsHeader bytes (faults.BadLineAt 1)
 input_empty bytes number r =
     let none : r.0 ≡ [] = joined_none r.0 r.2 in
-    ([], record { before = []; rest = []; lines = subst (HasLines bytes) none r.1; behind = refl; counted = refl; begins = nothing_begins; fails = nothing_illegal }, no_reply_first, none_here [])
+    let wrong : IsWrongAt bytes 1 [] = record { before = []; rest = []; lines = subst (HasLines bytes) none r.1; behind = refl; counted = refl; begins = nothing_begins; fails = nothing_illegal } in
+    (([], wrong, no_reply_first, none_here []), ([], wrong, refl))
 
-pub first_fails : (bytes : List ℕ) (fault : WalkFault) → IsLongFault Form bytes [] fault → IsFault [] bytes fault
+pub first_fails : (bytes : List ℕ) (fault : WalkFault) → IsLongFault Form bytes [] fault → WantsHeader bytes fault
 first_fails bytes (faults.BadLineAt number) l = wrong_first bytes l.line number l.before l.more l.lines l.front_is l.counted l.whole (long_none l.line l.long)
 first_fails bytes (faults.IllegalAt number) l = absurd l
-first_fails bytes faults.ReadFault l = tt
-first_fails bytes faults.NoRoom l = tt
+first_fails bytes faults.ReadFault l = (tt, tt)
+first_fails bytes faults.NoRoom l = (tt, tt)
 
 -- at the beginning nothing was passed
 pub at_start : (bytes : List ℕ) (l : LinesContent) (from : Option (List ℕ)) → l ≡ no_lines → from ≡ Some bytes → IsAt bytes [] l from
@@ -137,6 +145,10 @@ at_start bytes l from e f =
 pub by_known : (o : Option (List ℕ)) (P : List ℕ → Type 0) → ((bytes : List ℕ) → o ≡ Some bytes → P bytes) → IfSome o P
 by_known None P all = tt
 by_known (Some bytes) P all = all bytes refl
+
+pub known_both : (o : Option (List ℕ)) (P Q S : List ℕ → Type 0) → IfSome o P → IfSome o Q → ((bytes : List ℕ) → P bytes → Q bytes → S bytes) → IfSome o S
+known_both None P Q S h k all = tt
+known_both (Some bytes) P Q S h k all = all bytes h k
 
 pub known_then : (o : Option (List ℕ)) (P Q : List ℕ → Type 0) → IfSome o P → ((bytes : List ℕ) → P bytes → Q bytes) → IfSome o Q
 known_then None P Q h all = tt

@@ -16,15 +16,23 @@ use Rattle.trace_model.specs.declared.asked.Head.TheVariants as heads
 use Rattle.trace_model.specs.declared.header.Header.{Header}
 use Rattle.trace_model.specs.Head.{IsHeadOf, HasNoHead}
 use Rattle.trace_model.specs.Text.{MayMerge, merge_text, pass_text, plus_text}
-use Rattle.trace_model.specs.Walk.{IsPlaceInEntry, IsPlus}
+use Rattle.trace_model.specs.Verdict.{IsLegal, IsWrongAt}
+use Rattle.trace_model.specs.Walk.{IsBehind, IsPlaceInEntry, IsPlus}
 use Rattle.trace_model.proofs.PlaceLemmas.{plus_places}
 use Rattle.trace_model.proofs.WalkLemmas.{bad_head, behind_begins, no_reply}
 use Rattle.trace_walk.specs.declared.fault.WalkFault.{WalkFault}
 use Rattle.trace_walk.specs.declared.fault.WalkFault.TheVariants.{IllegalAt, BadLineAt, ReadFault, NoRoom}
 use Rattle.trace_walk.specs.declared.place.Place.TheVariants.{Form}
-use Rattle.trace_walk.specs.Walking.{Spot, IsAt, IsRead, IsLongFault, HasLine, IsFault, of_line, IsShort, Walks, Heads, Lists, HasAsked}
+use Rattle.trace_walk.specs.declared.wrong_line.Wanted.TheVariants.{Entry, Item as AnItem}
+use Rattle.trace_walk.specs.Wanting.{IsWanted}
+use Rattle.trace_walk.specs.Walking.{Spot, IsAt, IsRead, IsLongFault, HasLine, IsFault, IsWrongBy, of_line, IsShort, Walks, Heads, Lists, HasAsked}
 use Rattle.trace_walk.proofs.FaultLemmas.{wrong_there, none_here, place_of}
 use Rattle.trace_walk.proofs.ShortLemmas.{plus_short}
+use Rattle.trace_walk.proofs.WantedLemmas.{wanted_behind}
+
+-- what was passed is a legal trace
+pub legal_front : (b : Spot) (h : Header) → IsBehind b.front h b.state b.count → IsLegal b.front b.count
+legal_front b h behind = (h, behind.entries, b.state, behind.trace, behind.counted)
 
 -- ---- the first line of an entry
 
@@ -42,22 +50,27 @@ module _ (b : Spot) (old l : LinesContent) (store : ContentRecord) (h : Header) 
         kept_is = keeps ∙ is.2;
       }
 
-  head_fails : (number : ℕ) (line : List ℕ) (before more : List (List ℕ)) → HasLines b.bytes (before ++ line ∷ more) → b.front ≡ joined before → number ≡ suc (length before) → IsUnbroken line → (IsShort (with_newline line) → HasNoHead h.format (with_newline line)) → IsFault b.front b.bytes (BadLineAt number)
+  -- the fault is the verdict, and an entry must begin there
+  abbrev pub WantsEntry : WalkFault → Type 0
+  WantsEntry fault = IsFault b.front b.bytes fault × IsWanted b.bytes Entry fault
+
+  head_fails : (number : ℕ) (line : List ℕ) (before more : List (List ℕ)) → HasLines b.bytes (before ++ line ∷ more) → b.front ≡ joined before → number ≡ suc (length before) → IsUnbroken line → (IsShort (with_newline line) → HasNoHead h.format (with_newline line)) → WantsEntry (BadLineAt number)
   head_fails number line before more lines behind counted whole none =
-      (b.front, record { before = before; rest = line ∷ more; lines = lines; behind = behind; counted = counted; begins = behind_begins b.front h b.state b.count w.behind; fails = bad_head b.front line more h b.state b.count w.behind whole none }, no_reply b.front h b.state b.count w.behind, none_here b.front)
+      let wrong : IsWrongAt b.bytes number b.front = record { before = before; rest = line ∷ more; lines = lines; behind = behind; counted = counted; begins = behind_begins b.front h b.state b.count w.behind; fails = bad_head b.front line more h b.state b.count w.behind whole none } in
+      ((b.front, wrong, no_reply b.front h b.state b.count w.behind, none_here b.front), (b.front, wrong, (b.count, legal_front b h w.behind)))
 
   -- it is none
-  pub head_wrong : (line : List ℕ) (fault : AskedFault) (number : ℕ) → l.line ≡ with_newline line → HasLine b.bytes b.front line l to → (fault ≡ badly.BadLine → HasNoHead h.format l.line) → number ≡ l.count → IsFault b.front b.bytes (of_line fault number)
-  head_wrong line badly.NoRoom number line_is here none e = tt
+  pub head_wrong : (line : List ℕ) (fault : AskedFault) (number : ℕ) → l.line ≡ with_newline line → HasLine b.bytes b.front line l to → (fault ≡ badly.BadLine → HasNoHead h.format l.line) → number ≡ l.count → WantsEntry (of_line fault number)
+  head_wrong line badly.NoRoom number line_is here none e = (tt, tt)
   head_wrong line badly.BadLine number line_is here none e =
       head_fails number line here.before here.more here.lines here.front_is (e ∙ here.counted) here.whole (λ short. subst (HasNoHead h.format) line_is (none refl))
 
   -- it is too long
-  pub head_long : (fault : WalkFault) → IsLongFault Form b.bytes b.front fault → IsFault b.front b.bytes fault
+  pub head_long : (fault : WalkFault) → IsLongFault Form b.bytes b.front fault → WantsEntry fault
   head_long (BadLineAt number) long = head_fails number long.line long.before long.more long.lines long.front_is long.counted long.whole (λ short. absurd (omega (arith, short, long.long, length-append long.line (10 ∷ []))))
   head_long (IllegalAt number) long = absurd long
-  head_long ReadFault long = tt
-  head_long NoRoom long = tt
+  head_long ReadFault long = (tt, tt)
+  head_long NoRoom long = (tt, tt)
 
   -- there is none
   pub ends_there : (number : ℕ) → IsRead b.bytes b.front number → (lines : List (List ℕ)) × HasLines b.bytes lines × (b.front ≡ joined lines)
@@ -72,11 +85,21 @@ module _ (b : Spot) (old l : LinesContent) (store : ContentRecord) (h : Header) 
   pub plus_place_short : length items < most → IsPlaceInEntry b.front (b.front ++ (pass_text pass (merge_text most) ++ flat_map plus_text items)) false IsShort
   plus_place_short less = place_of b.front _ false (IsPlus h.format) IsShort (λ line plus. subst IsShort (sym plus.2) (plus_short plus.0 plus.1.0)) (plus_place less)
 
+  -- the fault is the verdict, and an item must be there
+  abbrev pub WantsItem : WalkFault → Type 0
+  WantsItem fault = IsFault b.front b.bytes fault × IsWanted b.bytes AnItem fault
+
+  pub plus_wanted : length items < most → (fault : WalkFault) → IsWrongBy b.bytes (b.front ++ (pass_text pass (merge_text most) ++ flat_map plus_text items)) fault → IsWanted b.bytes AnItem fault
+  plus_wanted less fault wrong =
+      wanted_behind b.bytes (b.front ++ (pass_text pass (merge_text most) ++ flat_map plus_text items)) AnItem fault
+      (record { start = b.front; count = b.count; pass = pass; most = most; items = items; legal = legal_front b h x.behind; less = less; front_is = refl }) wrong
+
   pub plus_wrong : (line : List ℕ) (fault : AskedFault) (number : ℕ) → length items < most → l.line ≡ with_newline line → HasLine b.bytes (b.front ++ (pass_text pass (merge_text most) ++ flat_map plus_text items)) line l to →
-      (fault ≡ badly.BadLine → (item : Item) → MayMerge h.format item → l.line ≢ plus_text item) → number ≡ l.count → IsFault b.front b.bytes (of_line fault number)
-  plus_wrong line badly.NoRoom number less line_is here none e = tt
+      (fault ≡ badly.BadLine → (item : Item) → MayMerge h.format item → l.line ≢ plus_text item) → number ≡ l.count → WantsItem (of_line fault number)
+  plus_wrong line badly.NoRoom number less line_is here none e = (tt, tt)
   plus_wrong line badly.BadLine number less line_is here none e =
-      wrong_there Form b.front b.bytes (b.front ++ (pass_text pass (merge_text most) ++ flat_map plus_text items)) line l to number (IsPlus h.format) here (plus_place less) (λ plus. none refl plus.0 plus.1 (line_is ∙ plus.2)) e
+      let wrong = wrong_there Form b.front b.bytes (b.front ++ (pass_text pass (merge_text most) ++ flat_map plus_text items)) line l to number (IsPlus h.format) here (plus_place less) (λ plus. none refl plus.0 plus.1 (line_is ∙ plus.2)) e in
+      (wrong.0, plus_wanted less (BadLineAt number) wrong.1)
 
   pub plus_on : (line : List ℕ) (item : Item) (now : List ℕ) → l.line ≡ with_newline line → HasLine b.bytes (b.front ++ (pass_text pass (merge_text most) ++ flat_map plus_text items)) line l to → MayMerge h.format item → l.line ≡ plus_text item → now ≡ kept ++ l.line → Lists b l store h to pass most (items ++ item ∷ []) now
   plus_on line item now line_is here may is keeps =

@@ -2,11 +2,11 @@
 use Rattle.std.proofs.Common.{◌≡◌, ℕ, ◌+◌, ◌<◌, ◌≤◌, ◌≢◌, ◌==◌, min, not, Bool, true, false, cond, List, [], ◌∷◌, ◌++◌, map, filter, take, length, Option, Some, None, refl, sym, ap, ◌∙◌, subst, arith, inl, inr, append-nil, append_assoc, length-append, nat_le}
 use Rattle.std.specs.Int.Bits.{bit_or}
 use Rattle.std.specs.FinMap.{entries}
-use Rattle.std.specs.List.{slice_get, flat_map}
+use Rattle.std.specs.List.{All, slice_get, flat_map}
 use Rattle.std.specs.Option.{option_and_then}
 use Rattle.std.proofs.lemmas.Bool.{eqb-true, false≢true}
 use Rattle.std.proofs.lemmas.Grind.{flat_map-append}
-use Rattle.std.proofs.lemmas.List.{map-append, take_more}
+use Rattle.std.proofs.lemmas.List.{map-append, take_all, take_more, take-append-le}
 use Rattle.std.proofs.lemmas.List.Elements.{All-nil, All-cons, All-append}
 use Rattle.std.proofs.lemmas.Option.{get_or_from_slice_get, slice_get_cases, slice_get_within}
 use Rattle.ds_entry.specs.Change.{ChangeRecord}
@@ -30,7 +30,7 @@ use Rattle.ds_machine.proofs.BatchLemmas.{free_in_parts, owed_in_parts}
 use Rattle.trace_model.proofs.HeaderLemmas.{few_limits}
 use Rattle.trace_model.specs.Sweep.{is_swept, tombstone, tombstones, older_sweep}
 use Rattle.trace_model.specs.Text.{TraceEntry, entry_text}
-use Rattle.trace_model.specs.Upgrade.{MergeInParts, IsPart, merge_entry}
+use Rattle.trace_model.specs.Upgrade.{MergeInParts, IsPart, IsFullPart, AreFilled, merge_entry}
 use Rattle.trace_walk.specs.declared.merges.Merges.{Merges}
 use Rattle.trace_walk.specs.Merging.{AreEntries, IsEmpty, taking_entry}
 use Rattle.trace_walk.specs.declared.sweep.Sweep.{Sweep}
@@ -112,18 +112,31 @@ one_batch new s whole part batch rest mask more e m n stands = (
   ap (λ (x : ℕ). bit_or x more) m ∙ ap (λ (x : ℕ). bit_or (owed s part) x) n ∙ sym (owed_in_parts s part batch),
 )
 
--- the Merges merge the items
-pub record AreMerged (s : State) (pass : ℕ) (limits : LimitsRecord) (gone : List Item) (merges : Merges) : Type 0 where
+-- the Merges merge the items, and each is full if more of them are left
+pub record AreMerged (s : State) (pass : ℕ) (limits : LimitsRecord) (gone rest : List Item) (merges : Merges) : Type 0 where
   pub new : List TraceEntry
   pub merge : MergeInParts s pass gone new
   pub are : AreEntries limits merges new
+  pub full : 0 < length rest → All IsFullPart merge.0
 
-pub none_merged : (s : State) (pass : ℕ) (limits : LimitsRecord) (merges : Merges) → IsEmpty merges → AreMerged s pass limits [] merges
-none_merged s pass limits merges is = record { new = []; merge = ([], All-nil IsPart, refl, refl); are = record { text = is.text; counted = is.count } }
+none_filled : AreFilled []
+none_filled front last e = absurd (omega (arith, ap length e, length-append front (last ∷ [])))
 
-pub one_merged : (s : State) (pass : ℕ) (limits : LimitsRecord) (part batch : List Item) (before after : Merges) (mask : ℕ) → IsPart batch → mask ≡ owed (takes_effect s part) batch → AreMerged s pass limits part before →
-    after.text.items ≡ before.text.items ++ entry_text limits (taking_entry pass batch mask) → after.count ≡ before.count + 1 → AreMerged s pass limits (part ++ batch) after
-one_merged s pass limits part batch before after mask is owes x text count =
+without_last : (front : List (List Item)) (last : List Item) → take (length front) (front ++ last ∷ []) ≡ front
+without_last front last = take-append-le (length front) front (last ∷ []) (omega arith) ∙ take_all (length front) front (omega arith)
+
+one_filled : (parts : List (List Item)) (batch : List Item) → All IsFullPart parts → AreFilled (parts ++ batch ∷ [])
+one_filled parts batch full front last e =
+    let long : length parts ≡ length front = omega (arith, ap length e, length-append parts (batch ∷ []), length-append front (last ∷ [])) in
+    subst (All IsFullPart) (sym (without_last parts batch) ∙ ap (take (length parts)) e ∙ ap (λ (n : ℕ). take n (front ++ last ∷ [])) long ∙ without_last front last) full
+
+pub none_merged : (s : State) (pass : ℕ) (limits : LimitsRecord) (rest : List Item) (merges : Merges) → IsEmpty merges → AreMerged s pass limits [] rest merges
+none_merged s pass limits rest merges is =
+    record { new = []; merge = ([], All-nil IsPart, refl, refl, none_filled); are = record { text = is.text; counted = is.count }; full = λ more. All-nil IsFullPart }
+
+pub one_merged : (s : State) (pass : ℕ) (limits : LimitsRecord) (part batch rest more : List Item) (before after : Merges) (mask : ℕ) → IsPart batch → 0 < length rest → (0 < length more → IsFullPart batch) → mask ≡ owed (takes_effect s part) batch → AreMerged s pass limits part rest before →
+    after.text.items ≡ before.text.items ++ entry_text limits (taking_entry pass batch mask) → after.count ≡ before.count + 1 → AreMerged s pass limits (part ++ batch) more after
+one_merged s pass limits part batch rest more before after mask is some fills owes x text count =
     let parts : List (List Item) = x.merge.0 in
     let entry : TraceEntry = merge_entry s pass batch in
     let last : List ℕ = entry_text limits entry in
@@ -135,7 +148,9 @@ one_merged s pass limits part batch before after mask is owes x text count =
         All-append IsPart parts (batch ∷ []) x.merge.1 (All-cons IsPart batch [] is (All-nil IsPart)),
         flat_map-append (λ (l : List Item). l) parts (batch ∷ []) ∙ ap (λ (l : List Item). l ++ (batch ++ [])) x.merge.2 ∙ ap (λ (l : List Item). part ++ l) (append-nil batch),
         ap (λ (l : List TraceEntry). l ++ entry ∷ []) x.merge.3 ∙ sym (map-append (merge_entry s pass) parts (batch ∷ [])),
+        one_filled parts batch (x.full some),
       );
+      full = λ left. All-append IsFullPart parts (batch ∷ []) (x.full some) (All-cons IsFullPart batch [] (fills left) (All-nil IsFullPart));
       are = record {
         text = text ∙ ap (λ (e : TraceEntry). before.text.items ++ entry_text limits e) same ∙ ap (λ (l : List ℕ). l ++ last) x.are.text
             ∙ ap (λ (l : List ℕ). flat_map (entry_text limits) x.new ++ l) (sym (append-nil last)) ∙ sym (flat_map-append (entry_text limits) x.new (entry ∷ []));

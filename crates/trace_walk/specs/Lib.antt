@@ -5,3 +5,4 @@ pub mod Passing
 pub mod Reads
 pub mod Steps
 pub mod Asking
+pub mod Wanting

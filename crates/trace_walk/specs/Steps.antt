@@ -31,7 +31,7 @@ use Rattle.trace_walk.specs.declared.place.Place.{Place}
 use Rattle.trace_walk.specs.declared.sweep.Sweep.{Sweep}
 use Rattle.trace_walk.specs.declared.walk.Walk.{Walk}
 use Rattle.trace_walk.specs.Passing.{HasPassed, IsRefusedAs}
-use Rattle.trace_walk.specs.Walking.{Spot, IsAt, HasLine, IsRead, IsLongFault, IsShort, Walks, IsFault, Heads, Lists, HasAsked, Hears, IsEnded, IsThere, GoesOnSaying, IsToBeSaid, IsStopFault, IsForStore}
+use Rattle.trace_walk.specs.Walking.{Spot, IsAt, HasLine, IsRead, IsLongFault, IsShort, IsWrongBy, Walks, IsFault, Heads, Lists, HasAsked, Hears, IsEnded, IsThere, GoesOnSaying, IsToBeSaid, IsStopFault, IsForStore}
 
 -- ---- lines
 
@@ -49,7 +49,9 @@ FindsNone old from number = (bytes front : List ℕ) → IsAt bytes front old fr
 
 -- Whether a line of this sort must follow, and none does.
 abbrev pub MissesLine : Bool → LinesContent → Option (List ℕ) → WalkFault → Type 0
-MissesLine is_reply old from fault = (start bytes front : List ℕ) → IsAt bytes front old from → IsPlaceInEntry start front is_reply IsShort → IsFault start bytes fault
+MissesLine is_reply old from fault =
+    (start bytes front : List ℕ) → IsAt bytes front old from → IsPlaceInEntry start front is_reply IsShort →
+    IsFault start bytes fault × IsWrongBy bytes front fault
 
 -- ---- the text of a reply
 

@@ -73,6 +73,11 @@ IsFault start bytes (BadLineAt number) = (front : List ℕ) × IsWrongAt bytes n
 IsFault start bytes ReadFault = Unit {0}
 IsFault start bytes NoRoom = Unit {0}
 
+-- Whether a bad line's fault is at the line after the front, which is the first wrong one.
+abbrev pub IsWrongBy : (bytes front : List ℕ) → WalkFault → Type 0
+IsWrongBy bytes front (BadLineAt number) = IsWrongAt bytes number front
+IsWrongBy bytes front _ = Unit {0}
+
 -- Whether the line is the first after the front, and the walk just passed it.
 pub record HasLine (bytes front line : List ℕ) (l : LinesContent) (remaining : Option (List ℕ)) : Type 0 where
   pub before : List (List ℕ)

@@ -3,6 +3,7 @@
 ghost use Rattle.std.specs.Prelude.{◌≡◌, ◌∷◌, IfOk, IfErr};
 ghost use Rattle.trace_walk.specs.Reads.{Advances, IsBlameless};
 ghost use Rattle.trace_walk.specs.Steps.{SaysAll, MissesReply, SaysRest, MissesRest, MissesSaid};
+ghost use Rattle.trace_walk.specs.Wanting.{IsOfReply};
 
 use crate::fault::WalkFault;
 use crate::place::{Place, wanted_line};
@@ -17,6 +18,7 @@ pub(crate) fn expect<R: Source>(
 ) -> Result<(), WalkFault>
     ensures goes { IfOk result (λ u. SaysAll lines.old (R.remaining reader.old) lines.new (R.remaining reader.new) text.now) }
     ensures fails { IfErr result (λ fault. MissesReply lines.old (R.remaining reader.old) text.now fault) }
+    ensures kind { IfErr result IsOfReply }
     ensures reads { Advances R.Source result lines.old reader.old lines.new reader.new }
 {
     let Some((line, rest)) = split_line(text) else {
@@ -30,6 +32,7 @@ pub(crate) fn expect<R: Source>(
 fn further<R: Source>(lines: &mut Lines, reader: &mut R, text: &[u8]) -> Result<(), WalkFault>
     ensures goes { IfOk result (λ u. SaysRest lines.old (R.remaining reader.old) lines.new (R.remaining reader.new) text.now) }
     ensures fails { IfErr result (λ fault. MissesRest lines.old (R.remaining reader.old) text.now fault) }
+    ensures kind { IfErr result IsOfReply }
     ensures reads { Advances R.Source result lines.old reader.old lines.new reader.new }
 {
     let mut rest = text;
@@ -45,6 +48,7 @@ fn further<R: Source>(lines: &mut Lines, reader: &mut R, text: &[u8]) -> Result<
 fn said(lines: &Lines, line: &[u8]) -> Result<(), WalkFault>
     ensures same { IfOk result (λ u. lines.now.line ≡ 60 ∷ 32 ∷ line.now) }
     ensures fails { IfErr result (λ fault. MissesSaid lines.now line.now fault) }
+    ensures kind { IfErr result IsOfReply }
     ensures blames { IfErr result (λ fault. IsBlameless fault) }
 {
     if !is_marked(lines.line(), line) {

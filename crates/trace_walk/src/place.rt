@@ -5,6 +5,7 @@ ghost use Rattle.line_io.specs.Lines.{EndsLine};
 ghost use Rattle.trace_walk.specs.Walking.{line_fault, is_reply};
 ghost use Rattle.trace_walk.specs.Reads.{Advances, CountsOn};
 ghost use Rattle.trace_walk.specs.Steps.{ComesToLine, ComesToLong, FindsNone, MissesLine};
+ghost use Rattle.trace_walk.specs.Wanting.{IsOfPlace};
 
 use crate::fault::WalkFault;
 use line_io::{Lines, Pulled, Source};
@@ -38,6 +39,7 @@ pub(crate) fn wanted_line<R: Source>(
 ) -> Result<(), WalkFault>
     ensures there { IfOk result (λ u. ComesToLine lines.old (R.remaining reader.old) lines.new (R.remaining reader.new)) }
     ensures fails { IfErr result (λ fault. MissesLine (is_reply place) lines.old (R.remaining reader.old) fault) }
+    ensures kind { IfErr result (IsOfPlace place) }
     ensures reads { Advances R.Source result lines.old reader.old lines.new reader.new }
 {
     if next_line(lines, reader, place)? {
@@ -56,6 +58,7 @@ pub(crate) fn next_line<R: Source>(
     ensures there { IfOk result (λ s. s ≡ true → ComesToLine lines.old (R.remaining reader.old) lines.new (R.remaining reader.new)) }
     ensures short { IfOk result (λ s. s ≡ true → EndsLine lines.new.line × (length lines.new.line ≤ 4097)) }
     ensures long { IfErr result (λ fault. ComesToLong place lines.old (R.remaining reader.old) fault) }
+    ensures kind { IfErr result (IsOfPlace place) }
     ensures none { IfOk result (λ s. s ≡ false → FindsNone lines.old (R.remaining reader.old) lines.new.count) }
     ensures reads { Advances R.Source result lines.old reader.old lines.new reader.new }
     ensures counts { IfOk result (λ s. s ≡ true → CountsOn lines.old lines.new) }

@@ -5,6 +5,7 @@ ghost use Rattle.ds_machine.specs.OneStep.{room_wanted};
 ghost use Rattle.trace_model.specs.Noroom.{stopped_line};
 ghost use Rattle.trace_walk.specs.Reads.{IsBlameless};
 ghost use Rattle.trace_walk.specs.Steps.{EndsMidway, IsUnmerged, StopsMidway, FailsToStop, StopsNowhere};
+ghost use Rattle.trace_walk.specs.Wanting.{IsOfReply};
 
 use crate::fault::WalkFault;
 use ds_entry::Items;
@@ -33,6 +34,7 @@ pub(crate) fn stopped(
     requires { done < length items.now }
     ensures stops { IfOk result (λ reply. StopsMidway store.old items.now done reply store.new) }
     ensures fails { IfErr result (λ fault. FailsToStop store.old items.now done number fault) }
+    ensures kind { IfErr result IsOfReply }
     ensures blames { IfErr result (λ fault. IsBlameless fault) }
 {
     let first = Items::copies(alloc, &items.as_slice()[..done])?;

@@ -3,6 +3,8 @@
 ghost use Rattle.std.specs.Prelude.{◌≡◌, ◌++◌, ◌∷◌, [], IfOk, IfErr, IfSome, IfNone, OnOk};
 ghost use Rattle.trace_walk.specs.Reads.{Advances, BeginsReading, CountsOn};
 ghost use Rattle.trace_walk.specs.Steps.{BeginsKnown, IsFaultOfKnown, GoesPast, EndsThere, FailsFrom, ReadsHead, ReadsAsked, FailsBehindHead, ReadsItems, FailsInItems, AddsOne, FailsAtItem};
+ghost use Rattle.trace_walk.specs.Wanting.{IsWantedOfKnown, WantsFrom, WantsBehindHead, WantsInItems, WantsAtItem};
+ghost use Rattle.trace_walk.specs.declared.wrong_line.Wanted.TheVariants as wanteds;
 
 mod judging;
 
@@ -37,6 +39,7 @@ impl Walk {
     pub fn begin<R: Source>(alloc: Global, reader: &mut R) -> Result<Walk, WalkFault>
         ensures begins { IfOk result (λ walk. BeginsKnown (R.remaining reader.old) walk (R.remaining reader.new)) }
         ensures fails { IfErr result (λ fault. IsFaultOfKnown (R.remaining reader.old) fault) }
+        ensures wanted { IfErr result (IsWantedOfKnown (R.remaining reader.old) wanteds.Header) }
         ensures reads { BeginsReading R.Source result reader.old reader.new }
     {
         let mut lines = Lines::new(alloc)?;
@@ -82,6 +85,7 @@ impl Walk {
         ensures goes { IfOk result (λ o. IfSome o (GoesPast self.old (R.remaining reader.old) self.new (R.remaining reader.new))) }
         ensures ends { IfOk result (λ o. IfNone o (EndsThere self.old (R.remaining reader.old))) }
         ensures fails { IfErr result (λ fault. FailsFrom self.old (R.remaining reader.old) fault) }
+        ensures wanted { IfErr result (WantsFrom self.old (R.remaining reader.old) self.new) }
         ensures reads { Advances R.Source result self.old.lines reader.old self.new.lines reader.new }
         ensures counts { IfOk result (λ o. IfSome o (λ p. CountsOn self.old.lines self.new.lines)) }
     {
@@ -100,6 +104,7 @@ impl Walk {
         ensures some { IfOk result (λ o. IfSome o (ReadsHead self.old (R.remaining reader.old) self.new (R.remaining reader.new))) }
         ensures none { IfOk result (λ o. IfNone o (EndsThere self.old (R.remaining reader.old))) }
         ensures fails { IfErr result (λ fault. FailsFrom self.old (R.remaining reader.old) fault) }
+        ensures wanted { IfErr result (WantsFrom self.old (R.remaining reader.old) self.new) }
         ensures reads { Advances R.Source result self.old.lines reader.old self.new.lines reader.new }
         ensures counts { IfOk result (λ o. IfSome o (λ p. CountsOn self.old.lines self.new.lines)) }
     {
@@ -124,6 +129,7 @@ impl Walk {
     fn asked<R: Source>(&mut self, reader: &mut R, head: Head) -> Result<Asked, WalkFault>
         ensures goes { IfOk result (ReadsAsked self.old (R.remaining reader.old) head self.new (R.remaining reader.new)) }
         ensures fails { IfErr result (FailsBehindHead self.old (R.remaining reader.old) head) }
+        ensures wanted { IfErr result (WantsBehindHead self.old (R.remaining reader.old) head self.new) }
         ensures reads { Advances R.Source result self.old.lines reader.old self.new.lines reader.new }
     {
         match head {
@@ -136,6 +142,7 @@ impl Walk {
     fn items<R: Source>(&mut self, reader: &mut R, most: u64) -> Result<Items, WalkFault>
         ensures goes { IfOk result (ReadsItems self.old (R.remaining reader.old) most self.new (R.remaining reader.new)) }
         ensures fails { IfErr result (FailsInItems self.old (R.remaining reader.old) most) }
+        ensures wanted { IfErr result (WantsInItems self.old (R.remaining reader.old) most self.new) }
         ensures reads { Advances R.Source result self.old.lines reader.old self.new.lines reader.new }
     {
         let mut items = Items::new(self.alloc);
@@ -149,6 +156,7 @@ impl Walk {
     fn item<R: Source>(&mut self, reader: &mut R, items: &mut Items) -> Result<(), WalkFault>
         ensures goes { IfOk result (λ u. AddsOne self.old (R.remaining reader.old) items.old self.new (R.remaining reader.new) items.new) }
         ensures fails { IfErr result (FailsAtItem self.old (R.remaining reader.old) items.old) }
+        ensures wanted { IfErr result (WantsAtItem self.old (R.remaining reader.old) items.old self.new) }
         ensures reads { Advances R.Source result self.old.lines reader.old self.new.lines reader.new }
     {
         self.in_items = true;

@@ -1,7 +1,7 @@
 //! The first wrong line of a trace.
 
-ghost use Rattle.std.specs.Prelude.{◌≡◌, ◌≢◌};
-ghost use Rattle.trace_walk.specs.declared.wrong_line.Wanted.TheVariants as wanteds;
+ghost use Rattle.std.specs.Prelude.{◌≡◌};
+ghost use Rattle.trace_walk.specs.Wanting.{wanted_in};
 
 use crate::walk::Walk;
 use line_io::{LONGEST_LINE, Lines, split_line};
@@ -48,7 +48,7 @@ pub struct WrongLine<'a> {
 impl Walk {
     /// Returns what must be there instead of a bad line after the header.
     pub fn wanted(&self) -> Wanted
-        ensures { result ≢ wanteds.Reply }
+        ensures { result ≡ wanted_in self.now.in_items }
     {
         if self.in_items {
             Wanted::Item

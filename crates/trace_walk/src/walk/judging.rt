@@ -7,6 +7,7 @@ ghost use Rattle.trace_walk.specs.Reads.{Advances};
 ghost use Rattle.trace_walk.specs.Steps.{GoesBehind, FailsBehind, GoesPastReply, FailsAtReply, HasRefused, PassesLine, PassesSweep, PassesMerge, FailsAtMerge, PassesPlain, FailsAtPlain, PassesFor, FailsFor, SaysReply, FailsToSay, swept_line};
 ghost use Rattle.trace_walk.specs.Sweeping.{older_of};
 ghost use Rattle.trace_walk.specs.Passing.{IsRefusedAs};
+ghost use Rattle.trace_walk.specs.Wanting.{IsOfReply};
 
 use super::Walk;
 use crate::expected::expect;
@@ -34,6 +35,7 @@ impl Walk {
     ) -> Result<Passed, WalkFault>
         ensures goes { IfOk result (GoesBehind self.old (R.remaining reader.old) pass asked self.new (R.remaining reader.new)) }
         ensures fails { IfErr result (FailsBehind self.old (R.remaining reader.old) pass asked) }
+        ensures kind { IfErr result IsOfReply }
         ensures reads { Advances R.Source result self.old.lines reader.old self.new.lines reader.new }
     {
         match wanted_line(&mut self.lines, reader, Place::Reply) {
@@ -54,6 +56,7 @@ impl Walk {
     ) -> Result<Passed, WalkFault>
         ensures goes { IfOk result (GoesPastReply self.old (R.remaining reader.old) pass asked self.new (R.remaining reader.new)) }
         ensures fails { IfErr result (FailsAtReply self.old (R.remaining reader.old) pass asked) }
+        ensures kind { IfErr result IsOfReply }
         ensures reads { Advances R.Source result self.old.lines reader.old self.new.lines reader.new }
     {
         if is_noroom(self.lines.line()) {
@@ -85,6 +88,7 @@ impl Walk {
         requires { self.old.lines.line ≢ noroom_line }
         ensures goes { IfOk result (PassesLine self.old (R.remaining reader.old) pass command self.new (R.remaining reader.new)) }
         ensures fails { IfErr result (FailsAtReply self.old (R.remaining reader.old) pass (askeds.Line command)) }
+        ensures kind { IfErr result IsOfReply }
         ensures reads { Advances R.Source result self.old.lines reader.old self.new.lines reader.new }
     {
         match older(&command, self.header.format) {
@@ -103,6 +107,7 @@ impl Walk {
         requires plain { older_of self.old.header.format command ≡ None }
         ensures goes { IfOk result (PassesPlain self.old (R.remaining reader.old) command self.new (R.remaining reader.new)) }
         ensures fails { IfErr result (FailsAtPlain self.old (R.remaining reader.old) command) }
+        ensures kind { IfErr result IsOfReply }
         ensures reads { Advances R.Source result self.old.lines reader.old self.new.lines reader.new }
     {
         let wording = command.wording();
@@ -117,6 +122,7 @@ impl Walk {
         requires { self.old.lines.line ≢ noroom_line }
         ensures goes { IfOk result (PassesMerge self.old (R.remaining reader.old) items self.new (R.remaining reader.new)) }
         ensures fails { IfErr result (FailsAtMerge self.old (R.remaining reader.old) items) }
+        ensures kind { IfErr result IsOfReply }
         ensures reads { Advances R.Source result self.old.lines reader.old self.new.lines reader.new }
     {
         match stop_of(self.lines.line(), items.len()) {
@@ -136,6 +142,7 @@ impl Walk {
         requires line { self.old.lines.line ≡ stopped_line done }
         ensures goes { IfOk result (PassesMerge self.old (R.remaining reader.old) items.now self.new (R.remaining reader.new)) }
         ensures fails { IfErr result (FailsAtMerge self.old (R.remaining reader.old) items.now) }
+        ensures kind { IfErr result IsOfReply }
         ensures reads { Advances R.Source result self.old.lines reader.old self.new.lines reader.new }
     {
         let number = self.lines.count();
@@ -154,6 +161,7 @@ impl Walk {
         requires format { self.old.header.format ≡ Format.One }
         ensures goes { IfOk result (PassesSweep self.old (R.remaining reader.old) pass swept self.new (R.remaining reader.new)) }
         ensures fails { IfErr result (FailsAtReply self.old (R.remaining reader.old) pass (swept_line swept)) }
+        ensures kind { IfErr result IsOfReply }
         ensures reads { Advances R.Source result self.old.lines reader.old self.new.lines reader.new }
     {
         let (reply, merges) = sweep_older(
@@ -175,6 +183,7 @@ impl Walk {
     ) -> Result<Passed, WalkFault>
         ensures goes { IfOk result (PassesFor wording command self.old (R.remaining reader.old) self.new (R.remaining reader.new)) }
         ensures fails { IfErr result (FailsFor wording command self.old (R.remaining reader.old)) }
+        ensures kind { IfErr result IsOfReply }
         ensures reads { Advances R.Source result self.old.lines reader.old self.new.lines reader.new }
     {
         let reply = self.store.apply(command);
@@ -195,6 +204,7 @@ impl Walk {
         ensures goes { IfOk result (λ p. (p ≡ passed)
             × SaysReply wording reply.now self.old (R.remaining reader.old) self.new (R.remaining reader.new)) }
         ensures fails { IfErr result (FailsToSay wording reply.now self.old (R.remaining reader.old)) }
+        ensures kind { IfErr result IsOfReply }
         ensures reads { Advances R.Source result self.old.lines reader.old self.new.lines reader.new }
     {
         self.reply.clear();

@@ -12,6 +12,9 @@ use Rattle.trace_walk.specs.Reads.{CountsOn}
 use Rattle.trace_model.specs.declared.verdict.Verdict.{Verdict}
 use Rattle.trace_check.specs.Verifying.{IsVerdictCause}
 use Rattle.trace_check.proofs.CauseLemmas.{cause_told}
+use Rattle.trace_check.proofs.TellingLemmas.{wanted_for}
+use Rattle.trace_check.specs.Telling.{WantsSort}
+use Rattle.trace_walk.specs.Wanting.{wanted_in}
 use Rattle.trace_check.proofs.verifying.walk_through.Goals as goal
 
 pub loop-length-init : goal.loop-length-init
@@ -56,3 +59,10 @@ returns-in-Err-clause-cause g c first led =
 
 pub returns-clause-cause : goal.returns-clause-cause
 returns-clause-cause g c = absurd (omega (arith, c.loop-length-test.false, c.loop-length.invariant.few))
+
+pub returns-in-Err-clause-wanted : goal.returns-in-Err-clause-wanted
+returns-in-Err-clause-wanted g c b w none =
+    let k = c.loop-length.invariant.walks b w none in
+    let sort = wanted_in c.next.new.self.in_items in
+    subst (λ (bytes : List ℕ). WantsSort bytes sort c.verdict.result) k.1
+    (subst (WantsSort k.0.bytes sort) (sym c.verdict.ensures) (wanted_for k.0.front k.0.bytes sort c.in-Err.fault (c.in-Err.ensures.fails k.0 k.3) (c.in-Err.ensures.wanted k.0 k.3)))

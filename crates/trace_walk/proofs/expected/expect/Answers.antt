@@ -38,3 +38,6 @@ pub returns-in_err-said-clause-reads : goal.returns-in_err-said-clause-reads
 returns-in_err-said-clause-reads g c =
     carried_as c.from_residual.result c.in_err-said.field-0.0 (λ r. Advances g.R.Source r c.args.lines.now c.args.reader.now c.args.lines.now c.args.reader.now) c.from_residual.ensures.1
     (λ first led. no_cause g.R.Source c.in_err-said.field-0.0 first c.args.reader.now c.in_err-said.ensures.blames)
+
+pub returns-in_err-said-clause-kind : goal.returns-in_err-said-clause-kind
+returns-in_err-said-clause-kind g c = carried c.from_residual.result c.in_err-said.field-0.0 _ c.from_residual.ensures.1 c.in_err-said.ensures.kind

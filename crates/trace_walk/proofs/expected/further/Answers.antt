@@ -15,7 +15,7 @@ returns-in_err-wanted_line-clause-fails g c =
     let line = c.in-Some.line.now in
     let x = split_on bytes base whole c.loop-line.rest.now (line ++ c.in-Some.more.now) c.loop-line.lines (g.R.Source.remaining c.loop-line.reader) (c.loop-line.invariant.said bytes base whole given is at) c.in-Some.ensures.1 in
     let here : List ℕ = base ++ marked (x.given ++ 10 ∷ []) in
-    c.in_err-wanted_line.ensures.fails start bytes here x.at (further_short start here line (on x.given line c.in-Some.more.now x.whole_is c.in-Some.ensures.0)))
+    (c.in_err-wanted_line.ensures.fails start bytes here x.at (further_short start here line (on x.given line c.in-Some.more.now x.whole_is c.in-Some.ensures.0))).0)
 
 pub returns-in_err-said-clause-fails : goal.returns-in_err-said-clause-fails
 returns-in_err-said-clause-fails g c =
@@ -63,3 +63,11 @@ returns-in_err-said-clause-reads g c =
 
 pub returns-clause-reads : goal.returns-clause-reads
 returns-clause-reads g c = c.loop-line.invariant.reads
+
+-- ---- the kind of fault
+
+pub returns-in_err-wanted_line-clause-kind : goal.returns-in_err-wanted_line-clause-kind
+returns-in_err-wanted_line-clause-kind g c = carried c.from_residual.result c.in_err-wanted_line.field-0.0 _ c.from_residual.ensures.1 c.in_err-wanted_line.ensures.kind
+
+pub returns-in_err-said-clause-kind : goal.returns-in_err-said-clause-kind
+returns-in_err-said-clause-kind g c = carried c.from_residual-in_err-said.result c.in_err-said.field-0.0 _ c.from_residual-in_err-said.ensures.1 c.in_err-said.ensures.kind

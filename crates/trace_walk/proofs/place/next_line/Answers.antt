@@ -4,8 +4,10 @@ use Rattle.trace_walk.specs.declared.fault.WalkFault.TheVariants.{ReadFault, NoR
 use Rattle.trace_walk.specs.declared.place.Place.{Place}
 use Rattle.trace_walk.specs.declared.place.Place.TheVariants.{Form, Reply}
 use Rattle.trace_walk.specs.Walking.{IsLongFault}
+use Rattle.trace_walk.specs.Wanting.{IsOfPlace}
 use Rattle.trace_walk.proofs.WalkingLemmas.{line_comes, none_comes, long_comes, long_fault}
 use Rattle.trace_walk.proofs.ReadLemmas.{line_blames, no_cause}
+use Rattle.trace_walk.proofs.WantedLemmas.{of_place}
 use Rattle.trace_walk.proofs.place.next_line.Goals as goal
 
 pub returns-in-Line-clause-there : goal.returns-in-Line-clause-there
@@ -52,3 +54,6 @@ returns-in-NoRoom-clause-reads g c = λ first led. tt
 
 pub returns-in-Line-clause-counts : goal.returns-in-Line-clause-counts
 returns-in-Line-clause-counts g c = λ there. (omega (arith, c.count-number.ensures.value, c.count-number.ensures.limit), omega (arith, c.in-Line.ensures.pulls.3))
+
+pub returns-in-Long-clause-kind : goal.returns-in-Long-clause-kind
+returns-in-Long-clause-kind g c = subst (IsOfPlace c.args.place) (sym c.fault.ensures) (of_place c.args.place (c.count-number.result + 1))

@@ -17,7 +17,7 @@ use Rattle.trace_model.proofs.TombstoneLemmas.{tombstones_are_free}
 use Rattle.trace_model.specs.declared.header.Format.TheVariants.{One}
 use Rattle.trace_model.specs.OneReply.{IsTraced}
 use Rattle.trace_model.specs.Sweep.{tombstones}
-use Rattle.trace_model.specs.Upgrade.{IsPart}
+use Rattle.trace_model.specs.Upgrade.{IsPart, IsFullPart}
 use Rattle.trace_walk.proofs.SweepLemmas.{AreMerged, batch_free, caller_is, least_most, least_some, none_left, none_merged, none_swept, older_swept, one_batch, one_merged}
 use Rattle.trace_walk.proofs.sweep.sweep_older.Goals as goal
 
@@ -25,7 +25,7 @@ pub loop-rest-init : goal.loop-rest-init
 loop-rest-init c = record {
   some = λ more. omega (arith, c.new-merges.ensures.count, ap length c.as_slice-rest.ensures, c.in_ok-gone.ensures.few);
   few = omega (arith, c.new-merges.ensures.count, ap length c.as_slice-rest.ensures, c.in_ok-gone.ensures.few);
-  taken = λ s stands free. ([], refl, subst (λ (l : List Item). ContentStands c.args.store.now (with_accepted s l)) (sym (append-nil s.feed.accepted)) stands, sym (nothing_owed s), none_merged s c.args.pass c.args.limits c.new-merges.result c.new-merges.ensures);
+  taken = λ s stands free. ([], refl, subst (λ (l : List Item). ContentStands c.args.store.now (with_accepted s l)) (sym (append-nil s.feed.accepted)) stands, sym (nothing_owed s), none_merged s c.args.pass c.args.limits c.as_slice-rest.result.now c.new-merges.result c.new-merges.ensures);
 }
 
 pub loop-rest-preserved : goal.loop-rest-preserved
@@ -45,7 +45,8 @@ loop-rest-preserved c =
           let merged = c.in_ok-mask.ensures (takes_effect s before.0) before.2 (batch_free s whole before.0 batch more split free) in
           let on = one_batch c.merge_part.new.store s whole before.0 batch more c.loop-rest.owed c.in_ok-mask.mask split before.3 merged.0 merged.1 in
           let is : IsPart batch = record { some = omega (arith, first, c.split_at.ensures.front_len); few = omega (arith, c.split_at.ensures.front_len, least_most (length rest) c.min.result c.min.ensures) } in
-          (before.0 ++ batch, on.0, on.1, on.2, one_merged s c.args.pass c.args.limits before.0 batch c.loop-rest.merges c.add.new.self c.in_ok-mask.mask is merged.0 before.4 c.in_ok-add.ensures.text c.in_ok-add.ensures.count);
+          let fills : 0 < length more → IsFullPart batch = λ left. omega (arith, left, c.split_at.ensures.front_len, c.split_at.ensures.back_len, c.min.ensures) in
+          (before.0 ++ batch, on.0, on.1, on.2, one_merged s c.args.pass c.args.limits before.0 batch rest more c.loop-rest.merges c.add.new.self c.in_ok-mask.mask is (omega (arith, some)) fills merged.0 before.4 c.in_ok-add.ensures.text c.in_ok-add.ensures.count);
     }
 
 pub returns : goal.returns
@@ -61,7 +62,7 @@ returns c = (
       ),
   λ s stands traced.
       let t = all_taken s stands traced in
-      let m = subst (λ (l : List Item). AreMerged s c.args.pass c.args.limits l c.loop-rest.merges) t.1 t.4 in
+      let m = subst (λ (l : List Item). AreMerged s c.args.pass c.args.limits l c.loop-rest.rest.now c.loop-rest.merges) t.1 t.4 in
       (m.new, m.merge, m.are),
 )
   where
@@ -77,7 +78,7 @@ returns c = (
         omega (arith, c.if-cursor-len-gt-LAST_PLACE.false, place, c.len.ensures, ap length (same_gone s stands))
 
     all_taken : (s : State) → ContentStands c.args.store.now s → IsTraced One s →
-        (part : List Item) × (part ≡ gone s) × ContentStands c.loop-rest.store (takes_effect s part) × (c.loop-rest.owed ≡ owed s part) × AreMerged s c.args.pass c.args.limits part c.loop-rest.merges
+        (part : List Item) × (part ≡ gone s) × ContentStands c.loop-rest.store (takes_effect s part) × (c.loop-rest.owed ≡ owed s part) × AreMerged s c.args.pass c.args.limits part c.loop-rest.rest.now c.loop-rest.merges
     all_taken s stands traced =
         let free : AreFree s (gone s) = tombstones_are_free s c.args.sweep.owner c.args.sweep.generation traced.reached traced.items traced.floors (places_left s stands) in
         let whole : c.as_slice-rest.result.now ≡ gone s = c.as_slice-rest.ensures ∙ same_gone s stands in

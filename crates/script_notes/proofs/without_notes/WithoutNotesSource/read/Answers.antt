@@ -1,4 +1,6 @@
 use Rattle.std.proofs.Common.{take, arith, ◌∙◌}
+use Rattle.line_io.proofs.CallLemmas.{leads_more}
+use Rattle.script_notes.proofs.CauseLemmas.{told_at}
 use Rattle.script_notes.proofs.SourceLemmas.{given_on, passed_on, long_as_before}
 use Rattle.script_notes.proofs.without_notes.WithoutNotesSource.read.Goals as goal
 
@@ -24,4 +26,13 @@ loop-again-preserved g c =
       passed = passed_on c.args.self.now.place from.place c.keep-kept.new.place (remaining c.args.self.now.reader.now) (remaining from.reader.now)
           (remaining c.read.new.self) (take c.in_ok-count.count c.read.new.buf) c.keep-kept.new.bytes c.keep-kept.result
           c.loop-again.invariant.passed c.in_ok-count.ensures.bytes.0 keep.after keep.kept (omega (arith, c.if-kept-gt0.false));
+      same_reader = c.loop-again.invariant.same_reader;
+      led = leads_more g.R.Source.reads c.loop-again._again c.args.self.now.reader.now from.reader.now c.read.new.self c.loop-again.invariant.led c.in_ok-count.ensures.told;
     }
+
+-- ---- reads
+
+pub returns-in_err-count-clause-told : goal.returns-in_err-count-clause-told
+returns-in_err-count-clause-told g c =
+    let r = g.R.Source in
+    told_at (λ s. s.reader.now) (λ s. s.reader.ghost_name) r.reads r.fails c.from_residual.result c.in_err-count.field-0.0 c.args.self.now _ c.loop-again.self.reader.now c.loop-again._again c.from_residual.ensures.1 c.loop-again.invariant.same_reader c.loop-again.invariant.led c.in_err-count.ensures.told

@@ -6,6 +6,7 @@ use Rattle.trace_walk.specs.Walking.{IsFault}
 use Rattle.trace_walk.specs.Steps.{HearsAt}
 use Rattle.trace_walk.proofs.AskLemmas.{noroom_text, passed_over}
 use Rattle.trace_walk.proofs.ReadLemmas.{refused_there}
+use Rattle.trace_walk.proofs.WantedLemmas.{room_is_of_reply}
 use Rattle.trace_walk.proofs.walk.Walk.answered.Goals as goal
 
 pub returns-then-is_noroom-clause-goes : goal.returns-then-is_noroom-clause-goes
@@ -50,3 +51,6 @@ pub returns-then-is_noroom-clause-reads : goal.returns-then-is_noroom-clause-rea
 returns-then-is_noroom-clause-reads g c =
     refused_there g.R.Source c.judge_noroom.result c.args.self.now.lines c.judge_noroom.new.self.lines c.args.reader.now
     (IfOk-weaker c.judge_noroom.result _ _ (λ passed r. r.lines) c.judge_noroom.ensures.goes) c.judge_noroom.ensures.fault
+
+pub returns-then-is_noroom-clause-kind : goal.returns-then-is_noroom-clause-kind
+returns-then-is_noroom-clause-kind g c = IfErr-weaker c.judge_noroom.result _ _ room_is_of_reply c.judge_noroom.ensures.fault

@@ -44,3 +44,13 @@ pub returns-in_err-items-in-Merge-clause-reads : goal.returns-in_err-items-in-Me
 returns-in_err-items-in-Merge-clause-reads g c =
     carried_as c.from_residual.result c.in_err-items-in-Merge.field-0.0 (λ r. Advances g.R.Source r c.args.self.now.lines c.args.reader.now c.items.new.self.lines c.items.new.reader) c.from_residual.ensures.1
     (λ first led. c.in_err-items-in-Merge.ensures.reads first led)
+
+-- ---- the line that must be there
+
+pub returns-in_err-items-in-Merge-clause-wanted : goal.returns-in_err-items-in-Merge-clause-wanted
+returns-in_err-items-in-Merge-clause-wanted g c =
+    let old = c.args.self.now in
+    let from = g.R.Source.remaining c.args.reader.now in
+    carried c.from_residual.result c.in_err-items-in-Merge.field-0.0 _ c.from_residual.ensures.1
+    (λ b pass x. c.in_err-items-in-Merge.ensures.wanted b pass
+    (lists_none b old.lines old.store old.header from pass old.asked.items c.in-Merge.count (subst (λ (k : Head). HeadsAt b old from pass k) c.in-Merge.is x)))

@@ -10,20 +10,20 @@ use Rattle.trace_walk.proofs.walk.Walk.begin.Goals as goal
 pub returns-in-Ok-false-clause-fails : goal.returns-in-Ok-false-clause-fails
 returns-in-Ok-false-clause-fails g c =
     by_known (g.R.Source.remaining c.args.reader.now) _
-    (λ bytes known. input_empty bytes _ (c.in-Ok-false.ensures.none c.in-Ok-false.field-0-test bytes [] (at_start bytes c.in_ok-lines.lines (g.R.Source.remaining c.args.reader.now) c.in_ok-lines.ensures known)))
+    (λ bytes known. (input_empty bytes _ (c.in-Ok-false.ensures.none c.in-Ok-false.field-0-test bytes [] (at_start bytes c.in_ok-lines.lines (g.R.Source.remaining c.args.reader.now) c.in_ok-lines.ensures known))).0)
 
 pub returns-in-Err-clause-fails : goal.returns-in-Err-clause-fails
 returns-in-Err-clause-fails g c =
     by_known (g.R.Source.remaining c.args.reader.now) _
-    (λ bytes known. first_fails bytes c.in-Err.fault (c.in-Err.ensures.long bytes [] (at_start bytes c.in_ok-lines.lines (g.R.Source.remaining c.args.reader.now) c.in_ok-lines.ensures known)))
+    (λ bytes known. (first_fails bytes c.in-Err.fault (c.in-Err.ensures.long bytes [] (at_start bytes c.in_ok-lines.lines (g.R.Source.remaining c.args.reader.now) c.in_ok-lines.ensures known))).0)
 
 pub returns-in_default-clause-fails : goal.returns-in_default-clause-fails
 returns-in_default-clause-fails g c =
     by_known (g.R.Source.remaining c.args.reader.now) _
     (λ bytes known.
     let l = c.in-Ok-true.ensures.there c.in-Ok-true.field-0-test bytes [] (at_start bytes c.in_ok-lines.lines (g.R.Source.remaining c.args.reader.now) c.in_ok-lines.ensures known) in
-    line_wrong bytes l.0 1 c.next_line.new.lines (g.R.Source.remaining c.next_line.new.reader) l.2 refl
-    (subst HasNoHeader (c.line.ensures ∙ l.1) c.in_default.ensures.none))
+    (line_wrong bytes l.0 1 c.next_line.new.lines (g.R.Source.remaining c.next_line.new.reader) l.2 refl
+    (subst HasNoHeader (c.line.ensures ∙ l.1) c.in_default.ensures.none)).0)
 
 pub returns-clause-begins : goal.returns-clause-begins
 returns-clause-begins g c =
@@ -37,6 +37,26 @@ returns-clause-begins g c =
       stands = c.in-Ok.ensures.opened;
       behind = header_behind h c.in-Some.ensures.found.0;
     })
+
+-- ---- the line that must be there
+
+pub returns-in-Ok-false-clause-wanted : goal.returns-in-Ok-false-clause-wanted
+returns-in-Ok-false-clause-wanted g c =
+    by_known (g.R.Source.remaining c.args.reader.now) _
+    (λ bytes known. (input_empty bytes _ (c.in-Ok-false.ensures.none c.in-Ok-false.field-0-test bytes [] (at_start bytes c.in_ok-lines.lines (g.R.Source.remaining c.args.reader.now) c.in_ok-lines.ensures known))).1)
+
+pub returns-in-Err-clause-wanted : goal.returns-in-Err-clause-wanted
+returns-in-Err-clause-wanted g c =
+    by_known (g.R.Source.remaining c.args.reader.now) _
+    (λ bytes known. (first_fails bytes c.in-Err.fault (c.in-Err.ensures.long bytes [] (at_start bytes c.in_ok-lines.lines (g.R.Source.remaining c.args.reader.now) c.in_ok-lines.ensures known))).1)
+
+pub returns-in_default-clause-wanted : goal.returns-in_default-clause-wanted
+returns-in_default-clause-wanted g c =
+    by_known (g.R.Source.remaining c.args.reader.now) _
+    (λ bytes known.
+    let l = c.in-Ok-true.ensures.there c.in-Ok-true.field-0-test bytes [] (at_start bytes c.in_ok-lines.lines (g.R.Source.remaining c.args.reader.now) c.in_ok-lines.ensures known) in
+    (line_wrong bytes l.0 1 c.next_line.new.lines (g.R.Source.remaining c.next_line.new.reader) l.2 refl
+    (subst HasNoHeader (c.line.ensures ∙ l.1) c.in_default.ensures.none)).1)
 
 -- ---- reads
 

@@ -1,5 +1,7 @@
 use Rattle.std.proofs.Common.{sym, subst}
 use Rattle.trace_model.specs.Head.{HasNoHead}
+use Rattle.trace_walk.specs.declared.wrong_line.Wanted.TheVariants.{Entry}
+use Rattle.trace_walk.specs.Wanting.{IsWanted}
 use Rattle.trace_walk.specs.Walking.{IsFault}
 use Rattle.trace_walk.proofs.HeadLemmas.{head_wrong, head_long, ends_there}
 use Rattle.trace_walk.specs.Reads.{Advances}
@@ -11,7 +13,7 @@ pub returns-in-Err-clause-fails : goal.returns-in-Err-clause-fails
 returns-in-Err-clause-fails g c b w =
     let old = c.args.self.now in
     let from = g.R.Source.remaining c.args.reader.now in
-    head_long b old.lines old.lines old.store old.header from from w c.in-Err.fault (c.in-Err.ensures.long b.bytes b.front w.at)
+    (head_long b old.lines old.lines old.store old.header from from w c.in-Err.fault (c.in-Err.ensures.long b.bytes b.front w.at)).0
 
 pub returns-in-Ok-false-clause-none : goal.returns-in-Ok-false-clause-none
 returns-in-Ok-false-clause-none g c b w =
@@ -26,7 +28,7 @@ returns-in-Err-read_head-clause-fails g c b w =
     let there = c.in-Ok-true.ensures.there c.in-Ok-true.field-0-test b.bytes b.front w.at in
     subst (IsFault b.front b.bytes) (sym c.of_line.ensures)
     (head_wrong b old.lines new old.store old.header (g.R.Source.remaining c.args.reader.now) (g.R.Source.remaining c.next_line.new.reader) w there.0 c.in-Err-read_head.fault c.count.result there.1 there.2
-    (λ bad. subst (HasNoHead old.header.format) c.line.ensures (c.in-Err-read_head.ensures.none bad)) c.count.ensures.value)
+    (λ bad. subst (HasNoHead old.header.format) c.line.ensures (c.in-Err-read_head.ensures.none bad)) c.count.ensures.value).0
 
 pub returns-in_err-extend_from_slice-in-Ok-clause-reads : goal.returns-in_err-extend_from_slice-in-Ok-clause-reads
 returns-in_err-extend_from_slice-in-Ok-clause-reads g c =
@@ -34,3 +36,20 @@ returns-in_err-extend_from_slice-in-Ok-clause-reads g c =
 
 pub returns-in-Err-read_head-clause-reads : goal.returns-in-Err-read_head-clause-reads
 returns-in-Err-read_head-clause-reads g c = λ first led. no_cause g.R.Source c.of_line.result first c.next_line.new.reader (asked_blames c.in-Err-read_head.fault c.count.result c.of_line.result c.of_line.ensures)
+
+-- ---- the line that must be there
+
+pub returns-in-Err-clause-wanted : goal.returns-in-Err-clause-wanted
+returns-in-Err-clause-wanted g c b w =
+    let old = c.args.self.now in
+    let from = g.R.Source.remaining c.args.reader.now in
+    (head_long b old.lines old.lines old.store old.header from from w c.in-Err.fault (c.in-Err.ensures.long b.bytes b.front w.at)).1
+
+pub returns-in-Err-read_head-clause-wanted : goal.returns-in-Err-read_head-clause-wanted
+returns-in-Err-read_head-clause-wanted g c b w =
+    let old = c.args.self.now in
+    let new = c.next_line.new.lines in
+    let there = c.in-Ok-true.ensures.there c.in-Ok-true.field-0-test b.bytes b.front w.at in
+    subst (IsWanted b.bytes Entry) (sym c.of_line.ensures)
+    (head_wrong b old.lines new old.store old.header (g.R.Source.remaining c.args.reader.now) (g.R.Source.remaining c.next_line.new.reader) w there.0 c.in-Err-read_head.fault c.count.result there.1 there.2
+    (λ bad. subst (HasNoHead old.header.format) c.line.ensures (c.in-Err-read_head.ensures.none bad)) c.count.ensures.value).1

@@ -2,9 +2,11 @@ use Rattle.std.proofs.Common.{List, ℕ, refl, ◌++◌, ◌∷◌, [], length, 
 use Rattle.std.specs.List.{flat_map}
 use Rattle.ds_entry.specs.declared.item.Item.{Item}
 use Rattle.trace_model.specs.Text.{merge_text, pass_text, plus_text}
+use Rattle.trace_walk.specs.declared.wrong_line.Wanted.TheVariants.{Item as AnItem}
+use Rattle.trace_walk.specs.Wanting.{IsWanted}
 use Rattle.trace_walk.specs.Walking.{IsFault, Lists}
 use Rattle.trace_walk.proofs.FaultLemmas.{carried}
-use Rattle.trace_walk.proofs.HeadLemmas.{plus_place_short, plus_wrong, plus_on}
+use Rattle.trace_walk.proofs.HeadLemmas.{plus_place_short, plus_wanted, plus_wrong, plus_on}
 use Rattle.trace_walk.specs.Reads.{Advances}
 use Rattle.trace_walk.proofs.ReadLemmas.{asked_blames, carried_as, no_cause}
 use Rattle.trace_walk.specs.declared.fault.WalkFault.TheVariants.{NoRoom}
@@ -16,8 +18,8 @@ returns-in_err-wanted_line-clause-fails g c =
     let from = g.R.Source.remaining c.args.reader.now in
     carried c.from_residual.result c.in_err-wanted_line.field-0.0 _ c.from_residual.ensures.1
     (λ b pass most less x.
-    c.in_err-wanted_line.ensures.fails b.front b.bytes (b.front ++ (pass_text pass (merge_text most) ++ flat_map plus_text c.args.items.now)) x.at
-    (plus_place_short b old.lines old.lines old.store old.header from from pass most c.args.items.now old.asked.items x less))
+    (c.in_err-wanted_line.ensures.fails b.front b.bytes (b.front ++ (pass_text pass (merge_text most) ++ flat_map plus_text c.args.items.now)) x.at
+    (plus_place_short b old.lines old.lines old.store old.header from from pass most c.args.items.now old.asked.items x less)).0)
 
 pub returns-in_ok-extend_from_slice-in-Ok-clause-goes : goal.returns-in_ok-extend_from_slice-in-Ok-clause-goes
 returns-in_ok-extend_from_slice-in-Ok-clause-goes g c = (
@@ -42,7 +44,7 @@ returns-in-Err-clause-fails g c b pass most less x =
     let there = c.in_ok-wanted_line.ensures.there b.bytes (b.front ++ (pass_text pass (merge_text most) ++ flat_map plus_text items)) x.at in
     subst (IsFault b.front b.bytes) (sym c.of_line.ensures)
     (plus_wrong b old.lines new old.store old.header (g.R.Source.remaining c.args.reader.now) (g.R.Source.remaining c.wanted_line.new.reader) pass most items old.asked.items x there.0 c.in-Err.fault c.count.result less there.1 there.2
-    (λ bad item may is. c.in-Err.ensures.none bad item may (c.line.ensures ∙ is)) c.count.ensures.value)
+    (λ bad item may is. c.in-Err.ensures.none bad item may (c.line.ensures ∙ is)) c.count.ensures.value).0
 
 -- ---- reads and lines
 
@@ -61,3 +63,26 @@ returns-in_err-extend_from_slice-in-Ok-clause-reads g c =
 
 pub returns-in-Err-clause-reads : goal.returns-in-Err-clause-reads
 returns-in-Err-clause-reads g c = λ first led. no_cause g.R.Source c.of_line.result first c.wanted_line.new.reader (asked_blames c.in-Err.fault c.count.result c.of_line.result c.of_line.ensures)
+
+-- ---- the line that must be there
+
+pub returns-in_err-wanted_line-clause-wanted : goal.returns-in_err-wanted_line-clause-wanted
+returns-in_err-wanted_line-clause-wanted g c =
+    let old = c.args.self.now in
+    let from = g.R.Source.remaining c.args.reader.now in
+    let fault = c.in_err-wanted_line.field-0.0 in
+    carried c.from_residual.result fault _ c.from_residual.ensures.1
+    (λ b pass most less x.
+    plus_wanted b old.lines old.lines old.store old.header from from pass most c.args.items.now old.asked.items x less fault
+    (c.in_err-wanted_line.ensures.fails b.front b.bytes (b.front ++ (pass_text pass (merge_text most) ++ flat_map plus_text c.args.items.now)) x.at
+    (plus_place_short b old.lines old.lines old.store old.header from from pass most c.args.items.now old.asked.items x less)).1)
+
+pub returns-in-Err-clause-wanted : goal.returns-in-Err-clause-wanted
+returns-in-Err-clause-wanted g c b pass most less x =
+    let old = c.args.self.now in
+    let items = c.args.items.now in
+    let new = c.wanted_line.new.lines in
+    let there = c.in_ok-wanted_line.ensures.there b.bytes (b.front ++ (pass_text pass (merge_text most) ++ flat_map plus_text items)) x.at in
+    subst (IsWanted b.bytes AnItem) (sym c.of_line.ensures)
+    (plus_wrong b old.lines new old.store old.header (g.R.Source.remaining c.args.reader.now) (g.R.Source.remaining c.wanted_line.new.reader) pass most items old.asked.items x there.0 c.in-Err.fault c.count.result less there.1 there.2
+    (λ bad item may is. c.in-Err.ensures.none bad item may (c.line.ensures ∙ is)) c.count.ensures.value).1

@@ -49,3 +49,12 @@ returns-in_err-item-clause-reads g c =
 
 pub returns-clause-reads : goal.returns-clause-reads
 returns-clause-reads g c = c.loop-index.invariant.reads
+
+-- ---- the line that must be there
+
+pub returns-in_err-item-clause-wanted : goal.returns-in_err-item-clause-wanted
+returns-in_err-item-clause-wanted g c =
+    carried c.from_residual.result c.in_err-item.field-0.0 _ c.from_residual.ensures.1
+    (λ b pass x.
+    let k = c.loop-index.invariant.lists b pass x in
+    c.in_err-item.ensures.wanted b pass c.args.most (omega (arith, k.0, c.loop-index-test.true)) k.1)

@@ -8,8 +8,8 @@ use Rattle.trace_walk.proofs.walk.Walk.judge.Goals as goal
 pub returns-in-Err-clause-fails : goal.returns-in-Err-clause-fails
 returns-in-Err-clause-fails g c b x =
     let old = c.args.self.now in
-    c.in-Err.ensures.fails b.front b.bytes (b.front ++ asked_text c.args.pass c.args.asked) x.at
-    (reply_wanted b old.lines old.store old.header (g.R.Source.remaining c.args.reader.now) c.args.pass c.args.asked old.asked.items x)
+    (c.in-Err.ensures.fails b.front b.bytes (b.front ++ asked_text c.args.pass c.args.asked) x.at
+    (reply_wanted b old.lines old.store old.header (g.R.Source.remaining c.args.reader.now) c.args.pass c.args.asked old.asked.items x)).0
 
 pub returns-in-Ok-clause-goes : goal.returns-in-Ok-clause-goes
 returns-in-Ok-clause-goes g c =

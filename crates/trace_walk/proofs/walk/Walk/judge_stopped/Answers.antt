@@ -58,3 +58,6 @@ pub returns-in_err-reply-clause-reads : goal.returns-in_err-reply-clause-reads
 returns-in_err-reply-clause-reads g c =
     carried_as c.from_residual.result c.in_err-reply.field-0.0 (λ r. Advances g.R.Source r c.args.self.now.lines c.args.reader.now c.args.self.now.lines c.args.reader.now) c.from_residual.ensures.1
     (λ first led. no_cause g.R.Source c.in_err-reply.field-0.0 first c.args.reader.now c.in_err-reply.ensures.blames)
+
+pub returns-in_err-reply-clause-kind : goal.returns-in_err-reply-clause-kind
+returns-in_err-reply-clause-kind g c = carried c.from_residual.result c.in_err-reply.field-0.0 _ c.from_residual.ensures.1 c.in_err-reply.ensures.kind

@@ -5,6 +5,8 @@ use Rattle.trace_walk.specs.Steps.{ReadsHead}
 use Rattle.trace_walk.proofs.FaultLemmas.{carried, some_at}
 use Rattle.trace_walk.specs.Reads.{Advances, CountsOn}
 use Rattle.trace_walk.proofs.ReadLemmas.{carried_as, on_and_on}
+use Rattle.trace_walk.proofs.WantedLemmas.{wanted_in_reply}
+use Rattle.trace_walk.specs.Wanting.{wanted_in}
 use Rattle.trace_walk.proofs.walk.Walk.next.Goals as goal
 
 pub returns-in_err-asked-clause-fails : goal.returns-in_err-asked-clause-fails
@@ -52,3 +54,17 @@ pub returns-in-Ok-clause-counts : goal.returns-in-Ok-clause-counts
 returns-in-Ok-clause-counts g c =
     let k = some_at c.in_ok-pass.field-0 (c.in-Some.pass, c.in-Some.head) (λ p. CountsOn c.args.self.now.lines c.head.new.self.lines) c.in-Some.is c.in_ok-pass.ensures.counts in
     (k.0, omega (arith, k.1, c.in_ok-asked.ensures.reads.1, c.in-Ok.ensures.reads.1))
+
+-- ---- the line that must be there
+
+pub returns-in_err-pass-clause-wanted : goal.returns-in_err-pass-clause-wanted
+returns-in_err-pass-clause-wanted g c = carried c.from_residual.result c.in_err-pass.field-0.0 _ c.from_residual.ensures.1 c.in_err-pass.ensures.wanted
+
+pub returns-in_err-asked-clause-wanted : goal.returns-in_err-asked-clause-wanted
+returns-in_err-asked-clause-wanted g c =
+    let heads = some_at c.in_ok-pass.field-0 (c.in-Some.pass, c.in-Some.head) (ReadsHead c.args.self.now (g.R.Source.remaining c.args.reader.now) c.head.new.self (g.R.Source.remaining c.head.new.reader)) c.in-Some.is c.in_ok-pass.ensures.some in
+    carried c.from_residual-in_err-asked.result c.in_err-asked.field-0.0 _ c.from_residual-in_err-asked.ensures.1
+    (λ b w. c.in_err-asked.ensures.wanted b c.in-Some.pass (heads.1 b w))
+
+pub returns-in-Err-clause-wanted : goal.returns-in-Err-clause-wanted
+returns-in-Err-clause-wanted g c b w = wanted_in_reply b.bytes (wanted_in c.judge.new.self.in_items) c.in-Err.fault c.in-Err.ensures.kind
