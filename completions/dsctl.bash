@@ -9,7 +9,7 @@ _dsctl() {
     done
     case $command in
         replay) words="--keep-going --stop --ends -h --help" ;;
-        settings) words="-h --help" ;;
+        settings) words="--line -h --help" ;;
         verify) words="-h --help" ;;
         upgrade) words="-h --help" ;;
         record) words="--format --keys -h --help" ;;

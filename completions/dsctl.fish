@@ -8,6 +8,7 @@ complete -c dsctl -n '__fish_seen_subcommand_from replay' -l keep-going -d 'Cont
 complete -c dsctl -n '__fish_seen_subcommand_from replay' -l stop -d 'End at a bad line, at a terminal too'
 complete -c dsctl -n '__fish_seen_subcommand_from replay' -l ends -d 'End each answer by an empty line'
 complete -c dsctl -n '__fish_seen_subcommand_from replay' -s h -l help -d 'Print help'
+complete -c dsctl -n '__fish_seen_subcommand_from settings' -l line -d 'Print them as a line of a script'
 complete -c dsctl -n '__fish_seen_subcommand_from settings' -s h -l help -d 'Print help (see a summary with \'-h\')'
 complete -c dsctl -n '__fish_seen_subcommand_from verify' -s h -l help -d 'Print help (see a summary with \'-h\')'
 complete -c dsctl -n '__fish_seen_subcommand_from upgrade' -s h -l help -d 'Print help (see a summary with \'-h\')'

@@ -14,15 +14,12 @@ TABBED = '"%s\\t%s\\n"'  # how fish prints each word and its text
 MANY = 16  # so many numbers aren't offered one by one
 EXAMPLES = ("Example session", "Two replicas", "A driver that dies")  # how the paragraphs begin that show something
 OF_LINES = "new over first later label u32 str mem file net block character up down refresh help quit exit".split()  # beside the first words
+AT_A_TERMINAL = [
+    "\\(haC ends \\fBdsctl\\fR, and with it the stores. \\fBdsctl\\-prompt\\fR takes the same words and starts \\fBdsctl\\fR so that \\(haC takes back the",
+    "line that is typed, and the session stays. With \\fBrlwrap\\fR(1) installed it has history, editing, and words at the Tab key, too.",
+]
 SEE_ALSO = [
-    "\\fBrlwrap\\fR(1), which adds history and editing, and words at the Tab key for a PREFIX of \\fB./install\\fR:",
-    ".PP",
-    "\\fBrlwrap \\-e \\(aq\\(aq \\-f PREFIX/share/rlwrap/completions/dsctl dsctl\\fR",
-    ".PP",
-    "\\(haC ends the session. This line ignores it, and keeps the session, in bash, zsh and fish:",
-    ".PP",
-    "\\fBsh \\-c \\(dqtrap \\(aq\\(aq INT; exec dsctl\\(dq\\fR",
-    ".PP",
+    "\\fBrlwrap\\fR(1).",
     "In the documents of Pengtawis: docs/guide/, a page for each task; docs/reference/lines.md, all lines and answers;",
     "docs/reference/refusals.md, a session for each refusal; docs/reference/minix.md, MINIX 3's calls; examples/README.md, scripts and pictures.",
 ]
@@ -126,7 +123,7 @@ def manual(version, whole, parts):
     limits = parts["replay"][0].rest.rpartition("\n\n")[2]
     lines += [".SH LINES", *paragraphs(title + lines_of_scripts), ".PP", *paragraphs(limits)]
     lines += [".SH REFUSALS", *paragraphs(rest[""]), ".SH EXIT STATUS", *paragraphs(rest["EXIT STATUS"])]
-    lines += [".SH EXAMPLES", *paragraphs(f"{rest['EXAMPLES']}\n\n{about['EXAMPLES']}"), ".SH SEE ALSO", *SEE_ALSO]
+    lines += [".SH EXAMPLES", *paragraphs(f"{rest['EXAMPLES']}\n\n{about['EXAMPLES']}"), ".SH AT A TERMINAL", *AT_A_TERMINAL, ".SH SEE ALSO", *SEE_ALSO]
     return "\n".join(lines) + "\n"
 
 
@@ -277,12 +274,14 @@ def fish(whole, parts):
 
 
 def words(whole):
-    """The words of a script's lines and of the prompt, for rlwrap."""
+    """The words of a script's lines, of the prompt, and those that help explains in small letters, for rlwrap."""
     help_ = whole["long"]
     lines = help_.about.partition("Lines of a script:\n")[2].partition("\n\n")[0]
     commands = re.findall(r"^  (\w+)", lines, re.MULTILINE)
     refusals = re.findall(r"^  (\w+) {2,}", help_.rest.partition("Words after `refused`")[2].partition("Exit status:")[0], re.MULTILINE)
-    return "".join(f"{it}\n" for it in sorted({*commands, *refusals, *OF_LINES}))
+    told = [help_.about.partition(it)[2].partition("\n\n")[0] for it in ("Answers:\n", "Parts of lines and answers:\n")]
+    explained = re.findall(r"^  ([a-z]+)", "\n".join(told), re.MULTILINE)
+    return "".join(f"{it}\n" for it in sorted({*commands, *refusals, *explained, *OF_LINES}))
 
 
 def made(program):

@@ -6,6 +6,17 @@ import harness
 PARTS = [
     (b"", 0, b"a command was expected; the line is empty: `script 2` as the first line allows that\n"),
     (b"# a comment", 0, b"a command was expected; a comment was found: `script 2` as the first line allows them\n"),
+    (b"  # a comment", 0, b"a command was expected; a space and a comment were found: `#` is the first byte of a comment's line, after `script 2` as the first line\n"),
+    (b"show # a comment", 4, b"the end of the line was expected; a comment was found: each has a line of its own, after `script 2` as the first line\n"),
+    (b"offer a u32 o 1.0 = 1# one", 21, b"the end of the line was expected; a comment was found: each has a line of its own"),
+    (b"offer a str o 1.0 = \"#\" x", 23, b"the end of the line was expected; a space was found\n"),
+    (b"   ", 0, b"a command was expected; only spaces were found: an empty line has none, after `script 2` as the first line\n"),
+    (b"script 2 ", 0, b"`script 2` was expected, and the end of the line; a space was found after it\n"),
+    (b"script 2\r", 0, b"`script 2` was expected, and the end of the line; a carriage return was found after it\n"),
+    (b"script 2 # one", 0, b"`script 2` was expected, and the end of the line; a space was found after it\n"),
+    (b"script 3", 0, b"only `script 2` is allowed, as the first line\n"),
+    (b"verify", 0, b"`verify` is for the command line: dsctl verify\n"),
+    (b"live --for 3", 0, b"`live` is for the command line: dsctl live\n"),
     (b" show", 0, b"a command was expected; a space was found: see --help\n"),
     (b"\xef\xbb\xbfshow", 0, b"a command was expected; a byte order mark was found: see --help\n"),
     (b"/show", 0, b"a command was expected; `/show` was found: see --help\n"),
@@ -85,4 +96,48 @@ def says_which_part_was_expected(program):
         assert ran.error.startswith(told), f"{line[:60]!r}: standard error is {ran.error!r}, wanted {told!r}"
 
 
-ALL = [says_which_part_was_expected]
+# A line of commands, the byte where it is bad, and what is said of it.
+RECORDED = [
+    (b"get a u32", 0, b"`get` isn't a command, here it is `retrieve`\n"),
+    (b"7 retr a u32", 2, b"`retr` isn't a command, it begins `retrieve`\n"),
+    (b"7 s", 2, b"`s` isn't a command, it begins `sweep` `subscribe` `since` `snapshot`\n"),
+    (b"publsh", 0, b"`publsh` isn't a command, the nearest is `publish`\n"),
+    (b"ls", 0, b"`ls` isn't a command\n"),
+    (b"show", 0, b"`show` isn't a store's command\n"),
+    (b"show x", 4, b"the end of the line was expected; a space was found\n"),
+    (b"# one", 0, b"a command was expected; a comment was found, and commands have none\n"),
+]
+
+
+def says_what_was_wrong_with_commands(program):
+    """Of a line that can't be recorded, standard error names the byte, and what was expected there or what is meant."""
+    for line, place, words in RECORDED:
+        told = b"badline 1 %d\ndsctl: line 1, byte %d: %s" % (place, place, words)
+        ran = harness.run([program, "record"], line + b"\n")
+        assert (ran.error, ran.status) == (told, 1), f"{line}: {ran}"
+
+
+# Texts of each kind, and what is said of one where another was expected.
+TEXTS = [
+    ((b"publish 0/2 new a label 1.0 = 1/16\n", b"script 2\nshow\n", b"# one\n\nscript 2\nshow\n", b"  # one\n show\n"), ["verify", "settings"], b"this is a script: `dsctl replay` answers it\n"),
+    ((b"script 2\nshow\n",), ["record"], b"this is a script: `dsctl replay` answers it\n"),
+    ((b"[[service]]\n", b"slots = 3\n", b"# one\n\n  # two\nslots = 3\n"), ["replay", "verify", "record"], b"these are settings: `dsctl settings` shows them\n"),
+    ((b"trace 2 1 0 256 64 1024\n", b"# one\ntrace 1 1 0 256\n"), ["replay", "settings", "record"], b"this is a trace: `dsctl verify` judges it\n"),
+    ((b"7 nameof 3/17\n", b"# one\n7 nameof 3/17\n"), ["replay", "verify", "settings"], b"these are commands: `dsctl record` writes the trace of their run\n"),
+]
+
+
+def says_what_a_text_is(program):
+    """A text of another kind is called what it is, by its first line that isn't empty or a comment."""
+    for texts, words, told in TEXTS:
+        for text in texts:
+            for word in words:
+                ran = harness.run([program, word], text)
+                assert ran.status == 1 and ran.error.endswith(b" was expected; " + told), f"{word}, {text}: {ran}"
+    ran = harness.run([program], b"show\n7 nameof 3/17\n")
+    assert ran.error == b"dsctl: line 2, byte 0: a command was expected; these are commands: `dsctl record` writes the trace of their run\n", f"{ran}"
+    ran = harness.run([program], b"show\ntrace 2 1 0 256 128 4096\n")
+    assert ran.error == b"dsctl: line 2, byte 0: a command was expected; this is a trace: `dsctl verify` judges it\n", f"{ran}"
+
+
+ALL = [says_which_part_was_expected, says_what_was_wrong_with_commands, says_what_a_text_is]

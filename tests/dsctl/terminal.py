@@ -51,9 +51,12 @@ class Seen:
     status: int
 
 
-def pieces(program, typed, words=()):
-    """Runs the program at a terminal, and types one piece after the other, each once the one before was read, and then ^D."""
+def pieces(program, typed, words=(), settings=()):
+    """Runs the program at a terminal with these settings of stty, and types one piece after the other, each once the one before was read, and
+    then ^D."""
     ours, theirs = pty.openpty()
+    if settings:
+        subprocess.run(["stty", *settings], stdin=theirs, check=True)
     started = subprocess.Popen([program, *words], stdin=theirs, stdout=theirs, stderr=theirs)
     os.close(theirs)
     seen = b""

@@ -19,7 +19,7 @@ BAD_SETTINGS = re.compile(rb"bad \w+( \d+)?\n")  # the whole output for settings
 BAD_TRACE = re.compile(rb"(?:illegal|badline) (\d+)\n")  # the whole output for a trace that isn't legal
 TOLD = b"dsctl: "  # how each sentence on standard error begins
 WRONG_LINE = rb"dsctl: line %s(?:, byte \d+)?: "  # how the sentence about a trace begins; it names a byte if a part of the line is bad
-WORD = re.compile(rb"(badline|illegal|already) (\d+)(?: (\d+))?\n")  # what standard error has first where the output is a trace
+WORD = re.compile(rb"badline (\d+) (\d+)\n")  # what standard error has first where commands to record can't be read
 FAILED = re.compile(rb"(?:noroom|readfault|writefault)\n")  # likewise at status 3
 SECONDS = 120  # the longest that one run may take, even on a busy machine
 
@@ -166,12 +166,11 @@ def fault(case, ran):
 
 
 def untold(error, wanted):
-    """Says how standard error differs from what is wanted, or returns None. Where that is a word with a line and perhaps a byte, a sentence
-    about that place follows it; where it is a word of status 3, one about the reason may."""
+    """Says how standard error differs from what is wanted, or returns None. Where that is a word with a line and a byte, a sentence about
+    that place follows it; where it is a word of status 3, one about the reason may."""
     word = WORD.fullmatch(wanted)
     if word:
-        line = b"1" if word[1] == b"already" else word[2]
-        place = WRONG_LINE % line if word[3] is None else b"dsctl: line %s, byte %s: " % (line, word[3])
+        place = b"dsctl: line %s, byte %s: " % (word[1], word[2])
         is_told = error.startswith(wanted) and re.fullmatch(place + rb".*\n", error[len(wanted) :])
         return None if is_told else f"standard error is {error[:200]!r}, wanted {wanted!r} and a sentence"
     if FAILED.fullmatch(wanted):

@@ -26,8 +26,13 @@ pub enum Audience {
 }
 
 /// Writes to standard error which part was expected where a line can't be read; at a terminal, below the line and a
-/// caret. A failed write is ignored.
-pub fn explain(rt: &(impl Runtime + AllocGlobal), audience: Audience, bad: &BadLine<'_>) {
+/// caret. `kind` is that of the whole text. A failed write is ignored.
+pub fn explain(
+    rt: &(impl Runtime + AllocGlobal),
+    audience: Audience,
+    bad: &BadLine<'_>,
+    kind: Option<TextKind>,
+) {
     if audience != Audience::File {
         show_place(rt, bad);
     }
@@ -39,24 +44,56 @@ pub fn explain(rt: &(impl Runtime + AllocGlobal), audience: Audience, bad: &BadL
         before: 0,
         added: 0,
     };
-    match part.stray() {
+    if explain_kind(rt, bad, kind) {
+        return;
+    }
+    match note_at(bad).or(part.stray()) {
         Some(stray) => part.say(rt, stray),
-        None if bad.expected == Expected::Command => explain_first_word(rt, audience, bad),
+        None if bad.expected == Expected::Command => {
+            explain_word(rt, audience, bad.number, bad.text);
+        }
         None => part.explain(rt),
     }
 }
 
-// Explains a line without a command; the first one of a text may show that the text is of another kind.
-fn explain_first_word(rt: &impl Runtime, audience: Audience, bad: &BadLine<'_>) {
-    let kind = match (bad.number, audience) {
-        (1, Audience::File | Audience::Terminal) => TextKind::of(bad.text),
-        _ => None,
-    };
-    match kind {
+// Explains a line without a command that is of another kind of text: any line of commands to record, any header of a
+// trace, and the first line of a text of this kind. Returns whether it is.
+fn explain_kind(rt: &impl Runtime, bad: &BadLine<'_>, kind: Option<TextKind>) -> bool {
+    if bad.expected != Expected::Command {
+        return false;
+    }
+    let number = bad.number;
+    let of_line = TextKind::of_line(bad.text).filter(|it| matches!(
+        it,
+        TextKind::Commands | TextKind::Trace
+    ));
+    match of_line.or(kind.filter(|_| number == 1)) {
         Some(kind) if kind != TextKind::Script => {
-            let _ = eprintln!(rt; "dsctl: line 1, byte 0: a command was expected; {kind}");
+            let _ = eprintln!(rt; "dsctl: line {number}, byte 0: a command was expected; {kind}");
+            true
         }
-        _ => explain_word(rt, audience, bad.number, bad.text),
+        _ => false,
+    }
+}
+
+const NOTE_WITHIN: &str =
+    "the end of the line was expected; a comment was found: each has a line of its own, after `script 2` as the first line";
+
+const NOTE_AFTER_SPACE: &str =
+    "a command was expected; a space and a comment were found: `#` is the first byte of a comment's line, after `script 2` as the first line";
+
+const ONLY_SPACES: &str =
+    "a command was expected; only spaces were found: an empty line has none, after `script 2` as the first line";
+
+// Returns a sentence about a comment, or an empty line, that isn't where format 2 has them.
+fn note_at(bad: &BadLine<'_>) -> Option<&'static str> {
+    let rest = bad.text.get(bad.place..).unwrap_or(&[]);
+    let inner = rest.trim_ascii_start();
+    match (bad.expected, inner.first().copied()) {
+        (Expected::End, Some(b'#')) => Some(NOTE_WITHIN),
+        (Expected::Command, Some(b'#')) if inner.len() < rest.len() => Some(NOTE_AFTER_SPACE),
+        (Expected::Command, None) if rest.starts_with(b" ") => Some(ONLY_SPACES),
+        _ => None,
     }
 }
 
@@ -86,8 +123,11 @@ fn explain_word(rt: &impl Runtime, audience: Audience, number: u64, text: &[u8])
         return;
     }
     if word == b"script".as_slice() {
+        return explain_script(rt, number, text);
+    }
+    if let Some(command) = SUBCOMMANDS.iter().find(|it| it.as_bytes() == word) {
         let _ = eprintln!(rt;
-            "dsctl: line {number}, byte 0: only `script 2` is allowed, as the first line"
+            "dsctl: line {number}, byte 0: `{command}` is for the command line: dsctl {command}"
         );
         return;
     }
@@ -103,6 +143,26 @@ fn explain_word(rt: &impl Runtime, audience: Audience, number: u64, text: &[u8])
         near => explain_unknown(rt, number, word, near, help),
     }
 }
+
+// Explains a line that is meant to name the format of a script.
+fn explain_script(rt: &impl Runtime, number: u64, text: &[u8]) {
+    match text.strip_prefix(b"script 2") {
+        Some(rest) if number == 1 && !rest.is_empty() => {
+            let found = Found(rest);
+            let _ = eprintln!(rt;
+                "dsctl: line {number}, byte 0: `script 2` was expected, and the end of the line; {found} was found after it"
+            );
+        }
+        _ => {
+            let _ = eprintln!(rt;
+                "dsctl: line {number}, byte 0: only `script 2` is allowed, as the first line"
+            );
+        }
+    }
+}
+
+/// The words of the command line that no line begins with.
+const SUBCOMMANDS: [&str; 5] = ["replay", "verify", "upgrade", "record", "live"];
 
 // Whether only the prompt has lines that begin with a word.
 fn is_prompts_own(word: &[u8]) -> bool {

@@ -6,7 +6,7 @@ use typed_words::COMMANDS;
 
 /// The kinds of texts that `dsctl` reads.
 #[derive(Clone, Copy, Debug, PartialEq, Eq)]
-pub(crate) enum TextKind {
+pub enum TextKind {
     Script,
     Trace,
     Settings,
@@ -14,13 +14,24 @@ pub(crate) enum TextKind {
 }
 
 impl TextKind {
+    /// Returns the kind of the text with this front, if that can be said: by its first line that is neither empty nor a
+    /// comment.
+    pub fn of(text: &[u8]) -> Option<TextKind> {
+        for line in text.split(|byte| *byte == b'\n') {
+            if !is_note(line) {
+                return TextKind::of_line(line.trim_ascii());
+            }
+        }
+        None
+    }
+
     /// Returns the kind of the text that begins with this line, if that can be said.
-    pub(crate) fn of(line: &[u8]) -> Option<TextKind> {
+    pub(crate) fn of_line(line: &[u8]) -> Option<TextKind> {
         let (word, rest) = word_at(line);
         if word == b"trace".as_slice() && rest.starts_with(b" ") {
             return Some(TextKind::Trace);
         }
-        if is_command(word) {
+        if is_command(word) || (word == b"script".as_slice() && rest.starts_with(b" ")) {
             return Some(TextKind::Script);
         }
         if begins_settings(line) {
@@ -43,6 +54,11 @@ impl fmt::Display for TextKind {
                 "these are commands: `dsctl record` writes the trace of their run",
         })
     }
+}
+
+/// Whether a line is empty or a comment.
+pub(crate) fn is_note(line: &[u8]) -> bool {
+    matches!(line.trim_ascii().first().copied(), None | Some(b'#'))
 }
 
 // Returns the word at the front of a line, and what comes after it.

@@ -7,11 +7,14 @@
 //! was expected, and which was found. This project's.
 #![tactic(auto)]
 
+mod as_line;
 mod bad_line;
 mod bad_part;
+mod faults;
 mod field;
 mod found;
 mod given;
+mod header;
 mod kind;
 mod place;
 mod settings_fault;
@@ -23,7 +26,9 @@ mod trace_fault;
 mod trace_line;
 mod wanted;
 
+pub use as_line::script_line;
 pub use bad_line::{Audience, explain};
+pub use kind::TextKind;
 pub use settings_fault::explain_settings;
 pub use settings_lines::write_settings;
 pub use stopped::{explain_recorded, explain_upgrade};

@@ -1,11 +1,12 @@
 //! Explains the faults of a settings text: each with its line, its service by its label, its field, what is there, and
 //! what was expected.
 
+use crate::faults::Faults;
 use crate::field::{OF_SERVICE, fields_known, is_needed, is_valid, wanted_in};
 use crate::given::{Given, service_at, service_count, text_in};
-use crate::kind::TextKind;
+use crate::kind::{TextKind, is_note};
 use crate::place::{field_line, line_at, service_line};
-use crate::shared::explain_shared;
+use crate::shared::add_shared;
 use ds_names::NoRoom;
 use std::fmt;
 use std::rt::Runtime;
@@ -19,11 +20,10 @@ pub(crate) struct Document<'a> {
     pub table: &'a Table,
 }
 
-/// Writes to standard error each fault of a settings text in a line of its own, in the order in which they are judged:
-/// the line of the text, the service by its label, the field, what is there, and what was expected. A failed write is
-/// ignored.
+/// Writes to standard error each fault of a settings text in a line of its own, in the order of their lines: the line of
+/// the text, the service by its label, the field, what is there, and what was expected. A failed write is ignored.
 ///
-/// NoRoom: out of memory to parse the text again.
+/// NoRoom: out of memory to parse the text again, or to keep its faults. Nothing is written then.
 pub fn explain_settings(rt: &(impl Runtime + AllocGlobal), text: &[u8]) -> Result<(), NoRoom> {
     let Ok(document) = std::str::from_utf8(text) else {
         let _ = eprintln!(rt; "dsctl: the text isn't UTF-8");
@@ -35,7 +35,9 @@ pub fn explain_settings(rt: &(impl Runtime + AllocGlobal), text: &[u8]) -> Resul
                 text,
                 table: &table,
             };
-            explain_document(rt, document);
+            let mut faults = Faults::new(rt.alloc());
+            add_document(&mut faults, document)?;
+            faults.write(rt);
             Ok(())
         }
         Err(error) => explain_text(rt, text, &error),
@@ -50,8 +52,8 @@ fn explain_text(rt: &impl Runtime, text: &[u8], error: &toml::de::Error) -> Resu
     let line = line_at(text, span.start);
     let message = error.message();
     match TextKind::of(text) {
-        Some(kind) if line == 1 && kind != TextKind::Settings => {
-            let _ = eprintln!(rt; "dsctl: line 1: a TOML document was expected; {kind}");
+        Some(kind) if kind != TextKind::Settings && begins_at(text, line) => {
+            let _ = eprintln!(rt; "dsctl: line {line}: a TOML document was expected; {kind}");
         }
         _ => {
             let _ = eprintln!(rt; "dsctl: line {line}: {message}");
@@ -60,84 +62,95 @@ fn explain_text(rt: &impl Runtime, text: &[u8], error: &toml::de::Error) -> Resu
     Ok(())
 }
 
-// Explains each fault of a document.
-fn explain_document(rt: &impl Runtime, document: Document<'_>) {
-    explain_unknown(rt, document, None, document.table);
-    for field in fields_known(None) {
-        explain_value(rt, document, None, document.table, field);
-    }
-    for index in 0..service_count(document.table) {
-        explain_service(rt, document, index);
-    }
-    explain_shared(rt, document);
+// Whether a text has only empty lines and comments before a line.
+fn begins_at(text: &[u8], line: usize) -> bool {
+    text.split(|byte| *byte == b'\n')
+        .take(line.saturating_sub(1))
+        .all(is_note)
 }
 
-// Explains each fault of a service of its own.
-fn explain_service(rt: &impl Runtime, document: Document<'_>, index: usize) {
+// Adds each fault of a document.
+fn add_document(faults: &mut Faults, document: Document<'_>) -> Result<(), NoRoom> {
+    add_unknown(faults, document, None, document.table)?;
+    for field in fields_known(None) {
+        add_value(faults, document, None, document.table, field)?;
+    }
+    for index in 0..service_count(document.table) {
+        add_service(faults, document, index)?;
+    }
+    add_shared(faults, document)
+}
+
+// Adds each fault of a service of its own.
+fn add_service(faults: &mut Faults, document: Document<'_>, index: usize) -> Result<(), NoRoom> {
     let Some(fields) = service_at(document.table, index) else {
         let place = document.place(Some(index), "service");
-        let _ = eprintln!(rt; "dsctl: {place}a table was expected");
-        return;
+        return faults.add(place, format!(in faults.alloc; "a table was expected")?);
     };
-    explain_unknown(rt, document, Some(index), fields);
+    add_unknown(faults, document, Some(index), fields)?;
     for field in OF_SERVICE {
         if is_needed(fields, field) && fields.get(field).is_none() {
-            let place = document.header(index);
             let wanted = wanted_in(field);
-            let _ = eprintln!(rt; "dsctl: {place}`{field}` is missing; {wanted} was expected");
+            let said = format!(in faults.alloc; "`{field}` is missing; {wanted} was expected")?;
+            faults.add(document.header(index), said)?;
         }
     }
     for field in OF_SERVICE {
-        explain_value(rt, document, Some(index), fields, field);
+        add_value(faults, document, Some(index), fields, field)?;
     }
+    Ok(())
 }
 
-// Explains each field with a name that no field has.
-fn explain_unknown(
-    rt: &impl Runtime,
+// Adds each field with a name that no field has.
+fn add_unknown(
+    faults: &mut Faults,
     document: Document<'_>,
     service: Option<usize>,
     fields: &Table,
-) {
+) -> Result<(), NoRoom> {
     let known = fields_known(service);
     for key in fields.keys() {
         let key = key.as_str();
         if known.iter().any(|it| *it == key) {
             continue;
         }
-        let place = document.place(service, key);
         let shown = Plain(key.as_bytes());
         let near = IfNear(nearest(key.as_bytes(), known));
-        let _ = eprintln!(rt; "dsctl: {place}`{shown}` isn't a field{near}");
+        let said = format!(in faults.alloc; "`{shown}` isn't a field{near}")?;
+        faults.add(document.place(service, key), said)?;
     }
+    Ok(())
 }
 
-// Explains a field that has what it may not have.
-fn explain_value(
-    rt: &impl Runtime,
+// Adds a field that has what it may not have.
+fn add_value(
+    faults: &mut Faults,
     document: Document<'_>,
     service: Option<usize>,
     fields: &Table,
     field: &str,
-) {
+) -> Result<(), NoRoom> {
     if is_valid(fields, field) {
-        return;
+        return Ok(());
     }
     let Some(value) = fields.get(field) else {
-        return;
+        return Ok(());
     };
     let place = document.place(service, field);
     let given = Given(value);
     if field == "unit" && text_in(fields, "class") == Some("server") {
-        let _ = eprintln!(rt; "dsctl: {place}`unit` is {given}; a server has none");
-        return;
+        return faults.add(
+            place,
+            format!(in faults.alloc; "`unit` is {given}; a server has none")?,
+        );
     }
     let wanted = wanted_in(field);
     let near = IfNear(match (field, value.as_str()) {
         ("class", Some(class)) => nearest(class.as_bytes(), &crate::field::CLASSES),
         _ => None,
     });
-    let _ = eprintln!(rt; "dsctl: {place}`{field}` is {given}; {wanted} was expected{near}");
+    let said = format!(in faults.alloc; "`{field}` is {given}; {wanted} was expected{near}")?;
+    faults.add(place, said)
 }
 
 impl<'a> Document<'a> {

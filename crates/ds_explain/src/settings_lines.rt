@@ -57,7 +57,8 @@ fn write_extensions<W: Write>(writer: &mut W, service: &Service) -> io::Result<(
     Ok(())
 }
 
-fn class_word(class: Class) -> &'static str {
+/// Returns the word of a class.
+pub(crate) fn class_word(class: Class) -> &'static str {
     match class {
         Class::Block => "block",
         Class::Character => "character",

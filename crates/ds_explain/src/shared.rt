@@ -1,52 +1,44 @@
 //! Explains what two services of a settings text share, and may not: a label, a unit, or a published name.
 
+use crate::faults::Faults;
 use crate::field::{is_network, is_server};
 use crate::given::{service_at, service_count, text_in};
 use crate::settings_fault::Document;
-use std::rt::Runtime;
+use ds_names::NoRoom;
 use toml::{Table, Value};
 use typed_words::Plain;
 
-/// Writes to standard error, in a line each, what each service shares with one before it: labels, then units, then names.
-pub(crate) fn explain_shared(rt: &impl Runtime, document: Document<'_>) {
+/// Adds what each service shares with one before it: labels, units and names.
+pub(crate) fn add_shared(faults: &mut Faults, document: Document<'_>) -> Result<(), NoRoom> {
     for index in 0..service_count(document.table) {
-        explain_label(rt, document, index);
+        add_label(faults, document, index)?;
+        add_unit(faults, document, index)?;
+        add_names(faults, document, index)?;
     }
-    for index in 0..service_count(document.table) {
-        explain_unit(rt, document, index);
-    }
-    for index in 0..service_count(document.table) {
-        explain_names(rt, document, index);
-    }
+    Ok(())
 }
 
-// Explains a label that an earlier service has.
-fn explain_label(rt: &impl Runtime, document: Document<'_>, index: usize) {
+// Adds a label that an earlier service has.
+fn add_label(faults: &mut Faults, document: Document<'_>, index: usize) -> Result<(), NoRoom> {
     let Some(fields) = service_at(document.table, index) else {
-        return;
+        return Ok(());
     };
     let Some(label) = text_in(fields, "label") else {
-        return;
+        return Ok(());
     };
     for earlier in 0..index {
         if has_label(document.table, earlier, label) {
-            let place = document.place(Some(index), "label");
             let there = document.place(Some(earlier), "label");
-            match there.line {
-                Some(line) => {
-                    let _ = eprintln!(rt;
-                        "dsctl: {place}`label` is that of another service, in line {line}, too"
-                    );
-                }
-                None => {
-                    let _ = eprintln!(rt;
-                        "dsctl: {place}`label` is that of service {earlier}, too"
-                    );
-                }
-            }
-            return;
+            let said = match there.line {
+                Some(line) => format!(in faults.alloc;
+                    "`label` is that of another service, in line {line}, too"
+                )?,
+                None => format!(in faults.alloc; "`label` is that of service {earlier}, too")?,
+            };
+            return faults.add(document.place(Some(index), "label"), said);
         }
     }
+    Ok(())
 }
 
 fn has_label(table: &Table, index: usize, label: &str) -> bool {
@@ -56,24 +48,24 @@ fn has_label(table: &Table, index: usize, label: &str) -> bool {
     }
 }
 
-// Explains a major number or a port that an earlier service has.
-fn explain_unit(rt: &impl Runtime, document: Document<'_>, index: usize) {
+// Adds a major number or a port that an earlier service has.
+fn add_unit(faults: &mut Faults, document: Document<'_>, index: usize) -> Result<(), NoRoom> {
     let Some(fields) = service_at(document.table, index) else {
-        return;
+        return Ok(());
     };
     let Some(unit) = unit_of(fields) else {
-        return;
+        return Ok(());
     };
     for earlier in 0..index {
         if has_unit(document.table, earlier, unit, is_network(fields)) {
-            let place = document.place(Some(index), "unit");
             let there = document.place(Some(earlier), "unit");
-            let _ = eprintln!(rt;
-                "dsctl: {place}`unit` is {unit}, as in {there}each is one driver's"
-            );
-            return;
+            let said = format!(in faults.alloc;
+                "`unit` is {unit}, as in {there}each is one driver's"
+            )?;
+            return faults.add(document.place(Some(index), "unit"), said);
         }
     }
+    Ok(())
 }
 
 // Returns the unit of a service that may have one.
@@ -95,42 +87,41 @@ fn has_unit(table: &Table, index: usize, unit: i64, network: bool) -> bool {
     }
 }
 
-// Explains each name that an earlier service publishes, or the service itself before.
-fn explain_names(rt: &impl Runtime, document: Document<'_>, index: usize) {
+// Adds each name that an earlier service publishes, or the service itself before.
+fn add_names(faults: &mut Faults, document: Document<'_>, index: usize) -> Result<(), NoRoom> {
     let names = names_of(document.table, index);
     for (number, value) in names.iter().enumerate() {
         let Some(name) = value.as_str() else {
             continue;
         };
         if let Some(earlier) = publisher(document.table, index, name) {
-            say_published(rt, document, index, name, Some(earlier));
+            add_published(faults, document, index, name, Some(earlier))?;
         } else if has_name(names.get(..number).unwrap_or(&[]), name) {
-            say_published(rt, document, index, name, None);
+            add_published(faults, document, index, name, None)?;
         }
     }
+    Ok(())
 }
 
-// Writes that a service publishes a name that an earlier service publishes, or the service itself before.
-fn say_published(
-    rt: &impl Runtime,
+// Adds that a service publishes a name that an earlier service publishes, or the service itself before.
+fn add_published(
+    faults: &mut Faults,
     document: Document<'_>,
     index: usize,
     name: &str,
     earlier: Option<usize>,
-) {
-    let place = document.place(Some(index), "publishes");
+) -> Result<(), NoRoom> {
     let shown = Plain(name.as_bytes());
-    match earlier {
+    let said = match earlier {
         Some(earlier) => {
             let there = document.place(Some(earlier), "publishes");
-            let _ = eprintln!(rt;
-                "dsctl: {place}`publishes` has \"{shown}\", as in {there}each name is published once"
-            );
+            format!(in faults.alloc;
+                "`publishes` has \"{shown}\", as in {there}each name is published once"
+            )?
         }
-        None => {
-            let _ = eprintln!(rt; "dsctl: {place}`publishes` has \"{shown}\" twice");
-        }
-    }
+        None => format!(in faults.alloc; "`publishes` has \"{shown}\" twice")?,
+    };
+    faults.add(document.place(Some(index), "publishes"), said)
 }
 
 // Returns the values that a service publishes.

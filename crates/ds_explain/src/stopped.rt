@@ -1,9 +1,12 @@
 //! Explains where a recording or an upgrade ended before its input did.
 
-use crate::bad_part::say_found_at;
+use crate::bad_part::{say_at, say_found_at};
+use crate::header::Formats;
 use crate::kind::TextKind;
-use crate::trace_fault::explain_trace;
-use crate::trace_line::{begins_command, explain_asked, explain_command, explain_item};
+use crate::trace_fault::explain_wrong;
+use crate::trace_line::{
+    begins_command, explain_asked, explain_command, explain_item, is_of_no_store,
+};
 use ds_names::{read_byte, read_decimal};
 use line_io::LONGEST_LINE;
 use std::rt::Runtime;
@@ -17,26 +20,32 @@ const ITEM_WANTED: &str =
 
 const ITEM_MISSING: &str = "an item was expected, `+ CHANGE` or `+ FLOOR`";
 
+const COMMENT: &str = "a command was expected; a comment was found, and commands have none";
+
 const PASS_WANTED: &str =
     "a command was expected, perhaps after PASS, 0 to 63 with no leading zero, and a space";
 
-/// Writes to standard error which part of a line of commands can't be read. `text` is the line with its newline,
-/// if it was read, and `place` the part's first byte. A failed write is ignored.
+/// Writes to standard error which part of a line of commands can't be read. `text` is the line with its newline, if it
+/// was read, and what comes after it as far as that is kept; `place` is the part's first byte. A failed write is ignored.
 pub fn explain_recorded(
     rt: &(impl Runtime + AllocGlobal),
     number: u64,
     place: usize,
     text: Option<&[u8]>,
 ) {
-    let Some(text) = text else {
+    let kind = match text {
+        Some(text) if number == 1 => TextKind::of(text),
+        _ => None,
+    };
+    let Some(text) = first_line(text) else {
         let _ = eprintln!(rt;
             "dsctl: line {number}, byte {place}: an item was expected, `+ CHANGE` or `+ FLOOR`; the input ended"
         );
         return;
     };
     if place == 0 {
-        explain_front(rt, number, text);
-    } else if text.len() > LONGEST_LINE + 1 || !explain_line(rt, number, text) {
+        explain_front(rt, number, text, kind);
+    } else if text.len() > LONGEST_LINE + 1 || !explain_line(rt, number, place, text) {
         let _ = eprintln!(rt;
             "dsctl: line {number}, byte {place}: a trace's line has at most 4096 bytes"
         );
@@ -44,11 +53,16 @@ pub fn explain_recorded(
 }
 
 // Explains a line that is bad from its first byte on: no command begins so, or an item was expected.
-fn explain_front(rt: &(impl Runtime + AllocGlobal), number: u64, text: &[u8]) {
-    match TextKind::of(text) {
-        Some(kind @ (TextKind::Trace | TextKind::Settings)) if number == 1 => {
-            let _ = eprintln!(rt; "dsctl: line 1, byte 0: a command was expected; {kind}");
-        }
+fn explain_front(
+    rt: &(impl Runtime + AllocGlobal),
+    number: u64,
+    text: &[u8],
+    kind: Option<TextKind>,
+) {
+    match kind {
+        Some(kind @ (TextKind::Trace | TextKind::Settings)) => say_kind(rt, kind),
+        Some(kind @ TextKind::Script) if text.starts_with(b"script ") => say_kind(rt, kind),
+        _ if text.starts_with(b"#") => say_at(rt, number, 0, COMMENT),
         _ if text.starts_with(b"+") => say_found_at(rt, number, 0, ITEM_WANTED, text),
         _ if after_pass(text).is_some() || begins_command(text) => {
             say_found_at(rt, number, 0, ITEM_MISSING, text);
@@ -62,6 +76,19 @@ fn explain_front(rt: &(impl Runtime + AllocGlobal), number: u64, text: &[u8]) {
     }
 }
 
+fn say_kind(rt: &impl Runtime, kind: TextKind) {
+    let _ = eprintln!(rt; "dsctl: line 1, byte 0: a command was expected; {kind}");
+}
+
+// Returns the first line of a text, with its newline.
+fn first_line(text: Option<&[u8]>) -> Option<&[u8]> {
+    let text = text?;
+    match text.iter().position(|byte| *byte == b'\n') {
+        Some(place) => text.get(..=place),
+        None => Some(text),
+    }
+}
+
 // Returns what follows a pass and a space at the front of a line.
 fn after_pass(text: &[u8]) -> Option<&[u8]> {
     let (_, rest) = read_decimal(text, LAST_PASS)?;
@@ -69,7 +96,7 @@ fn after_pass(text: &[u8]) -> Option<&[u8]> {
 }
 
 // Explains a line of commands: an item, or a command, perhaps after a pass. Returns whether a part of it is bad.
-fn explain_line(rt: &(impl Runtime + AllocGlobal), number: u64, text: &[u8]) -> bool {
+fn explain_line(rt: &(impl Runtime + AllocGlobal), number: u64, place: usize, text: &[u8]) -> bool {
     if text.starts_with(b"+ ") {
         return explain_item(rt, number, text);
     }
@@ -78,16 +105,25 @@ fn explain_line(rt: &(impl Runtime + AllocGlobal), number: u64, text: &[u8]) -> 
     }
     let command = after_pass(text).unwrap_or(text);
     let before = text.len().saturating_sub(command.len());
+    if place > before && is_of_no_store(command) {
+        return explain_command(rt, number, command, before, 0);
+    }
     explain_asked(rt, number, command, before)
 }
 
 /// Writes to standard error why a trace can't be upgraded; nothing if it can, or if memory, reading or writing failed.
-/// `text` is the line with its newline, if it was read. A failed write is ignored.
+/// `text` is the line with its newline, if it was read, and what comes after it as far as that is kept. A failed write is
+/// ignored.
 pub fn explain_upgrade(
     rt: &(impl Runtime + AllocGlobal),
     fault: UpgradeFault,
     text: Option<&[u8]>,
 ) {
+    let kind = match text {
+        Some(text) => TextKind::of(text),
+        None => None,
+    };
+    let text = first_line(text);
     let (number, wanted) = match fault {
         UpgradeFault::IllegalAt(number) => (number, Wanted::Reply),
         UpgradeFault::BadLineAt(number) => (number, wanted_at(number, text)),
@@ -101,16 +137,14 @@ pub fn explain_upgrade(
         Some(line) => Stands::Line(line),
         None => Stands::Nothing,
     };
-    explain_trace(
-        rt,
-        &WrongLine {
-            number,
-            wanted,
-            stands,
-            asked: &[],
-            reply: None,
-        },
-    );
+    let wrong = WrongLine {
+        number,
+        wanted,
+        stands,
+        asked: &[],
+        reply: None,
+    };
+    explain_wrong(rt, &wrong, Formats::Older, kind);
 }
 
 // Returns the sort of line that was expected instead of a bad one.

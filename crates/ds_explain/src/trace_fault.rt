@@ -1,6 +1,7 @@
 //! Explains a trace that isn't legal, by its first wrong line.
 
 use crate::found::Found;
+use crate::header::{Formats, explain_header};
 use crate::kind::TextKind;
 use crate::stray::BYTE_ORDER_MARK;
 use crate::trace_line::{explain_marked, without_newline};
@@ -9,9 +10,26 @@ use std::rt::Runtime;
 use trace_check::{Stands, Wanted, WrongLine};
 use typed_words::Plain;
 
-/// Writes to standard error which line a trace was expected to have, and which it has; of a line with the mark of an
-/// entry or of an item, which part is bad. A failed write is ignored.
-pub fn explain_trace(rt: &(impl Runtime + AllocGlobal), wrong: &WrongLine<'_>) {
+/// Writes to standard error which line a trace was expected to have, and which it has; of a header, and of a line with
+/// the mark of an entry or of an item, which part is bad. `kind` is that of the whole text. A failed write is ignored.
+pub fn explain_trace(
+    rt: &(impl Runtime + AllocGlobal),
+    wrong: &WrongLine<'_>,
+    kind: Option<TextKind>,
+) {
+    explain_wrong(rt, wrong, Formats::Both, kind);
+}
+
+/// Writes likewise what is wrong with a trace of these formats.
+pub(crate) fn explain_wrong(
+    rt: &(impl Runtime + AllocGlobal),
+    wrong: &WrongLine<'_>,
+    formats: Formats,
+    kind: Option<TextKind>,
+) {
+    if wrong.wanted == Wanted::Header {
+        return explain_first(rt, wrong.stands, formats, kind);
+    }
     if explain_marked(rt, wrong) || explain_unmarked(rt, wrong) {
         return;
     }
@@ -70,7 +88,7 @@ impl fmt::Display for WantedThere<'_> {
         let asked = Plain(command_of(self.0.asked));
         let is_known = !self.0.asked.is_empty();
         match (self.0.wanted, self.0.reply) {
-            (Wanted::Header, _) => write_header(f, self.0.stands),
+            (Wanted::Header, _) => f.write_str("a header was expected"),
             (Wanted::Entry, _) => f.write_str(ENTRY),
             (Wanted::Item, _) if is_known => write!(
                 f,
@@ -87,39 +105,59 @@ impl fmt::Display for WantedThere<'_> {
     }
 }
 
-const HEADER: &str = "a header was expected, `trace 2 INCARNATION FIRST RING SUBS KEYS`";
-
 const ENTRY: &str = "an entry was expected, `> PASS COMMAND`";
 
 const ITEM: &str = "an item was expected, `+ CHANGE` or `+ FLOOR`";
 
 const REPLY: &str = "the store's reply was expected, which `dsctl verify` names";
 
-// Writes what a missing header's line has.
-fn write_header<W: fmt::Write>(f: &mut fmt::Formatter<W>, stands: Stands<'_>) -> fmt::Result {
+// Explains the first line of a text, which isn't a header.
+fn explain_first(rt: &impl Runtime, stands: Stands<'_>, formats: Formats, kind: Option<TextKind>) {
     let line = match stands {
         Stands::Line(line) => line,
-        Stands::Nothing => &[],
-        Stands::Long => return write!(f, "{HEADER}, not a line above 4096 bytes"),
+        Stands::Nothing | Stands::Long => &[],
     };
-    if line.is_empty() {
-        return write!(f, "{HEADER}, and the trace is empty");
+    if explain_header(rt, line, formats) {
+        return;
     }
-    let line = without_newline(line);
-    if line.starts_with(BYTE_ORDER_MARK) {
-        return f.write_str("a header was expected; a byte order mark was found");
-    }
-    if line.ends_with(b"\r") {
-        return f.write_str(
-            "a header was expected; a carriage return was found at the end of the line",
-        );
-    }
-    match TextKind::of(line) {
-        Some(kind) if kind != TextKind::Trace => write!(f, "a header was expected; {kind}"),
-        _ => {
-            let line = Plain(line);
-            write!(f, "{HEADER}, not \"{line}\"")
+    let first = First {
+        line,
+        formats,
+        kind,
+    };
+    let _ = eprintln!(rt; "dsctl: line 1: a header was expected{first}");
+}
+
+/// How many bytes of a first line are shown.
+const SHOWN: usize = 96;
+
+// A first line that doesn't begin as a header.
+#[derive(Clone, Copy)]
+struct First<'a> {
+    line: &'a [u8],
+    formats: Formats,
+    kind: Option<TextKind>,
+}
+
+impl fmt::Display for First<'_> {
+    fn fmt<W: fmt::Write>(&self, f: &mut fmt::Formatter<W>) -> fmt::Result {
+        if self.line.starts_with(BYTE_ORDER_MARK) {
+            return f.write_str("; a byte order mark was found");
         }
+        match self.kind {
+            Some(TextKind::Trace) | None => {}
+            Some(kind) => return write!(f, "; {kind}"),
+        }
+        if self.line.starts_with(b"#") {
+            return f.write_str("; a comment was found, and a trace has none");
+        }
+        let header = self.formats.header();
+        if self.line.is_empty() {
+            return write!(f, ", {header}, and the trace is empty");
+        }
+        let line = without_newline(self.line);
+        let shown = Plain(&line[..line.len().min(SHOWN)]);
+        write!(f, ", {header}, not \"{shown}\"")
     }
 }
 

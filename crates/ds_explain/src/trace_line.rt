@@ -9,7 +9,7 @@ use line_io::{LONGEST_LINE, split_line};
 use script_commands::{CommandFault, ScriptCommand, read_line};
 use std::rt::Runtime;
 use trace_check::{Stands, Wanted, WrongLine};
-use typed_words::{COMMANDS, IfNear, Plain, nearest};
+use typed_words::{COMMANDS, Meant, Plain, nearest};
 
 /// The commands of a store.
 const ASKED: [&str; 12] = [
@@ -107,6 +107,12 @@ pub(crate) fn begins_command(text: &[u8]) -> bool {
     is_among(word, &ASKED)
 }
 
+/// Whether a text begins with the word of a script's command that isn't a store's.
+pub(crate) fn is_of_no_store(text: &[u8]) -> bool {
+    let (word, _) = word_at(text);
+    is_among(word, &COMMANDS) && !is_among(word, &ASKED)
+}
+
 // Explains what comes after the word `merge`.
 fn explain_merge(rt: &impl Runtime, number: u64, rest: &[u8], before: usize) {
     let Some(count) = read_byte(rest, b' ') else {
@@ -132,9 +138,9 @@ fn explain_word(rt: &impl Runtime, number: u64, word: &[u8], text: &[u8], place:
             "dsctl: line {number}, byte {place}: `{shown}` isn't a store's command"
         );
     } else {
-        let near = IfNear(nearest(word, &ASKED));
+        let meant = Meant::among(word, nearest(word, &ASKED), &ASKED);
         let _ = eprintln!(rt;
-            "dsctl: line {number}, byte {place}: `{shown}` isn't a command{near}"
+            "dsctl: line {number}, byte {place}: `{shown}` isn't a command{meant}"
         );
     }
 }

@@ -3,7 +3,7 @@
 use std::io::{self, Read};
 
 /// How many bytes are kept: a trace's header is shorter.
-const KEPT: usize = 96;
+const KEPT: usize = 1024;
 
 /// A reader that keeps the first bytes that it read.
 #[derive(Drop)]
@@ -23,9 +23,14 @@ impl<R: Read> WithFront<R> {
         }
     }
 
+    /// Returns what is kept.
+    pub(crate) fn kept(&self) -> &[u8] {
+        self.front.get(..self.count).unwrap_or(&[])
+    }
+
     /// Returns the first line that was read, with its newline, as far as it is kept.
     pub(crate) fn first_line(&self) -> &[u8] {
-        let kept = self.front.get(..self.count).unwrap_or(&[]);
+        let kept = self.kept();
         match kept.iter().position(|byte| *byte == b'\n') {
             Some(place) => kept.get(..=place).unwrap_or(kept),
             None => kept,

@@ -65,7 +65,7 @@ fn read_input<R: Runtime + AllocGlobal>(
     };
     let terminals = terminals.at(&input);
     match words {
-        Words::Settings => settings::show_input(rt, terminals, input),
+        Words::Settings { as_line } => settings::show_input(rt, terminals, input, as_line),
         Words::Verify => traces::judge_input(rt, terminals, input),
         Words::Upgrade => traces::upgrade_input(rt, terminals, input),
         Words::Record(form) => recording::record_input(rt, terminals, input, form),

@@ -36,7 +36,7 @@ fn outcome<R: Runtime + AllocGlobal>(
         Ok(_) => Ok(ExitCode::SUCCESS),
         Err(RecordFault::BadLine { line, place }) => {
             let _ = eprintln!(rt; "badline {line} {place}");
-            explain_recorded(rt, line, place, input.line(line));
+            explain_recorded(rt, line, place, input.from_line(line));
             Ok(ExitCode::from(1))
         }
         Err(RecordFault::ReadFault) => Err(Failure::ReadFault(input.reader.fault)),

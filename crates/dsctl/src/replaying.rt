@@ -1,12 +1,12 @@
 //! Answers a script.
 
 use crate::stepped::{LineNumber, Stepped};
-use ds_explain::{Audience, explain};
+use ds_explain::{Audience, TextKind, explain};
 use ds_script::{BadLine, BadLines, ReplayFault, Replayed, Report, replay_reporting};
 use dsctl_cli::{Answers, Failure, Greeting, Input, LastLine, Replaying, Terminals, Typed, greet};
 use line_io::Plain;
 use script_notes::replay_without_notes;
-use std::io;
+use std::io::{self, Read};
 use std::process::ExitCode;
 use std::rt::Runtime;
 
@@ -46,6 +46,8 @@ struct Explainer<'a, R> {
     bad_lines: BadLines,
     // The line of the input, if lines are passed over: they have no number.
     line: Option<&'a LineNumber>,
+    // The kind of the text, if its front shows it.
+    kind: Option<TextKind>,
     unwritten: Option<io::Error>,
 }
 
@@ -63,7 +65,8 @@ impl<R: Runtime + AllocGlobal> Report for Explainer<'_, R> {
             Some(line) => line.get(),
             None => line.number,
         };
-        explain(self.rt, self.audience, &BadLine { number, ..*line });
+        let line = BadLine { number, ..*line };
+        explain(self.rt, self.audience, &line, self.kind);
     }
 }
 
@@ -89,6 +92,7 @@ pub(crate) fn replay_input<R: Runtime + AllocGlobal>(
         audience: audience(terminals),
         bad_lines,
         line: has_notes.then_some(&line),
+        kind: kind_of(&reader.0, terminals, has_notes),
         unwritten: None,
     };
     let replayed = if has_notes {
@@ -118,6 +122,18 @@ pub(crate) fn replay_input<R: Runtime + AllocGlobal>(
     match stepped.end_answer() {
         Ok(()) => Ok(status),
         Err(error) => Err(Failure::WriteFault(Some(error))),
+    }
+}
+
+// Returns the kind of a text that isn't typed and doesn't name its format, by what was read of it.
+fn kind_of<R: Runtime, I: Read>(
+    input: &Stepped<'_, R, I>,
+    terminals: Terminals,
+    has_notes: bool,
+) -> Option<TextKind> {
+    match has_notes || terminals.are_both() {
+        true => None,
+        false => TextKind::of(input.waiting()),
     }
 }
 

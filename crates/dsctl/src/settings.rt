@@ -1,18 +1,19 @@
 //! Shows a settings text, or its first fault.
 
-use ds_explain::{explain_settings, write_settings};
+use ds_explain::{explain_settings, script_line, write_settings};
 use dsctl_cli::{Failure, Greeting, Input, Terminals, greet};
 use rs_settings::{Settings, SettingsCause, SettingsFault, read};
 use std::io::{self, BufWriter, ErrorKind, Read};
 use std::process::ExitCode;
 use std::rt::Runtime;
 
-/// Parses settings, and prints their services, or their first fault. Nothing is printed before the whole text is judged.
+/// Parses settings, and prints their services, or them as a line of a script, or their first fault. Nothing is printed before the whole text is judged.
 /// Greets a user at a terminal.
 pub(crate) fn show_input<R: Runtime + AllocGlobal>(
     rt: &R,
     terminals: Terminals,
     mut input: Input<R>,
+    as_line: bool,
 ) -> Result<ExitCode, Failure> {
     greet(rt, terminals, Greeting::Settings);
     let mut text = Vec::new(rt.alloc());
@@ -22,9 +23,25 @@ pub(crate) fn show_input<R: Runtime + AllocGlobal>(
             _ => Failure::ReadFault(Some(error)),
         });
     }
+    match as_line {
+        true => show_text_as_line(rt, text.as_slice()),
+        false => show_text(rt, &text),
+    }
+}
+
+// Prints the services of a settings text, or its first fault.
+fn show_text(rt: &(impl Runtime + AllocGlobal), text: &Vec<u8>) -> Result<ExitCode, Failure> {
     match read(rt.alloc(), text.as_slice()) {
         Ok(settings) => show(rt, &settings),
         Err(fault) => show_fault(rt, text.as_slice(), fault),
+    }
+}
+
+// Prints a settings text as a line of a script, or its first fault.
+fn show_text_as_line(rt: &(impl Runtime + AllocGlobal), text: &[u8]) -> Result<ExitCode, Failure> {
+    match read(rt.alloc(), text) {
+        Ok(settings) => show_line(rt, &settings),
+        Err(fault) => show_fault(rt, text, fault),
     }
 }
 
@@ -37,6 +54,32 @@ fn show(rt: &(impl Runtime + AllocGlobal), settings: &Settings) -> Result<ExitCo
         Ok(()) => Ok(ExitCode::SUCCESS),
         Err(error) => Err(Failure::WriteFault(Some(error))),
     }
+}
+
+/// The most bytes of a line.
+const LONGEST: usize = 4096;
+
+// Prints settings as a line of a script. Standard error says what isn't in it.
+fn show_line(rt: &(impl Runtime + AllocGlobal), settings: &Settings) -> Result<ExitCode, Failure> {
+    let Ok((line, left_out)) = script_line(rt.alloc(), settings) else {
+        return Err(Failure::NoRoom);
+    };
+    let count = line.len();
+    if count > LONGEST {
+        let _ = eprintln!(rt;
+            "dsctl: the line would have {count} bytes, and a line of a script has at most 4096"
+        );
+        return Ok(ExitCode::from(1));
+    }
+    if let Err(error) = rt.println(line.as_str()) {
+        return Err(Failure::WriteFault(Some(error)));
+    }
+    if let Some(slots) = left_out {
+        let _ = eprintln!(rt;
+            "dsctl: `slots = {slots}` is left out: a line has services or slots, and then 64 slots"
+        );
+    }
+    Ok(ExitCode::SUCCESS)
 }
 
 // Prints the fault of a text, and writes each of its faults to standard error. Out of memory isn't a fault of the text.

@@ -131,8 +131,8 @@ impl<'a, R: Runtime, I: Read> Stepped<'a, R, I> {
         written
     }
 
-    // Returns what was read ahead.
-    fn waiting(&self) -> &[u8] {
+    /// Returns what was read ahead.
+    pub(crate) fn waiting(&self) -> &[u8] {
         self.block.get(self.begin..self.end).unwrap_or(&[])
     }
 

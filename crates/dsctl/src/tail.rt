@@ -28,8 +28,9 @@ impl<R: Read> WithTail<R> {
         }
     }
 
-    /// Returns a line by its number, from 1, with a newline; `None` if it isn't kept, or wasn't read.
-    pub(crate) fn line(&mut self, number: u64) -> Option<&[u8]> {
+    /// Returns a line by its number, from 1, with a newline, and the lines after it as far as they are kept; `None` if it
+    /// isn't kept, or wasn't read.
+    pub(crate) fn from_line(&mut self, number: u64) -> Option<&[u8]> {
         self.end_line();
         let index = number.checked_sub(1)?.checked_sub(self.passed)?;
         let mut rest = self.kept.get(..self.count)?;
@@ -37,8 +38,7 @@ impl<R: Read> WithTail<R> {
             let end = rest.iter().position(|byte| *byte == b'\n')?;
             rest = rest.get(end + 1..)?;
         }
-        let end = rest.iter().position(|byte| *byte == b'\n')?;
-        rest.get(..=end)
+        (!rest.is_empty()).then_some(rest)
     }
 
     // Ends the last line by a newline, if it has none.

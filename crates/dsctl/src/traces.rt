@@ -2,7 +2,7 @@
 
 use crate::front::WithFront;
 use crate::tail::WithTail;
-use ds_explain::{explain_trace, explain_upgrade};
+use ds_explain::{TextKind, explain_trace, explain_upgrade};
 use dsctl_cli::{Answers, Failure, Greeting, Input, Terminals, Typed, greet};
 use line_io::Plain;
 use std::io;
@@ -21,39 +21,39 @@ pub(crate) fn judge_input<R: Runtime + AllocGlobal>(
     let mut reader = Plain(WithFront::new(Typed::unprompted(rt, input)));
     let judged = judge(rt.alloc(), &mut reader);
     let input = reader.0;
-    tell_verdict(rt, &judged, input.first_line(), input.reader.fault)
+    tell_verdict(rt, &judged, &input)
 }
 
 // Prints the verdict on a trace, and explains what is wrong with it.
-fn tell_verdict(
-    rt: &(impl Runtime + AllocGlobal),
+fn tell_verdict<R: Runtime + AllocGlobal>(
+    rt: &R,
     judged: &Judged,
-    first_line: &[u8],
-    unread: Option<io::Error>,
+    input: &WithFront<Typed<'_, R>>,
 ) -> Result<ExitCode, Failure> {
     let (word, number) = match judged.verdict {
         Verdict::Legal { length } => ("legal", length),
         Verdict::IllegalAt(line) => ("illegal", line),
         Verdict::BadLineAt(line) => ("badline", line),
-        Verdict::ReadFault => return Err(Failure::ReadFault(unread)),
+        Verdict::ReadFault => return Err(Failure::ReadFault(input.reader.fault)),
         Verdict::NoRoom => return Err(Failure::NoRoom),
     };
     match println!(rt; "{word} {number}") {
-        Ok(()) => Ok(explain_wrong_line(rt, judged, first_line)),
+        Ok(()) => Ok(explain_wrong_line(rt, judged, input)),
         Err(error) => Err(Failure::WriteFault(Some(error))),
     }
 }
 
 // Writes to standard error what was expected in the first wrong line, if there is one.
-fn explain_wrong_line(
-    rt: &(impl Runtime + AllocGlobal),
+fn explain_wrong_line<R: Runtime + AllocGlobal>(
+    rt: &R,
     judged: &Judged,
-    first_line: &[u8],
+    input: &WithFront<Typed<'_, R>>,
 ) -> ExitCode {
     match judged.wrong_line() {
         None => ExitCode::SUCCESS,
         Some(wrong) => {
-            explain_trace(rt, &with_header(wrong, first_line));
+            let wrong = with_header(wrong, input.first_line());
+            explain_trace(rt, &wrong, TextKind::of(input.kept()));
             ExitCode::from(1)
         }
     }
@@ -70,8 +70,8 @@ fn with_header<'a>(wrong: WrongLine<'a>, first_line: &'a [u8]) -> WrongLine<'a> 
     }
 }
 
-/// Writes a trace of format 1 in format 2. If it can't be upgraded, standard error gets a word, a line number,
-/// and the fault. Greets a user at a terminal.
+/// Writes a trace of format 1 in format 2. If it can't be upgraded, standard error gets a word and a line number; at a
+/// terminal also what is wrong there. Greets a user at a terminal.
 pub(crate) fn upgrade_input<R: Runtime + AllocGlobal>(
     rt: &R,
     terminals: Terminals,
@@ -81,12 +81,13 @@ pub(crate) fn upgrade_input<R: Runtime + AllocGlobal>(
     let mut reader = Plain(WithTail::new(Typed::unprompted(rt, input)));
     let mut writer = Plain(Answers::new(rt, io::writer(rt)));
     let upgraded = upgrade(rt.alloc(), &mut reader, &mut writer);
-    outcome(rt, upgraded, &mut reader.0, writer.0.fault)
+    outcome(rt, terminals, upgraded, &mut reader.0, writer.0.fault)
 }
 
 // Returns the exit status of an upgrade, or why reading or writing failed.
 fn outcome<R: Runtime + AllocGlobal>(
     rt: &R,
+    terminals: Terminals,
     upgraded: Result<u64, UpgradeFault>,
     input: &mut WithTail<Typed<'_, R>>,
     unwritten: Option<io::Error>,
@@ -98,19 +99,23 @@ fn outcome<R: Runtime + AllocGlobal>(
         Err(UpgradeFault::NoRoom) => Err(Failure::NoRoom),
         Err(fault) => {
             let _ = rt.eprintln(fault);
-            explain_upgrade(rt, fault, wrong_line(input, fault));
+            if terminals.error {
+                explain_upgrade(rt, fault, wrong_line(input, fault));
+            }
             Ok(ExitCode::from(1))
         }
     }
 }
 
-// Returns the line that a fault is about, if it was read.
+// Returns the text from the line on that a fault is about, if it was read.
 fn wrong_line<'a, R: Runtime>(
     input: &'a mut WithTail<Typed<'_, R>>,
     fault: UpgradeFault,
 ) -> Option<&'a [u8]> {
     match fault {
-        UpgradeFault::IllegalAt(number) | UpgradeFault::BadLineAt(number) => input.line(number),
+        UpgradeFault::IllegalAt(number) | UpgradeFault::BadLineAt(number) => input.from_line(
+            number,
+        ),
         _ => None,
     }
 }

@@ -114,39 +114,105 @@ run of its own, and `dsctl upgrade` writes an older trace in the newer format.
 do.
 
 After `service`, `death`, `beat` and `tick`, RS's actions are printed, and then
-`actions N`: `kill ENDPOINT`, `start LABEL ENDPOINT`, `ping ENDPOINT`,
-`offer CHANGE` and `sweep OWNER GENERATION`. The last two are RS's commands to
-the store, whose answer is printed below each. TICK never goes back. Repeat a
+`actions N`. Those that go to the store, `offer CHANGE` and `sweep OWNER
+GENERATION`, have the store's answer below them. TICK never goes back. Repeat a
 `tick` with one number until it answers `actions 0`.
 
 After `follow` and `submit`, the servers' moves are printed, the file server's
-first, and then `moves N`: `send ID ENDPOINT`; `held ID` if a block driver isn't
-there; `answer ID fault` if any other driver isn't there, or died; and
-`start UNIT ENDPOINT` if a network driver arrived. Each ID must be greater than
-all IDs before it.
+first, and then `moves N`. Each ID must be greater than all IDs before it.
 
-Other answers:
+Answers:
   taken              it took effect
   known              a repeat: it is held already
   stale              it comes too late: something newer is held
   refused WORD       it changed nothing, for the reason that WORD names
+  found VALUE        the value of a live entry
+  named NAME         the label that has an endpoint
+  swept N            the owner's floor is raised, and N puts are dropped
+  subscribed STAMP   the subscription is made
+  checked N BEFORE AFTER
+                     N items were printed; the subscription's stamp before and
+                     after that
+  merged DONE TAKEN STALE
+                     DONE items were delivered: TAKEN took effect, STALE came
+                     too late, the others were known or not under the query
+  stopped DONE WORD  the delivery ended after DONE items: the next one is
+                     refused, for the reason that WORD names
+  restarted          the store is empty, and has the new incarnation
+  cleared            the map is empty
+  shown N            N lines of entries were printed
+  assigned           the unit has the driver
+  services N slots S
+                     RS begins with N services
+  kill ENDPOINT      an action of RS: an instance is to end, if it hasn't
+  start LABEL ENDPOINT
+                     an action of RS: an instance of the next generation starts
+  ping ENDPOINT      an action of RS: an instance has to answer by a `beat`
+  actions N          N actions of RS were printed
+  send ID ENDPOINT   a move: the request goes to the driver
+  held ID            a move: a block driver is missing; the request is sent once
+                     it is up
+  answer ID done     a move, or the answer to `reply`: the driver answered; with
+                     `fault` for `done`, a driver that is no block driver is
+                     missing, or died
+  start UNIT ENDPOINT
+                     a move: a network driver arrived
+  moves N            N moves of the servers were printed
+  owed MASK          after another answer: something changed under the queries
+                     of the subscriptions in MASK
+  badline LINE PLACE
+                     the line can't be read: LINE is counted from 1, PLACE, a
+                     byte, from 0
 
-CALLER and ENDPOINT are GENERATION/SLOT; 0/2 is RS, which alone publishes labels
-and sweeps. An entry has its caller's generation as its epoch, unless it is a
-label.
-
-SUB is 0 to 127, eight for each of 16 servers; MAX is 1 to 256. PATTERN is a
-regular expression in quotes that matches a whole name, with \\\" and \\\\ for a
-quote and a backslash; KINDS is the sum of 1 for label, 2 for u32, 4 for str and
-8 for mem; J counts maps from 0, 64 at most. A line `owed MASK` follows an
-answer if something changed under the queries of some subscriptions: MASK is in
-hex, with the bit of each SUB.
-
-SCOPE is `*`, or PATTERN KINDS. What a `check`, `since`, `snapshot` or `page`
-prints is the next message, K, counted from 0, unless it is refused; it can be
-delivered late, twice and in any order. A cursor is an INCARNATION, at first 1
-for side a and 2 for side b, and a POSITION, the number of items that took
-effect before it.
+Parts of lines and answers:
+  CALLER             the ENDPOINT that sends a command; 0/2 is RS, which alone
+                     publishes labels and sweeps
+  ENDPOINT           GENERATION/SLOT, up to 2097151/1023: where an instance is
+  GENERATION         the number of a driver's instance, 0 to 2097151
+  NAME               1 to 64 letters, digits, `.`, `_` and `-`
+  LABEL              the NAME of a driver or another service
+  OWNER              the LABEL of who publishes an entry; a label's is rs
+  KIND               label, u32, str or mem
+  VALUE              what an entry has, as its KIND says
+  EPOCH              the caller's GENERATION; a label's is its driver's
+  SEQ                0 to 4294967295: the number of a change within its EPOCH
+  version            EPOCH.SEQ: of two changes of one name and kind, the one
+                     with the greater version is held
+  CHANGE             a put or a tombstone, as below
+  tombstone          a CHANGE that ends an entry
+  FLOOR              `! OWNER GENERATION`, as below
+  item               a CHANGE or a FLOOR
+  PATTERN            a regular expression in quotes that matches a whole name,
+                     with \\\" and \\\\ for a quote and a backslash
+  KINDS              the sum of 1 for label, 2 for u32, 4 for str and 8 for mem
+  query              PATTERN KINDS
+  SUB                the number of a subscription, 0 to 127, eight for each of
+                     16 servers
+  MASK               subscriptions that are owed a notice, in hex, with the bit
+                     of each SUB
+  STAMP              a number that a store counts, over all subscriptions; each
+                     `subscribed`, and each `checked` with items, has the next
+  MAX                how many items to print, 1 to 256
+  SCOPE              `*`, or PATTERN KINDS
+  INCARNATION        the number of a store's run, at first 1 for side a and 2
+                     for side b
+  POSITION           how many items took effect in a store
+  cursor             INCARNATION POSITION
+  AFTER              NAME KIND, or `-` for the first page
+  message            the items that a `check`, `since`, `snapshot` or `page`
+                     printed, unless it was refused; it can be delivered late,
+                     twice and in any order
+  K                  the number of a message, counted from 0
+  HOLDER             `a`, `b`, or `m` and the number of a map
+  COUNT              a number of items, or `*` for all
+  J                  the number of a map, counted from 0, 64 at most
+  TICK               a time, as a number
+  CAUSE              why an instance died, 1 to 6
+  UNIT               a driver's major number, or its port, 0 to 255
+  MAJOR              the UNIT of a block or a character driver
+  PORT               the UNIT of a network driver
+  ID                 the number of a request
+  REST               a settings text in one line
 
 Two replicas, in six lines:
   publish 0/2 new eth0 label 3.0 = 3/17   at side a, where a script begins

@@ -1,4 +1,4 @@
-//! The help about one word: a line, an answer, a refusal or a kind.
+//! The help about one word: a line, an answer, a part of these, a refusal or a kind.
 
 use crate::help::LONG_ABOUT;
 use crate::refusals::all_refusals;
@@ -10,7 +10,9 @@ use typed_words::{Meant, Plain, Search};
 // The texts of the help before and after these rows.
 const LINES_BEGIN: &str = "Lines of a script:\n";
 
-const ANSWERS_BEGIN: &str = "Other answers:\n";
+const ANSWERS_BEGIN: &str = "Answers:\n";
+
+const PARTS_BEGIN: &str = "Parts of lines and answers:\n";
 
 const KINDS_BEGIN: &str = "kinds and their values:\n";
 
@@ -34,6 +36,12 @@ pub(crate) enum Stream {
 pub(crate) fn explain_word(rt: &impl Runtime, word: &[u8]) {
     let mut search = Search::to(word);
     if let Ok(false) = print_word(rt, Stream::Error, word, &mut search) {
+        if let Some(command) = SUBCOMMANDS.iter().find(|it| it.as_bytes() == word) {
+            let _ = eprintln!(rt;
+                "dsctl: `{command}` is for the command line: see dsctl {command} --help"
+            );
+            return;
+        }
         let shown = Plain(&word[..word.len().min(SHOWN)]);
         let meant = Meant::of(word, search.found());
         let _ = eprintln!(rt;
@@ -69,9 +77,10 @@ fn print_word(
 ) -> io::Result<bool> {
     let lines = print_rows(rt, stream, lines(), word, search)?;
     let answers = print_rows(rt, stream, answers(), word, search)?;
+    let parts = print_rows(rt, stream, parts(), word, search)?;
     let refusals = print_rows(rt, stream, all_refusals(), word, search)?;
     let kinds = print_rows(rt, stream, kinds(), word, search)?;
-    Ok(lines || answers || refusals || kinds)
+    Ok(lines || answers || parts || refusals || kinds)
 }
 
 fn lines() -> &'static str {
@@ -80,6 +89,10 @@ fn lines() -> &'static str {
 
 fn answers() -> &'static str {
     between(LONG_ABOUT, ANSWERS_BEGIN, PARAGRAPH_ENDS)
+}
+
+fn parts() -> &'static str {
+    between(LONG_ABOUT, PARTS_BEGIN, PARAGRAPH_ENDS)
 }
 
 fn kinds() -> &'static str {
@@ -99,7 +112,7 @@ fn print_rows(
     let mut is_shown = false;
     for line in rows.lines() {
         if let Some(first) = word_of_row(line) {
-            is_shown = first.as_bytes() == word;
+            is_shown = word.eq_ignore_ascii_case(first.as_bytes());
             is_found |= is_shown;
             search.compare(first);
         } else if !line.starts_with("   ") {

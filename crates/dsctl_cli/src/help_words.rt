@@ -58,7 +58,8 @@ For lines to RS:
   oldendpoint     no service that is up is at ENDPOINT
 
 For settings, `exists` after accepted ones, else as in `dsctl settings --help`:
-  toml            the text isn't a TOML document; a line can't name a file
+  toml            the text isn't a TOML document; a line can't name a file, but
+                  `dsctl settings --line FILE` prints the line for it
   unknownfield    a field has an unknown name
   missing         a service has no label, no class or no unit
   outofrange      a value has the wrong type, or is out of range
@@ -96,6 +97,8 @@ pub(crate) const STOP_ABOUT: &str = "End at a bad line, at a terminal too";
 
 pub(crate) const ENDS_ABOUT: &str = "End each answer by an empty line";
 
+pub(crate) const LINE_ABOUT: &str = "Print them as a line of a script";
+
 pub(crate) const SETTINGS_ABOUT: &str = "Show the services of a settings text, or its first fault";
 
 pub(crate) const SETTINGS_LONG_ABOUT: &str = "\
@@ -110,6 +113,11 @@ without those that are missing or 0. Then there is one line
 `services N slots S`. For a fault, the only line is `bad WORD INDEX`, INDEX
 being that of the service, from 0, and left out if the fault isn't a service's;
 standard error has a sentence for each fault, with its line.
+
+With `--line` the output is one line, `settings service = [{..}, ..]`, for a
+script. It has no `slots` beside services, and then standard error says which
+number is left out; a line that would be above 4096 bytes isn't printed, with
+status 1.
 
 At the top:
   slots      process slots that RS may use, 1 to 1008; 64 by default

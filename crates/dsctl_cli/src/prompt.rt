@@ -83,8 +83,8 @@ impl LastLine {
 
 /// An input, with a prompt before each line if a user types it. Keeps the error of the last failed read.
 ///
-/// At the prompt, an empty line, a comment, `help`, `help all`, `help WORD`, `?`, `quit` and `exit` are handled here, and
-/// aren't lines of the script. Once the input has ended it isn't read again: a terminal would wait for another ^D.
+/// At the prompt, an empty line, a comment, `help`, `help all`, `help WORD`, `?`, `quit`, `exit`, and a line that ^C ends
+/// are handled here, and aren't lines of the script. Once the input has ended it isn't read again: a terminal would wait for another ^D.
 #[derive(Drop)]
 pub struct Typed<'a, R: Runtime> {
     rt: &'a R,
@@ -141,6 +141,10 @@ impl<'a, R: Runtime> Typed<'a, R> {
             };
         }
         let began_line = self.begins_line;
+        if began_line && read.last().copied() == Some(TAKEN_BACK) {
+            let _ = self.rt.eprintln("");
+            return Meaning::Nothing;
+        }
         self.begins_line = read.last().copied() == Some(b'\n');
         if read.is_empty() {
             let _ = self.rt.eprintln("");
@@ -180,6 +184,9 @@ impl<'a, R: Runtime> Typed<'a, R> {
         }
     }
 }
+
+/// The byte of ^C, where a terminal has it end a line.
+const TAKEN_BACK: u8 = 3;
 
 // What a line means to the prompt.
 #[derive(Clone, Copy)]

@@ -5,7 +5,8 @@ use crate::help::{ABOUT, LINES, LONG_ABOUT};
 use crate::help_traces::{UPGRADE_ABOUT, UPGRADE_LONG_ABOUT, VERIFY_ABOUT, VERIFY_LONG_ABOUT};
 use crate::help_word::print_explained;
 use crate::help_words::{
-    AFTER_HELP, ENDS_ABOUT, KEEP_GOING_ABOUT, SETTINGS_ABOUT, SETTINGS_LONG_ABOUT, STOP_ABOUT,
+    AFTER_HELP, ENDS_ABOUT, KEEP_GOING_ABOUT, LINE_ABOUT, SETTINGS_ABOUT, SETTINGS_LONG_ABOUT,
+    STOP_ABOUT,
 };
 use crate::live_words::{add_live, crew_of};
 use crate::record_words::{add_record, form_of, too_many_keys};
@@ -29,8 +30,8 @@ pub struct Asked {
 pub enum Words {
     /// Answer a script.
     Replay(Replaying),
-    /// Show a settings text.
-    Settings,
+    /// Show a settings text; as a line of a script, if that is asked for.
+    Settings { as_line: bool },
     /// Judge a trace.
     Verify,
     /// Write a trace of format 1 in format 2.
@@ -178,7 +179,9 @@ fn asked_by(matches: &ArgMatches<'_>) -> Option<Words> {
         }));
     };
     Some(match word {
-        "settings" => Words::Settings,
+        "settings" => Words::Settings {
+            as_line: given.get_flag(LINE),
+        },
         "verify" => Words::Verify,
         "upgrade" => Words::Upgrade,
         "record" => Words::Record(form_of(given)?),
@@ -243,14 +246,23 @@ fn program<'a>(alloc: Global) -> Command<'a> {
 
 fn add_subcommands<'a>(alloc: Global, all: &mut Vec<Command<'a>>) -> Result<(), AllocError> {
     add_replay(alloc, all)?;
-    let settings = described(alloc, "settings", SETTINGS_ABOUT, SETTINGS_LONG_ABOUT);
-    add_made(all, with_file(alloc, settings))?;
+    add_settings(alloc, all)?;
     let verify = described(alloc, "verify", VERIFY_ABOUT, VERIFY_LONG_ABOUT);
     add_made(all, with_file(alloc, verify))?;
     let upgrade = described(alloc, "upgrade", UPGRADE_ABOUT, UPGRADE_LONG_ABOUT);
     add_made(all, with_file(alloc, upgrade))?;
     add_record(alloc, all)?;
     add_live(alloc, all)
+}
+
+// The option to print settings as a line of a script.
+const LINE: &str = "line";
+
+fn add_settings<'a>(alloc: Global, all: &mut Vec<Command<'a>>) -> Result<(), AllocError> {
+    let mut options = Vec::new(alloc);
+    add(&mut options, flag(alloc, LINE, LINE_ABOUT))?;
+    let settings = described(alloc, "settings", SETTINGS_ABOUT, SETTINGS_LONG_ABOUT);
+    add_made(all, with_file(alloc, settings)?.args(options))
 }
 
 fn add_replay<'a>(alloc: Global, all: &mut Vec<Command<'a>>) -> Result<(), AllocError> {
@@ -320,14 +332,17 @@ fn names_file(word: &str) -> bool {
 }
 
 // Prints `clap`'s message: a usage error to standard error, help or the version to standard output.
-fn answer(rt: &impl Runtime, error: &Error, given: &[String]) -> Words {
+fn answer(rt: &(impl Runtime + AllocGlobal), error: &Error, given: &[String]) -> Words {
     if matches!(error.kind(), ErrorKind::OutOfMemory) {
         return Words::NoRoom;
     }
     if let Some(word) = word_asked(error, given) {
         return answer_word(rt, word);
     }
-    let printed = error.print(rt);
+    let Ok(text) = format!(in rt.alloc(); "{error}") else {
+        return Words::NoRoom;
+    };
+    let printed = print_message(rt, error, text.as_str());
     if let Some(tip) = tip_for(error, given) {
         let _ = rt.eprintln(tip);
     }
@@ -335,6 +350,29 @@ fn answer(rt: &impl Runtime, error: &Error, given: &[String]) -> Words {
         (true, _) => Words::Usage,
         (false, Ok(())) => Words::Shown,
         (false, Err(error)) => Words::WriteFault(error),
+    }
+}
+
+// The word that `clap`'s message about a usage error begins with.
+const ERROR: &str = "error: ";
+
+// What the parser of numbers says of a text that isn't one, and how it writes a range.
+const NO_NUMBER: &str = "invalid digit found in string";
+
+const RANGE: &str = "..=";
+
+// Prints the text of `clap`'s message; that of a usage error begins as the program's other sentences do.
+fn print_message(rt: &impl Runtime, error: &Error, text: &str) -> io::Result<()> {
+    if !error.use_stderr() {
+        return print!(rt; "{text}");
+    }
+    let said = text.strip_prefix(ERROR).unwrap_or(text);
+    if let Some((front, rest)) = said.split_once(NO_NUMBER) {
+        return eprint!(rt; "dsctl: {front}it isn't a number{rest}");
+    }
+    match said.split_once(RANGE) {
+        Some((front, rest)) => eprint!(rt; "dsctl: {front} to {rest}"),
+        None => eprint!(rt; "dsctl: {said}"),
     }
 }
 

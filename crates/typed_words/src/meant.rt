@@ -68,19 +68,28 @@ const ELSEWHERE: [(&str, &str); 24] = [
 pub enum Meant<'a> {
     /// The command here that has its work.
     Here(&'static str),
-    /// It begins commands.
-    Front(&'a [u8]),
+    /// It begins some of these words.
+    Front(&'a [u8], &'static [&'static str]),
     /// The nearest known word.
     Near(Option<&'static str>),
 }
 
 impl<'a> Meant<'a> {
-    /// Returns what a word may mean; `near` is the nearest known word.
+    /// Returns what a word may mean as a command; `near` is the nearest known word.
     pub fn of(word: &'a [u8], near: Option<&'static str>) -> Meant<'a> {
+        Meant::among(word, near, &COMMANDS)
+    }
+
+    /// Returns what a word may mean as one of these commands; `near` is the nearest known word.
+    pub fn among(
+        word: &'a [u8],
+        near: Option<&'static str>,
+        commands: &'static [&'static str],
+    ) -> Meant<'a> {
         match elsewhere(word) {
-            Some(here) => Meant::Here(here),
-            None if begins_some(word) => Meant::Front(word),
-            None => Meant::Near(near),
+            Some(here) if commands.iter().any(|it| *it == here) => Meant::Here(here),
+            _ if commands.iter().any(|it| begins(word, it)) => Meant::Front(word, commands),
+            _ => Meant::Near(near),
         }
     }
 }
@@ -91,7 +100,7 @@ impl fmt::Display for Meant<'_> {
             Meant::Here(here) => write!(f, ", here it is `{here}`"),
             Meant::Near(Some(near)) => write!(f, ", the nearest is `{near}`"),
             Meant::Near(None) => Ok(()),
-            Meant::Front(word) => write_begun(f, word),
+            Meant::Front(word, commands) => write_begun(f, word, commands),
         }
     }
 }
@@ -111,14 +120,14 @@ fn begins(word: &[u8], command: &str) -> bool {
     !word.is_empty() && command.len() > word.len() && command.as_bytes().starts_with(word)
 }
 
-fn begins_some(word: &[u8]) -> bool {
-    COMMANDS.iter().any(|it| begins(word, it))
-}
-
 // Writes the commands that begin with a word.
-fn write_begun<W: fmt::Write>(f: &mut fmt::Formatter<W>, word: &[u8]) -> fmt::Result {
+fn write_begun<W: fmt::Write>(
+    f: &mut fmt::Formatter<W>,
+    word: &[u8],
+    commands: &[&str],
+) -> fmt::Result {
     f.write_str(", it begins")?;
-    for command in &COMMANDS {
+    for command in commands {
         if begins(word, command) {
             write!(f, " `{command}`")?;
         }

@@ -2,7 +2,7 @@
 
 A run that doesn't end in time fails its behaviour.
 """
-from . import at_a_terminal, limits, second_opinion, streams, words
+from . import at_a_terminal, limits, prompts, second_opinion, streams, words
 from .by_chance import change_by_chance, command_by_chance, floor_by_chance, name_by_chance, value_by_chance
 from .running import expect, fault
 
@@ -48,6 +48,10 @@ ALL = [
     at_a_terminal.shows_the_commonest_lines_on_one_screen,
     at_a_terminal.explains_refusals_at_the_prompt,
     at_a_terminal.reads_format_2_at_the_prompt,
+    at_a_terminal.explains_an_upgrade_at_a_terminal,
+    at_a_terminal.takes_back_a_line_that_a_control_character_ends,
+    prompts.keeps_the_session_at_an_interrupt,
+    prompts.prints_settings_as_a_line,
     at_a_terminal.explains_a_word_at_the_prompt,
     at_a_terminal.explains_each_word_at_the_prompt,
     at_a_terminal.takes_a_line_in_two_pieces,

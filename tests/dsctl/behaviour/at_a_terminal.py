@@ -9,7 +9,7 @@ import terminal
 from .running import expect
 from .samples import GOOD
 
-NO_HEADER = b"dsctl: line 1: a header was expected, `trace 2 INCARNATION FIRST RING SUBS KEYS`, and the trace is empty\n"
+NO_HEADER = b"dsctl: line 1: a header was expected, `%s`, and the trace is empty\n"
 GREETING = b"dsctl: `help` shows the lines, ^D ends. Bad lines are skipped\n"
 
 
@@ -108,7 +108,13 @@ EXPLAINED = [
     (b"help publish", [b"  publish CALLER new NAME KIND EPOCH.SEQ = VALUE\n"], b"put a value in the caller's name"),
     (b"help offer", [b"  offer CHANGE ", b"  offer FLOOR "], b"merge one change, from any owner\n"),
     (b"help settings", [b"  settings REST "], b"begin RS, once, with the services of a settings text"),
-    (b"help label", [b"  label  GENERATION/SLOT, the endpoint of a driver"], b"0 for a put and 1 for a tombstone\n"),
+    (b"help label", [b"  LABEL ", b"  label  GENERATION/SLOT, the endpoint of a driver"], b"0 for a put and 1 for a tombstone\n"),
+    (b"help found", [b"  found VALUE "], b"the value of a live entry\n"),
+    (b"help owed", [b"  owed MASK "], b"something changed under the queries\n"),
+    (b"help start", [b"  start LABEL ENDPOINT\n", b"  start UNIT ENDPOINT\n"], b"a network driver arrived\n"),
+    (b"help version", [b"  version "], b"EPOCH.SEQ: of two changes of one name and kind"),
+    (b"help endpoint", [b"  ENDPOINT "], b"GENERATION/SLOT, up to 2097151/1023"),
+    (b"help kind", [b"  KIND "], b"label, u32, str or mem\n"),
     (b"? mem", [b"  mem    up to 1024 bytes in lower-case hex\n"], b""),
     (b"help nocaller", [b"  nocaller "], b"RS hasn't published it yet\n"),
     (b"HELP refused nocaller", [b"  nocaller "], b"RS hasn't published it yet\n"),
@@ -121,6 +127,7 @@ EXPLAINED = [
 UNEXPLAINED = [
     (b"help nocallr", b"dsctl: `nocallr` isn't a line, an answer, a refusal or a kind, the nearest is `nocaller`: see help\n"),
     (b"help retreive", b"dsctl: `retreive` isn't a line, an answer, a refusal or a kind, the nearest is `retrieve`: see help\n"),
+    (b"help verify", b"dsctl: `verify` is for the command line: see dsctl verify --help\n"),
     (b"help xyzzy", b"dsctl: `xyzzy` isn't a line, an answer, a refusal or a kind: see help\n"),
     (b"help get", b"dsctl: `get` isn't a line, an answer, a refusal or a kind, here it is `retrieve`: see help\n"),
     (b"help ret", b"dsctl: `ret` isn't a line, an answer, a refusal or a kind, it begins `retrieve`: see help\n"),
@@ -140,16 +147,28 @@ def explains_a_word_at_the_prompt(program):
 
 
 def explains_each_word_at_the_prompt(program):
-    """At the prompt help explains each refusal that docs/reference/refusals.md has, and each line that its short help has."""
+    """At the prompt help explains each refusal that docs/reference/refusals.md has, each line that its short help has, and each first word of
+    an answer, and each part of a line, that docs/reference/lines.md has."""
     document = (harness.DOCUMENTS / "reference" / "refusals.md").read_text()
     refusals = re.findall(r"`(\w+)`", "".join(re.findall("^## .*$", document, re.MULTILINE)))
     lines = sorted({it.split()[0] for it in GOOD} - {b"all"})  # `help all` shows all lines
-    typed = [f"help {it}\n".encode() for it in refusals] + [b"help %s\n" % it for it in lines]
+    typed = [f"help {it}\n".encode() for it in refusals + words_of_lines()] + [b"help %s\n" % it for it in lines]
     ran = terminal.session(program, [], typed)
     assert ran.status == 0 and b"isn't" not in re.sub(rb"(?m)^ .*$", b"", ran.seen), f"{ran.seen[-600:]}"
     said = re.split(rb"^> help (\w+)\n", ran.seen, flags=re.MULTILINE)[1:]
-    silent = [word for word, told in zip(said[::2], said[1::2]) if not told.startswith(b"  " + word + b" ")]
+    silent = [word for word, told in zip(said[::2], said[1::2]) if not re.search(rb"(?m)^  %s " % word, told)]
     assert len(said) == 2 * len(typed) and not silent, f"{silent}"
+
+
+def words_of_lines():
+    """The parts of lines, and the words that answers begin with, as docs/reference/lines.md has them in its tables."""
+    document = (harness.DOCUMENTS / "reference" / "lines.md").read_text()
+    parts = re.findall(r"[A-Z]+", re.search(r"\| Part \| Spelling \|\n\|---\|---\|\n((?:\| .*\n)*?)\| VALUE", document)[1].replace("Part", ""))
+    parts = [it for it in parts if it not in ("ASCII", "RS", "A", "Z")]
+    answers = re.findall(r"(?:, then|\| ) ?`([a-z]+)[^`]*`[^|`]*\|$", document.partition("\n## Patterns")[0], re.MULTILINE)
+    assert len(set(parts)) > 8 and len(set(answers)) > 12, f"{parts} and {answers}"
+    more = "PATTERN KINDS SCOPE SUB MAX COUNT AFTER HOLDER K J INCARNATION POSITION TICK CAUSE ID MAJOR PORT UNIT REST MASK"
+    return sorted({*parts, *answers, *more.split(), *"taken known stale merged stopped owed kill start ping send held".split()})
 
 
 def said_at_the_prompt(program, line):
@@ -190,9 +209,37 @@ def greets_who_types_settings(program):
 
 def greets_who_types_a_trace(program):
     """Somebody who types a trace is told what is waited for, and sees no prompt, which would look like the beginning of an entry."""
-    for word, told in (("verify", b"badline 1\n" + NO_HEADER), ("upgrade", b"badline 1\n" + NO_HEADER)):
+    for word, header in (("verify", b"trace 2 INCARNATION FIRST RING SUBS KEYS"), ("upgrade", b"trace 1 INCARNATION FIRST RING")):
         ran = terminal.session(program, [word], [], prompt=b"ends\n")
-        assert (ran.seen, ran.status) == (b"dsctl: a trace, as in dsctl verify --help, ^D ends\n" + told, 1), f"{word}: {ran}"
+        told = b"dsctl: a trace, as in dsctl verify --help, ^D ends\nbadline 1\n" + NO_HEADER % header
+        assert (ran.seen, ran.status) == (told, 1), f"{word}: {ran}"
+
+
+# A trace that can't be upgraded, the word for it, and the sentence that follows at a terminal.
+NOT_UPGRADED = [
+    ("trace 2 1 0 256 64 1024", b"already 2", b"line 1: the trace is of format 2 already"),
+    ("trace 3 1 0 256", b"badline 1", b"line 1, byte 6: the format was expected, 1; `3` was found"),
+    ("trace 1 1 0 0", b"badline 1", b"line 1, byte 12: RING was expected, 1 to 4096 with no leading zero; `0` was found"),
+    ("show", b"badline 1", b"line 1: a header was expected; this is a script: `dsctl replay` answers it"),
+    ("trace 1 1 0 256\n> 0 nameof 3/17\n< known", b"illegal 3", b"line 3: the store's reply was expected, which `dsctl verify` names, not \"known\""),
+    ("trace 1 1 0 256\n> 0 show", b"badline 2", b"line 2, byte 4: `show` isn't a store's command"),
+]
+
+
+def explains_an_upgrade_at_a_terminal(program):
+    """Where standard error is a terminal, a sentence follows the word of a trace that can't be upgraded; elsewhere the word is all."""
+    for trace, word, told in NOT_UPGRADED:
+        ran = harness.run([program, "upgrade"], trace.encode() + b"\n")
+        assert (ran.error, ran.status) == (word + b"\n", 1), f"{trace}: {ran}"
+        seen = told_at_a_terminal(program, ["sh", "-c", f"echo '{trace}' | \"$0\" upgrade"])
+        assert seen == word + b"\ndsctl: " + told + b"\n", f"{trace}: {seen}"
+
+
+def takes_back_a_line_that_a_control_character_ends(program):
+    """Where the terminal has ^C end a line, as dsctl-prompt sets it, that line is taken back, and the session stays."""
+    ran = terminal.pieces(program, [b"publish 0/2 ne\x03", b"show\n", b"\x03", b"all\n"], settings=("intr", "undef", "eol2", "^C"))
+    assert ran.status == 0 and b"badline" not in ran.seen and ran.seen.count(b"shown 0\n") == 2, f"{ran}"
+    assert b"> publish 0/2 ne^C\n> show\n" in ran.seen and b"> ^C\n> all\n" in ran.seen, f"{ran}"
 
 
 def greets_who_types_commands(program):
