@@ -8,7 +8,7 @@ use Rattle.trace_model.specs.declared.asked.Head.TheVariants as heads
 use Rattle.trace_model.specs.declared.header.Format.{Format}
 use Rattle.trace_model.specs.Head.{IsHeadOf}
 use Rattle.trace_model.specs.Text.{plus_text}
-use Rattle.trace_record.specs.Asking.{AsksNothing, AsksNothingAt, IsFirstLines, IsNoItem, IsRingLine, asked_by}
+use Rattle.trace_record.specs.Asking.{AsksNothing, AsksNothingAt, IsAtLimit, IsFirstLines, IsNoItem, IsPlaceIn, IsRingLine, asked_by}
 use Rattle.trace_record.specs.Reading.{IsAtLine}
 use Rattle.trace_record.specs.Steps.{LacksNext, LacksOne}
 use Rattle.trace_record.proofs.AskingLemmas.{asked_longer, asked_behind, some_line}
@@ -20,9 +20,9 @@ use Rattle.trace_record.proofs.RingLemmas.{long_no_ring}
 pub front_there : (bytes front : List ℕ) (l : LinesContent) (to : Option (List ℕ)) → IsAtLine bytes front l to → IsFirstLines bytes front
 front_there bytes front l to a = let h = a.2 in (h.before, a.0 ∷ h.more, h.lines, h.front_is)
 
-pub asks_nothing : (format : Format) (bytes front line : List ℕ) (l : LinesContent) (to : Option (List ℕ)) (number : ℕ) → HasLine bytes front line l to →
-    AsksNothing format (with_newline line) → (front ≡ [] → ¬ IsRingLine (with_newline line)) → number ≡ l.count → AsksNothingAt format bytes front number
-asks_nothing format bytes front line l to number h none no_ring e =
+pub asks_nothing : (format : Format) (bytes front line : List ℕ) (l : LinesContent) (to : Option (List ℕ)) (number place : ℕ) → HasLine bytes front line l to →
+    AsksNothing format (with_newline line) → (front ≡ [] → ¬ IsRingLine (with_newline line)) → number ≡ l.count → IsPlaceIn number (with_newline line) place → AsksNothingAt format bytes front number place
+asks_nothing format bytes front line l to number place h none no_ring e at =
     record {
       whole = (h.before, line ∷ h.more, h.lines, h.front_is);
       part = [];
@@ -33,13 +33,14 @@ asks_nothing format bytes front line l to number h none no_ring e =
       counted = e ∙ h.counted;
       stops = inl (refl, none);
       no_ring = λ first. no_ring (h.front_is ∙ ap (λ (l : List (List ℕ)). joined l) first);
+      at = λ whole. at;
     }
 
 not_short : (line : List ℕ) → 4096 < length line → IsShort (with_newline line) → ⊥
 not_short line long short = omega (arith, long, short, length-append line (10 ∷ []))
 
-pub long_asks_nothing : (format : Format) (bytes front : List ℕ) (number : ℕ) → IsLong bytes front number → AsksNothingAt format bytes front number
-long_asks_nothing format bytes front number l =
+pub long_asks_nothing : (format : Format) (bytes front : List ℕ) (number place : ℕ) → IsLong bytes front number → IsAtLimit place → AsksNothingAt format bytes front number place
+long_asks_nothing format bytes front number place l limit =
     record {
       whole = (l.before, l.line ∷ l.more, l.lines, l.front_is);
       part = [];
@@ -50,6 +51,7 @@ long_asks_nothing format bytes front number l =
       counted = l.counted;
       stops = inl (refl, λ pass head short is. not_short l.line l.long (omega (arith, short, asked_longer (with_newline l.line))));
       no_ring = λ first. long_no_ring l.line l.long;
+      at = λ whole. (λ short. absurd (not_short l.line l.long (omega (arith, short, asked_longer (with_newline l.line)))), λ long. limit);
     }
 
 -- ---- a line that must be an item's
@@ -67,8 +69,8 @@ some_behind : (front line items : List ℕ) → front ++ (with_newline line ++ i
 some_behind front line items none = omega (arith, ap length none, length-append front (with_newline line ++ items), length-append (with_newline line) items, some_line line)
 
 -- after a Merge's first line and some of its items
-pub lacks_item : (format : Format) (bytes front line : List ℕ) (pass count number : ℕ) → IsFirstLines bytes front → IsHeadOf format pass (heads.Merge count) (asked_by (with_newline line)) → LacksOne format bytes (front ++ with_newline line) count number → AsksNothingAt format bytes front number
-lacks_item format bytes front line pass count number whole head x =
+pub lacks_item : (format : Format) (bytes front line : List ℕ) (pass count number place : ℕ) → IsFirstLines bytes front → IsHeadOf format pass (heads.Merge count) (asked_by (with_newline line)) → LacksOne format bytes (front ++ with_newline line) count number → AsksNothingAt format bytes front number place
+lacks_item format bytes front line pass count number place whole head x =
     let items : List ℕ = flat_map plus_text x.items in
     let behind : front ++ (with_newline line ++ items) ≡ joined x.lacks.before = sym (append_assoc front (with_newline line) items) ∙ x.lacks.behind in
     record {
@@ -91,4 +93,5 @@ lacks_item format bytes front line pass count number whole head x =
         lacks = x.lacks.lacks;
       });
       no_ring = λ first. absurd (some_behind front line items (behind ∙ ap (λ (l : List (List ℕ)). joined l) first));
+      at = λ none. absurd (omega (arith, ap length none, length-append (with_newline line) items, some_line line));
     }

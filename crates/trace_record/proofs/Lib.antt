@@ -5,3 +5,4 @@ pub mod BadLineLemmas
 pub mod StepLemmas
 pub mod RunLemmas
 pub mod CauseLemmas
+pub mod PlaceLemmas

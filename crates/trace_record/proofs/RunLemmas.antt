@@ -35,14 +35,14 @@ front_at bytes front l from at = (at.before, at.after, at.lines, at.front_is)
 pub front_comes : (bytes front : List ℕ) (l : LinesContent) (to : Option (List ℕ)) (next : Result Bool RecordFault) → ComesToNext bytes front l to next → IsFirstLines bytes front
 front_comes bytes front l to (Ok true) c = front_there bytes front l to c
 front_comes bytes front l to (Ok false) c = (c.0, [], subst (HasLines bytes) (sym (append-nil c.0)) c.1, c.2)
-front_comes bytes front l to (Err (BadLine number place)) c = (c.before, c.line ∷ c.more, c.lines, c.front_is)
+front_comes bytes front l to (Err (BadLine number place)) c = let l = c.0 in (l.before, l.line ∷ l.more, l.lines, l.front_is)
 front_comes bytes front l to (Err WriteFault) c = absurd c
 front_comes bytes front l to (Err ReadFault) c = c
 front_comes bytes front l to (Err NoRoom) c = c
 
 -- why it wasn't reached
 pub up_to : (format : Format) (bytes front : List ℕ) (l : LinesContent) (to : Option (List ℕ)) (fault : RecordFault) → ComesToNext bytes front l to (Err fault) → IsBeforeFault format fault bytes front
-up_to format bytes front l to (BadLine number place) c = long_asks_nothing format bytes front number c
+up_to format bytes front l to (BadLine number place) c = long_asks_nothing format bytes front number place c.0 c.1
 up_to format bytes front l to WriteFault c = absurd c
 up_to format bytes front l to ReadFault c = c
 up_to format bytes front l to NoRoom c = c

@@ -27,7 +27,7 @@ use Rattle.trace_model.specs.Text.{TraceEntry, MayAsk, MayMerge, asked_text, ent
 use Rattle.trace_record.specs.declared.fault.RecordFault.{RecordFault}
 use Rattle.trace_record.specs.declared.fault.RecordFault.TheVariants.{BadLine, ReadFault, WriteFault, NoRoom}
 use Rattle.trace_record.specs.declared.recorder.Recorder.{Recorder}
-use Rattle.trace_record.specs.Asking.{AsksNothing, IsFirstLines, IsRingLine, asked_by}
+use Rattle.trace_record.specs.Asking.{IsPlaceIn, AsksNothing, IsFirstLines, IsRingLine, asked_by}
 use Rattle.trace_record.specs.Reading.{ComesToNext, IsAtLine}
 use Rattle.trace_record.specs.Record.{IsBeforeFault}
 use Rattle.trace_record.specs.Steps.{AddedEntry, AddedLines, AddsEntry, AddsItem, AddsItems, AddsLines, AnswersAsked, FailsAtHead, MissesItem, FailsInEntry, MissesItems, MissesLines, GoesOver, HeadsFrom, IsLackingNext, IsLackingOne, KeepsOutput, KeepsRun, Recorded, AnswersIn}
@@ -98,7 +98,7 @@ module _ (w mid new : Recorder) (from there to : Option (List ℕ)) (count : ℕ
 
 -- an item's line isn't reached
 pub lacks_comes : (format : Format) (bytes front : List ℕ) (l : LinesContent) (to : Option (List ℕ)) (fault : RecordFault) → ComesToNext bytes front l to (Err fault) → IsLackingNext format bytes front fault
-lacks_comes format bytes front l to (BadLine number place) c = lacks_long format bytes front number c
+lacks_comes format bytes front l to (BadLine number place) c = lacks_long format bytes front number c.0
 lacks_comes format bytes front l to WriteFault c = absurd c
 lacks_comes format bytes front l to ReadFault c = tt
 lacks_comes format bytes front l to NoRoom c = tt
@@ -187,7 +187,7 @@ entry_adds w read whole new from to head asked ends hf adds an = entry_by w read
 
 -- a Merge lacks an item
 lacks_by : (format : Format) (bytes front here : List ℕ) (pass : ℕ) (fault : RecordFault) (count : ℕ) → IsFirstLines bytes front → IsHeadOf format pass (heads.Merge count) (asked_by (with_newline here)) → IsLackingOne format bytes (front ++ with_newline here) count fault → IsBeforeFault format fault bytes front
-lacks_by format bytes front here pass (BadLine number place) count whole is x = lacks_item format bytes front here pass count number whole is x
+lacks_by format bytes front here pass (BadLine number place) count whole is x = lacks_item format bytes front here pass count number place whole is x
 lacks_by format bytes front here pass WriteFault count whole is x = absurd x
 lacks_by format bytes front here pass ReadFault count whole is x = whole
 lacks_by format bytes front here pass NoRoom count whole is x = whole
@@ -206,8 +206,12 @@ entry_lacks w read new from head hf fault f =
 
 -- the first line isn't a command
 pub entry_unread : (w new : Recorder) (from : Option (List ℕ)) (fault : RecordFault) → FailsAtHead w new fault → FailsInEntry w from new fault
-entry_unread w new from (BadLine number place) f =
-    (tt, (f.1.0, f.1.1), λ bytes front a no_ring. asks_nothing w.header.format bytes front a.0 w.lines from number a.2 (subst (AsksNothing w.header.format) a.1 f.0.1) (λ first is. no_ring first (subst IsRingLine (sym a.1) is)) f.0.0)
+entry_unread w new from (BadLine number place) f = (
+  tt,
+  (f.1.0, f.1.1),
+  λ bytes front a no_ring. asks_nothing w.header.format bytes front a.0 w.lines from number place a.2 (subst (AsksNothing w.header.format) a.1 f.0.1) (λ first is. no_ring first (subst IsRingLine (sym a.1) is)) f.0.0
+      (subst (λ (n : ℕ). IsPlaceIn n (with_newline a.0) place) (sym f.0.0) (subst (λ (l : List ℕ). IsPlaceIn w.lines.count l place) a.1 f.0.2)),
+)
 entry_unread w new from NoRoom f = (tt, (f.1.0, f.1.1), λ bytes front a no_ring. front_there bytes front w.lines from a)
 entry_unread w new from ReadFault f = absurd f.0
 entry_unread w new from WriteFault f = absurd f.0

@@ -1,14 +1,17 @@
 -- The lines of an input, and the entries that they become.
-use Rattle.std.specs.Prelude.{◌≡◌, ℕ, suc, ◌<◌, ◌≤◌, ◌⊎◌, Bool, false, cond, List, [], ◌∷◌, ◌++◌, length}
+use Rattle.std.specs.Prelude.{◌≡◌, ◌≢◌, ◌+◌, ◌-◌, ℕ, zero, suc, ◌<◌, ◌≤◌, ◌⊎◌, Bool, true, false, cond, List, [], ◌∷◌, ◌++◌, length, codes}
 use Rattle.std.specs.Char.{is_ascii_digit}
+use Rattle.std.specs.Fmt.{decimal}
 use Rattle.std.specs.List.{All, flat_map}
 use Rattle.ds_entry.specs.declared.item.Item.{Item}
 use Rattle.ds_feed.specs.Kept.{IsRing}
 use Rattle.ds_line.specs.Part.{texts}
 use Rattle.line_io.specs.Lines.{HasLines, with_newline, joined}
 use Rattle.ds_names.specs.Limits.{most_items}
-use Rattle.script_commands.specs.Command.{command_parts}
-use Rattle.script_commands.specs.declared.command.ScriptCommand.TheVariants.{Ring}
+use Rattle.script_commands.specs.Command.{IsCommand, IsFaultAmong, command_parts}
+use Rattle.script_commands.specs.Later.{IsLater}
+use Rattle.script_commands.specs.declared.command.ScriptCommand.{ScriptCommand}
+use Rattle.script_commands.specs.declared.command.ScriptCommand.TheVariants.{Offer, Ring}
 use Rattle.trace_walk.specs.Walking.{IsShort}
 use Rattle.trace_model.specs.declared.asked.Head.{Head}
 use Rattle.trace_model.specs.declared.header.Format.{Format}
@@ -51,6 +54,58 @@ IsAllLines bytes input = (lines : List (List ℕ)) × HasLines bytes lines × (i
 abbrev pub IsFirstLines : List ℕ → List ℕ → Type 0
 IsFirstLines bytes input = (before rest : List (List ℕ)) × HasLines bytes (before ++ rest) × (input ≡ joined before)
 
+-- ---- the byte where a command's line is bad
+
+-- The commands of a line after `before` others: `ring` may be on the first line alone.
+abbrev pub MayBe : (before : ℕ) → ScriptCommand → Type 0
+MayBe zero command = IsCommand command
+MayBe (suc before) command = IsLater command
+
+-- The place in a valid command that no trace has: an offer's item, of a sort that the format lacks, or the first byte.
+abbrev pub IsUncarried : ScriptCommand → ℕ → Type 0
+IsUncarried (Offer i) place = (place ≡ 6) ⊎ (place ≡ 0)
+IsUncarried command place = place ≡ 0
+
+-- Whether the text after any pass is bad at the place, as a line of a script is, or is that of a command which no trace
+-- has. Nothing is said of a text that begins with `merge`.
+abbrev pub IsTextBadAt : (before : ℕ) → List ℕ → ℕ → Type 0
+IsTextBadAt before text place =
+    ((rest : List ℕ) × (text ≡ codes "merge" ++ rest))
+    ⊎ (IsFaultAmong (MayBe before) text place
+    ⊎ ((command : ScriptCommand) × MayBe before command × (text ≡ texts (command_parts command)) × IsUncarried command place))
+
+-- Whether the line is a pass, a space and such a text.
+pub record IsBadBehindPass (line : List ℕ) (place : ℕ) : Type 0 where
+  pub pass : ℕ
+  pub text : List ℕ
+  pub at : ℕ
+  pub few : pass ≤ 63
+  pub line_is : line ≡ decimal pass ++ 32 ∷ text
+  pub place_is : place ≡ (length (decimal pass) + 1) + at
+  pub bad : IsTextBadAt 1 text at
+
+-- Whether the line begins with no pass and a space.
+abbrev pub HasNoPass : List ℕ → Type 0
+HasNoPass line = (pass : ℕ) (text : List ℕ) → pass ≤ 63 → line ≢ decimal pass ++ 32 ∷ text
+
+-- Whether the line is bad at the place, by whether it begins with a digit.
+abbrev pub IsLineBadAt : (has_pass : Bool) → (before : ℕ) → List ℕ → ℕ → Type 0
+IsLineBadAt true before line place = IsBadBehindPass line place ⊎ (HasNoPass line × (place ≡ 0))
+IsLineBadAt false before line place = IsTextBadAt before line place
+
+-- The place in a line that is too long: where it is as long as it may be, which depends on its pass.
+abbrev pub IsAtLimit : ℕ → Type 0
+IsAtLimit place = (4092 ≤ place) × (place ≤ 4096)
+
+-- Whether the line of this number, if it isn't too long in the trace, is bad at the place.
+abbrev pub IsPlaceIn : ℕ → List ℕ → ℕ → Type 0
+IsPlaceIn number line place = (IsShort (asked_by line) → IsLineBadAt (has_pass line) (number - 1) line place) × (¬ IsShort (asked_by line) → IsAtLimit place)
+
+-- Whether that is the first of the lines.
+abbrev pub BeginsBadAt : ℕ → List (List ℕ) → ℕ → Type 0
+BeginsBadAt number [] place = Unit {0}
+BeginsBadAt number (line ∷ lines) place = IsPlaceIn number (with_newline line) place
+
 -- ---- bad lines
 
 -- Whether the line isn't the first line of an entry, or would be too long in the trace.
@@ -92,9 +147,9 @@ pub record LacksItem (format : Format) (part : List ℕ) (rest : List (List ℕ)
 abbrev pub GoesNotOn : Format → List ℕ → List (List ℕ) → Type 0
 GoesNotOn format part rest = ((part ≡ []) × BeginsNoEntry format rest) ⊎ LacksItem format part rest
 
--- Whether this line is the first bad one. Before it come the lines of whole entries, `front`, and perhaps a part of
--- one. The input's first line isn't bad if it is `ring N`.
-pub record AsksNothingAt (format : Format) (bytes front : List ℕ) (number : ℕ) : Type 0 where
+-- Whether this line is the first bad one, at the place. Before it come the lines of whole entries, `front`, and perhaps a
+-- part of one, after which the place isn't said. The input's first line isn't bad if it is `ring N`.
+pub record AsksNothingAt (format : Format) (bytes front : List ℕ) (number place : ℕ) : Type 0 where
   pub whole : IsFirstLines bytes front
   pub part : List ℕ
   pub before : List (List ℕ)
@@ -104,3 +159,4 @@ pub record AsksNothingAt (format : Format) (bytes front : List ℕ) (number : �
   pub counted : number ≡ suc (length before)
   pub stops : GoesNotOn format part rest
   pub no_ring : before ≡ [] → BeginsNoRing rest
+  pub at : part ≡ [] → BeginsBadAt number rest place

@@ -1,4 +1,5 @@
 pub mod Asking
+pub mod Places
 pub mod Record
 pub mod Reading
 pub mod Steps

@@ -9,7 +9,7 @@ use Rattle.trace_model.specs.Head.{IsHeadOf}
 use Rattle.trace_record.specs.declared.begin.Beginning.{Beginning}
 use Rattle.trace_record.specs.declared.fault.RecordFault.{RecordFault}
 use Rattle.trace_record.specs.declared.fault.RecordFault.TheVariants.{BadLine, WriteFault, NoRoom}
-use Rattle.trace_record.specs.Asking.{OpensWith, IsFirstLines, IsRingLine, AsksNothing, ring_text}
+use Rattle.trace_record.specs.Asking.{OpensWith, IsAtLimit, IsFirstLines, IsPlaceIn, IsRingLine, AsksNothing, ring_text}
 
 -- Whether the fault is one of the input, or out of memory.
 abbrev pub IsOfInput : RecordFault → Type 0
@@ -25,7 +25,7 @@ IsAtLine bytes front l remaining = (line : List ℕ) × (l.line ≡ with_newline
 abbrev pub ComesToNext : (bytes front : List ℕ) → LinesContent → Option (List ℕ) → Result Bool RecordFault → Type 0
 ComesToNext bytes front new to (Ok true) = IsAtLine bytes front new to
 ComesToNext bytes front new to (Ok false) = IsRead bytes front new.count
-ComesToNext bytes front new to (Err (BadLine number place)) = IsLong bytes front number
+ComesToNext bytes front new to (Err (BadLine number place)) = IsLong bytes front number × IsAtLimit place
 ComesToNext bytes front new to (Err WriteFault) = ⊥
 ComesToNext bytes front new to (Err _) = IsFirstLines bytes front
 
@@ -55,8 +55,8 @@ BeginsInput old from new to b = (first : List ℕ) × OpensWith first b.ring × 
 abbrev pub IsHeadBehind : Format → List ℕ → Head → Type 0
 IsHeadBehind format text head = (pass : ℕ) × IsHeadOf format pass head text × IsShort text
 
--- Why a line isn't read: it isn't a command and has this number, or memory ran out.
+-- Why a line isn't read: it isn't a command, has this number and is bad at the place, or memory ran out.
 abbrev pub IsBadHead : Format → List ℕ → ℕ → RecordFault → Type 0
-IsBadHead format line number (BadLine told place) = (told ≡ number) × AsksNothing format line
+IsBadHead format line number (BadLine told place) = (told ≡ number) × AsksNothing format line × IsPlaceIn number line place
 IsBadHead format line number NoRoom = Unit {0}
 IsBadHead format line number _ = ⊥

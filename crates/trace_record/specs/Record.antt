@@ -44,7 +44,7 @@ Records form known had has count =
 
 -- What was recorded before a fault: the lines before a bad one, or some first lines.
 abbrev pub IsBeforeFault : Format → RecordFault → List ℕ → List ℕ → Type 0
-IsBeforeFault format (BadLine number place) bytes input = AsksNothingAt format bytes input number
+IsBeforeFault format (BadLine number place) bytes input = AsksNothingAt format bytes input number place
 IsBeforeFault format _ bytes input = IsFirstLines bytes input
 
 -- Whether the trace of these lines was written, or, if the writer failed, a front of it.

@@ -1,6 +1,9 @@
 //! The place where a line is bad.
 
+ghost use Rattle.std.specs.Prelude.{◌≡◌, ◌≤◌, ◌-◌, ◌++◌, length, ℕ, List, codes, IfOk, IfErr, IfSome};
 ghost use Rattle.line_io.specs.Lines.{EndsLine};
+ghost use Rattle.trace_record.specs.Asking.{IsAtLimit, IsLineBadAt, IsTextBadAt, IsUncarried, has_pass};
+ghost use Rattle.trace_record.specs.Places.{IsPlaceOfFault};
 
 use crate::pass::{has_pass, mark_length};
 use ds_line::{LineFault, read_item};
@@ -19,12 +22,16 @@ pub(crate) enum Wanted {
 }
 
 /// Returns the most bytes that the line may have, without its newline: with its mark, a trace's line has at most 4096.
-pub(crate) fn longest(line: &[u8]) -> usize {
+pub(crate) fn longest(line: &[u8]) -> usize
+    ensures { IsAtLimit result }
+{
     LONGEST_LINE - mark_length(line)
 }
 
 /// Returns where the line after `before` others becomes too long.
-pub(crate) fn place_of_long(lines: &Lines, before: u64, wanted: Wanted) -> usize {
+pub(crate) fn place_of_long(lines: &Lines, before: u64, wanted: Wanted) -> usize
+    ensures { IsAtLimit result }
+{
     match wanted {
         Wanted::Command if lines.count() > before => longest(lines.line()),
         Wanted::Command => longest(lines.front()),
@@ -34,10 +41,12 @@ pub(crate) fn place_of_long(lines: &Lines, before: u64, wanted: Wanted) -> usize
 
 /// Returns where a line that isn't a command is bad. `line` has its newline.
 pub(crate) fn place_of_command(alloc: Global, line: &[u8], number: u64) -> usize
-    requires { EndsLine line.now }
+    requires ends { EndsLine line.now }
+    requires short { length line.now ≤ 4097 }
+    ensures { IsLineBadAt (has_pass line.now) (number - 1) line.now result }
 {
     if !has_pass(line) {
-        return place_behind_pass(alloc, line, number == 1);
+        return place_behind_pass(alloc, line, number.saturating_sub(1));
     }
     let Some((_, rest)) = read_decimal(line, 63) else {
         return 0;
@@ -46,22 +55,26 @@ pub(crate) fn place_of_command(alloc: Global, line: &[u8], number: u64) -> usize
         return 0;
     };
     let before = line.len().saturating_sub(rest.len());
-    before.saturating_add(place_behind_pass(alloc, rest, false))
+    before.saturating_add(place_behind_pass(alloc, rest, 1))
 }
 
-// Likewise for the text after a pass. Only the first line may be `ring N`.
-fn place_behind_pass(alloc: Global, text: &[u8], is_first: bool) -> usize
+// Likewise for the text after a pass, of a line after `before` others. Only the first line may be `ring N`.
+fn place_behind_pass(alloc: Global, text: &[u8], before: u64) -> usize
     requires { EndsLine text.now }
+    ensures { IsTextBadAt before text.now result }
 {
     if let Some(place) = place_of_merge(text) {
         return place;
     }
-    place_of_read(&read_line_behind(alloc, text, if is_first { 0 } else { 1 }))
+    place_of_read(&read_line_behind(alloc, text, before))
 }
 
 // Likewise for a line that was parsed. A valid offer has an item that the trace's format doesn't: the place of its
 // item.
-fn place_of_read(read: &Result<ScriptCommand, CommandFault>) -> usize {
+fn place_of_read(read: &Result<ScriptCommand, CommandFault>) -> usize
+    ensures bad { IfErr read.now (λ fault. IsPlaceOfFault fault result) }
+    ensures good { IfOk read.now (λ command. IsUncarried command result) }
+{
     match read {
         Err(CommandFault::BadLine { place, .. }) => *place,
         Ok(ScriptCommand::Offer(_)) => 6,
@@ -70,7 +83,9 @@ fn place_of_read(read: &Result<ScriptCommand, CommandFault>) -> usize {
 }
 
 // Returns where the count of a Merge, or what is around it, is bad, if the line begins with `merge`.
-fn place_of_merge(text: &[u8]) -> Option<usize> {
+fn place_of_merge(text: &[u8]) -> Option<usize>
+    ensures { IfSome result (λ place. (rest : List ℕ) × (text.now ≡ codes "merge" ++ rest)) }
+{
     if !text.starts_with(b"merge") {
         return None;
     }

@@ -13,7 +13,7 @@ returns-in-End-clause-comes g c bytes front at = none_comes bytes front c.args.l
 pub returns-in-Long-clause-comes : goal.returns-in-Long-clause-comes
 returns-in-Long-clause-comes g c bytes front at =
     let l = c.in-Long.ensures.pulls in
-    long_comes bytes front c.args.lines.now (g.R.Source.remaining c.args.reader.now) l.0 (c.count-before.result + 1) at l.1 l.2 l.3 (omega (arith, c.count-before.ensures.value))
+    (long_comes bytes front c.args.lines.now (g.R.Source.remaining c.args.reader.now) l.0 (c.count-before.result + 1) at l.1 l.2 l.3 (omega (arith, c.count-before.ensures.value)), c.place_of_long.ensures)
 
 pub returns-in-ReadFault-clause-comes : goal.returns-in-ReadFault-clause-comes
 returns-in-ReadFault-clause-comes g c bytes front at = front_at bytes front c.args.lines.now (g.R.Source.remaining c.args.reader.now) at
