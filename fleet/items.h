@@ -23,7 +23,7 @@ struct items {
     uint64_t gathered;              /* bytes that untold ever got */
     bool notes;                     /* while all is read, the server's lines are noted, so that only what it lacks goes there again: */
     struct text noted;              /* hashes of lines, */
-    uint64_t seed;                  /* with a seed of this run, so that no publisher can make two lines of one hash */
+    uint64_t seed;                  /* with a seed of this run, so that a publisher can't choose two lines of one hash */
     bool news;                      /* something is refused since items_retry */
     uint64_t tried;                 /* the store's position then */
     uint64_t unread;
