@@ -1,5 +1,7 @@
 -- What a desk's calls say of a pass by plain values.
-use Rattle.std.proofs.Common.{◌≡◌, ℕ, true, List, [], ◌∷◌, ◌++◌, Option, Some, None, refl, ap, sym, ◌∙◌, subst, inr, arith, append-nil, append_assoc, length-append}
+use Rattle.std.proofs.Common.{◌≡◌, ℕ, ◌+◌, true, List, [], ◌∷◌, ◌++◌, length, Option, Some, None, refl, ap, sym, ◌∙◌, subst, inr, arith, append-nil, append_assoc, length-append}
+use Rattle.std.proofs.lemmas.List.{length-map, map-append}
+use Rattle.std.specs.List.{flat_map}
 use Rattle.std.specs.Prelude.{is_some}
 use Rattle.std.specs.Option.{option_map}
 use Rattle.history.specs.declared.entry.Entry.{Entry}
@@ -7,8 +9,8 @@ use Rattle.history.specs.History.{calls_by, entry, Run}
 use Rattle.desk_rule.specs.declared.view.View.{View}
 use Rattle.desk.specs.declared.fault.DeskFault.{DeskFault}
 use Rattle.desk.specs.declared.pass.Sight.{Ghosts}
-use Rattle.desk.specs.Pass.{calls, history, number, opening, Pass}
-use Rattle.desk.specs.Calls.{Calls, FindsNoPlace, IsSamePass, Sees}
+use Rattle.desk.specs.Pass.{calls, first_place, history, number, opening, Pass}
+use Rattle.desk.specs.Calls.{Calls, FindsNoPlace, IsSamePass, Sees, next_place}
 use Rattle.ds_machine.specs.Says.{IsReplyTo}
 use Rattle.ds_machine.specs.State.{State}
 use Rattle.ds_machine.specs.declared.command.Command.{Command}
@@ -20,12 +22,30 @@ use Rattle.ds_store.specs.Turns.{Turn}
 use Rattle.ds_store.proofs.TurnLemmas.{turns_answer, turns_run}
 use Rattle.ds_pass.specs.Called.{FoundWorn, Made, MadeCall}
 use Rattle.ds_pass.specs.Later.{SeesMoreByCalls, SeesMoreByLooks, SeesMoreByNotes}
-use Rattle.ds_pass.specs.Record.{Boxed, HasJustItsCalls, HasLegalHistory, boxed_content, is_content, pass_origin, pass_record}
+use Rattle.ds_pass.specs.Record.{Boxed, HasJustItsCalls, HasLegalHistory, IsInTurns, boxed_content, is_content, pass_origin, pass_record, place_behind, turn_by_turn}
+
+-- ---- a turn for each entry
+turns_both : (xs ys : List (Entry Command Reply)) → turn_by_turn (xs ++ ys) ≡ turn_by_turn xs ++ turn_by_turn ys
+turns_both xs ys = map-append (λ (e : Entry Command Reply). e ∷ []) xs ys
+
+turns_many : (es : List (Entry Command Reply)) → length (turn_by_turn es) ≡ length es
+turns_many es = length-map es (λ (e : Entry Command Reply). e ∷ [])
+
+turns_join : (es : List (Entry Command Reply)) → flat_map (λ (xs : List (Entry Command Reply)). xs) (turn_by_turn es) ≡ es
+turns_join [] = refl
+turns_join (e ∷ es) = ap (λ (l : List (Entry Command Reply)). e ∷ l) (turns_join es)
 
 -- the first of some turns was one of a content that stood for some state
-first_stood : (es : List (Entry Command Reply)) (e : Entry Command Reply) (old new : ContentRecord) → Run Turn old (es ++ e ∷ []) new → (s : State) × ContentStands old s
+pub first_stood : (es : List (Entry Command Reply)) (e : Entry Command Reply) (old new : ContentRecord) → Run Turn old (es ++ e ∷ []) new → (s : State) × ContentStands old s
 first_stood [] e old new run = run.1.stood
 first_stood (x ∷ es) e old new run = run.1.stood
+
+module _ {Z : Type 0} {G : Ghosts (View (Boxed Z) Command Reply)} (p : Pass (Boxed Z) Command Reply G) where
+  pub behind_is : place_behind (pass_record p) ≡ next_place p
+  behind_is = ap (λ (n : ℕ). first_place p + n) (turns_many (history p))
+
+  pub is_in_turns : IsInTurns (pass_record p)
+  is_in_turns = turns_join (history p)
 
 module _ {Z : Type 0} {G : Ghosts (View (Boxed Z) Command Reply)} (p q : Pass (Boxed Z) Command Reply G) where
   -- no call changes which pass it is
@@ -44,14 +64,25 @@ module _ {Z : Type 0} {G : Ghosts (View (Boxed Z) Command Reply)} (p q : Pass (B
     seen = sym s.begins.1;
     longer = omega arith;
     calls_are = s.same_calls ∙ sym (append-nil (calls p));
+    turned = turn_by_turn s.begins.0;
+    turns_are = ap (λ (l : List (Entry Command Reply)). turn_by_turn l) (sym s.begins.1) ∙ turns_both (history p) s.begins.0;
+    apart = omega arith;
     just = inr (subst (λ (n : ℕ). calls_by n (history q) ≡ calls q) (sym s.same.same_number) s.own);
   }
 
   pub found_worn : (fault : DeskFault) → FindsNoPlace is_content Turn fault p q → FoundWorn (pass_record p) (pass_record q) fault
-  found_worn fault f = record { fault_is = f.0; made = sees_made f.1; full = f.3 }
+  found_worn fault f = record { fault_is = f.0; made = sees_made f.1; full = behind_is q ∙ f.3 }
 
   -- ---- it called
   module _ (command : Command) (reply : Reply) (place : ℕ) (c : Calls is_content Turn p q command reply place) where
+    abbrev new : Entry Command Reply
+    new = entry (number p) command reply
+
+    turns_end : turn_by_turn (history q) ≡ (turn_by_turn (history p) ++ turn_by_turn c.between) ++ (new ∷ []) ∷ []
+    turns_end =
+        ap (λ (l : List (Entry Command Reply)). turn_by_turn l) c.ends ∙ turns_both (history p ++ c.between) (new ∷ [])
+        ∙ ap (λ (l : List (List (Entry Command Reply))). l ++ (new ∷ []) ∷ []) (turns_both (history p) c.between)
+
     just_own : HasJustItsCalls (pass_record q)
     just_own = subst (λ (n : ℕ). calls_by n (history q) ≡ calls q) (sym c.same.same_number) c.own
 
@@ -68,6 +99,7 @@ module _ {Z : Type 0} {G : Ghosts (View (Boxed Z) Command Reply)} (p q : Pass (B
           stood = stood.1;
           legal = λ s at. (let all = turns_run (history q) m.value run.0 run.1 s at in (all.0, all.1));
           own = just_own;
+          in_turns = turns_join (history q);
         }
 
     pub call_made : is_some (opening p) ≡ true → MadeCall (pass_record p) (pass_record q) command reply place
@@ -79,11 +111,16 @@ module _ {Z : Type 0} {G : Ghosts (View (Boxed Z) Command Reply)} (p q : Pass (B
         seen = c.ends ∙ append_assoc (history p) c.between (entry (number p) command reply ∷ []);
         longer = omega (arith, length-append c.between (entry (number p) command reply ∷ []));
         calls_are = c.one_more;
+        turned = turn_by_turn c.between ++ (new ∷ []) ∷ [];
+        turns_are = turns_end ∙ append_assoc (turn_by_turn (history p)) (turn_by_turn c.between) ((new ∷ []) ∷ []);
+        apart = omega (arith, length-append (turn_by_turn c.between) ((new ∷ []) ∷ []));
         just = inr just_own;
       };
       between = c.between;
       ends = c.ends;
-      at = c.at;
+      turned = turn_by_turn c.between;
+      turns_end = turns_end;
+      at = c.at ∙ ap (λ (n : ℕ). first_place p + n) (sym (turns_many (history p ++ c.between)) ∙ ap (λ (l : List (List (Entry Command Reply))). length l) (turns_both (history p) c.between));
       legal = legal_from (opening p) refl some;
     }
 

@@ -21,6 +21,9 @@ made_none p = record {
   seen = sym (append-nil p.history);
   longer = omega arith;
   calls_are = sym (append-nil p.calls);
+  turned = [];
+  turns_are = sym (append-nil p.turns);
+  apart = omega arith;
   just = inl refl;
 }
 
@@ -37,13 +40,16 @@ made_more p q r own more a b = record {
   seen = b.seen ∙ ap (λ (l : List (Entry Command Reply)). l ++ b.between) a.seen ∙ append_assoc p.history a.between b.between;
   longer = omega (arith, length-append own more, length-append a.between b.between, a.longer, b.longer);
   calls_are = b.calls_are ∙ ap (λ (l : List (Entry Command Reply)). l ++ more) a.calls_are ∙ append_assoc p.calls own more;
+  turned = a.turned ++ b.turned;
+  turns_are = b.turns_are ∙ ap (λ (l : List (List (Entry Command Reply))). l ++ b.turned) a.turns_are ∙ append_assoc p.turns a.turned b.turned;
+  apart = omega (arith, length-append own more, length-append a.turned b.turned, a.apart, b.apart);
   just = just_later p q r a.just b.just;
 }
 
 -- each of them has a place after what was seen
 pub made_above : (p q : PassRecord) (own : List (Entry Command Reply)) → Made p q own → place_behind p + length own ≤ place_behind q
 made_above p q own a =
-    omega (arith, ap (λ (o : PassOrigin). o.first) a.same, ap (λ (l : List (Entry Command Reply)). length l) a.seen, length-append p.history a.between, a.longer)
+    omega (arith, ap (λ (o : PassOrigin). o.first) a.same, ap (λ (l : List (List (Entry Command Reply))). length l) a.turns_are, length-append p.turns a.turned, a.apart)
 
 -- ---- a pass that has seen more
 pub made_sees_more : MadeSeesMore
@@ -57,7 +63,7 @@ module _ (p q : PassRecord) (command : Command) (reply : Reply) (place : ℕ) (c
   -- nothing has been seen after it
   pub call_behind : place + 1 ≡ place_behind q
   call_behind =
-      omega (arith, c.at, ap (λ (o : PassOrigin). o.first) c.made.same, ap (λ (l : List (Entry Command Reply)). length l) c.ends, length-append (p.history ++ c.between) (entry p.origin.number command reply ∷ []))
+      omega (arith, c.at, ap (λ (o : PassOrigin). o.first) c.made.same, ap (λ (l : List (List (Entry Command Reply))). length l) c.turns_end, length-append (p.turns ++ c.turned) ((entry p.origin.number command reply ∷ []) ∷ []))
 
   -- each run of what the pass has seen ends with it
   pub call_last : (s t : State) → Run Answered s q.history t → (m : State) × Run Answered s (p.history ++ c.between) m × Answered m command reply t

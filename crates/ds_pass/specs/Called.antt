@@ -18,6 +18,10 @@ pub record Made (p q : PassRecord) (own : List (Entry Command Reply)) : Type 0 w
   pub seen : q.history ≡ p.history ++ between
   pub longer : length own ≤ length between
   pub calls_are : q.calls ≡ p.calls ++ own
+  pub turned : List (List (Entry Command Reply))
+  pub turns_are : q.turns ≡ p.turns ++ turned
+  -- each of the calls in a turn of its own
+  pub apart : length own ≤ length turned
   pub just : (q ≡ p) ⊎ HasJustItsCalls q
 
 -- Whether q is the pass p after one more call. The call got this reply at this place, and is the last one that q has seen.
@@ -25,7 +29,9 @@ pub record MadeCall (p q : PassRecord) (command : Command) (reply : Reply) (plac
   pub made : Made p q (entry p.origin.number command reply ∷ [])
   pub between : List (Entry Command Reply)
   pub ends : q.history ≡ (p.history ++ between) ++ entry p.origin.number command reply ∷ []
-  pub at : place ≡ p.origin.first + length (p.history ++ between)
+  pub turned : List (List (Entry Command Reply))
+  pub turns_end : q.turns ≡ (p.turns ++ turned) ++ (entry p.origin.number command reply ∷ []) ∷ []
+  pub at : place ≡ p.origin.first + length (p.turns ++ turned)
   pub legal : HasLegalHistory q
 
 -- Whether the reply isn't a refusal.

@@ -1,5 +1,6 @@
 -- Passes by plain values: the identity of a pass, what it has seen, and what it called.
-use Rattle.std.specs.Prelude.{◌≡◌, ℕ, ◌+◌, List, length, Option, Some}
+use Rattle.std.specs.Prelude.{◌≡◌, ℕ, ◌+◌, List, [], ◌∷◌, length, map, Option, Some}
+use Rattle.std.specs.List.{flat_map}
 use Rattle.std.specs.Option.{option_map}
 use Rattle.std.specs.declared.boxed.Box.{Box}
 use Rattle.history.specs.declared.entry.Entry.{Entry}
@@ -32,7 +33,7 @@ pub record PassOrigin : Type 0 where
 abbrev pub pass_origin : {Z : Type 0} {G : Ghosts (View (Boxed Z) Command Reply)} → Pass (Boxed Z) Command Reply G → PassOrigin
 pass_origin p = record { desk = desk_of p; number = number p; first = first_place p }
 
--- A pass by plain values.
+-- A pass by plain values. At a desk of more than a store, the history and the calls are the store's part of them.
 pub record PassRecord : Type 0 where
   pub origin : PassOrigin
   -- the content of the desk's store when the desk was opened
@@ -40,17 +41,33 @@ pub record PassRecord : Type 0 where
   -- the history that the pass has seen, and the calls that it made
   pub history : List (Entry Command Reply)
   pub calls : List (Entry Command Reply)
+  -- for each turn of the desk that the pass has seen, the store's part of it: one entry at a store's desk
+  pub turns : List (List (Entry Command Reply))
 
 -- The content of a store on the heap.
 abbrev pub boxed_content : {Z : Type 0} → Boxed Z → ContentRecord
 boxed_content m = m.value
 
-abbrev pub pass_record : {Z : Type 0} {G : Ghosts (View (Boxed Z) Command Reply)} → Pass (Boxed Z) Command Reply G → PassRecord
-pass_record p = record { origin = pass_origin p; opened = option_map boxed_content (opening p); history = history p; calls = calls p }
+-- The history of a store's desk by its turns. Each has one entry.
+abbrev pub turn_by_turn : List (Entry Command Reply) → List (List (Entry Command Reply))
+turn_by_turn es = map (λ (e : Entry Command Reply). e ∷ []) es
 
--- The first place after the history that the pass has seen.
+abbrev pub pass_record : {Z : Type 0} {G : Ghosts (View (Boxed Z) Command Reply)} → Pass (Boxed Z) Command Reply G → PassRecord
+pass_record p = record {
+  origin = pass_origin p;
+  opened = option_map boxed_content (opening p);
+  history = history p;
+  calls = calls p;
+  turns = turn_by_turn (history p);
+}
+
+-- The first place after the history that the pass has seen. Each turn has a place.
 abbrev pub place_behind : PassRecord → ℕ
-place_behind p = p.origin.first + length p.history
+place_behind p = p.origin.first + length p.turns
+
+-- Whether the pass's history is that of its turns, in order.
+abbrev pub IsInTurns : PassRecord → Type 0
+IsInTurns p = flat_map (λ (es : List (Entry Command Reply)). es) p.turns ≡ p.history
 
 -- Whether the property holds in each state to which these entries lead, from a state that the desk's store stood for when the desk was
 -- opened.
@@ -70,3 +87,4 @@ pub record HasLegalHistory (p : PassRecord) : Type 0 where
   pub stood : ContentStands content begun
   pub legal : IsLegalFrom ContentStands Answered content p.history
   pub own : HasJustItsCalls p
+  pub in_turns : IsInTurns p

@@ -65,6 +65,7 @@ impl<'a, W> Seat<'a, W> {
 
     /// Takes every notice that is pending for the server. Each bit is owed by a call whose place is below `floor`. Refuses a server from 16
     /// on as BadServer.
+    #[tactic(auto, using(crate::proofs::PassLemmas::behind_is))]
     pub fn take(&mut self, server: u32) -> Result<Taken, DeskFault>
         ensures same { IsSameSeat self.old self.new }
         ensures looked { OnOk result (Made self.old.pass self.new.pass []) }
@@ -75,6 +76,7 @@ impl<'a, W> Seat<'a, W> {
     }
 
     /// Returns how far the history goes: the first place without a call.
+    #[tactic(auto, using(crate::proofs::PassLemmas::behind_is))]
     pub fn front(&mut self) -> u64
         ensures same { IsSameSeat self.old self.new }
         ensures looked { Made self.old.pass self.new.pass [] }

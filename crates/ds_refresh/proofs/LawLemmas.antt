@@ -1,5 +1,6 @@
 -- What holds of followers at a desk.
 use Rattle.std.proofs.Common.{◌≡◌, ℕ, List, ◌++◌, length, Option, Some, None, sym, ap, ◌∙◌, subst, inl, inr, arith, append-nil, length-append}
+use Rattle.std.specs.List.{flat_map}
 use mathlib.Core.List.{IsPrefix}
 use Rattle.desk_rule.specs.History.{OneBegins}
 use Rattle.desk_rule.proofs.ListLemmas.{nil_of, prefix_trans}
@@ -36,19 +37,22 @@ lost_keeps_up p f none = stands_unstamped p f.sub f.map.query f.stamp (mapped f)
 pub keeps_up_later : KeepsUpLater
 keeps_up_later p q f more k = stands_later p q f.sub f.map.query f.stamp (mapped f) more k
 
--- of two lists of one length one of which begins the other
-begun_by_all : (xs ys : List (Entry Command Reply)) → IsPrefix xs ys → length xs ≡ length ys → xs ≡ ys
-begun_by_all xs ys p same =
-    let none = nil_of p.0 (omega (arith, same, ap (λ (l : List (Entry Command Reply)). length l) p.1, length-append xs p.0)) in
-    sym (append-nil xs) ∙ ap (λ (l : List (Entry Command Reply)). xs ++ l) (sym none) ∙ p.1
+module _ {A : Type 0} where
+  -- of two lists of one length one of which begins the other
+  begun_by_all : (xs ys : List A) → IsPrefix xs ys → length xs ≡ length ys → xs ≡ ys
+  begun_by_all xs ys p same =
+      let none = nil_of p.0 (omega (arith, same, ap (λ (l : List A). length l) p.1, length-append xs p.0)) in
+      sym (append-nil xs) ∙ ap (λ (l : List A). xs ++ l) (sym none) ∙ p.1
 
-same_history : (xs ys : List (Entry Command Reply)) → OneBegins xs ys → length xs ≡ length ys → xs ≡ ys
-same_history xs ys (inl p) same = begun_by_all xs ys p same
-same_history xs ys (inr p) same = sym (begun_by_all ys xs p (sym same))
+  same_turns : (xs ys : List A) → OneBegins xs ys → length xs ≡ length ys → xs ≡ ys
+  same_turns xs ys (inl p) same = begun_by_all xs ys p same
+  same_turns xs ys (inr p) same = sym (begun_by_all ys xs p (sym same))
 
 pub alike : RefreshedAlike
 alike p q f g place desk legal query a b =
-    let same : p.history ≡ q.history = same_history p.history q.history desk.agree (omega (arith, a.at, b.at, desk.first)) in
+    let turns : p.turns ≡ q.turns = same_turns p.turns q.turns desk.agree (omega (arith, a.at, b.at, desk.first)) in
+    let same : p.history ≡ q.history =
+    sym legal.in_turns ∙ ap (λ (l : List (List (Entry Command Reply))). flat_map (λ (es : List (Entry Command Reply)). es) l) turns ∙ desk.in_turns in
     let run = legal.legal legal.begun legal.stood in
     let mine : mapped f ≡ under (is_under f.map.query) (held run.0) = a.current legal.content legal.opened_with legal.begun run.0 legal.stood run.1 in
     let theirs : mapped g ≡ under (is_under g.map.query) (held run.0) =

@@ -5,7 +5,7 @@ use Rattle.ds_pattern.specs.declared.query.Query.{Query}
 use Rattle.ds_machine.specs.declared.command.Command.{Command}
 use Rattle.ds_machine.specs.declared.reply.Reply.{Reply}
 use Rattle.ds_pass.specs.Record.{PassRecord}
-use Rattle.ds_pass.proofs.RecordLemmas.{made_more}
+use Rattle.ds_pass.proofs.RecordLemmas.{made_more, made_none}
 use Rattle.ds_refresh.specs.Follower.{FollowerRecord}
 use Rattle.ds_refresh.specs.FollowerCalls.{AreOpenCalls, IsOfFollower, IsOpenCall}
 use Rattle.ds_refresh.specs.Refresh.{AreOfFollower, CallsOnly, HasGone}
@@ -23,6 +23,10 @@ all_open sub query old new (e ∷ own) t = (of_open sub query old t.0 e t.1, all
 of_both : (sub : ℕ) (query : Query) (own more : List (Entry Command Reply)) → AreOfFollower sub query own → AreOfFollower sub query more → AreOfFollower sub query (own ++ more)
 of_both sub query [] more a b = b
 of_both sub query (e ∷ own) more a b = (a.0, of_both sub query own more a.1 b)
+
+-- ---- before any call
+pub only_none : (p : PassRecord) (f : FollowerRecord) (limit : ℕ) → CallsOnly p p f limit
+only_none p f limit = record { own = []; made = made_none p; few = omega arith; theirs = tt }
 
 -- ---- after calls that were open
 module _ (p q : PassRecord) (f g : FollowerRecord) (count : ℕ) (gone : HasGone p q f g count) where

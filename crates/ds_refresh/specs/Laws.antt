@@ -2,7 +2,7 @@
 use Rattle.std.specs.Prelude.{◌≡◌, ℕ, None}
 use Rattle.desk_rule.specs.History.{OneBegins}
 use Rattle.ds_pass.specs.Later.{HasSeenMore}
-use Rattle.ds_pass.specs.Record.{HasLegalHistory, PassRecord}
+use Rattle.ds_pass.specs.Record.{HasLegalHistory, IsInTurns, PassRecord}
 use Rattle.ds_refresh.specs.Follower.{FollowerRecord, mapped}
 use Rattle.ds_refresh.specs.KeepsUp.{KeepsUpWith}
 use Rattle.ds_refresh.specs.Refresh.{IsUpTo}
@@ -15,11 +15,12 @@ LostKeepsUp = (p : PassRecord) (f : FollowerRecord) → f.stamp ≡ None → Kee
 abbrev pub KeepsUpLater : Type 0
 KeepsUpLater = (p q : PassRecord) (f : FollowerRecord) → HasSeenMore p q → KeepsUpWith p f → KeepsUpWith q f
 
--- Whether these may be two passes of one desk: of the histories that they have seen, one is a prefix of the other.
+-- Whether these may be two passes of one desk: of the turns that they have seen, one list is a prefix of the other.
 pub record AreAtOneDesk (p q : PassRecord) : Type 0 where
   pub opened : q.opened ≡ p.opened
   pub first : q.origin.first ≡ p.origin.first
-  pub agree : OneBegins p.history q.history
+  pub agree : OneBegins p.turns q.turns
+  pub in_turns : IsInTurns q
 
 -- A law: two followers with one query that were refreshed up to the same place have equal maps.
 abbrev pub RefreshedAlike : Type 0

@@ -9,26 +9,25 @@ ghost use Rattle.ds_refresh.specs.Refresh.{KeepsMap, SeatCallsOnly, TakesOneCall
 use crate::follower::Follower;
 use ds_join::JoinFault;
 use ds_names::limits::MOST_ITEMS;
-use ds_pass::{CallFault, Seat, Shown};
+use ds_pass::{CallFault, Shown, StoreSeat};
 use std::alloc::Global;
-use std::sync::Wait;
 
 /// Makes one call of a refresh. Returns the place after the call if it ends the refresh.
 ///
 /// A follower that is new or lost subscribes, in place of any subscription of its number, and empties its map. Any other one checks. If
 /// the Check returns another stamp, the follower is lost.
-pub(crate) fn call_once<W: Wait>(
-    seat: &mut Seat<'_, W>,
+pub(crate) fn call_once<S: StoreSeat>(
+    seat: &mut S,
     alloc: Global,
     follower: &mut Follower,
 ) -> Result<Option<u64>, CallFault>
-    requires { KeepsUpWith seat.old.pass follower.old }
-    ensures only { SeatCallsOnly seat.old seat.new follower.old 1 }
-    ensures called { IfOk result (TakesOneCall seat.old.pass seat.new.pass follower.old follower.new) }
-    ensures keeps { OnOk result (KeepsUpWith seat.new.pass follower.new) }
+    requires { KeepsUpWith (S.seat seat.old).pass follower.old }
+    ensures only { SeatCallsOnly (S.seat seat.old) (S.seat seat.new) follower.old 1 }
+    ensures called { IfOk result (TakesOneCall (S.seat seat.old).pass (S.seat seat.new).pass follower.old follower.new) }
+    ensures keeps { OnOk result (KeepsUpWith (S.seat seat.new).pass follower.new) }
     ensures same { IsSameFollower follower.old follower.new }
-    ensures kept { OnErr result (KeepsMap seat.old.pass seat.new.pass follower.old follower.new) }
-    ensures fault { IfErr result (FailsOnce seat.old.pass seat.new.pass follower.old) }
+    ensures kept { OnErr result (KeepsMap (S.seat seat.old).pass (S.seat seat.new).pass follower.old follower.new) }
+    ensures fault { IfErr result (FailsOnce (S.seat seat.old).pass (S.seat seat.new).pass follower.old) }
 {
     let Some(stamp) = follower.stamp else {
         let query = follower.query.copy(alloc)?;

@@ -9,9 +9,8 @@ ghost use Rattle.ds_refresh.specs.Refresh.{KeepsMap, Refreshes, SeatCallsOnly};
 use crate::calling::call_once;
 use crate::fault::RefreshFault;
 use crate::follower::Follower;
-use ds_pass::Seat;
+use ds_pass::StoreSeat;
 use std::alloc::Global;
-use std::sync::Wait;
 
 /// The outcome of a refresh.
 #[derive(Clone, Copy, Debug, PartialEq, Eq)]
@@ -30,19 +29,19 @@ pub enum Fresh {
 /// Returns `UpTo(place)` if the map is what the store held under the query after all calls below `place`, which is above all that the pass
 /// had seen. Returns `More` after exactly `limit` calls without such an end. Refuses any other limit as BadLimit. After any other fault the
 /// follower is lost; if no call was accepted, its map is unchanged.
-pub fn refresh<W: Wait>(
-    seat: &mut Seat<'_, W>,
+pub fn refresh<S: StoreSeat>(
+    seat: &mut S,
     alloc: Global,
     follower: &mut Follower,
     limit: u32,
 ) -> Result<Fresh, RefreshFault>
-    requires keeps { KeepsUpWith seat.old.pass follower.old }
-    ensures only { SeatCallsOnly seat.old seat.new follower.old limit }
-    ensures fresh { IfOk result (Refreshes seat.old.pass seat.new.pass follower.old follower.new limit) }
-    ensures keeps { KeepsUpWith seat.new.pass follower.new }
+    requires keeps { KeepsUpWith (S.seat seat.old).pass follower.old }
+    ensures only { SeatCallsOnly (S.seat seat.old) (S.seat seat.new) follower.old limit }
+    ensures fresh { IfOk result (Refreshes (S.seat seat.old).pass (S.seat seat.new).pass follower.old follower.new limit) }
+    ensures keeps { KeepsUpWith (S.seat seat.new).pass follower.new }
     ensures same { IsSameFollower follower.old follower.new }
-    ensures fault { IfErr result (IsRefreshFault limit seat.old.pass seat.new.pass follower.old) }
-    ensures kept { OnErr result (KeepsMap seat.old.pass seat.new.pass follower.old follower.new) }
+    ensures fault { IfErr result (IsRefreshFault limit (S.seat seat.old).pass (S.seat seat.new).pass follower.old) }
+    ensures kept { OnErr result (KeepsMap (S.seat seat.old).pass (S.seat seat.new).pass follower.old follower.new) }
     ensures untouched { result ≡ Err RefreshFault.BadLimit → (seat.new ≡ seat.old) × (follower.new.map ≡ follower.old.map) }
     ensures lost { OnErr result (follower.new.stamp ≡ None) }
     ensures limit { OnOk result ((2 ≤ limit) × (limit ≤ 65536)) }

@@ -1,4 +1,4 @@
-use Rattle.ds_pass.proofs.PassLemmas.{sees_by_calls, sees_by_looks, sees_by_notes}
+use Rattle.ds_pass.proofs.PassLemmas.{behind_is, is_in_turns, sees_by_calls, sees_by_looks, sees_by_notes}
 use Rattle.ds_pass.proofs.RecordLemmas.{made_sees_more, seen_more_again}
 use Rattle.ds_pass.proofs.law.passes_see_more.Goals as goal
 
@@ -16,3 +16,9 @@ returns-clause-made c = made_sees_more
 
 pub returns-clause-again : goal.returns-clause-again
 returns-clause-again c = seen_more_again
+
+pub returns-clause-turns : goal.returns-clause-turns
+returns-clause-turns c = is_in_turns c.args.pass.now
+
+pub returns-clause-places : goal.returns-clause-places
+returns-clause-places c = behind_is c.args.pass.now

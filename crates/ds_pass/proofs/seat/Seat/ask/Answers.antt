@@ -1,10 +1,10 @@
-use Rattle.std.proofs.Common.{◌≡◌, IfOk, ap, subst}
-use Rattle.std.proofs.lemmas.Result.{IfOk-weaker}
+use Rattle.std.proofs.Common.{◌≡◌, IfErr, IfOk, ap, subst}
+use Rattle.std.proofs.lemmas.Result.{IfErr-weaker, IfOk-weaker}
 use Rattle.desk.proofs.SightLemmas.{rests_facts}
-use Rattle.ds_pass.specs.Called.{MadeCall}
+use Rattle.ds_pass.specs.Called.{FoundWorn, MadeCall}
 use Rattle.ds_pass.specs.Record.{PassRecord, pass_record}
 use Rattle.ds_pass.specs.Seat.{SeatRecord}
-use Rattle.ds_pass.proofs.PassLemmas.{call_fits, call_made}
+use Rattle.ds_pass.proofs.PassLemmas.{call_fits, call_made, found_worn}
 use Rattle.ds_pass.proofs.seat.Seat.ask.Goals as goal
 
 pub returns-clause-called : goal.returns-clause-called
@@ -18,3 +18,10 @@ pub returns-clause-fits : goal.returns-clause-fits
 returns-clause-fits g c =
     let p = c.self.inside.pass.now in
     IfOk-weaker c.call.result _ _ (λ a called. call_fits p c.call.new.pass c.args.command a.reply a.place called (rests_facts p.seat.me.0 p.resting).2) c.call.ensures.called
+
+pub returns-clause-worn : goal.returns-clause-worn
+returns-clause-worn g c =
+    let p = c.self.inside.pass.now in
+    let same : pass_record p ≡ c.args.self.now.pass = ap (λ (s : SeatRecord). s.pass) c.self.view_is in
+    subst (λ (x : PassRecord). IfErr c.call.result (λ fault. FoundWorn x (pass_record c.call.new.pass) fault)) same
+    (IfErr-weaker c.call.result _ _ (λ fault found. found_worn p c.call.new.pass fault found) c.call.ensures.worn)
