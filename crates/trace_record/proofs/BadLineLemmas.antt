@@ -8,7 +8,7 @@ use Rattle.trace_model.specs.declared.asked.Head.TheVariants as heads
 use Rattle.trace_model.specs.declared.header.Format.{Format}
 use Rattle.trace_model.specs.Head.{IsHeadOf}
 use Rattle.trace_model.specs.Text.{plus_text}
-use Rattle.trace_record.specs.Asking.{AsksNothing, AsksNothingAt, IsAtLimit, IsFirstLines, IsNoItem, IsPlaceIn, IsRingLine, asked_by}
+use Rattle.trace_record.specs.Asking.{AsksNothing, AsksNothingAt, IsAtLimit, IsFirstLines, IsNoItem, IsPlaceOfLine, IsRingLine, asked_by}
 use Rattle.trace_record.specs.Reading.{IsAtLine}
 use Rattle.trace_record.specs.Steps.{LacksNext, LacksOne}
 use Rattle.trace_record.proofs.AskingLemmas.{asked_longer, asked_behind, some_line}
@@ -21,7 +21,7 @@ pub front_there : (bytes front : List ℕ) (l : LinesContent) (to : Option (List
 front_there bytes front l to a = let h = a.2 in (h.before, a.0 ∷ h.more, h.lines, h.front_is)
 
 pub asks_nothing : (format : Format) (bytes front line : List ℕ) (l : LinesContent) (to : Option (List ℕ)) (number place : ℕ) → HasLine bytes front line l to →
-    AsksNothing format (with_newline line) → (front ≡ [] → ¬ IsRingLine (with_newline line)) → number ≡ l.count → IsPlaceIn number (with_newline line) place → AsksNothingAt format bytes front number place
+    AsksNothing format (with_newline line) → (front ≡ [] → ¬ IsRingLine (with_newline line)) → number ≡ l.count → IsPlaceOfLine number (with_newline line) place → AsksNothingAt format bytes front number place
 asks_nothing format bytes front line l to number place h none no_ring e at =
     record {
       whole = (h.before, line ∷ h.more, h.lines, h.front_is);

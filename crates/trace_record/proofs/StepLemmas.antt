@@ -27,7 +27,7 @@ use Rattle.trace_model.specs.Text.{TraceEntry, MayAsk, MayMerge, asked_text, ent
 use Rattle.trace_record.specs.declared.fault.RecordFault.{RecordFault}
 use Rattle.trace_record.specs.declared.fault.RecordFault.TheVariants.{BadLine, ReadFault, WriteFault, NoRoom}
 use Rattle.trace_record.specs.declared.recorder.Recorder.{Recorder}
-use Rattle.trace_record.specs.Asking.{IsPlaceIn, AsksNothing, IsFirstLines, IsRingLine, asked_by}
+use Rattle.trace_record.specs.Asking.{IsPlaceOfLine, AsksNothing, IsFirstLines, IsRingLine, asked_by}
 use Rattle.trace_record.specs.Reading.{ComesToNext, IsAtLine}
 use Rattle.trace_record.specs.Record.{IsBeforeFault}
 use Rattle.trace_record.specs.Steps.{AddedEntry, AddedLines, AddsEntry, AddsItem, AddsItems, AddsLines, AnswersAsked, FailsAtHead, MissesItem, FailsInEntry, MissesItems, MissesLines, GoesOver, HeadsFrom, IsLackingNext, IsLackingOne, KeepsOutput, KeepsRun, Recorded, AnswersIn}
@@ -210,7 +210,7 @@ entry_unread w new from (BadLine number place) f = (
   tt,
   (f.1.0, f.1.1),
   λ bytes front a no_ring. asks_nothing w.header.format bytes front a.0 w.lines from number place a.2 (subst (AsksNothing w.header.format) a.1 f.0.1) (λ first is. no_ring first (subst IsRingLine (sym a.1) is)) f.0.0
-      (subst (λ (n : ℕ). IsPlaceIn n (with_newline a.0) place) (sym f.0.0) (subst (λ (l : List ℕ). IsPlaceIn w.lines.count l place) a.1 f.0.2)),
+      (subst (λ (n : ℕ). IsPlaceOfLine n (with_newline a.0) place) (sym f.0.0) (subst (λ (l : List ℕ). IsPlaceOfLine w.lines.count l place) a.1 f.0.2)),
 )
 entry_unread w new from NoRoom f = (tt, (f.1.0, f.1.1), λ bytes front a no_ring. front_there bytes front w.lines from a)
 entry_unread w new from ReadFault f = absurd f.0

@@ -98,13 +98,13 @@ abbrev pub IsAtLimit : ℕ → Type 0
 IsAtLimit place = (4092 ≤ place) × (place ≤ 4096)
 
 -- Whether the line of this number, if it isn't too long in the trace, is bad at the place.
-abbrev pub IsPlaceIn : ℕ → List ℕ → ℕ → Type 0
-IsPlaceIn number line place = (IsShort (asked_by line) → IsLineBadAt (has_pass line) (number - 1) line place) × (¬ IsShort (asked_by line) → IsAtLimit place)
+abbrev pub IsPlaceOfLine : ℕ → List ℕ → ℕ → Type 0
+IsPlaceOfLine number line place = (IsShort (asked_by line) → IsLineBadAt (has_pass line) (number - 1) line place) × (¬ IsShort (asked_by line) → IsAtLimit place)
 
 -- Whether that is the first of the lines.
 abbrev pub BeginsBadAt : ℕ → List (List ℕ) → ℕ → Type 0
 BeginsBadAt number [] place = Unit {0}
-BeginsBadAt number (line ∷ lines) place = IsPlaceIn number (with_newline line) place
+BeginsBadAt number (line ∷ lines) place = IsPlaceOfLine number (with_newline line) place
 
 -- ---- bad lines
 

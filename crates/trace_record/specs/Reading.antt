@@ -9,7 +9,7 @@ use Rattle.trace_model.specs.Head.{IsHeadOf}
 use Rattle.trace_record.specs.declared.begin.Beginning.{Beginning}
 use Rattle.trace_record.specs.declared.fault.RecordFault.{RecordFault}
 use Rattle.trace_record.specs.declared.fault.RecordFault.TheVariants.{BadLine, WriteFault, NoRoom}
-use Rattle.trace_record.specs.Asking.{OpensWith, IsAtLimit, IsFirstLines, IsPlaceIn, IsRingLine, AsksNothing, ring_text}
+use Rattle.trace_record.specs.Asking.{OpensWith, IsAtLimit, IsFirstLines, IsPlaceOfLine, IsRingLine, AsksNothing, ring_text}
 
 -- Whether the fault is one of the input, or out of memory.
 abbrev pub IsOfInput : RecordFault → Type 0
@@ -57,6 +57,6 @@ IsHeadBehind format text head = (pass : ℕ) × IsHeadOf format pass head text �
 
 -- Why a line isn't read: it isn't a command, has this number and is bad at the place, or memory ran out.
 abbrev pub IsBadHead : Format → List ℕ → ℕ → RecordFault → Type 0
-IsBadHead format line number (BadLine told place) = (told ≡ number) × AsksNothing format line × IsPlaceIn number line place
+IsBadHead format line number (BadLine told place) = (told ≡ number) × AsksNothing format line × IsPlaceOfLine number line place
 IsBadHead format line number NoRoom = Unit {0}
 IsBadHead format line number _ = ⊥
