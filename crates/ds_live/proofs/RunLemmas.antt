@@ -34,6 +34,10 @@ use Rattle.ds_live.specs.Run.{ClosesAfter, RunLeaves, HasTaken, HasTakenTask, Ha
 use Rattle.ds_live.specs.Tasks.{followers_in, passes_in}
 use Rattle.ds_live.specs.declared.sizes.Sizes.{Sizes}
 
+both_true : (a b : Bool) → (a && b) ≡ true → (a ≡ true) × (b ≡ true)
+both_true true b e = (refl, e)
+both_true false b e = absurd (let no : false ≡ true = e in cc)
+
 -- ---- jobs that came back
 module _ {J : Type 0} where
   -- one fact of each pair for another, also of the jobs that weren't started
@@ -42,10 +46,6 @@ module _ {J : Type 0} where
   back_all R S then same n (v ∷ vs) [] none = absurd none
   back_all R S then same zero (v ∷ vs) (w ∷ ws) all = (then v w all.0, back_all R S then same zero vs ws all.1)
   back_all R S then same (suc n) (v ∷ vs) (w ∷ ws) all = (subst (λ (k : J). S v k) (sym all.0) (same v), back_all R S then same n vs ws all.1)
-
-  both_true : (a b : Bool) → (a && b) ≡ true → (a ≡ true) × (b ≡ true)
-  both_true true b e = (refl, e)
-  both_true false b e = absurd (let no : false ≡ true = e in cc)
 
   -- where all ended
   pub all_ended : (R S : J → J → Type 0) (ended : J → Bool) → ((v w : J) → R v w → ended w ≡ true → S v w) → (vs ws : List J) → AreBack R 0 vs ws → list_all ended ws ≡ true → AreBack S 0 vs ws
@@ -162,7 +162,7 @@ module _ (sizes : Sizes) where
       record { from = taken.0.from; below = taken.0.below; sub = done.same.sub ∙ taken.0.sub; query = done.same.query ∙ taken.0.query },
       omega (arith, taken.1, ap (λ (l : List (Entry Command Reply)). length l) done.made.calls_are, length-append p.calls done.own),
       theirs_as f.sub g.sub every_key (p.calls ++ done.own) q.calls done.same.sub refl done.made.calls_are
-      (all_append (λ (e : Entry Command Reply). IsOfFollower f.sub every_key e.command) p.calls done.own taken.2 (theirs_as f.sub f.sub f.map.query done.own done.own refl taken.0.query refl done.theirs)),
+          (all_append (λ (e : Entry Command Reply). IsOfFollower f.sub every_key e.command) p.calls done.own taken.2 (theirs_as f.sub f.sub f.map.query done.own done.own refl taken.0.query refl done.theirs)),
     ),
     done.brought,
   )
@@ -232,9 +232,9 @@ module _ {Z : Type 0} {G : Ghosts (View (Boxed Z) Command Reply)} where
       let rest = all_numbered n vs gone.0 below gone.3 in
       let f = λ (x : Worker (StorePass Z G)). x.index in
       let parts : map (λ (w : Worker PassRecord). w.index) (map plain ws) ≡ map (λ (w : Worker PassRecord). w.index) (map plain gone.0) ++ gone.1.index ∷ []
-          = ap (λ (l : List (Worker (StorePass Z G))). map (λ (w : Worker PassRecord). w.index) (map plain l)) gone.2
-            ∙ ap (map (λ (w : Worker PassRecord). w.index)) (map-append plain gone.0 (gone.1 ∷ []))
-            ∙ map-append (λ (w : Worker PassRecord). w.index) (map plain gone.0) (plain gone.1 ∷ []) in
+      = ap (λ (l : List (Worker (StorePass Z G))). map (λ (w : Worker PassRecord). w.index) (map plain l)) gone.2
+      ∙ ap (map (λ (w : Worker PassRecord). w.index)) (map-append plain gone.0 (gone.1 ∷ []))
+      ∙ map-append (λ (w : Worker PassRecord). w.index) (map plain gone.0) (plain gone.1 ∷ []) in
       parts ∙ ap (λ (l : List ℕ). l ++ gone.1.index ∷ []) rest ∙ ap (λ (k : ℕ). upward n ++ k ∷ []) (gone.4.back.same_index ∙ here)
 
   -- ---- by plain values
@@ -282,14 +282,14 @@ module _ {Z : Type 0} {G : Ghosts (View (Boxed Z) Command Reply)} where
       let P = λ (v : Worker (StorePass Z G)). HasTaken sizes (plain v) × LetsThrough (answers gate) v.index (suc sizes.changes) in
       let R = λ (j k : J). ComesBack (worker_of j) (worker_of k) in
       let taken : All (λ (j : J). P (worker_of j)) ks = each_of_four (λ (j : J). IsReady sizes (plain (worker_of j))) (λ (j : J). gate_of j ≡ gate) R
-          (λ (j k : J). TookAll (answers (gate_of j)) (plain (worker_of j)) (plain (worker_of k))) (λ (j : J). P (worker_of j))
-          (λ v w r at b t. (
-            has_taken sizes (plain (worker_of v)) (plain (worker_of w)) r b.same_index t.0,
-            through_as answers (gate_of v) gate (worker_of v).index (worker_of w).index (worker_of v).turns sizes.changes at b.same_index r.turns t.1,
-          )) js ks ready gates back took in
+      (λ (j k : J). TookAll (answers (gate_of j)) (plain (worker_of j)) (plain (worker_of k))) (λ (j : J). P (worker_of j))
+      (λ v w r at b t. (
+        has_taken sizes (plain (worker_of v)) (plain (worker_of w)) r b.same_index t.0,
+        through_as answers (gate_of v) gate (worker_of v).index (worker_of w).index (worker_of v).turns sizes.changes at b.same_index r.turns t.1,
+      )) js ks ready gates back took in
       let index = λ (v : Worker (StorePass Z G)). v.index in
       let down : map index (map worker_of ks) ≡ downward (worker_count sizes) =
-          map_twice worker_of index ks ∙ same_map (λ (j : J). (worker_of j).index) R (λ v w b. b.same_index) js ks back ∙ numbered ∙ ap downward many in
+      map_twice worker_of index ks ∙ same_map (λ (j : J). (worker_of j).index) R (λ v w b. b.same_index) js ks back ∙ numbered ∙ ap downward many in
       record {
         workers = map plain h.workers;
         numbered = all_numbered (worker_count sizes) (map worker_of ks) h.workers down h.dismissed;

@@ -23,7 +23,8 @@ module _ {Z : Type 0} {G : Ghosts (View (Boxed Z) Command Reply)} where
       (rest : List (Worker (StorePass Z G))) × (w : Worker (StorePass Z G)) × (ws ≡ rest ++ w ∷ []) × AreDismissed vs rest × HasFinished v w
 
   -- Whether these passes and followers are those of the workers that were dismissed.
-  pub record HandBack (vs : List (Worker (StorePass Z G))) (passes others : List (StorePass Z G)) (followers : List FollowerRecord) : Type 0 where
+  pub record HandBack (vs : List (Worker (StorePass Z G))) (passes others : List (StorePass Z G))
+      (followers : List FollowerRecord) : Type 0 where
     pub workers : List (Worker (StorePass Z G))
     pub dismissed : AreDismissed vs workers
     pub passes_are : passes ≡ map (λ (w : Worker (StorePass Z G)). w.pass) workers

@@ -75,7 +75,8 @@ has_ended (Some fault) = false
 -- Whether the fault is that of the call of a label, after those of all lower publishers were accepted.
 abbrev pub FailsLabels : ℕ → PassRecord → PassRecord → CallFault → Type 0
 FailsLabels count p q fault =
-    (index : ℕ) × (mid : PassRecord) × (index < count) × WereAccepted p mid (each_below publisher_label index) × FailsAsking mid q (publisher_label index) fault
+    (index : ℕ) × (mid : PassRecord) × (index < count) × WereAccepted p mid (each_below publisher_label index)
+    × FailsAsking mid q (publisher_label index) fault
 
 module _ {M C R : Type 0} {G : Ghosts (View M C R)} where
   -- Whether the fault is why these passes didn't close their desk: memory ran out, or the passes didn't learn as many notes as they made.

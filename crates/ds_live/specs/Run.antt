@@ -45,7 +45,8 @@ module _ (sizes : Sizes) where
   IsReadyTask index p Publish = (index < sizes.publishers) × (p.calls ≡ [])
   IsReadyTask index p (Follow f) = IsSubscriber sizes index f × (p.calls ≡ [])
   IsReadyTask index p (Exchange r from) =
-      (index ≡ sizes.publishers + sizes.subscribers) × AreAccepted (each_below publisher_label sizes.publishers) p.calls × (r.calls ≡ []) × (from ≡ None)
+      (index ≡ sizes.publishers + sizes.subscribers) × AreAccepted (each_below publisher_label sizes.publishers) p.calls
+      × (r.calls ≡ []) × (from ≡ None)
 
   pub record IsReady (w : Worker PassRecord) : Type 0 where
     pub turns : w.turns ≡ sizes.changes
@@ -62,7 +63,7 @@ module _ (sizes : Sizes) where
   HasTakenTask index p (Exchange r next) =
       (index ≡ sizes.publishers + sizes.subscribers)
       × ((q s : PassRecord) × (count : ℕ) × AreAccepted (each_below publisher_label sizes.publishers) q.calls × (s.calls ≡ [])
-          × (sizes.changes ≤ count) × HasExchangedOften count q p s r None next)
+      × (sizes.changes ≤ count) × HasExchangedOften count q p s r None next)
 
   abbrev pub HasTaken : Worker PassRecord → Type 0
   HasTaken w = HasTakenTask w.index w.pass w.task
@@ -88,7 +89,8 @@ pub record ClosesAfter (incarnation : ℕ) (passes : List PassRecord) (closed : 
 
 -- Whether a run of these sizes left these two stores and these followers: there is one worker of each number, each has worked, and the
 -- passes of all are those of the two closed desks.
-pub record RunLeaves (answers : ℕ → ℕ → Bool → Type 0) (sizes : Sizes) (here there : ContentRecord) (followers : List FollowerRecord) : Type 0 where
+pub record RunLeaves (answers : ℕ → ℕ → Bool → Type 0) (sizes : Sizes) (here there : ContentRecord)
+    (followers : List FollowerRecord) : Type 0 where
   pub workers : List (Worker PassRecord)
   pub numbered : map (λ (w : Worker PassRecord). w.index) workers ≡ upward (worker_count sizes)
   pub worked : All (HasWorked sizes answers) workers

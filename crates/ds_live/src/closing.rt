@@ -23,7 +23,8 @@ pub(crate) fn close_desk(
 ) -> Result<Closed<Box<Store>>, LiveFault>
     requires home { All (λ p. desk_of p ≡ identity desk) passes.items }
     requires all { pass_count desk ≤ length passes.items }
-    ensures history { IfOk result (λ closed. LeavesHistory is_content Turn owed_by (opened_with desk) (first_call desk) passes.items closed) }
+    ensures history { IfOk result (λ closed.
+        LeavesHistory is_content Turn owed_by (opened_with desk) (first_call desk) passes.items closed) }
     ensures account { IfOk result (λ closed. are_exact closed.account ≡ true) }
     ensures fault { IfErr result (FailsClosing passes.items) }
 {

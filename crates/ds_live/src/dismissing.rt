@@ -36,7 +36,7 @@ pub(crate) fn dismiss<R: Wait, G: Gate>(
     ensures all_others { length back.new.others.items ≡ sum_by (λ j. others_in j.worker.task) jobs.entry.items }
     ensures finished { IfNone result (HandBack (map (λ j. j.worker) jobs.entry.items)
         back.new.passes.items back.new.others.items back.new.followers.items) }
-    ensures kept { IfSome fault.entry (λ was. result ≡ Some was) }
+    ensures kept { IfSome fault (λ was. result ≡ Some was) }
 {
     while let Some(job) = jobs.pop() {
         let Turns { mut worker, .. } = job;
@@ -59,7 +59,8 @@ fn hand_back(
     requires others_room { others_in worker.task + length back.old.others.items ≤ vec_capacity back.old.others }
     ensures home { All (λ p. desk_of p ≡ identity second.now) back.new.others.items }
     ensures all { length back.new.others.items ≡ others_in worker.task + length back.old.others.items }
-    ensures room { (vec_capacity back.new.passes ≡ vec_capacity back.old.passes) × (vec_capacity back.new.others ≡ vec_capacity back.old.others) }
+    ensures room { (vec_capacity back.new.passes ≡ vec_capacity back.old.passes)
+        × (vec_capacity back.new.others ≡ vec_capacity back.old.others) }
     ensures passes { back.new.passes.items ≡ back.old.passes.items ++ worker.pass ∷ [] }
     ensures others { back.new.others.items ≡ back.old.others.items ++ passes_in worker.task }
     ensures followers { IfNone result (back.new.followers.items ≡ back.old.followers.items ++ followers_in worker.task) }

@@ -72,6 +72,7 @@ pub(crate) fn hire<'e, R: Wait, G: Gate>(
     requires passes { All (λ p. desk_of p ≡ identity desks.now.first) back.old.passes.items }
     requires others { All (λ p. desk_of p ≡ identity desks.now.second) back.old.others.items }
     requires fresh { All (λ p. calls p ≡ []) back.old.passes.items × All (λ p. calls p ≡ []) back.old.others.items }
+    requires none { back.old.followers.items ≡ [] }
     requires count { (length back.old.passes.items ≡ sizes.publishers + sizes.subscribers + 1) × (length back.old.others.items ≡ 1) }
     ensures can_run { IfOk result (λ js. All (λ j. IsOf (identity j.desks.now.first) (identity j.desks.now.second) j.worker) js.items) }
     ensures of_desks { IfOk result (λ js. All (λ j. IsOf (identity desks.now.first) (identity desks.now.second) j.worker) js.items) }
@@ -80,8 +81,8 @@ pub(crate) fn hire<'e, R: Wait, G: Gate>(
     ensures ready { IfOk result (λ js. All (λ j. IsReady sizes (plain j.worker)) js.items) }
     ensures numbered { IfOk result (λ js. map (λ j. j.worker.index) js.items ≡ downward (length js.items)) }
     ensures gates { IfOk result (λ js. All (λ j. j.gate.now ≡ gate.now) js.items) }
-    ensures followers { back.new.followers ≡ back.old.followers }
-    ensures taken { IfOk result (λ js. (back.new.passes.items ≡ []) × (back.new.others.items ≡ [])) }
+    ensures taken { IfOk result (λ js.
+        (back.new.passes.items ≡ []) × (back.new.others.items ≡ []) × (back.new.followers.items ≡ [])) }
     ensures room { (length back.old.passes.items ≤ vec_capacity back.new.passes) × (1 ≤ vec_capacity back.new.others) }
 {
     let Ok(mut jobs) = Vec::with_capacity(alloc, back.passes.len()) else {

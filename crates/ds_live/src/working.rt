@@ -46,7 +46,11 @@ fn fault_of<R, G>(jobs: &Vec<StoreTurns<'_, R, G>>) -> Option<LiveFault>
     if let Some(fault) = find_fault(jobs) {
         return Some(fault);
     }
-    if have_ended(jobs) { None } else { Some(LiveFault::NoThread) }
+    if have_ended(jobs) {
+        None
+    } else {
+        Some(LiveFault::NoThread)
+    }
 }
 
 // Returns the fault of the lowest worker that failed. The last job is worker 0's.

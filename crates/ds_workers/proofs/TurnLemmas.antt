@@ -87,7 +87,7 @@ exchanged_on n zero p q t r s u from mid next a b = (
   n,
   omega arith,
   subst (λ (x : PassRecord). HasExchangedOften n p x r u from next) (sym b.0)
-  (subst (λ (x : PassRecord). HasExchangedOften n p q r x from next) (sym b.1) (subst (λ (x : Option Cursor). HasExchangedOften n p q r s from x) (sym b.2) a)),
+      (subst (λ (x : PassRecord). HasExchangedOften n p q r x from next) (sym b.1) (subst (λ (x : Option Cursor). HasExchangedOften n p q r s from x) (sym b.2) a)),
 )
 exchanged_on n (suc m) p q t r s u from mid next a b =
     let rest = exchanged_on n m p q b.0 r s b.1 from mid b.2 a b.4 in

@@ -106,7 +106,8 @@ HasExchanged p q r s from next more =
 abbrev pub HasExchangedOften : ℕ → PassRecord → PassRecord → PassRecord → PassRecord → Option Cursor → Option Cursor → Type 0
 HasExchangedOften zero p q r s from next = (q ≡ p) × (s ≡ r) × (next ≡ from)
 HasExchangedOften (suc count) p q r s from next =
-    (t u : PassRecord) × (mid : Option Cursor) × (more : Bool) × HasExchangedOften count p t r u from mid × HasExchanged t q u s mid next more
+    (t u : PassRecord) × (mid : Option Cursor) × (more : Bool) × HasExchangedOften count p t r u from mid
+    × HasExchanged t q u s mid next more
 
 -- Whether the last exchange of the two passes left nothing more.
 pub record IsHandedOver (q s : PassRecord) : Type 0 where

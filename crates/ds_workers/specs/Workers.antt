@@ -89,7 +89,8 @@ TookTask index count p q (Exchange r from) task = ⊥
 
 -- Whether the fault is that of this turn.
 abbrev pub FailsTask : ℕ → ℕ → PassRecord → PassRecord → Task PassRecord → Task PassRecord → WorkerFault → Type 0
-FailsTask index turn p q Publish Publish fault = (call : CallFault) × (fault ≡ faults.Call call) × FailsAsking p q (publisher_number index turn) call
+FailsTask index turn p q Publish Publish fault =
+    (call : CallFault) × (fault ≡ faults.Call call) × FailsAsking p q (publisher_number index turn) call
 FailsTask index turn p q (Follow f) (Follow g) fault = FailsFollowing p q f fault
 FailsTask index turn p q (Exchange r from) (Exchange s next) fault =
     (exchange : ExchangeFault) × (fault ≡ faults.Exchange exchange) × IsExchangeFault p q r s exchange
@@ -122,7 +123,8 @@ module _ (answers : ℕ → ℕ → Bool → Type 0) where
   EndsBy v w fault =
       ((count : ℕ) × (count ≤ v.turns) × TookTurns count v w × (fault ≡ faults.GateShut) × answers v.index count false)
       ⊎ (((count : ℕ) × (count ≤ v.turns) × TookTurns count v w × (told : Told) × (fault ≡ faults.GivenUp told))
-          ⊎ ((count : ℕ) × (count < v.turns) × (u : Worker PassRecord) × TookTurns count v u × (u.index ≡ v.index) × FailsTurn count u w fault))
+      ⊎ ((count : ℕ) × (count < v.turns) × (u : Worker PassRecord) × TookTurns count v u × (u.index ≡ v.index)
+      × FailsTurn count u w fault))
 
   abbrev pub HasEnded : Worker PassRecord → Worker PassRecord → Option WorkerFault → Type 0
   HasEnded v w None = TookAll v w

@@ -57,14 +57,14 @@ loop-job-preserved g c = let i = c.loop-job.invariant in let a = identity c.args
         c.in-Some.job ∷ i.finished.0,
         i.finished.1 ∙ ap (λ l. l ++ i.finished.0) c.in-Some.ensures.items ∙ append_assoc c.pop.new.self.items (c.in-Some.job ∷ []) i.finished.0,
         none_of_three c.loop-job.fault c.finish-fault.result c.hand_back-fault.result
-        (HandBack (map (λ j. j.worker) i.finished.0) c.loop-job.back.passes.items c.loop-job.back.others.items c.loop-job.back.followers.items)
-        (Finishes (plain c.in-Some.job.worker) (plain c.finish-fault.new.worker))
-        (c.hand_back-fault.new.back.followers.items ≡ c.loop-job.back.followers.items ++ followers_in c.finish-fault.new.worker.task)
-        (HandBack (c.in-Some.job.worker ∷ map (λ j. j.worker) i.finished.0) c.hand_back-fault.new.back.passes.items c.hand_back-fault.new.back.others.items c.hand_back-fault.new.back.followers.items)
-        c.finish-fault.ensures.kept e.kept i.finished.2 c.finish-fault.ensures.done e.followers
-        (λ h done f. one_handed (map (λ j. j.worker) i.finished.0) c.in-Some.job.worker c.finish-fault.new.worker c.loop-job.back.passes.items c.loop-job.back.others.items
-        c.hand_back-fault.new.back.passes.items c.hand_back-fault.new.back.others.items c.loop-job.back.followers.items c.hand_back-fault.new.back.followers.items
-        h (record { back = came; finishes = done }) e.passes e.others f),
+            (HandBack (map (λ j. j.worker) i.finished.0) c.loop-job.back.passes.items c.loop-job.back.others.items c.loop-job.back.followers.items)
+            (Finishes (plain c.in-Some.job.worker) (plain c.finish-fault.new.worker))
+            (c.hand_back-fault.new.back.followers.items ≡ c.loop-job.back.followers.items ++ followers_in c.finish-fault.new.worker.task)
+            (HandBack (c.in-Some.job.worker ∷ map (λ j. j.worker) i.finished.0) c.hand_back-fault.new.back.passes.items c.hand_back-fault.new.back.others.items c.hand_back-fault.new.back.followers.items)
+            c.finish-fault.ensures.kept e.kept i.finished.2 c.finish-fault.ensures.done e.followers
+            (λ h done f. one_handed (map (λ j. j.worker) i.finished.0) c.in-Some.job.worker c.finish-fault.new.worker c.loop-job.back.passes.items c.loop-job.back.others.items
+            c.hand_back-fault.new.back.passes.items c.hand_back-fault.new.back.others.items c.loop-job.back.followers.items c.hand_back-fault.new.back.followers.items
+            h (record { back = came; finishes = done }) e.passes e.others f),
       );
       kept = kept_on c.args.fault c.loop-job.fault c.finish-fault.result c.hand_back-fault.result i.kept c.finish-fault.ensures.kept e.kept;
     }

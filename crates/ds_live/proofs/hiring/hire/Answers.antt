@@ -36,9 +36,17 @@ loop-pass-init g c = let a = identity c.args.desks.now.first in let b = identity
       others_room = omega (arith, c.pop-2.ensures.capacity, c.args.back.now.others.ok.0, c.args.back.now.others.ok.1, one);
       fresh = fresh.0;
       ready = first_pushed (λ j. IsReady c.args.sizes (plain j.worker)) c.in-Ok.jobs.items c.push_reserved.new.self.items _ c.in-Ok.ensures.items c.push_reserved.ensures.items
-          (record { turns = refl; task = (omega (arith, fewer, many), labels_called c.in-Some.pass c.publish_labels.new.pass c.args.sizes.publishers fresh.1 c.in_ok-publish_labels.ensures.accepted, fresh_others.1, refl) });
-      numbered = one_numbered (λ j. j.worker.index) c.in-Ok.jobs.items c.push_reserved.new.self.items _ (length c.pop.new.self.items) (length c.args.back.now.passes.items) refl
-          c.in-Ok.ensures.items c.push_reserved.ensures.items (omega arith) fewer;
+          (record {
+            turns = refl;
+            task = (
+              omega (arith, c.len-2.ensures, c.pop.new.self.ok.0, fewer, many),
+              labels_called c.in-Some.pass c.publish_labels.new.pass c.args.sizes.publishers fresh.1 c.in_ok-publish_labels.ensures.accepted,
+              fresh_others.1,
+              refl,
+            );
+          });
+      numbered = one_numbered (λ j. j.worker.index) c.in-Ok.jobs.items c.push_reserved.new.self.items _ (length c.pop.new.self.items) (length c.args.back.now.passes.items)
+          c.in-Ok.ensures.items c.push_reserved.ensures.items fewer (omega (arith, c.len-2.ensures, c.pop.new.self.ok.0));
       gates = first_pushed (λ j. j.gate.now ≡ c.args.gate.now) c.in-Ok.jobs.items c.push_reserved.new.self.items _ c.in-Ok.ensures.items c.push_reserved.ensures.items refl;
       followers = refl;
     }
@@ -70,7 +78,7 @@ loop-pass-preserved g c = let i = c.loop-pass.invariant in let a = identity c.ar
       ready = pushed (λ j. IsReady c.args.sizes (plain j.worker)) c.loop-pass.jobs.items c.push_reserved-in-Some-pop-2.new.self.items _ c.push_reserved-in-Some-pop-2.ensures.items i.ready
           (record { turns = refl; task = task_ready c.args.sizes _ c.in-Some-pop-2.pass c.in_ok-task.task fresh.1 c.in_ok-task.ensures.ready });
       numbered = more_numbered (λ j. j.worker.index) c.loop-pass.jobs.items c.push_reserved-in-Some-pop-2.new.self.items _ (length c.pop-in-loop-pass.new.self.items) (length c.loop-pass.back.passes.items)
-          (length c.args.back.now.passes.items) refl c.push_reserved-in-Some-pop-2.ensures.items (omega arith) fewer i.numbered;
+          (length c.args.back.now.passes.items) c.push_reserved-in-Some-pop-2.ensures.items fewer i.numbered (omega (arith, c.len-index.ensures, c.pop-in-loop-pass.new.self.ok.0));
       gates = pushed (λ j. j.gate.now ≡ c.args.gate.now) c.loop-pass.jobs.items c.push_reserved-in-Some-pop-2.new.self.items _ c.push_reserved-in-Some-pop-2.ensures.items i.gates refl;
       followers = i.followers;
     }
@@ -100,7 +108,11 @@ pub returns-clause-all : goal.returns-clause-all
 returns-clause-all g c = let all = c.loop-pass.invariant.all in omega (arith, all, c.in_default-pop-3.ensures.cases.0)
 
 pub returns-clause-taken : goal.returns-clause-taken
-returns-clause-taken g c = (no_length c.pop-in-loop-pass.new.self.items (omega (arith, c.in_default-pop-3.ensures.cases.1, c.pop-in-loop-pass.new.self.ok.0)), c.loop-pass.invariant.others)
+returns-clause-taken g c = (
+  no_length c.pop-in-loop-pass.new.self.items (omega (arith, c.in_default-pop-3.ensures.cases.1, c.pop-in-loop-pass.new.self.ok.0)),
+  c.loop-pass.invariant.others,
+  ap (λ v. v.items) c.loop-pass.invariant.followers ∙ c.requires.none,
+)
 
 pub returns-clause-room : goal.returns-clause-room
 returns-clause-room g c = let room = c.loop-pass.invariant.passes_room in (omega (arith, room, c.pop-in-loop-pass.ensures.capacity), c.loop-pass.invariant.others_room)
@@ -125,4 +137,4 @@ returns-clause-gates g c = c.loop-pass.invariant.gates
 
 pub returns-clause-numbered : goal.returns-clause-numbered
 returns-clause-numbered g c = let all = c.loop-pass.invariant.all in
-    all_numbered c.loop-pass.jobs.items (λ j. j.worker.index) (length c.loop-pass.back.passes.items) (length c.args.back.now.passes.items) (omega (arith, c.in_default-pop-3.ensures.cases.0)) all c.loop-pass.invariant.numbered
+    all_numbered (λ j. j.worker.index) c.loop-pass.jobs.items (length c.loop-pass.back.passes.items) (length c.args.back.now.passes.items) (omega (arith, c.in_default-pop-3.ensures.cases.0)) all c.loop-pass.invariant.numbered

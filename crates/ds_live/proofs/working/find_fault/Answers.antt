@@ -10,6 +10,6 @@ loop-place-preserved g c =
     let more = lowest_more (λ j. j.worker.fault) c.args.jobs.now.items c.loop-place.place c.index.result.now
     (omega (arith, c.loop-place-test.true, c.len-place-end.ensures, c.args.jobs.now.ok.0)) c.index.ensures in
     elim c.match-own_fault.branch [
-      | in-Some w ↦ w.lowest-is ∙ sym (more ∙ ap (λ f. fault_or f before) (sym w.own_fault.ensures ∙ w.in-Some.is))
-      | in_default w ↦ w.lowest-is ∙ c.loop-place.invariant ∙ sym (more ∙ ap (λ f. fault_or f before) (sym w.own_fault.ensures ∙ w.in_default.is))
+      | in-Some w ↦ w.lowest-is ∙ sym (more ∙ ap (λ f. fault_or f before) (sym c.own_fault.ensures ∙ w.in-Some.is))
+      | in_default w ↦ w.lowest-is ∙ c.loop-place.invariant ∙ sym (more ∙ ap (λ f. fault_or f before) (sym c.own_fault.ensures ∙ w.in_default.is))
     ]

@@ -26,8 +26,8 @@ returns-in-Err-clause-back g c =
 
 pub returns-in-Ok-clause-took : goal.returns-in-Ok-clause-took
 returns-in-Ok-clause-took g c =
-    let S = λ j k. TookAll (g.G.Gate.answers j.gate.now) (plain j.worker) (plain k.worker) in
-    none_then c.fault_of-fault.result (list_all (λ j. has_ended j.worker.fault) c.in-Ok.jobs.items ≡ true) (AreBack S 0 c.args.jobs.items c.in-Ok.jobs.items)
-    (all_ended (λ j k. Worked (g.G.Gate.answers j.gate.now) j.worker k.worker) S (λ j. has_ended j.worker.fault)
+    none_then c.fault_of-fault.result (list_all (λ j. has_ended j.worker.fault) c.in-Ok.jobs.items ≡ true)
+    (AreBack (λ j k. TookAll (g.G.Gate.answers j.gate.now) (plain j.worker) (plain k.worker)) 0 c.args.jobs.items c.in-Ok.jobs.items)
+    (all_ended (λ j k. Worked (g.G.Gate.answers j.gate.now) j.worker k.worker) (λ j k. TookAll (g.G.Gate.answers j.gate.now) (plain j.worker) (plain k.worker)) (λ j. has_ended j.worker.fault)
     (λ j k w ended. took_all (g.G.Gate.answers j.gate.now) (plain j.worker) (plain k.worker) k.worker.fault w.ended ended) c.args.jobs.items c.in-Ok.jobs.items c.in-Ok.ensures.ran)
     c.fault_of-fault.ensures.none
