@@ -1,6 +1,14 @@
 //! A flag that makes jobs end early.
 
+ghost use Rattle.std.specs.Prelude.{◌≡◌, true, IfSome};
+
 use std::sync::atomic::{AtomicBool, Ordering};
+
+/// The word of a flag that a run was given up. Only `GivenUp::told` makes one.
+#[derive(Clone, Copy, Debug, PartialEq, Eq)]
+pub struct Told {
+    word: bool,
+}
 
 /// A flag that says whether a run was given up. Threads share it.
 #[derive(Drop)]
@@ -21,8 +29,11 @@ impl GivenUp {
         self.told.store(true, Ordering::SeqCst);
     }
 
-    /// Returns whether the run was given up. A job calls it before each of its turns.
-    pub fn is_told(&self) -> bool {
-        self.told.load(Ordering::SeqCst)
+    /// Returns the word that the run was given up, or `None` if it wasn't. A job calls it before each of its turns.
+    pub fn told(&self) -> Option<Told>
+        ensures { IfSome result (λ t. t.word ≡ true) }
+    {
+        let word = self.told.load(Ordering::SeqCst);
+        if word { Some(Told { word }) } else { None }
     }
 }

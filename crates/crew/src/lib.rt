@@ -8,6 +8,6 @@ mod given_up;
 mod job;
 mod run;
 
-pub use given_up::GivenUp;
+pub use given_up::{GivenUp, Told};
 pub use job::Job;
 pub use run::{NoThread, run_all};

@@ -1,14 +1,23 @@
 -- The fault of a run, from the faults of its workers.
-use Rattle.std.specs.Prelude.{◌≡◌, ◌⊎◌, List, [], ◌∷◌, Option, Some, None}
-use Rattle.std.specs.Option.{option_map}
+use Rattle.std.specs.Prelude.{◌≡◌, ◌≢◌, ◌⊎◌, ℕ, ◌<◌, Bool, true, false, List, [], ◌∷◌, Option, Some, None}
+use Rattle.desk_rule.specs.History.{total_of}
+use Rattle.desk_rule.specs.declared.view.View.{View}
+use Rattle.desk.specs.Closing.{AllLearnt}
+use Rattle.desk.specs.Pass.{Pass, notes_learnt, notes_made}
+use Rattle.desk.specs.declared.fault.DeskFault.TheVariants.{Noted}
+use Rattle.desk.specs.declared.pass.Sight.{Ghosts}
 use Rattle.ds_exchange.specs.declared.fault.ExchangeFault.{ExchangeFault}
 use Rattle.ds_exchange.specs.declared.fault.ExchangeFault.TheVariants as exchanges
 use Rattle.ds_live.specs.declared.fault.LiveFault.{LiveFault}
 use Rattle.ds_live.specs.declared.fault.LiveFault.TheVariants.{BadLimit, Desk, GateShut, NoRoom, NoThread, Refused, Stopped}
 use Rattle.ds_pass.specs.declared.fault.CallFault.{CallFault}
 use Rattle.ds_pass.specs.declared.fault.CallFault.TheVariants as calls
+use Rattle.ds_pass.specs.Faults.{FailsAsking}
+use Rattle.ds_pass.specs.Record.{PassRecord}
 use Rattle.ds_refresh.specs.declared.fault.RefreshFault.{RefreshFault}
 use Rattle.ds_refresh.specs.declared.fault.RefreshFault.TheVariants as refreshes
+use Rattle.ds_workers.specs.Commands.{each_below, publisher_label}
+use Rattle.ds_workers.specs.Turns.{WereAccepted}
 use Rattle.ds_workers.specs.declared.fault.WorkerFault.{WorkerFault}
 use Rattle.ds_workers.specs.declared.fault.WorkerFault.TheVariants as workers
 
@@ -31,6 +40,7 @@ worker_fault (workers.Call fault) = call_fault fault
 worker_fault (workers.Refresh fault) = refresh_fault fault
 worker_fault (workers.Exchange fault) = exchange_fault fault
 worker_fault workers.GateShut = GateShut
+worker_fault (workers.GivenUp told) = NoThread
 
 -- ---- the fault of several workers
 
@@ -39,11 +49,36 @@ abbrev pub fault_or : Option LiveFault → Option LiveFault → Option LiveFault
 fault_or (Some fault) other = Some fault
 fault_or None other = other
 
--- The fault of the lowest worker that has one, in a list whose last worker is worker 0.
+-- The fault of a worker that failed. A worker ends without one if the run was given up.
+abbrev pub own_fault : Option WorkerFault → Option LiveFault
+own_fault None = None
+own_fault (Some (workers.Call fault)) = Some (call_fault fault)
+own_fault (Some (workers.Refresh fault)) = Some (refresh_fault fault)
+own_fault (Some (workers.Exchange fault)) = Some (exchange_fault fault)
+own_fault (Some workers.GateShut) = Some GateShut
+own_fault (Some (workers.GivenUp told)) = None
+
+-- The fault of the lowest worker that failed, in a list whose last worker is worker 0.
 abbrev pub lowest_fault : List (Option WorkerFault) → Option LiveFault
 lowest_fault [] = None
-lowest_fault (f ∷ fs) = fault_or (lowest_fault fs) (option_map worker_fault f)
+lowest_fault (f ∷ fs) = fault_or (lowest_fault fs) (own_fault f)
 
--- Whether the fault is the lowest worker's. If no worker has one, a thread couldn't be made, or there is no fault.
+-- Whether the fault is that of the lowest worker that failed. If none did, a thread couldn't be made, or there is no fault.
 abbrev pub HasWorkersFault : List (Option WorkerFault) → Option LiveFault → Type 0
 HasWorkersFault fs fault = (fault ≡ lowest_fault fs) ⊎ (fault ≡ fault_or (lowest_fault fs) (Some NoThread))
+
+-- Whether a worker took all of its turns.
+abbrev pub has_ended : Option WorkerFault → Bool
+has_ended None = true
+has_ended (Some fault) = false
+
+-- Whether the fault is that of the call of a label, after those of all lower publishers were accepted.
+abbrev pub FailsLabels : ℕ → PassRecord → PassRecord → CallFault → Type 0
+FailsLabels count p q fault =
+    (index : ℕ) × (mid : PassRecord) × (index < count) × WereAccepted p mid (each_below publisher_label index)
+    × FailsAsking mid q (publisher_label index) fault
+
+module _ {M C R : Type 0} {G : Ghosts (View M C R)} where
+  -- Whether the fault is why these passes didn't close their desk: memory ran out, or the passes didn't learn as many notes as they made.
+  abbrev pub FailsClosing : List (Pass M C R G) → LiveFault → Type 0
+  FailsClosing ps fault = ((fault ≡ NoRoom) × AllLearnt ps) ⊎ ((fault ≡ Desk Noted) × (total_of notes_made ps ≢ total_of notes_learnt ps))

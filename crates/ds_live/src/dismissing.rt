@@ -1,11 +1,12 @@
 //! The end of the workers, which hand their passes back.
 
-ghost use Rattle.std.specs.Prelude.{All, ◌≡◌, ◌≤◌, ◌+◌, ◌++◌, [], length, sum_by, vec_capacity, OnOk, IfNone, IfSome};
+ghost use Rattle.std.specs.Prelude.{All, ◌≡◌, ◌≤◌, ◌<◌, ◌+◌, ◌++◌, ◌∷◌, [], length, map, sum_by, vec_capacity, OnOk, IfNone, IfSome};
 ghost use Rattle.std.specs.declared.option.Option.TheVariants.{Some};
 ghost use Rattle.desk.specs.Desk.{identity};
 ghost use Rattle.desk.specs.Pass.{desk_of};
-ghost use Rattle.ds_workers.specs.Workers.{ComesBack, IsDone, IsOf, others_in};
-ghost use Rattle.ds_live.specs.Tasks.{IsOther, followers_in};
+ghost use Rattle.ds_workers.specs.Workers.{ComesBack, Finishes, IsOf, others_in, plain};
+ghost use Rattle.ds_live.specs.Dismissed.{HandBack};
+ghost use Rattle.ds_live.specs.Tasks.{IsOther, followers_in, passes_in};
 
 use crate::back::Back;
 use crate::fault::LiveFault;
@@ -26,23 +27,51 @@ pub(crate) fn dismiss<R: Wait, G: Gate>(
     back: &mut Back<Pass<Box<Store>>>,
 ) -> Option<LiveFault>
     requires of_desks { All (λ j. IsOf (identity desks.now.first) (identity desks.now.second) j.worker) jobs.items }
-    requires taken { (back.old.passes.items ≡ []) × (back.old.others.items ≡ []) }
+    requires taken { (back.old.passes.items ≡ []) × (back.old.others.items ≡ []) × (back.old.followers.items ≡ []) }
     requires room { length jobs.items ≤ vec_capacity back.old.passes }
     requires others_room { sum_by (λ j. others_in j.worker.task) jobs.items ≤ vec_capacity back.old.others }
     ensures passes { All (λ p. desk_of p ≡ identity desks.now.first) back.new.passes.items }
     ensures others { All (λ p. desk_of p ≡ identity desks.now.second) back.new.others.items }
     ensures all { length back.new.passes.items ≡ length jobs.entry.items }
     ensures all_others { length back.new.others.items ≡ sum_by (λ j. others_in j.worker.task) jobs.entry.items }
+    ensures finished { IfNone result (HandBack (map (λ j. j.worker) jobs.entry.items)
+        back.new.passes.items back.new.others.items back.new.followers.items) }
+    ensures kept { IfSome fault (λ was. result ≡ Some was) }
 {
     while let Some(job) = jobs.pop() {
         let Turns { mut worker, .. } = job;
         fault = finish(rt, alloc, desks, &mut worker, fault);
-        let Worker { pass, task, .. } = worker;
-        back.passes.push_reserved(pass);
-        let room = collect(&desks.second, task, back);
-        fault = fault.or(room.err());
+        fault = hand_back(&desks.second, worker, fault, back);
     }
     fault
+}
+
+// Takes back what a worker has. Returns the fault, or NoRoom if memory runs out for a follower.
+fn hand_back(
+    second: &Desk<Box<Store>>,
+    worker: StoreWorker,
+    fault: Option<LiveFault>,
+    back: &mut Back<Pass<Box<Store>>>,
+) -> Option<LiveFault>
+    requires task { IsOther (identity second.now) worker.task }
+    requires others { All (λ p. desk_of p ≡ identity second.now) back.old.others.items }
+    requires room { length back.old.passes.items < vec_capacity back.old.passes }
+    requires others_room { others_in worker.task + length back.old.others.items ≤ vec_capacity back.old.others }
+    ensures home { All (λ p. desk_of p ≡ identity second.now) back.new.others.items }
+    ensures all { length back.new.others.items ≡ others_in worker.task + length back.old.others.items }
+    ensures room { (vec_capacity back.new.passes ≡ vec_capacity back.old.passes)
+        × (vec_capacity back.new.others ≡ vec_capacity back.old.others) }
+    ensures passes { back.new.passes.items ≡ back.old.passes.items ++ worker.pass ∷ [] }
+    ensures others { back.new.others.items ≡ back.old.others.items ++ passes_in worker.task }
+    ensures followers { IfNone result (back.new.followers.items ≡ back.old.followers.items ++ followers_in worker.task) }
+    ensures kept { IfSome fault (λ was. result ≡ Some was) }
+{
+    let Worker { pass, task, .. } = worker;
+    back.passes.push_reserved(pass);
+    match collect(second, task, back) {
+        Ok(()) => fault,
+        Err(room) => fault.or(Some(room)),
+    }
 }
 
 // Lets a worker finish, unless there is a fault. Returns that fault, or the worker's.
@@ -56,7 +85,7 @@ fn finish<W: Wait>(
     requires { IsOf (identity desks.now.first) (identity desks.now.second) worker.old }
     ensures back { ComesBack worker.old worker.new }
     ensures kept { IfSome fault (λ was. result ≡ Some was) }
-    ensures done { IfNone result (IsDone worker.new) }
+    ensures done { IfNone result (Finishes (plain worker.old) (plain worker.new)) }
 {
     if fault.is_some() {
         return fault;
@@ -80,6 +109,7 @@ fn collect(
     ensures all { length back.new.others.items ≡ others_in task + length back.old.others.items }
     ensures room { vec_capacity back.new.others ≡ vec_capacity back.old.others }
     ensures passes { back.new.passes ≡ back.old.passes }
+    ensures others { back.new.others.items ≡ back.old.others.items ++ passes_in task }
     ensures followers { OnOk result (back.new.followers.items ≡ back.old.followers.items ++ followers_in task) }
 {
     match task {

@@ -120,6 +120,7 @@ impl From<WorkerFault> for LiveFault {
             WorkerFault::Refresh(fault) => LiveFault::from(fault),
             WorkerFault::Exchange(fault) => LiveFault::from(fault),
             WorkerFault::GateShut => LiveFault::GateShut,
+            WorkerFault::GivenUp(_) => LiveFault::NoThread,
         }
     }
 }

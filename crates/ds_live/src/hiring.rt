@@ -1,13 +1,20 @@
 //! The beginning of a run.
 
-ghost use Rattle.std.specs.Prelude.{All, ◌≡◌, ◌≤◌, ◌<◌, ◌+◌, ◌-◌, ◌*◌, [], length, sum_by, vec_capacity, IfOk, IsTrue};
-ghost use Rattle.desk.specs.Desk.{identity, pass_count};
-ghost use Rattle.desk.specs.Pass.{desk_of};
+ghost use Rattle.std.specs.Prelude.{All, ◌≡◌, ◌≤◌, ◌<◌, ◌+◌, ◌-◌, ◌*◌, [], length, map, sum_by, vec_capacity, IfErr, IfOk, IsTrue, OnOk};
+ghost use Rattle.desk.specs.Desk.{identity, opened_with, pass_count};
+ghost use Rattle.desk.specs.Pass.{calls, desk_of};
+ghost use Rattle.ds_content.specs.Stands.{ContentStands};
+ghost use Rattle.ds_held.specs.Limits.{larger};
+ghost use Rattle.ds_machine.specs.State.{opening};
 ghost use Rattle.ds_pass.specs.Record.{pass_record};
 ghost use Rattle.ds_refresh.specs.Follower.{new_follower};
-ghost use Rattle.ds_workers.specs.Commands.{every_key};
-ghost use Rattle.ds_workers.specs.Workers.{IsOf, IsTask, others_in};
+ghost use Rattle.ds_workers.specs.Commands.{each_below, every_key, publisher_label};
+ghost use Rattle.ds_workers.specs.Turns.{WereAccepted};
+ghost use Rattle.ds_workers.specs.Workers.{IsOf, IsTask, others_in, plain};
+ghost use Rattle.ds_live.specs.Faults.{FailsLabels};
+ghost use Rattle.ds_live.specs.Run.{IsReady, downward};
 ghost use Rattle.ds_live.specs.Sizes.{are_fit};
+ghost use Rattle.ds_live.specs.Tasks.{IsHired};
 
 use crate::back::Back;
 use crate::fault::LiveFault;
@@ -33,6 +40,8 @@ pub(crate) fn open_desk(
     requires { (0 < passes) × (passes ≤ 64) }
     ensures home { IfOk result (λ d. All (λ p. desk_of p ≡ identity d.0) d.1.items) }
     ensures count { IfOk result (λ d. (pass_count d.0 ≡ passes) × (length d.1.items ≡ passes)) }
+    ensures fresh { IfOk result (λ d. All (λ p. calls p ≡ []) d.1.items) }
+    ensures opened { IfOk result (λ d. ContentStands (opened_with d.0).value (opening incarnation 0 256 larger)) }
 {
     let Ok(store) = Store::open(alloc, incarnation, 0, RING) else {
         return Err(LiveFault::NoRoom);
@@ -62,12 +71,18 @@ pub(crate) fn hire<'e, R: Wait, G: Gate>(
     requires fit { IsTrue (are_fit sizes) }
     requires passes { All (λ p. desk_of p ≡ identity desks.now.first) back.old.passes.items }
     requires others { All (λ p. desk_of p ≡ identity desks.now.second) back.old.others.items }
+    requires fresh { All (λ p. calls p ≡ []) back.old.passes.items × All (λ p. calls p ≡ []) back.old.others.items }
+    requires none { back.old.followers.items ≡ [] }
     requires count { (length back.old.passes.items ≡ sizes.publishers + sizes.subscribers + 1) × (length back.old.others.items ≡ 1) }
     ensures can_run { IfOk result (λ js. All (λ j. IsOf (identity j.desks.now.first) (identity j.desks.now.second) j.worker) js.items) }
     ensures of_desks { IfOk result (λ js. All (λ j. IsOf (identity desks.now.first) (identity desks.now.second) j.worker) js.items) }
     ensures all { IfOk result (λ js. length js.items ≡ length back.old.passes.items) }
     ensures one { IfOk result (λ js. sum_by (λ j. others_in j.worker.task) js.items ≡ 1) }
-    ensures taken { IfOk result (λ js. (back.new.passes.items ≡ []) × (back.new.others.items ≡ [])) }
+    ensures ready { IfOk result (λ js. All (λ j. IsReady sizes (plain j.worker)) js.items) }
+    ensures numbered { IfOk result (λ js. map (λ j. j.worker.index) js.items ≡ downward (length js.items)) }
+    ensures gates { IfOk result (λ js. All (λ j. j.gate.now ≡ gate.now) js.items) }
+    ensures taken { IfOk result (λ js.
+        (back.new.passes.items ≡ []) × (back.new.others.items ≡ []) × (back.new.followers.items ≡ [])) }
     ensures room { (length back.old.passes.items ≤ vec_capacity back.new.passes) × (1 ≤ vec_capacity back.new.others) }
 {
     let Ok(mut jobs) = Vec::with_capacity(alloc, back.passes.len()) else {
@@ -127,7 +142,9 @@ fn publish_labels<W: Wait>(
 ) -> Result<(), CallFault>
     requires of_desk { desk_of pass.old ≡ identity desk.now }
     requires few { count ≤ 8 }
-    ensures { desk_of pass.new ≡ desk_of pass.old }
+    ensures stays { desk_of pass.new ≡ desk_of pass.old }
+    ensures accepted { OnOk result (WereAccepted (pass_record pass.old) (pass_record pass.new) (each_below publisher_label count)) }
+    ensures fault { IfErr result (FailsLabels count (pass_record pass.old) (pass_record pass.new)) }
 {
     for index in 0..count {
         publish_label(rt, desk, pass, index)?;
@@ -146,6 +163,7 @@ fn task_of(
     requires index { index < sizes.publishers + sizes.subscribers }
     ensures task { IfOk result (λ task. (second : _) → IsTask second index pass.now task) }
     ensures none { IfOk result (λ task. others_in task ≡ 0) }
+    ensures ready { IfOk result (IsHired sizes index) }
     ensures publishes { index < sizes.publishers → IfOk result (λ task. task ≡ Task.Publish) }
     ensures follows { sizes.publishers ≤ index →
         IfOk result (λ task. task ≡ Task.Follow (new_follower (8 * (index - sizes.publishers)) every_key)) }

@@ -19,6 +19,6 @@ pub use ds_pass::{CallFault, Seat};
 pub use ds_refresh::{Follower, Fresh, RefreshFault, refresh};
 pub use ds_workers::{Gate, OpenGate, WorkerFault};
 pub use fault::LiveFault;
-pub use report::LiveReport;
+pub use report::{LiveReport, LiveRun};
 pub use run::live_run;
 pub use sizes::Sizes;

@@ -26,6 +26,19 @@ pub struct LiveReport {
     pub account: bool,
 }
 
+/// The end of a run: the closed desks, the subscribers' followers, and the report of them.
+#[derive(Drop)]
+pub struct LiveRun {
+    /// The report.
+    pub report: LiveReport,
+    /// The first desk's store and account.
+    pub first: Closed<Box<Store>>,
+    /// The second desk's store and account.
+    pub second: Closed<Box<Store>>,
+    /// The followers, in the order of the subscribers.
+    pub followers: Vec<Follower>,
+}
+
 /// Returns the report of two closed desks and the subscribers' followers. Fails only if memory runs out.
 pub(crate) fn report_of(
     alloc: Global,

@@ -1,22 +1,26 @@
 //! A run of threads.
 
 ghost use Rattle.std.specs.Prelude.{All, ◌≡◌, ◌≤◌, length, Err, true, false, IfOk, IfSome, OnOk, IsTrue};
-ghost use Rattle.desk.specs.Desk.{identity, pass_count};
+ghost use Rattle.desk.specs.Closing.{LeavesHistory};
+ghost use Rattle.desk.specs.Desk.{first_call, identity, opened_with, pass_count};
 ghost use Rattle.desk.specs.Pass.{desk_of};
 ghost use Rattle.ds_live.specs.Report.{IsReport, are_exact};
+ghost use Rattle.ds_live.specs.Run.{RunLeaves};
 ghost use Rattle.ds_live.specs.Sizes.{are_fit};
+ghost use Rattle.ds_machine.specs.Owed.{owed_by};
+ghost use Rattle.ds_pass.specs.Record.{is_content};
+ghost use Rattle.ds_store.specs.Turns.{Turn};
 
 use crate::back::Back;
-use crate::closing::{close_desk, share_notes};
+use crate::closing::close_desk;
 use crate::dismissing::dismiss;
 use crate::fault::LiveFault;
 use crate::hiring::{hire, open_desk};
-use crate::report::{LiveReport, report_of};
+use crate::report::{LiveRun, report_of};
 use crate::sizes::Sizes;
 use crate::working::work_all;
 use crew::GivenUp;
-use desk::{Closed, Desk, Pass};
-use ds_refresh::Follower;
+use desk::{Desk, Pass};
 use ds_store::Store;
 use ds_workers::{Desks, Gate};
 use std::alloc::Global;
@@ -36,10 +40,15 @@ pub fn live_run<R: Threads + Wait + Sync, G: Gate + Sync>(
     alloc: Global,
     gate: &G,
     sizes: Sizes,
-) -> Result<LiveReport, LiveFault>
+) -> Result<LiveRun, LiveFault>
     ensures fit { OnOk result (IsTrue (are_fit sizes)) }
     ensures bad_sizes { are_fit sizes ≡ false → result ≡ Err LiveFault.BadSizes }
-    ensures account { IfOk result (λ report. report.account ≡ true) }
+    ensures ran { IfOk result (λ run.
+        RunLeaves (G.answers gate.now) sizes run.first.machine.value run.second.machine.value run.followers.items) }
+    ensures report { IfOk result (λ run.
+        IsReport run.first.machine.value.held run.second.machine.value.held run.followers.items run.report) }
+    ensures account { IfOk result (λ run.
+        (run.report.account ≡ true) × (are_exact run.first.account ≡ true) × (are_exact run.second.account ≡ true)) }
 {
     if !sizes.are_fit() {
         return Err(LiveFault::BadSizes);
@@ -65,38 +74,39 @@ fn close_both(
     alloc: Global,
     first: Desk<Box<Store>>,
     second: Desk<Box<Store>>,
-    mut back: Back<Pass<Box<Store>>>,
+    back: Back<Pass<Box<Store>>>,
     fault: Option<LiveFault>,
-) -> Result<LiveReport, LiveFault>
+) -> Result<LiveRun, LiveFault>
     requires passes { All (λ p. desk_of p ≡ identity first) back.passes.items × (pass_count first ≤ length back.passes.items) }
     requires others { All (λ p. desk_of p ≡ identity second) back.others.items × (pass_count second ≤ length back.others.items) }
     ensures fault { IfSome fault (λ was. result ≡ Err was) }
-    ensures account { IfOk result (λ report. report.account ≡ true) }
+    ensures first { IfOk result (λ run.
+        LeavesHistory is_content Turn owed_by (opened_with first) (first_call first) back.passes.items run.first) }
+    ensures second { IfOk result (λ run.
+        LeavesHistory is_content Turn owed_by (opened_with second) (first_call second) back.others.items run.second) }
+    ensures followers { IfOk result (λ run. run.followers.items ≡ back.followers.items) }
+    ensures report { IfOk result (λ run.
+        IsReport run.first.machine.value.held run.second.machine.value.held run.followers.items run.report) }
+    ensures account { IfOk result (λ run.
+        (run.report.account ≡ true) × (are_exact run.first.account ≡ true) × (are_exact run.second.account ≡ true)) }
 {
-    let shared = share_notes(&first, &mut back.passes);
-    let left = close_desk(alloc, first, back.passes);
-    let right = close_desk(alloc, second, back.others);
-    match fault.or(shared.err()) {
-        Some(fault) => Err(fault),
-        None => report_both(alloc, &left, &right, &back.followers),
+    let Back {
+        passes,
+        others,
+        followers,
+    } = back;
+    let left = close_desk(alloc, first, passes);
+    let right = close_desk(alloc, second, others);
+    if let Some(fault) = fault {
+        return Err(fault);
     }
-}
-
-// Reports what two desks held, if both were closed.
-fn report_both(
-    alloc: Global,
-    left: &Result<Closed<Box<Store>>, LiveFault>,
-    right: &Result<Closed<Box<Store>>, LiveFault>,
-    followers: &Vec<Follower>,
-) -> Result<LiveReport, LiveFault>
-    requires left { IfOk left.now (λ closed. are_exact closed.account ≡ true) }
-    requires right { IfOk right.now (λ closed. are_exact closed.account ≡ true) }
-    ensures report { IfOk left.now (λ here. IfOk right.now (λ there.
-        IfOk result (IsReport here.machine.value.held there.machine.value.held followers.now.items))) }
-    ensures account { IfOk result (λ report. report.account ≡ true) }
-{
-    match (left, right) {
-        (Ok(left), Ok(right)) => Ok(report_of(alloc, left, right, followers)?),
-        (Err(fault), _) | (_, Err(fault)) => Err(*fault),
-    }
+    let first = left?;
+    let second = right?;
+    let report = report_of(alloc, &first, &second, &followers)?;
+    Ok(LiveRun {
+        report,
+        first,
+        second,
+        followers,
+    })
 }

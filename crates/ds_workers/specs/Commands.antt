@@ -1,5 +1,5 @@
 -- The commands of the workers of a run.
-use Rattle.std.specs.Prelude.{ℕ, ◌+◌, true, List, [], ◌∷◌}
+use Rattle.std.specs.Prelude.{ℕ, ◌+◌, zero, suc, true, List, [], ◌∷◌, ◌++◌}
 use Rattle.ds_names.specs.Endpoint.{EndpointRecord, endpoint_of}
 use Rattle.ds_names.specs.Key.{label_key}
 use Rattle.ds_names.specs.declared.key.Key.{Key}
@@ -36,3 +36,8 @@ publisher_number index turn = Publish (publisher index) (number_key index) (vers
 -- The query `.*` of all kinds.
 abbrev pub every_key : Query
 every_key = record { text = 46 ∷ 42 ∷ []; kinds = 15 }
+
+-- The commands of the numbers below this one, in order.
+abbrev pub each_below : (ℕ → Command) → ℕ → List Command
+each_below command zero = []
+each_below command (suc count) = each_below command count ++ command count ∷ []

@@ -1,18 +1,30 @@
 -- Workers that come back from their threads.
-use Rattle.std.specs.Prelude.{◌≡◌, ℕ, ◌<◌, Bool}
+use Rattle.std.specs.Prelude.{◌≡◌, ◌⊎◌, ℕ, zero, suc, ◌<◌, ◌≤◌, Bool, true, false, List, Option, Some, None}
+use Rattle.history.specs.declared.entry.Entry.{Entry}
 use Rattle.atomic_table.specs.Seated.{TableId}
+use Rattle.crew.specs.declared.given_up.Told.{Told}
 use Rattle.desk_rule.specs.declared.view.View.{View}
 use Rattle.desk.specs.declared.pass.Sight.{Ghosts}
 use Rattle.desk.specs.Pass.{desk_of, Pass}
 use Rattle.ds_machine.specs.declared.command.Command.{Command}
 use Rattle.ds_machine.specs.declared.reply.Reply.{Reply}
-use Rattle.ds_pass.specs.Record.{Boxed, pass_record}
+use Rattle.ds_pass.specs.Called.{Made}
+use Rattle.ds_pass.specs.Faults.{FailsAsking}
+use Rattle.ds_pass.specs.Record.{Boxed, PassRecord, pass_record}
+use Rattle.ds_pass.specs.declared.fault.CallFault.{CallFault}
+use Rattle.ds_refresh.specs.Follower.{FollowerRecord, IsSameFollower}
 use Rattle.ds_refresh.specs.KeepsUp.{KeepsUpWith}
+use Rattle.ds_refresh.specs.Refresh.{AreOfFollower}
+use Rattle.ds_exchange.specs.Faults.{IsExchangeFault}
+use Rattle.ds_exchange.specs.declared.fault.ExchangeFault.{ExchangeFault}
+use Rattle.ds_workers.specs.declared.fault.WorkerFault.{WorkerFault}
+use Rattle.ds_workers.specs.declared.fault.WorkerFault.TheVariants as faults
 use Rattle.ds_workers.specs.declared.task.Task.{Task}
 use Rattle.ds_workers.specs.declared.task.Task.TheVariants.{Exchange, Follow, Publish}
 use Rattle.ds_workers.specs.declared.worker.Worker.{Worker}
-use Rattle.ds_workers.specs.Commands.{publisher_number}
-use Rattle.ds_workers.specs.Turns.{HasCalled, HasExchanged, HasRefreshed, IsBroughtUp, IsHandedOver, WasAccepted}
+use Rattle.ds_workers.specs.Commands.{each_below, publisher_number}
+use Rattle.ds_workers.specs.Turns.{FailsFollowing, HasCalled, HasExchanged, HasExchangedOften, HasFollowedOn, HasRefreshed, IsBroughtUp}
+use Rattle.ds_workers.specs.Turns.{IsHandedOver, WasAccepted, WereAccepted}
 
 -- The type of a pass at a store's desk.
 abbrev pub StorePass : (Z : Type 0) → Ghosts (View (Boxed Z) Command Reply) → Type 0
@@ -39,26 +51,117 @@ module _ {Z : Type 0} {G : Ghosts (View (Boxed Z) Command Reply)} where
   -- Whether w is the worker v after calls of its own. Its number and its passes are the same, each still of its desk.
   pub record ComesBack (v w : Worker (StorePass Z G)) : Type 0 where
     pub same_index : w.index ≡ v.index
+    pub same_turns : w.turns ≡ v.turns
     pub same_others : others_in w.task ≡ others_in v.task
     pub called : HasCalled (pass_record v.pass) (pass_record w.pass)
     pub still : (first second : TableId) → IsOf first second v → IsOf first second w
 
-  -- The effect of a turn that succeeds: the publisher's number was overwritten, the follower was refreshed, or one exchange was made.
-  abbrev pub TakesTask : ℕ → ℕ → StorePass Z G → StorePass Z G → Task (StorePass Z G) → Task (StorePass Z G) → Type 0
-  TakesTask index turn pass new Publish task = WasAccepted (pass_record pass) (pass_record new) (publisher_number index turn)
-  TakesTask index turn pass new (Follow follower) task = HasRefreshed (pass_record pass) (pass_record new) follower
-  TakesTask index turn pass new (Exchange other cursor) (Exchange given next) =
-      (more : Bool) × HasExchanged (pass_record pass) (pass_record new) (pass_record other) (pass_record given) cursor next more
-  TakesTask index turn pass new (Exchange other cursor) task = ⊥
+  -- ---- workers by plain values
+  abbrev pub plain_task : Task (StorePass Z G) → Task PassRecord
+  plain_task Publish = Publish
+  plain_task (Follow follower) = Follow follower
+  plain_task (Exchange other cursor) = Exchange (pass_record other) cursor
 
-  abbrev pub TakesTurn : ℕ → Worker (StorePass Z G) → Worker (StorePass Z G) → Type 0
-  TakesTurn turn v w = TakesTask v.index turn v.pass w.pass v.task w.task
+  abbrev pub plain : Worker (StorePass Z G) → Worker PassRecord
+  plain w = record { index = w.index; turns = w.turns; pass = pass_record w.pass; task = plain_task w.task; fault = w.fault }
 
-  -- Whether the task is done: a follower's map is up to date, or there is no more to exchange.
-  abbrev pub IsTaskDone : StorePass Z G → Task (StorePass Z G) → Type 0
-  IsTaskDone pass Publish = Unit {0}
-  IsTaskDone pass (Follow follower) = IsBroughtUp (pass_record pass) follower
-  IsTaskDone pass (Exchange other cursor) = IsHandedOver (pass_record pass) (pass_record other)
+-- ---- turns: the pass p and the first task become q and the second
 
-  abbrev pub IsDone : Worker (StorePass Z G) → Type 0
-  IsDone w = IsTaskDone w.pass w.task
+-- The effect of a turn that succeeds: the publisher's number was overwritten, the follower was refreshed and keeps up, or one exchange was
+-- made.
+abbrev pub TakesTask : ℕ → ℕ → PassRecord → PassRecord → Task PassRecord → Task PassRecord → Type 0
+TakesTask index turn p q Publish Publish = WasAccepted p q (publisher_number index turn)
+TakesTask index turn p q (Follow f) (Follow g) = HasRefreshed p q f × KeepsUpWith q g × IsSameFollower f g
+TakesTask index turn p q (Exchange r from) (Exchange s next) = (more : Bool) × HasExchanged p q r s from next more
+TakesTask index turn p q Publish task = ⊥
+TakesTask index turn p q (Follow f) task = ⊥
+TakesTask index turn p q (Exchange r from) task = ⊥
+
+-- The effect of this many turns from turn 0 on. A publisher's calls overwrite its number by 0, 1 and so on. A follower made at least one
+-- call in each turn. Each exchange begins at the cursor of the one before it.
+abbrev pub TookTask : ℕ → ℕ → PassRecord → PassRecord → Task PassRecord → Task PassRecord → Type 0
+TookTask index count p q Publish Publish = WereAccepted p q (each_below (publisher_number index) count)
+TookTask index count p q (Follow f) (Follow g) = HasFollowedOn count p q f g
+TookTask index count p q (Exchange r from) (Exchange s next) = HasExchangedOften count p q r s from next
+TookTask index count p q Publish task = ⊥
+TookTask index count p q (Follow f) task = ⊥
+TookTask index count p q (Exchange r from) task = ⊥
+
+-- Whether the fault is that of this turn.
+abbrev pub FailsTask : ℕ → ℕ → PassRecord → PassRecord → Task PassRecord → Task PassRecord → WorkerFault → Type 0
+FailsTask index turn p q Publish Publish fault =
+    (call : CallFault) × (fault ≡ faults.Call call) × FailsAsking p q (publisher_number index turn) call
+FailsTask index turn p q (Follow f) (Follow g) fault = FailsFollowing p q f fault
+FailsTask index turn p q (Exchange r from) (Exchange s next) fault =
+    (exchange : ExchangeFault) × (fault ≡ faults.Exchange exchange) × IsExchangeFault p q r s exchange
+FailsTask index turn p q Publish task fault = ⊥
+FailsTask index turn p q (Follow f) task fault = ⊥
+FailsTask index turn p q (Exchange r from) task fault = ⊥
+
+abbrev pub TurnTaken : ℕ → Worker PassRecord → Worker PassRecord → Type 0
+TurnTaken turn v w = TakesTask v.index turn v.pass w.pass v.task w.task
+
+abbrev pub TookTurns : ℕ → Worker PassRecord → Worker PassRecord → Type 0
+TookTurns count v w = TookTask v.index count v.pass w.pass v.task w.task
+
+abbrev pub FailsTurn : ℕ → Worker PassRecord → Worker PassRecord → WorkerFault → Type 0
+FailsTurn turn v w fault = FailsTask v.index turn v.pass w.pass v.task w.task fault
+
+-- ---- the end of a worker's turns. `answers` are the gate's, to a worker before a turn.
+module _ (answers : ℕ → ℕ → Bool → Type 0) where
+  -- Whether the gate let the worker through before each turn below this one.
+  abbrev pub LetsThrough : ℕ → ℕ → Type 0
+  LetsThrough index zero = Unit {0}
+  LetsThrough index (suc count) = LetsThrough index count × answers index count true
+
+  -- Whether the worker took all of its turns, and was let through before each, and after the last.
+  abbrev pub TookAll : Worker PassRecord → Worker PassRecord → Type 0
+  TookAll v w = TookTurns v.turns v w × LetsThrough v.index (suc v.turns)
+
+  -- Whether the fault ended the worker's turns: after some of them the gate turned it away, the run was given up, or the next turn failed.
+  abbrev pub EndsBy : Worker PassRecord → Worker PassRecord → WorkerFault → Type 0
+  EndsBy v w fault =
+      ((count : ℕ) × (count ≤ v.turns) × TookTurns count v w × (fault ≡ faults.GateShut) × answers v.index count false)
+      ⊎ (((count : ℕ) × (count ≤ v.turns) × TookTurns count v w × (told : Told) × (fault ≡ faults.GivenUp told))
+      ⊎ ((count : ℕ) × (count < v.turns) × (u : Worker PassRecord) × TookTurns count v u × (u.index ≡ v.index)
+      × FailsTurn count u w fault))
+
+  abbrev pub HasEnded : Worker PassRecord → Worker PassRecord → Option WorkerFault → Type 0
+  HasEnded v w None = TookAll v w
+  HasEnded v w (Some fault) = EndsBy v w fault
+
+  -- Whether w is the worker v after its turns.
+  pub record Worked {Z : Type 0} {G : Ghosts (View (Boxed Z) Command Reply)} (v w : Worker (StorePass Z G)) : Type 0 where
+    pub back : ComesBack v w
+    pub ended : HasEnded (plain v) (plain w) w.fault
+
+-- ---- after the turns of all workers
+
+-- Whether q is the pass p after calls that are all the follower's, and the map of the follower, now g, is up to date.
+pub record HasBroughtUp (p q : PassRecord) (f g : FollowerRecord) : Type 0 where
+  pub own : List (Entry Command Reply)
+  pub made : Made p q own
+  pub theirs : AreOfFollower f.sub f.map.query own
+  pub same : IsSameFollower f g
+  pub brought : IsBroughtUp q g
+
+-- Whether the task is done: a follower's map is up to date, or there is no more to exchange. A publisher's pass is unchanged.
+abbrev pub FinishesTask : PassRecord → PassRecord → Task PassRecord → Task PassRecord → Type 0
+FinishesTask p q Publish Publish = q ≡ p
+FinishesTask p q (Follow f) (Follow g) = HasBroughtUp p q f g
+FinishesTask p q (Exchange r from) (Exchange s next) = ((count : ℕ) × HasExchangedOften count p q r s from next) × IsHandedOver q s
+FinishesTask p q Publish task = ⊥
+FinishesTask p q (Follow f) task = ⊥
+FinishesTask p q (Exchange r from) task = ⊥
+
+abbrev pub Finishes : Worker PassRecord → Worker PassRecord → Type 0
+Finishes v w = FinishesTask v.pass w.pass v.task w.task
+
+-- Whether the task is done: a follower's map is up to date, or there is no more to exchange.
+abbrev pub IsTaskDone : PassRecord → Task PassRecord → Type 0
+IsTaskDone p Publish = Unit {0}
+IsTaskDone p (Follow g) = IsBroughtUp p g
+IsTaskDone p (Exchange r next) = IsHandedOver p r
+
+abbrev pub IsAtEnd : Worker PassRecord → Type 0
+IsAtEnd w = IsTaskDone w.pass w.task

@@ -1,10 +1,11 @@
 //! Exchanges from the first desk's store to the second's.
 
-ghost use Rattle.std.specs.Prelude.{◌≡◌, IfOk, OnOk};
+ghost use Rattle.std.specs.Prelude.{◌≡◌, ℕ, IfErr, IfOk, OnOk};
 ghost use Rattle.desk.specs.Desk.{identity};
 ghost use Rattle.desk.specs.Pass.{desk_of};
 ghost use Rattle.ds_pass.specs.Record.{pass_record as seen};
-ghost use Rattle.ds_workers.specs.Turns.{HasCalled, HasExchanged, IsHandedOver, SeatHasCalled};
+ghost use Rattle.ds_exchange.specs.Faults.{IsExchangeFault};
+ghost use Rattle.ds_workers.specs.Turns.{HasCalled, HasExchanged, HasExchangedOften, IsHandedOver, SeatHasCalled};
 
 use desk::{Desk, Pass};
 use ds_exchange::{ExchangeFault, exchange_once};
@@ -30,6 +31,7 @@ pub(crate) fn exchange<W: Wait>(
     ensures other_stays { desk_of other.new ≡ desk_of other.old }
     ensures called { HasCalled (seen pass.old) (seen pass.new) }
     ensures exchanged { IfOk result (HasExchanged (seen pass.old) (seen pass.new) (seen other.old) (seen other.new) cursor.old cursor.new) }
+    ensures fault { IfErr result (IsExchangeFault (seen pass.old) (seen pass.new) (seen other.old) (seen other.new)) }
 {
     let mut here = Seat::new(rt, first, pass);
     let mut there = Seat::new(rt, second, other);
@@ -47,6 +49,7 @@ fn exchange_at<W: Wait>(
 ) -> Result<bool, ExchangeFault>
     ensures called { SeatHasCalled first.old first.new × SeatHasCalled second.old second.new }
     ensures exchanged { IfOk result (HasExchanged first.old.pass first.new.pass second.old.pass second.new.pass cursor.old cursor.new) }
+    ensures fault { IfErr result (IsExchangeFault first.old.pass first.new.pass second.old.pass second.new.pass) }
 {
     match exchange_once(first, second, *cursor) {
         Ok(exchanged) => {
@@ -76,6 +79,8 @@ pub(crate) fn hand_over<W: Wait>(
     ensures other_stays { desk_of other.new ≡ desk_of other.old }
     ensures called { HasCalled (seen pass.old) (seen pass.new) }
     ensures handed { OnOk result (IsHandedOver (seen pass.new) (seen other.new)) }
+    ensures exchanged { OnOk result ((count : ℕ)
+        × HasExchangedOften count (seen pass.old) (seen pass.new) (seen other.old) (seen other.new) cursor.old cursor.new) }
 {
     let mut here = Seat::new(rt, first, pass);
     let mut there = Seat::new(rt, second, other);
@@ -93,6 +98,8 @@ fn hand_over_at<W: Wait>(
 ) -> Result<(), ExchangeFault>
     ensures called { SeatHasCalled first.old first.new × SeatHasCalled second.old second.new }
     ensures handed { OnOk result (IsHandedOver first.new.pass second.new.pass) }
+    ensures exchanged { OnOk result ((count : ℕ)
+        × HasExchangedOften count first.old.pass first.new.pass second.old.pass second.new.pass cursor.old cursor.new) }
 {
     for _ in first.rt().forever() {
         let more = exchange_at(first, second, cursor)?;

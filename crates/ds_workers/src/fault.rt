@@ -1,5 +1,6 @@
 //! Why a worker ended early.
 
+use crew::Told;
 use desk::DeskFault;
 use ds_exchange::ExchangeFault;
 use ds_pass::CallFault;
@@ -21,6 +22,9 @@ pub enum WorkerFault {
     /// The gate turned the worker away.
     #[error("a gate was shut")]
     GateShut,
+    /// The run was given up.
+    #[error("the run was given up")]
+    GivenUp(Told),
 }
 
 impl From<CallFault> for WorkerFault {

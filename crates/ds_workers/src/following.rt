@@ -1,12 +1,14 @@
 //! The turns of subscribers.
 
-ghost use Rattle.std.specs.Prelude.{◌≡◌, None, OnOk};
+ghost use Rattle.std.specs.Prelude.{◌≡◌, None, IfErr, OnOk};
 ghost use Rattle.desk.specs.Desk.{identity};
 ghost use Rattle.desk.specs.Pass.{desk_of};
 ghost use Rattle.ds_pass.specs.Record.{pass_record as seen};
 ghost use Rattle.ds_refresh.specs.Follower.{IsSameFollower};
 ghost use Rattle.ds_refresh.specs.KeepsUp.{KeepsUpWith};
-ghost use Rattle.ds_workers.specs.Turns.{HasCalled, HasRefreshed, IsBroughtUp, SeatHasCalled};
+ghost use Rattle.ds_refresh.specs.Faults.{IsRefreshFault};
+ghost use Rattle.ds_workers.specs.Turns.{FailsFollowing, HasCalled, HasFollowed, HasRefreshed, SeatHasCalled};
+ghost use Rattle.ds_workers.specs.Workers.{HasBroughtUp};
 
 use crate::fault::WorkerFault;
 use desk::{Desk, Pass};
@@ -32,30 +34,56 @@ pub(crate) fn follow<W: Wait>(
     ensures called { HasCalled (seen pass.old) (seen pass.new) }
     ensures keeps { KeepsUpWith (seen pass.new) follower.new }
     ensures same { IsSameFollower follower.old follower.new }
+    ensures followed { OnOk result (HasFollowed pass.old pass.new follower.old) }
     ensures refreshed { OnOk result (HasRefreshed (seen pass.old) (seen pass.new) follower.old) }
     ensures lost { turn ≡ 1 → OnOk result (follower.new.stamp ≡ None) }
+    ensures fault { IfErr result (FailsFollowing (seen pass.old) (seen pass.new) follower.old) }
+{
+    let _taken = desk.take(pass, follower.sub() / 8)?;
+    refresh_once(rt, alloc, desk, pass, follower, turn)?;
+    Ok(())
+}
+
+// Refreshes a follower by at most 8 calls, and makes it lost after turn 1.
+fn refresh_once<W: Wait>(
+    rt: &W,
+    alloc: Global,
+    desk: &Desk<Box<Store>>,
+    pass: &mut Pass<Box<Store>>,
+    follower: &mut Follower,
+    turn: u32,
+) -> Result<(), RefreshFault>
+    requires of_desk { desk_of pass.old ≡ identity desk.now }
+    requires keeps { KeepsUpWith (seen pass.old) follower.old }
+    ensures stays { desk_of pass.new ≡ desk_of pass.old }
+    ensures called { HasCalled (seen pass.old) (seen pass.new) }
+    ensures keeps { KeepsUpWith (seen pass.new) follower.new }
+    ensures same { IsSameFollower follower.old follower.new }
+    ensures refreshed { OnOk result (HasRefreshed (seen pass.old) (seen pass.new) follower.old) }
+    ensures lost { turn ≡ 1 → OnOk result (follower.new.stamp ≡ None) }
+    ensures fault { IfErr result (IsRefreshFault 8 (seen pass.old) (seen pass.new) follower.old) }
 {
     let mut seat = Seat::new(rt, desk, pass);
-    let told = follow_at(&mut seat, alloc, follower, turn);
+    let told = refresh_at(&mut seat, alloc, follower, turn);
     let _pass = seat.leave();
     told
 }
 
-// Like `follow`, at a seat.
-fn follow_at<W: Wait>(
+// Like `refresh_once`, at a seat.
+fn refresh_at<W: Wait>(
     seat: &mut Seat<'_, W>,
     alloc: Global,
     follower: &mut Follower,
     turn: u32,
-) -> Result<(), WorkerFault>
+) -> Result<(), RefreshFault>
     requires { KeepsUpWith seat.old.pass follower.old }
     ensures called { SeatHasCalled seat.old seat.new }
     ensures keeps { KeepsUpWith seat.new.pass follower.new }
     ensures same { IsSameFollower follower.old follower.new }
     ensures refreshed { OnOk result (HasRefreshed seat.old.pass seat.new.pass follower.old) }
     ensures lost { turn ≡ 1 → OnOk result (follower.new.stamp ≡ None) }
+    ensures fault { IfErr result (IsRefreshFault 8 seat.old.pass seat.new.pass follower.old) }
 {
-    let _taken = seat.take(follower.sub() / 8)?;
     let _fresh = refresh(seat, alloc, follower, 8)?;
     if turn == 1 {
         follower.lose();
@@ -77,7 +105,7 @@ pub(crate) fn bring_up<W: Wait>(
     ensures called { HasCalled (seen pass.old) (seen pass.new) }
     ensures keeps { KeepsUpWith (seen pass.new) follower.new }
     ensures same { IsSameFollower follower.old follower.new }
-    ensures brought { OnOk result (IsBroughtUp (seen pass.new) follower.new) }
+    ensures brought { OnOk result (HasBroughtUp (seen pass.old) (seen pass.new) follower.old follower.new) }
 {
     let mut seat = Seat::new(rt, desk, pass);
     let told = bring_up_at(&mut seat, alloc, follower);
@@ -95,7 +123,7 @@ fn bring_up_at<W: Wait>(
     ensures called { SeatHasCalled seat.old seat.new }
     ensures keeps { KeepsUpWith seat.new.pass follower.new }
     ensures same { IsSameFollower follower.old follower.new }
-    ensures brought { OnOk result (IsBroughtUp seat.new.pass follower.new) }
+    ensures brought { OnOk result (HasBroughtUp seat.old.pass seat.new.pass follower.old follower.new) }
 {
     for _ in seat.rt().forever() {
         let fresh = refresh(seat, alloc, follower, 65536)?;

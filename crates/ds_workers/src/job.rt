@@ -1,7 +1,7 @@
 //! A worker's turns, as a thread's job.
 
 ghost use Rattle.desk.specs.Desk.{identity};
-ghost use Rattle.ds_workers.specs.Workers.{ComesBack, IsOf};
+ghost use Rattle.ds_workers.specs.Workers.{IsOf, Worked};
 
 use crate::gate::Gate;
 use crate::worker::{StoreWorker, Worker};
@@ -44,7 +44,7 @@ impl<'e, R: Wait, G: Gate> Job
     for Turns<'e, R, G, Desks<Desk<Box<Store>>>, Worker<Pass<Box<Store>>>> {
     ghost can_run = { λ j. IsOf (identity j.desks.now.first) (identity j.desks.now.second) j.worker };
 
-    ghost comes_back = { λ j k. ComesBack j.worker k.worker };
+    ghost comes_back = { λ j k. Worked (G.answers j.gate.now) j.worker k.worker };
 
     fn run(self) -> StoreTurns<'e, R, G> {
         let Turns {

@@ -1,8 +1,8 @@
 //! Workers and their turns.
 
-ghost use Rattle.std.specs.Prelude.{◌≡◌, OnOk};
+ghost use Rattle.std.specs.Prelude.{◌≡◌, true, false, IfErr, OnOk};
 ghost use Rattle.desk.specs.Desk.{identity};
-ghost use Rattle.ds_workers.specs.Workers.{ComesBack, IsDone, IsOf, TakesTurn};
+ghost use Rattle.ds_workers.specs.Workers.{ComesBack, EndsBy, FailsTurn, Finishes, IsOf, TurnTaken, TookAll, Worked, plain};
 
 use crate::exchanging::{exchange, hand_over};
 use crate::fault::WorkerFault;
@@ -35,8 +35,8 @@ pub struct Worker<P> {
 pub type StoreWorker = Worker<Pass<Box<Store>>>;
 
 impl Worker<Pass<Box<Store>>> {
-    /// Takes all of the worker's turns, and arrives at the gate before each one and after the last. Ends early at a fault, which it keeps,
-    /// or once the run is given up.
+    /// Takes all of the worker's turns, and arrives at the gate before each one and after the last. Ends early at a fault, or once the run
+    /// is given up, and keeps which it was as its fault.
     pub(crate) fn work<W: Wait, G: Gate>(
         &mut self,
         rt: &W,
@@ -47,10 +47,11 @@ impl Worker<Pass<Box<Store>>> {
         second: &Desk<Box<Store>>,
     )
         requires { IsOf (identity first.now) (identity second.now) self.old }
-        ensures { ComesBack self.old self.new }
+        ensures { Worked (G.answers gate.now) self.old self.new }
     {
-        if let Err(fault) = self.take_turns(rt, alloc, gate, given_up, first, second) {
-            self.fault = Some(fault);
+        match self.take_turns(rt, alloc, gate, given_up, first, second) {
+            Ok(()) => self.fault = None,
+            Err(fault) => self.fault = Some(fault),
         }
     }
 
@@ -65,17 +66,19 @@ impl Worker<Pass<Box<Store>>> {
         second: &Desk<Box<Store>>,
     ) -> Result<(), WorkerFault>
         requires { IsOf (identity first.now) (identity second.now) self.old }
-        ensures { ComesBack self.old self.new }
+        ensures back { ComesBack self.old self.new }
+        ensures took { OnOk result (TookAll (G.answers gate.now) (plain self.old) (plain self.new)) }
+        ensures fault { IfErr result (EndsBy (G.answers gate.now) (plain self.old) (plain self.new)) }
     {
         for turn in 0..self.turns {
-            if given_up.is_told() {
-                return Ok(());
+            if let Some(told) = given_up.told() {
+                return Err(WorkerFault::GivenUp(told));
             }
             pass_gate(gate, self.index, turn)?;
             self.turn(rt, alloc, first, second, turn)?;
         }
-        if given_up.is_told() {
-            return Ok(());
+        if let Some(told) = given_up.told() {
+            return Err(WorkerFault::GivenUp(told));
         }
         pass_gate(gate, self.index, self.turns)
     }
@@ -91,7 +94,8 @@ impl Worker<Pass<Box<Store>>> {
     ) -> Result<(), WorkerFault>
         requires { IsOf (identity first.now) (identity second.now) self.old }
         ensures back { ComesBack self.old self.new }
-        ensures taken { OnOk result (TakesTurn turn self.old self.new) }
+        ensures taken { OnOk result (TurnTaken turn (plain self.old) (plain self.new)) }
+        ensures fault { IfErr result (FailsTurn turn (plain self.old) (plain self.new)) }
     {
         match &mut self.task {
             Task::Publish => {
@@ -116,7 +120,7 @@ impl Worker<Pass<Box<Store>>> {
     ) -> Result<(), WorkerFault>
         requires { IsOf (identity first.now) (identity second.now) self.old }
         ensures back { ComesBack self.old self.new }
-        ensures done { OnOk result (IsDone self.new) }
+        ensures done { OnOk result (Finishes (plain self.old) (plain self.new)) }
     {
         match &mut self.task {
             Task::Publish => Ok(()),
@@ -133,7 +137,10 @@ impl Worker<Pass<Box<Store>>> {
 }
 
 // Arrives at the gate before a turn, or after the last one. Fails if the gate turns the worker away.
-fn pass_gate<G: Gate>(gate: &G, worker: u32, turn: u32) -> Result<(), WorkerFault> {
+fn pass_gate<G: Gate>(gate: &G, worker: u32, turn: u32) -> Result<(), WorkerFault>
+    ensures passed { OnOk result (G.answers gate.now worker turn true) }
+    ensures shut { IfErr result (λ fault. (fault ≡ WorkerFault.GateShut) × G.answers gate.now worker turn false) }
+{
     if gate.arrive(worker, turn) {
         Ok(())
     } else {

@@ -34,7 +34,7 @@ fn run_again<R: Runtime + AllocGlobal + Threads + Wait + Sync>(
     let begun = now(rt);
     let most = (crew.seconds.unwrap_or(0) as u64).saturating_mul(1000);
     let mut shown = 0;
-    let mut report = live_run(rt, rt.alloc(), &gate, sizes_of(crew))?;
+    let mut report = live_run(rt, rt.alloc(), &gate, sizes_of(crew))?.report;
     for _again in 0..u64::MAX {
         let passed = now(rt).saturating_sub(begun);
         if passed >= most {
@@ -44,7 +44,8 @@ fn run_again<R: Runtime + AllocGlobal + Threads + Wait + Sync>(
             show(rt, gate.turns(), passed);
             shown = passed;
         }
-        report = joined(&report, live_run(rt, rt.alloc(), &gate, sizes_of(crew))?);
+        let again = live_run(rt, rt.alloc(), &gate, sizes_of(crew))?;
+        report = joined(&report, again.report);
     }
     if shown > 0 {
         let _ = rt.eprintln("");

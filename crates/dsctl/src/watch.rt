@@ -45,6 +45,10 @@ fn mixed(state: u64, number: u32) -> u64 {
 }
 
 impl Gate for Watch {
+    ghost use Rattle.std.specs.Prelude.{◌≡◌, true};
+
+    ghost answers = { λ gate worker turn answer. answer ≡ true };
+
     fn arrive(&self, worker: u32, turn: u32) -> bool {
         let _turns = self.turns.fetch_add(1, Ordering::SeqCst);
         if let Some(seed) = self.seed {

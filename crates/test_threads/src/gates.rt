@@ -75,7 +75,10 @@ fn tell_run<R: Runtime + Threads + Wait + Sync, G: Gate + Sync>(
     sizes: Sizes,
 ) -> Result<(), Failure> {
     match live_run(rt, alloc, gate, sizes) {
-        Ok(report) => println!(rt; "{report:?}")?,
+        Ok(run) => {
+            let report = run.report;
+            println!(rt; "{report:?}")?
+        }
         Err(fault) => println!(rt; "{fault:?}")?,
     }
     Ok(())

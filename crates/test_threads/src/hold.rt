@@ -38,6 +38,8 @@ impl Hold {
 }
 
 impl Gate for Hold {
+    ghost answers = { λ gate worker turn answer. Unit {0} };
+
     fn arrive(&self, worker: u32, turn: u32) -> bool {
         if worker == self.other && turn == 1 {
             self.answered.store(true, Ordering::SeqCst);

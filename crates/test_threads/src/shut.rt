@@ -12,6 +12,8 @@ pub(crate) struct Shut {
 }
 
 impl Gate for Shut {
+    ghost answers = { λ gate worker turn answer. Unit {0} };
+
     fn arrive(&self, worker: u32, turn: u32) -> bool {
         worker < self.from || turn != self.turn
     }

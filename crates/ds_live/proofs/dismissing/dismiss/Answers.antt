@@ -1,31 +1,34 @@
-use Rattle.std.proofs.Common.{All, ◌≡◌, [], length, sum_by, vec_capacity, ap, sym, subst, arith}
+use Rattle.std.proofs.Common.{All, ◌≡◌, Some, [], ◌∷◌, ◌++◌, length, map, sum_by, vec_capacity, refl, ap, sym, subst, ◌∙◌, IfNone, IfSome, append-nil, append_assoc, arith}
 use Rattle.std.proofs.lemmas.List.Elements.{All-nil, All-same}
 use Rattle.desk.specs.Desk.{identity}
 use Rattle.desk.specs.Pass.{desk_of}
-use Rattle.ds_workers.specs.Workers.{IsOf, others_in}
+use Rattle.ds_workers.specs.Workers.{Finishes, IsOf, others_in, plain}
+use Rattle.ds_live.specs.Dismissed.{HandBack}
+use Rattle.ds_live.specs.Tasks.{followers_in}
 use Rattle.ds_live.proofs.JobLemmas.{length-last, longer_sum, no_length, other_of, popped, pushed}
+use Rattle.ds_live.proofs.RunLemmas.{if_none, kept_on, kept_still, none_handed, none_of_three, one_handed}
 use Rattle.ds_live.proofs.dismissing.dismiss.Goals as goal
 
 -- a job's worker, finished or unchanged
-pub collect-room-requires-clause-task : goal.collect-room-requires-clause-task
-collect-room-requires-clause-task g c = let a = identity c.args.desks.now.first in let b = identity c.args.desks.now.second in
+pub hand_back-fault-requires-clause-task : goal.hand_back-fault-requires-clause-task
+hand_back-fault-requires-clause-task g c = let a = identity c.args.desks.now.first in let b = identity c.args.desks.now.second in
     let was = (popped (λ j. IsOf a b j.worker) c.pop.new.self.items c.loop-job.jobs.items c.in-Some.job c.in-Some.ensures.items c.loop-job.invariant.left).1 in
     let came = c.finish-fault.ensures.back in
     let is = came.still a b was in
     other_of b c.finish-fault.new.worker.index c.finish-fault.new.worker.pass c.finish-fault.new.worker.task is.task
 
-pub collect-room-requires-clause-others : goal.collect-room-requires-clause-others
-collect-room-requires-clause-others g c = c.loop-job.invariant.others
+pub hand_back-fault-requires-clause-others : goal.hand_back-fault-requires-clause-others
+hand_back-fault-requires-clause-others g c = c.loop-job.invariant.others
 
-pub collect-room-requires-clause-room : goal.collect-room-requires-clause-room
-collect-room-requires-clause-room g c = let i = c.loop-job.invariant in
+pub hand_back-fault-requires-clause-others_room : goal.hand_back-fault-requires-clause-others_room
+hand_back-fault-requires-clause-others_room g c = let i = c.loop-job.invariant in
     let came = c.finish-fault.ensures.back in
     let less = longer_sum (λ j. others_in j.worker.task) c.pop.new.self.items c.loop-job.jobs.items c.in-Some.job c.in-Some.ensures.items in
     let same = came.same_others in let all = i.all_others in let room = i.others_room in
     omega (arith, all, less, same, room)
 
-pub push_reserved-requires : goal.push_reserved-requires
-push_reserved-requires g c = let i = c.loop-job.invariant in
+pub hand_back-fault-requires-clause-room : goal.hand_back-fault-requires-clause-room
+hand_back-fault-requires-clause-room g c = let i = c.loop-job.invariant in
     let fewer = length-last c.pop.new.self.items c.loop-job.jobs.items c.in-Some.job c.in-Some.ensures.items in
     let all = i.all in let room = i.room in
     omega (arith, all, fewer, room, c.loop-job.back.passes.ok.0)
@@ -35,22 +38,35 @@ loop-job-preserved g c = let i = c.loop-job.invariant in let a = identity c.args
     let both = popped (λ j. IsOf a b j.worker) c.pop.new.self.items c.loop-job.jobs.items c.in-Some.job c.in-Some.ensures.items i.left in
     let came = c.finish-fault.ensures.back in
     let is = came.still a b both.1 in
+    let e = c.hand_back-fault.ensures in
     let fewer = length-last c.pop.new.self.items c.loop-job.jobs.items c.in-Some.job c.in-Some.ensures.items in
     let less = longer_sum (λ j. others_in j.worker.task) c.pop.new.self.items c.loop-job.jobs.items c.in-Some.job c.in-Some.ensures.items in
-    let pushed_pass = pushed (λ p. desk_of p ≡ a) c.loop-job.back.passes.items c.push_reserved.new.self.items c.finish-fault.new.worker.pass c.push_reserved.ensures.items i.home is.pass in
-    let more = length-last c.loop-job.back.passes.items c.push_reserved.new.self.items c.finish-fault.new.worker.pass c.push_reserved.ensures.items in
-    let passes = c.collect-room.ensures.passes in
+    let more = length-last c.loop-job.back.passes.items c.hand_back-fault.new.back.passes.items c.finish-fault.new.worker.pass e.passes in
     let same_others = came.same_others in
-    let all = i.all in let all_others = i.all_others in let one = c.collect-room.ensures.all in
-    let room = i.room in let others_room = i.others_room in let kept = c.push_reserved.ensures.capacity in let kept_others = c.collect-room.ensures.room in
+    let all = i.all in let all_others = i.all_others in let one = e.all in
+    let room = i.room in let others_room = i.others_room in
     record {
-      home = subst (λ v. All (λ p. desk_of p ≡ a) v.items) (sym passes) pushed_pass;
-      others = c.collect-room.ensures.home;
+      home = pushed (λ p. desk_of p ≡ a) c.loop-job.back.passes.items c.hand_back-fault.new.back.passes.items c.finish-fault.new.worker.pass e.passes i.home is.pass;
+      others = e.home;
       left = both.0;
-      all = omega (arith, all, fewer, more, ap (λ v. length v.items) passes);
+      all = omega (arith, all, fewer, more);
       all_others = omega (arith, all_others, less, same_others, one);
-      room = omega (arith, room, kept, ap (λ v. vec_capacity v) passes);
-      others_room = omega (arith, others_room, kept_others);
+      room = omega (arith, room, e.room.0);
+      others_room = omega (arith, others_room, e.room.1);
+      finished = (
+        c.in-Some.job ∷ i.finished.0,
+        i.finished.1 ∙ ap (λ l. l ++ i.finished.0) c.in-Some.ensures.items ∙ append_assoc c.pop.new.self.items (c.in-Some.job ∷ []) i.finished.0,
+        none_of_three c.loop-job.fault c.finish-fault.result c.hand_back-fault.result
+            (HandBack (map (λ j. j.worker) i.finished.0) c.loop-job.back.passes.items c.loop-job.back.others.items c.loop-job.back.followers.items)
+            (Finishes (plain c.in-Some.job.worker) (plain c.finish-fault.new.worker))
+            (c.hand_back-fault.new.back.followers.items ≡ c.loop-job.back.followers.items ++ followers_in c.finish-fault.new.worker.task)
+            (HandBack (c.in-Some.job.worker ∷ map (λ j. j.worker) i.finished.0) c.hand_back-fault.new.back.passes.items c.hand_back-fault.new.back.others.items c.hand_back-fault.new.back.followers.items)
+            c.finish-fault.ensures.kept e.kept i.finished.2 c.finish-fault.ensures.done e.followers
+            (λ h done f. one_handed (map (λ j. j.worker) i.finished.0) c.in-Some.job.worker c.finish-fault.new.worker c.loop-job.back.passes.items c.loop-job.back.others.items
+            c.hand_back-fault.new.back.passes.items c.hand_back-fault.new.back.others.items c.loop-job.back.followers.items c.hand_back-fault.new.back.followers.items
+            h (record { back = came; finishes = done }) e.passes e.others f),
+      );
+      kept = kept_on c.args.fault c.loop-job.fault c.finish-fault.result c.hand_back-fault.result i.kept c.finish-fault.ensures.kept e.kept;
     }
 
 -- no pass is back yet
@@ -65,6 +81,8 @@ loop-job-init g c = let a = identity c.args.desks.now.first in let b = identity 
       all_others = omega (arith, ap length none_of);
       room = c.requires.room;
       others_room = c.requires.others_room;
+      finished = ([], sym (append-nil c.args.jobs.items), if_none c.args.fault _ (none_handed c.args.back.now.passes.items c.args.back.now.others.items c.args.back.now.followers.items none none_of c.requires.taken.2));
+      kept = kept_still c.args.fault;
     }
 
 pub loop-job-smaller : goal.loop-job-smaller
@@ -87,3 +105,13 @@ returns-clause-all_others g c =
     let all = c.loop-job.invariant.all_others in
     let none = no_length c.loop-job.jobs.items (omega (arith, c.in_default.ensures.cases.0, c.loop-job.jobs.ok.0)) in
     omega (arith, all, ap (sum_by (λ j. others_in j.worker.task)) none)
+
+pub returns-clause-finished : goal.returns-clause-finished
+returns-clause-finished g c =
+    let i = c.loop-job.invariant in
+    let none = no_length c.loop-job.jobs.items (omega (arith, c.in_default.ensures.cases.0, c.loop-job.jobs.ok.0)) in
+    let gone = i.finished.1 ∙ ap (λ l. l ++ i.finished.0) none in
+    subst (λ l. IfNone c.loop-job.fault (HandBack (map (λ j. j.worker) l) c.loop-job.back.passes.items c.loop-job.back.others.items c.loop-job.back.followers.items)) (sym gone) i.finished.2
+
+pub returns-clause-kept : goal.returns-clause-kept
+returns-clause-kept g c = c.loop-job.invariant.kept

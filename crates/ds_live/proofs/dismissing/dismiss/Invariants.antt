@@ -1,7 +1,8 @@
-use Rattle.std.proofs.Common.{All, ◌≡◌, ◌+◌, ◌≤◌, length, sum_by, vec_capacity}
+use Rattle.std.proofs.Common.{All, ◌≡◌, ◌+◌, ◌≤◌, List, ◌++◌, length, map, Some, IfNone, IfSome, sum_by, vec_capacity}
 use Rattle.desk.specs.Desk.{identity}
 use Rattle.desk.specs.Pass.{desk_of}
 use Rattle.ds_workers.specs.Workers.{IsOf, others_in}
+use Rattle.ds_live.specs.Dismissed.{HandBack}
 use Rattle.ds_live.proofs.dismissing.dismiss.Given as goal
 
 -- the passes that are back, and the jobs that have the others
@@ -14,6 +15,9 @@ invariant-loop-job g l = record {
   all_others : sum_by (λ j. others_in j.worker.task) l.jobs.items + length l.back.others.items ≡ sum_by (λ j. others_in j.worker.task) l.fn.jobs.items;
   room : length l.fn.jobs.items ≤ vec_capacity l.back.passes;
   others_room : sum_by (λ j. others_in j.worker.task) l.fn.jobs.items ≤ vec_capacity l.back.others;
+  finished : (gone : List _) × (l.fn.jobs.items ≡ l.jobs.items ++ gone)
+      × IfNone l.fault (HandBack (map (λ j. j.worker) gone) l.back.passes.items l.back.others.items l.back.followers.items);
+  kept : IfSome l.fn.fault (λ was. l.fault ≡ Some was);
 }
 
 abbrev pub decreases-loop-job : goal.decreases-loop-job

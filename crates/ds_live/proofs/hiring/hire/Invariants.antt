@@ -1,7 +1,8 @@
-use Rattle.std.proofs.Common.{All, ◌≡◌, ◌+◌, ◌≤◌, [], length, sum_by, vec_capacity}
+use Rattle.std.proofs.Common.{All, ◌≡◌, ◌+◌, ◌≤◌, [], ◌++◌, length, map, sum_by, vec_capacity}
 use Rattle.desk.specs.Desk.{identity}
-use Rattle.desk.specs.Pass.{desk_of}
-use Rattle.ds_workers.specs.Workers.{IsOf, others_in}
+use Rattle.desk.specs.Pass.{calls, desk_of}
+use Rattle.ds_workers.specs.Workers.{IsOf, others_in, plain}
+use Rattle.ds_live.specs.Run.{IsReady, downward}
 use Rattle.ds_live.proofs.hiring.hire.Given as goal
 
 -- the passes that are left, and the jobs of the others
@@ -17,6 +18,11 @@ invariant-loop-pass g l = record {
   room : length l.fn.back.passes.items ≤ vec_capacity l.jobs;
   passes_room : length l.fn.back.passes.items ≤ vec_capacity l.back.passes;
   others_room : 1 ≤ vec_capacity l.back.others;
+  fresh : All (λ p. calls p ≡ []) l.back.passes.items;
+  ready : All (λ j. IsReady l.fn.sizes (plain j.worker)) l.jobs.items;
+  numbered : map (λ j. j.worker.index) l.jobs.items ++ downward (length l.back.passes.items) ≡ downward (length l.fn.back.passes.items);
+  gates : All (λ j. j.gate.now ≡ l.fn.gate) l.jobs.items;
+  followers : l.back.followers ≡ l.fn.back.followers;
 }
 
 abbrev pub decreases-loop-pass : goal.decreases-loop-pass

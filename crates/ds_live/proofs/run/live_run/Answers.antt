@@ -1,7 +1,9 @@
 use Rattle.std.proofs.Common.{arith}
-use Rattle.desk.specs.Desk.{identity}
+use Rattle.desk.specs.Desk.{first_call, identity, opened_with}
 use Rattle.crew.proofs.BackLemmas.{each_back, same_length, same_sum}
 use Rattle.ds_workers.specs.Workers.{ComesBack, IsOf, others_in}
+use Rattle.ds_live.proofs.HistoryLemmas.{closes_after}
+use Rattle.ds_live.proofs.RunLemmas.{has_run, none_of_two, ok_of_three, without_fault}
 use Rattle.ds_live.proofs.run.live_run.Goals as goal
 
 pub dismiss-fault-requires-clause-of_desks : goal.dismiss-fault-requires-clause-of_desks
@@ -42,6 +44,27 @@ hire-requires-clause-count g c = (omega (arith, c.in_ok-first.ensures.count.1, c
 
 pub dismiss-fault-requires-clause-taken : goal.dismiss-fault-requires-clause-taken
 dismiss-fault-requires-clause-taken g c = c.in_ok-jobs.ensures.taken
+
+pub hire-requires-clause-fresh : goal.hire-requires-clause-fresh
+hire-requires-clause-fresh g c = (c.in_ok-first.ensures.fresh, c.in_ok-second.ensures.fresh)
+
+-- without a fault: the jobs before and after the run, what was handed back, and the closed desks
+pub returns-clause-ran : goal.returns-clause-ran
+returns-clause-ran g c =
+    let js = c.in_ok-jobs.jobs.items in let ks = c.work_all-jobs.result.0.items in let e = c.in_ok-jobs.ensures in let back = c.dismiss-fault.new.back in
+    let first = c.in_ok-first.first in let second = c.in_ok-second.second in
+    without_fault c.dismiss-fault.result c.close_both.result _ _ c.close_both.ensures.fault
+    (none_of_two c.work_all-jobs.result.1 c.dismiss-fault.result _ _ c.dismiss-fault.ensures.kept c.work_all-jobs.ensures.took c.dismiss-fault.ensures.finished)
+    (λ q. ok_of_three c.close_both.result _ _ _ _
+    (λ run here there left. has_run g.G.Gate.answers (λ j. j.gate.now) (λ j. j.worker) c.args.gate.now c.args.sizes js ks back.passes.items back.others.items back.followers.items
+    run.followers.items run.first.machine.value run.second.machine.value e.ready e.gates e.numbered (omega (arith, e.all, c.in_ok-first.ensures.count.1, c.workers.ensures)) c.work_all-jobs.ensures.back q.0 q.1
+    (λ ps same. closes_after 1 (opened_with first) (first_call first) back.passes.items run.first ps c.in_ok-first.ensures.opened here same)
+    (λ ps same. closes_after 2 (opened_with second) (first_call second) back.others.items run.second ps c.in_ok-second.ensures.opened there same)
+    left)
+    c.close_both.ensures.first c.close_both.ensures.second c.close_both.ensures.followers)
+
+pub returns-clause-report : goal.returns-clause-report
+returns-clause-report g c = c.close_both.ensures.report
 
 pub returns-clause-account : goal.returns-clause-account
 returns-clause-account g c = c.close_both.ensures.account

@@ -1,27 +1,41 @@
-use Rattle.std.proofs.Common.{refl, ◌∙◌}
-use Rattle.ds_workers.proofs.TurnLemmas.{seat_called_more, seat_called_none}
+use Rattle.std.proofs.Common.{refl, ◌∙◌, ◌++◌, []}
+use Rattle.ds_pass.proofs.RecordLemmas.{made_more, made_none}
+use Rattle.ds_workers.proofs.WorkerLemmas.{theirs_both}
 use Rattle.ds_workers.proofs.following.bring_up_at.Goals as goal
 
 pub loop-init : goal.loop-init
-loop-init g c = (tt, tt, seat_called_none c.args.seat.now, c.requires, record { sub = refl; query = refl })
+loop-init g c = record {
+  next = (tt, tt);
+  seat = refl;
+  calls = ([], made_none c.args.seat.now.pass, tt);
+  keeps = c.requires;
+  same = record { sub = refl; query = refl };
+}
 
 pub loop-preserved : goal.loop-preserved
 loop-preserved g c =
-    let l = c.loop in
-    let e = c.in_ok-fresh.ensures in (
-      tt,
-      tt,
-      seat_called_more c.args.seat.now l.seat c.refresh.new.seat l.invariant.2 (e.only.0, (e.only.1.own, e.only.1.made)),
-      e.keeps,
-      record { sub = e.same.sub ∙ l.invariant.4.sub; query = e.same.query ∙ l.invariant.4.query },
-    )
+    let l = c.loop in let i = l.invariant in let e = c.in_ok-fresh.ensures in let f = c.args.follower.now in record {
+      next = (tt, tt);
+      seat = e.only.0 ∙ i.seat;
+      calls = (
+        i.calls.0 ++ e.only.1.own,
+        made_more c.args.seat.now.pass l.seat.pass c.refresh.new.seat.pass i.calls.0 e.only.1.own i.calls.1 e.only.1.made,
+        theirs_both f l.follower i.calls.0 e.only.1.own i.same.sub i.same.query i.calls.2 e.only.1.theirs,
+      );
+      keeps = e.keeps;
+      same = record { sub = e.same.sub ∙ i.same.sub; query = e.same.query ∙ i.same.query };
+    }
 
 pub returns-in_err-fresh-clause-called : goal.returns-in_err-fresh-clause-called
 returns-in_err-fresh-clause-called g c =
-    let only = c.in_err-fresh.ensures.only in
-    seat_called_more c.args.seat.now c.loop.seat c.refresh.new.seat c.loop.invariant.2 (only.0, (only.1.own, only.1.made))
+    let l = c.loop in let i = l.invariant in let only = c.in_err-fresh.ensures.only in (
+      only.0 ∙ i.seat,
+      (i.calls.0 ++ only.1.own, made_more c.args.seat.now.pass l.seat.pass c.refresh.new.seat.pass i.calls.0 only.1.own i.calls.1 only.1.made),
+    )
 
 pub returns-in-UpTo-clause-called : goal.returns-in-UpTo-clause-called
 returns-in-UpTo-clause-called g c =
-    let only = c.in_ok-fresh.ensures.only in
-    seat_called_more c.args.seat.now c.loop.seat c.refresh.new.seat c.loop.invariant.2 (only.0, (only.1.own, only.1.made))
+    let l = c.loop in let i = l.invariant in let only = c.in_ok-fresh.ensures.only in (
+      only.0 ∙ i.seat,
+      (i.calls.0 ++ only.1.own, made_more c.args.seat.now.pass l.seat.pass c.refresh.new.seat.pass i.calls.0 only.1.own i.calls.1 only.1.made),
+    )

@@ -1,8 +1,19 @@
+use Rattle.std.proofs.Common.{List}
+use Rattle.history.specs.declared.entry.Entry.{Entry}
+use Rattle.ds_machine.specs.declared.command.Command.{Command}
+use Rattle.ds_machine.specs.declared.reply.Reply.{Reply}
+use Rattle.ds_pass.specs.Called.{Made}
+use Rattle.ds_pass.specs.Seat.{IsSameSeat}
 use Rattle.ds_refresh.specs.Follower.{IsSameFollower}
 use Rattle.ds_refresh.specs.KeepsUp.{KeepsUpWith}
-use Rattle.ds_workers.specs.Turns.{SeatHasCalled}
+use Rattle.ds_refresh.specs.Refresh.{AreOfFollower}
 use Rattle.ds_workers.proofs.following.bring_up_at.Given as goal
 
 abbrev pub invariant-loop : goal.invariant-loop
-invariant-loop g l = (goal.iterator-loop g).can_next l.iterator' × (goal.iterator-loop g).is_finite l.iterator' × SeatHasCalled l.fn.seat l.seat
-    × KeepsUpWith l.seat.pass l.follower × IsSameFollower l.fn.follower l.follower
+invariant-loop g l = record {
+  next : (goal.iterator-loop g).can_next l.iterator' × (goal.iterator-loop g).is_finite l.iterator';
+  seat : IsSameSeat l.fn.seat l.seat;
+  calls : (own : List (Entry Command Reply)) × Made l.fn.seat.pass l.seat.pass own × AreOfFollower l.fn.follower.sub l.fn.follower.map.query own;
+  keeps : KeepsUpWith l.seat.pass l.follower;
+  same : IsSameFollower l.fn.follower l.follower;
+}

@@ -1,0 +1,17 @@
+use Rattle.std.proofs.Common.{refl, sym, subst, ◌∙◌, ℕ, add-one}
+use Rattle.ds_pass.specs.Record.{pass_record}
+use Rattle.ds_workers.specs.Commands.{each_below, publisher_label}
+use Rattle.ds_workers.specs.Turns.{WereAccepted}
+use Rattle.ds_workers.proofs.TurnLemmas.{more_accepted, none_accepted}
+use Rattle.ds_live.proofs.hiring.publish_labels.Goals as goal
+
+pub loop-index-init : goal.loop-index-init
+loop-index-init g c = record { stays = refl; accepted = none_accepted (pass_record c.args.pass.now) }
+
+pub loop-index-preserved : goal.loop-index-preserved
+loop-index-preserved g c = let i = c.loop-index.invariant in let n = c.loop-index.index in record {
+  stays = c.publish_label.ensures.stays ∙ i.stays;
+  accepted = subst (λ (k : ℕ). WereAccepted (pass_record c.args.pass.now) (pass_record c.publish_label.new.pass) (each_below publisher_label k)) (sym (add-one n))
+      (more_accepted (pass_record c.args.pass.now) (pass_record c.loop-index.pass) (pass_record c.publish_label.new.pass) (each_below publisher_label n) (publisher_label n) i.accepted
+      c.in_ok-publish_label.ensures.accepted);
+}
