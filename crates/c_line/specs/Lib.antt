@@ -1,3 +1,4 @@
 pub mod Line
 pub mod Calling
 pub mod Text
+pub mod Fast

@@ -1,6 +1,8 @@
 //! Events of RS by structs.
 
 ghost use Rattle.std.specs.Prelude.{◌≡◌};
+ghost use Rattle.c_session.specs.Called.{RestsForNone};
+ghost use Rattle.c_rs.specs.Serving.{SessionDoes};
 ghost use Rattle.c_rs.specs.Event.{ServesEvent, event_of, of_instance, of_label};
 
 use crate::session::RsSession;
@@ -31,13 +33,32 @@ impl RsSession {
     pub fn serve_event(&mut self, alloc: Global, event: &RsEvent, answer: &mut Answer)
         ensures { ServesEvent event.now self.old answer.new self.new }
     {
+        if event.kind == 5 {
+            return self.serve_beat(alloc, event, answer);
+        }
         match event_of(event) {
             Some(what) => self.serve(alloc, what, event.tick, answer),
-            None => {
-                self.told = None;
-                self.session.rest(Answer::no_request(), answer);
-            }
+            None => self.decline(answer),
         }
+    }
+
+    // Reports the heartbeat of a struct.
+    fn serve_beat(&mut self, alloc: Global, event: &RsEvent, answer: &mut Answer)
+        requires { event.now.kind ≡ 5 }
+        ensures { ServesEvent event.now self.old answer.new self.new }
+    {
+        match endpoint(event.generation, event.slot) {
+            Some(instance) => self.fast_beat(alloc, instance, event.tick, answer),
+            None => self.decline(answer),
+        }
+    }
+
+    // Answers a struct that stands for no event. Nothing changes.
+    fn decline(&mut self, answer: &mut Answer)
+        ensures { SessionDoes RestsForNone self.old answer.new self.new }
+    {
+        self.told = None;
+        self.session.rest(Answer::no_request(), answer);
     }
 }
 

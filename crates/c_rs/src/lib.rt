@@ -6,6 +6,7 @@
 mod action;
 mod calling;
 mod event;
+mod fast;
 mod fault;
 mod line;
 mod lines;

@@ -4,7 +4,7 @@ ghost use Rattle.std.specs.Prelude.{◌≡◌};
 ghost use Rattle.c_rs.specs.Lines.{CallsRsLine, CarriesOutBesideRs, CarriesOutCommand, CarriesOutWithRs, PassesOn, refusal_beside_rs};
 
 use crate::session::{RsSession, let_go};
-use c_line::{carry_out, read_bytes};
+use c_line::{carry_out, fast_name_of, fast_retrieve, read_bytes};
 use c_values::Answer;
 use ds_machine::Refusal;
 use rs_store::is_by_rs;
@@ -18,6 +18,28 @@ impl RsSession {
     /// `settings` is then refused as Exists, and a store command from RS as NotAllowed. Any other command is answered as no request, a
     /// bad line by its bad byte, and a line for which memory runs out as a refusal; then nothing changes.
     pub fn call_line(&mut self, alloc: Global, bytes: &[u8], answer: &mut Answer)
+        ensures { CallsRsLine bytes.now self.old answer.new self.new }
+    {
+        match fast_retrieve(bytes) {
+            Some(key) => self.fast_find(alloc, &key, answer),
+            None => self.call_other_line(alloc, bytes, answer),
+        }
+    }
+
+    // Carries out the command on a line, which may be a `nameof`.
+    #[inline(always)]
+    fn call_other_line(&mut self, alloc: Global, bytes: &[u8], answer: &mut Answer)
+        ensures { CallsRsLine bytes.now self.old answer.new self.new }
+    {
+        match fast_name_of(bytes) {
+            Some(endpoint) => self.fast_name(endpoint, answer),
+            None => self.call_any_line(alloc, bytes, answer),
+        }
+    }
+
+    // Carries out the command on any line. Not inlined, because the fast ways need none of its locals.
+    #[inline(never)]
+    fn call_any_line(&mut self, alloc: Global, bytes: &[u8], answer: &mut Answer)
         ensures { CallsRsLine bytes.now self.old answer.new self.new }
     {
         match read_bytes(alloc, bytes) {

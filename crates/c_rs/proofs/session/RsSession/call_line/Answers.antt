@@ -1,13 +1,9 @@
-use Rattle.std.proofs.Common.{inl, inr, refl, ◌∙◌}
+use Rattle.ds_machine.specs.declared.command.Command.TheVariants.{Retrieve}
+use Rattle.script_commands.specs.declared.command.ScriptCommand.TheVariants.{Store}
+use Rattle.c_rs.proofs.LinesLemmas.{carried_line, passes_retrieve}
 use Rattle.c_rs.proofs.session.RsSession.call_line.Goals as goal
 
--- the answer has the place
-pub returns-in-Err-BadLine : goal.returns-in-Err-BadLine
-returns-in-Err-BadLine c =
-    let told = c.rest.ensures.told_is ∙ c.bad_line.ensures in
-    let place-is = c.in-Err-BadLine.place-is in
-    inr (inl (
-      c.in-Err-BadLine.place,
-      rw c.in-Err-BadLine.field-0-is at c.in-Err-BadLine.ensures,
-      record { done = record { told_is = cc; store_is = c.rest.ensures.store_is; kept = c.rest.ensures.kept }; services = refl; told = refl },
-    ))
+pub returns-in-Some : goal.returns-in-Some
+returns-in-Some c =
+    carried_line c.args.bytes.now (Store (Retrieve c.in-Some.key)) c.args.self.now c.fast_find.new.answer c.fast_find.new.self c.in-Some.ensures
+    (passes_retrieve c.args.self.now.services c.in-Some.key c.args.self.now c.fast_find.new.answer c.fast_find.new.self c.fast_find.ensures)

@@ -1,0 +1,13 @@
+use Rattle.std.proofs.Common.{inl, inr, refl, ◌∙◌}
+use Rattle.c_rs.proofs.session.RsSession.call_any_line.Goals as goal
+
+-- the answer has the place
+pub returns-in-Err-BadLine : goal.returns-in-Err-BadLine
+returns-in-Err-BadLine c =
+    let told = c.rest.ensures.told_is ∙ c.bad_line.ensures in
+    let place-is = c.in-Err-BadLine.place-is in
+    inr (inl (
+      c.in-Err-BadLine.place,
+      rw c.in-Err-BadLine.field-0-is at c.in-Err-BadLine.ensures,
+      record { done = record { told_is = cc; store_is = c.rest.ensures.store_is; kept = c.rest.ensures.kept }; services = refl; told = refl },
+    ))
