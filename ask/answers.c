@@ -36,7 +36,7 @@ static bool is_refusal(const char *answer, size_t length) {
 bool printing_put(struct printing *printing, const char *answer, size_t length) {
     struct text table = {0};
     printing->refused |= is_refusal(answer, length);
-    if (!printing->as_table || is_refusal(answer, length)) return write_out(answer, length - 1);
+    if (!printing->as_table || answer_is_notice(answer, length) || is_refusal(answer, length)) return write_out(answer, length - 1);
     bool fine = table_put(answer, length - 1, &table) && write_out(table.bytes, table.length);
     text_free(&table);
     return fine;

@@ -32,13 +32,21 @@ static const char help[] =
     "\n"
     "Statuses: 0 all is answered, 1 a line was refused, or nobody serves SOCKET, or it hung up before it answered, 2 usage.\n";
 
+static const char greeting[] = "dsask: `help` lists the lines, ^D ends\n";
+
 static const char lines[] =
-    "retrieve NAME KIND        what is published           status                  a dsrs' services\n"
-    "nameof ENDPOINT           who has an endpoint         log                     what happened to them\n"
-    "show, all                 everything                  service up LABEL        starts one\n"
-    "subscribe SUB \"PATTERN\" KINDS first|later new|over    service down LABEL      stops one\n"
-    "check SUB MAX             what is new under it        service refresh LABEL   replaces its process\n"
-    "listen SUB                asks for notices            service restart LABEL   starts one that waits or was given up\n"
+    "retrieve NAME KIND        what is published\n"
+    "nameof ENDPOINT           who has an endpoint\n"
+    "show, all                 everything\n"
+    "subscribe SUB \"PATTERN\" KINDS first|later new|over\n"
+    "check SUB MAX             what is new under it\n"
+    "listen SUB                asks for notices\n"
+    "status                    the services of a dsrs\n"
+    "log                       what happened to them\n"
+    "service up LABEL          starts one\n"
+    "service down LABEL        stops one\n"
+    "service refresh LABEL     replaces its process\n"
+    "service restart LABEL     starts one that waits or was given up\n"
     "state, metrics            how a dsfleet is doing\n";
 
 struct options { struct watching watching; const char *socket; char **line; int count; };
@@ -127,11 +135,12 @@ static bool give(struct asking *asking, const char *bytes, size_t length) {
     return text_put(&asking->unsent, bytes, length);
 }
 
-/* At a terminal, `help` is answered here. */
+/* At a terminal, `help` is answered here, and the answer to `status` is a table unless lines are typed ahead. */
 static bool read_input(struct asking *asking) {
     char some[PIECE];
     ssize_t length = read(STDIN_FILENO, some, sizeof some);
     if (length > 0 && asking->prompts && length == 5 && !memcmp(some, "help\n", 5)) return !fputs(lines, stdout) || !fflush(stdout);
+    asking->printing.as_table = !asking->owed && asking->prompts && length == 7 && !memcmp(some, "status\n", 7);
     if (length > 0) return give(asking, some, (size_t)length);
     asking->reads = false;
     return asking->last == '\n' || give(asking, "\n", 1);
@@ -221,6 +230,7 @@ int main(int count, char **words) {
     asking.watching = options.watching.pattern ? &options.watching : NULL;
     asking.reads = !options.count && !asking.watching;
     asking.prompts = asking.reads && isatty(STDIN_FILENO) && isatty(STDOUT_FILENO);
+    if (asking.prompts) fputs(greeting, stderr);
     status = ask(&options, &asking);
     text_free(&asking.unsent);
     text_free(&asking.came);

@@ -72,6 +72,11 @@ static void take(struct rs *rs) {
         if (*it->label && it->is_left_out) rs_end_log(rs, it);
 }
 
+/* What a refusal of RS means here, if its word doesn't say it. */
+static const char *meaning(uint32_t refusal) {
+    return refusal == DS_NOSLOT ? ", fewer slots than in use; 64 without `slots`" : "";
+}
+
 /* RS judges the settings before it says who is still up, so those that it refuses stop nobody. */
 static bool renew(struct rs *rs) {
     struct ds_settings_fault fault = {.service = UINT32_MAX};
@@ -85,7 +90,7 @@ static bool renew(struct rs *rs) {
     rs->repeats |= refusal == DS_NOROOM;
     if (refusal == DS_NOROOM) return false;
     if (!refusal) take(rs);
-    else events_tell(&rs->events, LOG_ERROR, "settings: %s: %s", rs->path, ds_refusal_text(refusal));
+    else events_tell(&rs->events, LOG_ERROR, "settings: %s: %s%s", rs->path, ds_refusal_text(refusal), meaning(refusal));
     finish(rs);
     return true;
 }

@@ -20,20 +20,19 @@ bool settings_read(const char *path, struct text *text, struct events *events) {
     if (!file) return failed(events, path, strerror(errno));
     bool has_room = text_room(text, MOST);
     if (has_room) text->length = fread(text->bytes, 1, MOST, file);
+    int error = !has_room ? ENOMEM : ferror(file) ? errno : EFBIG;
     bool is_whole = has_room && feof(file);
-    errno = !has_room ? ENOMEM : ferror(file) ? EIO : EFBIG;
-    int error = errno;
     fclose(file);
     return is_whole || failed(events, path, strerror(error));
 }
 
-/* Says what `dsctl settings` would say of the file in more words. */
+/* Logs a fault by its word. `dsctl settings` has a sentence for each fault of a text, with its line. */
 static bool refused(struct events *events, const char *path, uint32_t refusal, const struct ds_settings_fault *fault) {
-    char why[100];
-    const char *word = ds_refusal_text(refusal);
-    if (fault->line) snprintf(why, sizeof why, "line %llu: %s", (unsigned long long)fault->line, word);
-    else if (fault->service != UINT32_MAX) snprintf(why, sizeof why, "service %u, counted from 0: %s", fault->service, word);
-    else snprintf(why, sizeof why, "%s", word);
+    char why[120];
+    const char *word = ds_refusal_text(refusal), *more = refusal >= DS_TOML && refusal <= DS_SHAREDNAME ? "; `dsctl settings` explains it" : "";
+    if (fault->line) snprintf(why, sizeof why, "line %llu: %s%s", (unsigned long long)fault->line, word, more);
+    else if (fault->service != UINT32_MAX) snprintf(why, sizeof why, "service %u, counted from 0: %s%s", fault->service, word, more);
+    else snprintf(why, sizeof why, "%s%s", word, more);
     return failed(events, path, why);
 }
 
