@@ -144,12 +144,11 @@ void instances_start(struct instances *all, struct service *service, uint32_t ge
 
 /* ---- its end ---- */
 
-/* Signals the group, unless its first process is reaped: then its number may be another's. A child that hasn't called
- * setsid yet is in no group of its own, so it is signalled by itself, too. */
+/* Signals the group, once, unless its first process is reaped: then its number may be another's. A child that hasn't
+ * called setsid yet is in no group of its own, so it is signalled by itself. */
 static void signal_group(const struct instance *it, int number) {
     if (it->pidfd.file < 0) return;
-    kill(-it->pid, number);
-    syscall(SYS_pidfd_send_signal, it->pidfd.file, number, NULL, 0);
+    if (kill(-it->pid, number)) syscall(SYS_pidfd_send_signal, it->pidfd.file, number, NULL, 0);
 }
 
 /* Its cgroup has who left the group, too, and what is left once the first process is reaped. */

@@ -16,7 +16,7 @@ def lines(host, label="a"):
 def a_log_program_reads_what_its_service_prints(host):
     """LABEL/log/run reads it, in its folder, and what was printed last, too; it gets nothing of an instance's."""
     says = "print('bye', flush=True), os._exit(0)"
-    host.service("a", f"signal.signal(signal.SIGTERM, lambda *_: ({says}))\nprint('one', flush=True)\nprint('two', file=sys.stderr, flush=True)\nlive()\n")
+    host.service("a", f"signal.signal(signal.SIGTERM, lambda *_: ({says}))\nprint('one', flush=True)\nprint('two', file=sys.stderr, flush=True)\nwhile True: signal.pause()\n")
     host.service("a/log", '#!/bin/sh\necho "$DS_LABEL $DS_ENDPOINT$DS_FD$NOTIFY_SOCKET$(ls /proc/self/fd | wc -l)" > out\ncat >> out\necho end >> out\n')
     host.start({"a": ({}, None)})
     until(lambda: len(lines(host)) >= 3, lambda: f"it reads: {lines(host)}")
