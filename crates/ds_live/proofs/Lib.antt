@@ -1,5 +1,6 @@
 pub mod CloseLemmas
 pub mod CrossingLemmas
+pub mod FailLemmas
 pub mod FaultLemmas
 pub mod HireLemmas
 pub mod HistoryLemmas

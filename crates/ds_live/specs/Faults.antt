@@ -18,8 +18,10 @@ use Rattle.ds_refresh.specs.declared.fault.RefreshFault.{RefreshFault}
 use Rattle.ds_refresh.specs.declared.fault.RefreshFault.TheVariants as refreshes
 use Rattle.ds_workers.specs.Commands.{each_below, publisher_label}
 use Rattle.ds_workers.specs.Turns.{WereAccepted}
+use Rattle.ds_workers.specs.Workers.{EndsBy}
 use Rattle.ds_workers.specs.declared.fault.WorkerFault.{WorkerFault}
 use Rattle.ds_workers.specs.declared.fault.WorkerFault.TheVariants as workers
+use Rattle.ds_workers.specs.declared.worker.Worker.{Worker}
 
 -- ---- a fault, as a run reports it
 abbrev pub call_fault : CallFault → LiveFault
@@ -66,6 +68,18 @@ lowest_fault (f ∷ fs) = fault_or (lowest_fault fs) (own_fault f)
 -- Whether the fault is that of the lowest worker that failed. If none did, a thread couldn't be made, or there is no fault.
 abbrev pub HasWorkersFault : List (Option WorkerFault) → Option LiveFault → Type 0
 HasWorkersFault fs fault = (fault ≡ lowest_fault fs) ⊎ (fault ≡ fault_or (lowest_fault fs) (Some NoThread))
+
+-- Whether the fault is that of a worker's turns. v is the worker before them.
+pub record FailsTurns (answers : ℕ → ℕ → Bool → Type 0) (v : Worker PassRecord) (fault : LiveFault) : Type 0 where
+  pub w : Worker PassRecord
+  pub cause : WorkerFault
+  pub ends : EndsBy answers v w cause
+  pub fault_is : own_fault (Some cause) ≡ Some fault
+
+-- Whether the fault is that of one of the jobs.
+abbrev pub OneFails : {J : Type 0} → (J → LiveFault → Type 0) → List J → LiveFault → Type 0
+OneFails fails [] fault = ⊥
+OneFails fails (j ∷ js) fault = fails j fault ⊎ OneFails fails js fault
 
 -- Whether a worker took all of its turns.
 abbrev pub has_ended : Option WorkerFault → Bool

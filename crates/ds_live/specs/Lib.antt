@@ -1,4 +1,5 @@
 pub mod Dismissed
+pub mod Fails
 pub mod Faults
 pub mod Report
 pub mod Run

@@ -51,6 +51,7 @@ module _ (sizes : Sizes) where
   pub record IsReady (w : Worker PassRecord) : Type 0 where
     pub turns : w.turns ≡ sizes.changes
     pub task : IsReadyTask w.index w.pass w.task
+    pub idle : w.fault ≡ None
 
   -- ---- after the turns
 

@@ -1,11 +1,13 @@
 //! The end of the workers, which hand their passes back.
 
-ghost use Rattle.std.specs.Prelude.{All, ◌≡◌, ◌≤◌, ◌<◌, ◌+◌, ◌++◌, ◌∷◌, [], length, map, sum_by, vec_capacity, OnOk, IfNone, IfSome};
+ghost use Rattle.std.specs.Prelude.{All, ◌≡◌, ◌⊎◌, ◌≤◌, ◌<◌, ◌+◌, ◌++◌, ◌∷◌, [], length, map, sum_by};
+ghost use Rattle.std.specs.Prelude.{vec_capacity, OnOk, IfErr, IfNone, IfSome};
 ghost use Rattle.std.specs.declared.option.Option.TheVariants.{Some};
 ghost use Rattle.desk.specs.Desk.{identity};
 ghost use Rattle.desk.specs.Pass.{desk_of};
 ghost use Rattle.ds_workers.specs.Workers.{ComesBack, Finishes, IsOf, others_in, plain};
 ghost use Rattle.ds_live.specs.Dismissed.{HandBack};
+ghost use Rattle.ds_live.specs.Fails.{IsCallsFault};
 ghost use Rattle.ds_live.specs.Tasks.{IsOther, followers_in, passes_in};
 
 use crate::back::Back;
@@ -37,6 +39,7 @@ pub(crate) fn dismiss<R: Wait, G: Gate>(
     ensures finished { IfNone result (HandBack (map (λ j. j.worker) jobs.entry.items)
         back.new.passes.items back.new.others.items back.new.followers.items) }
     ensures kept { IfSome fault (λ was. result ≡ Some was) }
+    ensures cause { IfSome result (λ told. (fault ≡ Some told) ⊎ IsCallsFault told) }
 {
     while let Some(job) = jobs.pop() {
         let Turns { mut worker, .. } = job;
@@ -65,6 +68,7 @@ fn hand_back(
     ensures others { back.new.others.items ≡ back.old.others.items ++ passes_in worker.task }
     ensures followers { IfNone result (back.new.followers.items ≡ back.old.followers.items ++ followers_in worker.task) }
     ensures kept { IfSome fault (λ was. result ≡ Some was) }
+    ensures cause { IfSome result (λ told. (fault ≡ Some told) ⊎ IsCallsFault told) }
 {
     let Worker { pass, task, .. } = worker;
     back.passes.push_reserved(pass);
@@ -86,6 +90,7 @@ fn finish<W: Wait>(
     ensures back { ComesBack worker.old worker.new }
     ensures kept { IfSome fault (λ was. result ≡ Some was) }
     ensures done { IfNone result (Finishes (plain worker.old) (plain worker.new)) }
+    ensures cause { IfSome result (λ told. (fault ≡ Some told) ⊎ IsCallsFault told) }
 {
     if fault.is_some() {
         return fault;
@@ -111,6 +116,7 @@ fn collect(
     ensures passes { back.new.passes ≡ back.old.passes }
     ensures others { back.new.others.items ≡ back.old.others.items ++ passes_in task }
     ensures followers { OnOk result (back.new.followers.items ≡ back.old.followers.items ++ followers_in task) }
+    ensures cause { IfErr result (λ fault. fault ≡ LiveFault.NoRoom) }
 {
     match task {
         Task::Publish => Ok(()),

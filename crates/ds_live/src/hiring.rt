@@ -1,6 +1,7 @@
 //! The beginning of a run.
 
-ghost use Rattle.std.specs.Prelude.{All, ◌≡◌, ◌≤◌, ◌<◌, ◌+◌, ◌-◌, ◌*◌, [], length, map, sum_by, vec_capacity, IfErr, IfOk, IsTrue, OnOk};
+ghost use Rattle.std.specs.Prelude.{All, ◌≡◌, ◌≤◌, ◌<◌, ◌+◌, ◌-◌, ◌*◌, [], length, map, sum_by, vec_capacity, None};
+ghost use Rattle.std.specs.Prelude.{IfErr, IfOk, IsTrue, OnOk};
 ghost use Rattle.desk.specs.Desk.{identity, opened_with, pass_count};
 ghost use Rattle.desk.specs.Pass.{calls, desk_of};
 ghost use Rattle.ds_content.specs.Stands.{ContentStands};
@@ -11,6 +12,7 @@ ghost use Rattle.ds_refresh.specs.Follower.{new_follower};
 ghost use Rattle.ds_workers.specs.Commands.{each_below, every_key, publisher_label};
 ghost use Rattle.ds_workers.specs.Turns.{WereAccepted};
 ghost use Rattle.ds_workers.specs.Workers.{IsOf, IsTask, others_in, plain};
+ghost use Rattle.ds_live.specs.Fails.{IsCallsFault};
 ghost use Rattle.ds_live.specs.Faults.{FailsLabels};
 ghost use Rattle.ds_live.specs.Run.{IsReady, downward};
 ghost use Rattle.ds_live.specs.Sizes.{are_fit};
@@ -42,6 +44,7 @@ pub(crate) fn open_desk(
     ensures count { IfOk result (λ d. (pass_count d.0 ≡ passes) × (length d.1.items ≡ passes)) }
     ensures fresh { IfOk result (λ d. All (λ p. calls p ≡ []) d.1.items) }
     ensures opened { IfOk result (λ d. ContentStands (opened_with d.0).value (opening incarnation 0 256 larger)) }
+    ensures cause { IfErr result (λ fault. fault ≡ LiveFault.NoRoom) }
 {
     let Ok(store) = Store::open(alloc, incarnation, 0, RING) else {
         return Err(LiveFault::NoRoom);
@@ -79,11 +82,13 @@ pub(crate) fn hire<'e, R: Wait, G: Gate>(
     ensures all { IfOk result (λ js. length js.items ≡ length back.old.passes.items) }
     ensures one { IfOk result (λ js. sum_by (λ j. others_in j.worker.task) js.items ≡ 1) }
     ensures ready { IfOk result (λ js. All (λ j. IsReady sizes (plain j.worker)) js.items) }
+    ensures idle { IfOk result (λ js. All (λ j. j.worker.fault ≡ None) js.items) }
     ensures numbered { IfOk result (λ js. map (λ j. j.worker.index) js.items ≡ downward (length js.items)) }
     ensures gates { IfOk result (λ js. All (λ j. j.gate.now ≡ gate.now) js.items) }
     ensures taken { IfOk result (λ js.
         (back.new.passes.items ≡ []) × (back.new.others.items ≡ []) × (back.new.followers.items ≡ [])) }
     ensures room { (length back.old.passes.items ≤ vec_capacity back.new.passes) × (1 ≤ vec_capacity back.new.others) }
+    ensures cause { IfErr result IsCallsFault }
 {
     let Ok(mut jobs) = Vec::with_capacity(alloc, back.passes.len()) else {
         return Err(LiveFault::NoRoom);
@@ -167,6 +172,7 @@ fn task_of(
     ensures publishes { index < sizes.publishers → IfOk result (λ task. task ≡ Task.Publish) }
     ensures follows { sizes.publishers ≤ index →
         IfOk result (λ task. task ≡ Task.Follow (new_follower (8 * (index - sizes.publishers)) every_key)) }
+    ensures cause { IfErr result (λ fault. fault ≡ LiveFault.NoRoom) }
 {
     if index < sizes.publishers {
         return Ok(Task::Publish);

@@ -1,9 +1,12 @@
 //! A run of threads.
 
-ghost use Rattle.std.specs.Prelude.{All, ◌≡◌, ◌≤◌, length, Err, true, false, IfOk, IfSome, OnOk, IsTrue};
+ghost use Rattle.std.specs.Prelude.{All, ◌≡◌, ◌⊎◌, ◌≤◌, length, Err, true, false, IfErr, IfOk, IfSome, OnOk, IsTrue};
+ghost use Rattle.std.specs.declared.option.Option.TheVariants.{Some};
+ghost use Rattle.desk.specs.declared.fault.DeskFault.TheVariants.{Noted};
 ghost use Rattle.desk.specs.Closing.{LeavesHistory};
 ghost use Rattle.desk.specs.Desk.{first_call, identity, opened_with, pass_count};
 ghost use Rattle.desk.specs.Pass.{desk_of};
+ghost use Rattle.ds_live.specs.Fails.{IsLiveFault};
 ghost use Rattle.ds_live.specs.Report.{IsReport, are_exact};
 ghost use Rattle.ds_live.specs.Run.{RunLeaves};
 ghost use Rattle.ds_live.specs.Sizes.{are_fit};
@@ -43,6 +46,7 @@ pub fn live_run<R: Threads + Wait + Sync, G: Gate + Sync>(
 ) -> Result<LiveRun, LiveFault>
     ensures fit { OnOk result (IsTrue (are_fit sizes)) }
     ensures bad_sizes { are_fit sizes ≡ false → result ≡ Err LiveFault.BadSizes }
+    ensures cause { IfErr result (IsLiveFault (G.answers gate.now) sizes) }
     ensures ran { IfOk result (λ run.
         RunLeaves (G.answers gate.now) sizes run.first.machine.value run.second.machine.value run.followers.items) }
     ensures report { IfOk result (λ run.
@@ -80,6 +84,7 @@ fn close_both(
     requires passes { All (λ p. desk_of p ≡ identity first) back.passes.items × (pass_count first ≤ length back.passes.items) }
     requires others { All (λ p. desk_of p ≡ identity second) back.others.items × (pass_count second ≤ length back.others.items) }
     ensures fault { IfSome fault (λ was. result ≡ Err was) }
+    ensures cause { IfErr result (λ told. (fault ≡ Some told) ⊎ ((told ≡ LiveFault.NoRoom) ⊎ (told ≡ LiveFault.Desk Noted))) }
     ensures first { IfOk result (λ run.
         LeavesHistory is_content Turn owed_by (opened_with first) (first_call first) back.passes.items run.first) }
     ensures second { IfOk result (λ run.

@@ -1,11 +1,11 @@
 //! The threads of all workers.
 
-ghost use Rattle.std.specs.Prelude.{All, ◌≡◌, map, true, IfNone};
+ghost use Rattle.std.specs.Prelude.{All, ◌≡◌, ◌⊎◌, map, true, None, IfNone, IfSome};
 ghost use Rattle.std.specs.List.{list_all};
 ghost use Rattle.desk.specs.Desk.{identity};
 ghost use Rattle.crew.specs.Back.{AreBack};
 ghost use Rattle.ds_workers.specs.Workers.{ComesBack, IsOf, TookAll, plain};
-ghost use Rattle.ds_live.specs.Faults.{HasWorkersFault, has_ended, lowest_fault, own_fault};
+ghost use Rattle.ds_live.specs.Faults.{FailsTurns, HasWorkersFault, OneFails, has_ended, lowest_fault, own_fault};
 
 use crate::fault::LiveFault;
 use crew::{GivenUp, run_all};
@@ -20,11 +20,14 @@ pub(crate) fn work_all<'e, R: Threads + Wait + Sync, G: Gate + Sync>(
     given_up: &'e GivenUp,
     jobs: Vec<StoreTurns<'e, R, G>>,
 ) -> (Vec<StoreTurns<'e, R, G>>, Option<LiveFault>)
-    requires { All (λ j. IsOf (identity j.desks.now.first) (identity j.desks.now.second) j.worker) jobs.items }
+    requires of_desks { All (λ j. IsOf (identity j.desks.now.first) (identity j.desks.now.second) j.worker) jobs.items }
+    requires idle { All (λ j. j.worker.fault ≡ None) jobs.items }
     ensures back { AreBack (λ j k. ComesBack j.worker k.worker) 0 jobs.entry.items result.0.items }
     ensures took { IfNone result.1
         (AreBack (λ j k. TookAll (G.answers j.gate.now) (plain j.worker) (plain k.worker)) 0 jobs.entry.items result.0.items) }
     ensures fault { HasWorkersFault (map (λ j. j.worker.fault) result.0.items) result.1 }
+    ensures cause { IfSome result.1 (λ fault. (fault ≡ LiveFault.NoThread)
+        ⊎ OneFails (λ j. FailsTurns (G.answers j.gate.now) (plain j.worker)) jobs.entry.items fault) }
 {
     match run_all(rt, given_up, jobs) {
         Ok(jobs) => {

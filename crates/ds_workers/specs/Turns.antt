@@ -24,6 +24,8 @@ use Rattle.ds_refresh.specs.Refresh.{AreOfFollower, IsUpTo}
 use Rattle.ds_refresh.specs.declared.fault.RefreshFault.{RefreshFault}
 use Rattle.ds_exchange.specs.declared.exchange.Exchanged.{Exchanged}
 use Rattle.ds_exchange.specs.Exchange.{Exchanges}
+use Rattle.ds_exchange.specs.Faults.{IsExchangeFault}
+use Rattle.ds_exchange.specs.declared.fault.ExchangeFault.{ExchangeFault}
 use Rattle.ds_workers.specs.Commands.{each_below, publisher_number}
 use Rattle.ds_workers.specs.declared.fault.WorkerFault.{WorkerFault}
 use Rattle.ds_workers.specs.declared.fault.WorkerFault.TheVariants as faults
@@ -89,6 +91,11 @@ FailsFollowing p q f fault =
     ((fault ≡ faults.Call (calls.Desk BadServer)) × (16 ≤ f.sub / 8))
     ⊎ ((refresh : RefreshFault) × (mid : PassRecord) × (fault ≡ faults.Refresh refresh) × IsRefreshFault 8 mid q f refresh)
 
+-- Whether the fault is that of one of the refreshes, each of at most 65536 calls, that bring a follower up to date.
+abbrev pub FailsBringingUp : PassRecord → PassRecord → FollowerRecord → RefreshFault → Type 0
+FailsBringingUp p q f fault =
+    (mid : PassRecord) × (g : FollowerRecord) × HasCalled p mid × IsSameFollower f g × IsRefreshFault 65536 mid q g fault
+
 -- Whether the map is what the store held under the map's query after all that the pass has seen.
 abbrev pub IsBroughtUp : PassRecord → FollowerRecord → Type 0
 IsBroughtUp q g = (place : ℕ) × IsUpTo q g place
@@ -108,6 +115,11 @@ HasExchangedOften zero p q r s from next = (q ≡ p) × (s ≡ r) × (next ≡ f
 HasExchangedOften (suc count) p q r s from next =
     (t u : PassRecord) × (mid : Option Cursor) × (more : Bool) × HasExchangedOften count p t r u from mid
     × HasExchanged t q u s mid next more
+
+-- Whether the fault is that of an exchange, after some others that were made in order.
+abbrev pub FailsHandingOver : PassRecord → PassRecord → PassRecord → PassRecord → Option Cursor → ExchangeFault → Type 0
+FailsHandingOver p q r s from fault =
+    (t u : PassRecord) × (mid : Option Cursor) × ((count : ℕ) × HasExchangedOften count p t r u from mid) × IsExchangeFault t q u s fault
 
 -- Whether the last exchange of the two passes left nothing more.
 pub record IsHandedOver (q s : PassRecord) : Type 0 where

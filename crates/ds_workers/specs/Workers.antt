@@ -15,6 +15,7 @@ use Rattle.ds_pass.specs.declared.fault.CallFault.{CallFault}
 use Rattle.ds_refresh.specs.Follower.{FollowerRecord, IsSameFollower}
 use Rattle.ds_refresh.specs.KeepsUp.{KeepsUpWith}
 use Rattle.ds_refresh.specs.Refresh.{AreOfFollower}
+use Rattle.ds_refresh.specs.declared.fault.RefreshFault.{RefreshFault}
 use Rattle.ds_exchange.specs.Faults.{IsExchangeFault}
 use Rattle.ds_exchange.specs.declared.fault.ExchangeFault.{ExchangeFault}
 use Rattle.ds_workers.specs.declared.fault.WorkerFault.{WorkerFault}
@@ -23,8 +24,8 @@ use Rattle.ds_workers.specs.declared.task.Task.{Task}
 use Rattle.ds_workers.specs.declared.task.Task.TheVariants.{Exchange, Follow, Publish}
 use Rattle.ds_workers.specs.declared.worker.Worker.{Worker}
 use Rattle.ds_workers.specs.Commands.{each_below, publisher_number}
-use Rattle.ds_workers.specs.Turns.{FailsFollowing, HasCalled, HasExchanged, HasExchangedOften, HasFollowedOn, HasRefreshed, IsBroughtUp}
-use Rattle.ds_workers.specs.Turns.{IsHandedOver, WasAccepted, WereAccepted}
+use Rattle.ds_workers.specs.Turns.{FailsBringingUp, FailsFollowing, FailsHandingOver, HasCalled, HasExchanged, HasExchangedOften}
+use Rattle.ds_workers.specs.Turns.{HasFollowedOn, HasRefreshed, IsBroughtUp, IsHandedOver, WasAccepted, WereAccepted}
 
 -- The type of a pass at a store's desk.
 abbrev pub StorePass : (Z : Type 0) → Ghosts (View (Boxed Z) Command Reply) → Type 0
@@ -156,6 +157,19 @@ FinishesTask p q (Exchange r from) task = ⊥
 
 abbrev pub Finishes : Worker PassRecord → Worker PassRecord → Type 0
 Finishes v w = FinishesTask v.pass w.pass v.task w.task
+
+-- Whether the fault is why the task isn't done: a refresh or an exchange failed. A publisher has nothing to do.
+abbrev pub FailsToFinishTask : PassRecord → PassRecord → Task PassRecord → Task PassRecord → WorkerFault → Type 0
+FailsToFinishTask p q (Follow f) (Follow g) fault =
+    (refresh : RefreshFault) × (fault ≡ faults.Refresh refresh) × FailsBringingUp p q f refresh
+FailsToFinishTask p q (Exchange r from) (Exchange s next) fault =
+    (exchange : ExchangeFault) × (fault ≡ faults.Exchange exchange) × FailsHandingOver p q r s from exchange
+FailsToFinishTask p q Publish task fault = ⊥
+FailsToFinishTask p q (Follow f) task fault = ⊥
+FailsToFinishTask p q (Exchange r from) task fault = ⊥
+
+abbrev pub FailsToFinish : Worker PassRecord → Worker PassRecord → WorkerFault → Type 0
+FailsToFinish v w fault = FailsToFinishTask v.pass w.pass v.task w.task fault
 
 -- Whether the task is done: a follower's map is up to date, or there is no more to exchange.
 abbrev pub IsTaskDone : PassRecord → Task PassRecord → Type 0

@@ -5,7 +5,7 @@ ghost use Rattle.desk.specs.Desk.{identity};
 ghost use Rattle.desk.specs.Pass.{desk_of};
 ghost use Rattle.ds_pass.specs.Record.{pass_record as seen};
 ghost use Rattle.ds_exchange.specs.Faults.{IsExchangeFault};
-ghost use Rattle.ds_workers.specs.Turns.{HasCalled, HasExchanged, HasExchangedOften, IsHandedOver, SeatHasCalled};
+ghost use Rattle.ds_workers.specs.Turns.{FailsHandingOver, HasCalled, HasExchanged, HasExchangedOften, IsHandedOver, SeatHasCalled};
 
 use desk::{Desk, Pass};
 use ds_exchange::{ExchangeFault, exchange_once};
@@ -81,6 +81,7 @@ pub(crate) fn hand_over<W: Wait>(
     ensures handed { OnOk result (IsHandedOver (seen pass.new) (seen other.new)) }
     ensures exchanged { OnOk result ((count : ℕ)
         × HasExchangedOften count (seen pass.old) (seen pass.new) (seen other.old) (seen other.new) cursor.old cursor.new) }
+    ensures fault { IfErr result (FailsHandingOver (seen pass.old) (seen pass.new) (seen other.old) (seen other.new) cursor.old) }
 {
     let mut here = Seat::new(rt, first, pass);
     let mut there = Seat::new(rt, second, other);
@@ -100,6 +101,7 @@ fn hand_over_at<W: Wait>(
     ensures handed { OnOk result (IsHandedOver first.new.pass second.new.pass) }
     ensures exchanged { OnOk result ((count : ℕ)
         × HasExchangedOften count first.old.pass first.new.pass second.old.pass second.new.pass cursor.old cursor.new) }
+    ensures fault { IfErr result (FailsHandingOver first.old.pass first.new.pass second.old.pass second.new.pass cursor.old) }
 {
     for _ in first.rt().forever() {
         let more = exchange_at(first, second, cursor)?;

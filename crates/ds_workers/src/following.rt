@@ -7,7 +7,7 @@ ghost use Rattle.ds_pass.specs.Record.{pass_record as seen};
 ghost use Rattle.ds_refresh.specs.Follower.{IsSameFollower};
 ghost use Rattle.ds_refresh.specs.KeepsUp.{KeepsUpWith};
 ghost use Rattle.ds_refresh.specs.Faults.{IsRefreshFault};
-ghost use Rattle.ds_workers.specs.Turns.{FailsFollowing, HasCalled, HasFollowed, HasRefreshed, SeatHasCalled};
+ghost use Rattle.ds_workers.specs.Turns.{FailsBringingUp, FailsFollowing, HasCalled, HasFollowed, HasRefreshed, SeatHasCalled};
 ghost use Rattle.ds_workers.specs.Workers.{HasBroughtUp};
 
 use crate::fault::WorkerFault;
@@ -106,6 +106,7 @@ pub(crate) fn bring_up<W: Wait>(
     ensures keeps { KeepsUpWith (seen pass.new) follower.new }
     ensures same { IsSameFollower follower.old follower.new }
     ensures brought { OnOk result (HasBroughtUp (seen pass.old) (seen pass.new) follower.old follower.new) }
+    ensures fault { IfErr result (FailsBringingUp (seen pass.old) (seen pass.new) follower.old) }
 {
     let mut seat = Seat::new(rt, desk, pass);
     let told = bring_up_at(&mut seat, alloc, follower);
@@ -124,6 +125,7 @@ fn bring_up_at<W: Wait>(
     ensures keeps { KeepsUpWith seat.new.pass follower.new }
     ensures same { IsSameFollower follower.old follower.new }
     ensures brought { OnOk result (HasBroughtUp seat.old.pass seat.new.pass follower.old follower.new) }
+    ensures fault { IfErr result (FailsBringingUp seat.old.pass seat.new.pass follower.old) }
 {
     for _ in seat.rt().forever() {
         let fresh = refresh(seat, alloc, follower, 65536)?;

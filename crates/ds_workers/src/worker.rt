@@ -2,7 +2,7 @@
 
 ghost use Rattle.std.specs.Prelude.{◌≡◌, true, false, IfErr, OnOk};
 ghost use Rattle.desk.specs.Desk.{identity};
-ghost use Rattle.ds_workers.specs.Workers.{ComesBack, EndsBy, FailsTurn, Finishes, IsOf, TurnTaken, TookAll, Worked, plain};
+ghost use Rattle.ds_workers.specs.Workers.{ComesBack, EndsBy, FailsToFinish, FailsTurn, Finishes, IsOf, TurnTaken, TookAll, Worked, plain};
 
 use crate::exchanging::{exchange, hand_over};
 use crate::fault::WorkerFault;
@@ -121,6 +121,7 @@ impl Worker<Pass<Box<Store>>> {
         requires { IsOf (identity first.now) (identity second.now) self.old }
         ensures back { ComesBack self.old self.new }
         ensures done { OnOk result (Finishes (plain self.old) (plain self.new)) }
+        ensures fault { IfErr result (FailsToFinish (plain self.old) (plain self.new)) }
     {
         match &mut self.task {
             Task::Publish => Ok(()),

@@ -5,6 +5,7 @@ use Rattle.desk.specs.Pass.{desk_of}
 use Rattle.ds_workers.specs.Workers.{Finishes, IsOf, others_in, plain}
 use Rattle.ds_live.specs.Dismissed.{HandBack}
 use Rattle.ds_live.specs.Tasks.{followers_in}
+use Rattle.ds_live.proofs.FailLemmas.{same_or_calls, still_same}
 use Rattle.ds_live.proofs.JobLemmas.{length-last, longer_sum, no_length, other_of, popped, pushed}
 use Rattle.ds_live.proofs.RunLemmas.{if_none, kept_on, kept_still, none_handed, none_of_three, one_handed}
 use Rattle.ds_live.proofs.dismissing.dismiss.Goals as goal
@@ -67,6 +68,8 @@ loop-job-preserved g c = let i = c.loop-job.invariant in let a = identity c.args
             h (record { back = came; finishes = done }) e.passes e.others f),
       );
       kept = kept_on c.args.fault c.loop-job.fault c.finish-fault.result c.hand_back-fault.result i.kept c.finish-fault.ensures.kept e.kept;
+      cause = same_or_calls c.args.fault c.loop-job.fault c.hand_back-fault.result i.cause
+          (same_or_calls c.loop-job.fault c.finish-fault.result c.hand_back-fault.result c.finish-fault.ensures.cause e.cause);
     }
 
 -- no pass is back yet
@@ -83,6 +86,7 @@ loop-job-init g c = let a = identity c.args.desks.now.first in let b = identity 
       others_room = c.requires.others_room;
       finished = ([], sym (append-nil c.args.jobs.items), if_none c.args.fault _ (none_handed c.args.back.now.passes.items c.args.back.now.others.items c.args.back.now.followers.items none none_of c.requires.taken.2));
       kept = kept_still c.args.fault;
+      cause = still_same c.args.fault;
     }
 
 pub loop-job-smaller : goal.loop-job-smaller
@@ -115,3 +119,6 @@ returns-clause-finished g c =
 
 pub returns-clause-kept : goal.returns-clause-kept
 returns-clause-kept g c = c.loop-job.invariant.kept
+
+pub returns-clause-cause : goal.returns-clause-cause
+returns-clause-cause g c = c.loop-job.invariant.cause

@@ -1,8 +1,9 @@
-use Rattle.std.proofs.Common.{All, ◌≡◌, ◌+◌, ◌≤◌, List, ◌++◌, length, map, Some, IfNone, IfSome, sum_by, vec_capacity}
+use Rattle.std.proofs.Common.{All, ◌≡◌, ◌⊎◌, ◌+◌, ◌≤◌, List, ◌++◌, length, map, Some, IfNone, IfSome, sum_by, vec_capacity}
 use Rattle.desk.specs.Desk.{identity}
 use Rattle.desk.specs.Pass.{desk_of}
 use Rattle.ds_workers.specs.Workers.{IsOf, others_in}
 use Rattle.ds_live.specs.Dismissed.{HandBack}
+use Rattle.ds_live.specs.Fails.{IsCallsFault}
 use Rattle.ds_live.proofs.dismissing.dismiss.Given as goal
 
 -- the passes that are back, and the jobs that have the others
@@ -18,6 +19,7 @@ invariant-loop-job g l = record {
   finished : (gone : List _) × (l.fn.jobs.items ≡ l.jobs.items ++ gone)
       × IfNone l.fault (HandBack (map (λ j. j.worker) gone) l.back.passes.items l.back.others.items l.back.followers.items);
   kept : IfSome l.fn.fault (λ was. l.fault ≡ Some was);
+  cause : IfSome l.fault (λ told. (l.fn.fault ≡ Some told) ⊎ IsCallsFault told);
 }
 
 abbrev pub decreases-loop-job : goal.decreases-loop-job

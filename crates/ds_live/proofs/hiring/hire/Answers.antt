@@ -3,6 +3,8 @@ use Rattle.desk.specs.Desk.{identity}
 use Rattle.desk.specs.Pass.{calls, desk_of}
 use Rattle.ds_workers.specs.Workers.{IsOf, others_in, plain}
 use Rattle.ds_live.specs.Run.{IsReady}
+use Rattle.ds_live.specs.Fails.{IsCallsFault}
+use Rattle.ds_live.proofs.FailLemmas.{all_idle, labels_fail, out_of_memory}
 use Rattle.ds_live.proofs.HireLemmas.{all_numbered, labels_called, more_numbered, one_numbered, task_ready}
 use Rattle.ds_live.proofs.JobLemmas.{first_pushed, length-last, longer_sum, no_length, popped, pushed}
 use Rattle.ds_live.proofs.hiring.hire.Goals as goal
@@ -44,6 +46,7 @@ loop-pass-init g c = let a = identity c.args.desks.now.first in let b = identity
               fresh_others.1,
               refl,
             );
+            idle = refl;
           });
       numbered = one_numbered (λ j. j.worker.index) c.in-Ok.jobs.items c.push_reserved.new.self.items _ (length c.pop.new.self.items) (length c.args.back.now.passes.items)
           c.in-Ok.ensures.items c.push_reserved.ensures.items fewer (omega (arith, c.len-2.ensures, c.pop.new.self.ok.0));
@@ -76,7 +79,7 @@ loop-pass-preserved g c = let i = c.loop-pass.invariant in let a = identity c.ar
       others_room = i.others_room;
       fresh = fresh.0;
       ready = pushed (λ j. IsReady c.args.sizes (plain j.worker)) c.loop-pass.jobs.items c.push_reserved-in-Some-pop-2.new.self.items _ c.push_reserved-in-Some-pop-2.ensures.items i.ready
-          (record { turns = refl; task = task_ready c.args.sizes _ c.in-Some-pop-2.pass c.in_ok-task.task fresh.1 c.in_ok-task.ensures.ready });
+          (record { turns = refl; task = task_ready c.args.sizes _ c.in-Some-pop-2.pass c.in_ok-task.task fresh.1 c.in_ok-task.ensures.ready; idle = refl });
       numbered = more_numbered (λ j. j.worker.index) c.loop-pass.jobs.items c.push_reserved-in-Some-pop-2.new.self.items _ (length c.pop-in-loop-pass.new.self.items) (length c.loop-pass.back.passes.items)
           (length c.args.back.now.passes.items) c.push_reserved-in-Some-pop-2.ensures.items fewer i.numbered (omega (arith, c.len-index.ensures, c.pop-in-loop-pass.new.self.ok.0));
       gates = pushed (λ j. j.gate.now ≡ c.args.gate.now) c.loop-pass.jobs.items c.push_reserved-in-Some-pop-2.new.self.items _ c.push_reserved-in-Some-pop-2.ensures.items i.gates refl;
@@ -132,9 +135,19 @@ returns-in_err-task-clause-room g c = let room = c.loop-pass.invariant.passes_ro
 pub returns-clause-ready : goal.returns-clause-ready
 returns-clause-ready g c = c.loop-pass.invariant.ready
 
+pub returns-clause-idle : goal.returns-clause-idle
+returns-clause-idle g c = all_idle (λ j. j.worker) c.args.sizes c.loop-pass.jobs.items c.loop-pass.invariant.ready
+
 pub returns-clause-gates : goal.returns-clause-gates
 returns-clause-gates g c = c.loop-pass.invariant.gates
 
 pub returns-clause-numbered : goal.returns-clause-numbered
 returns-clause-numbered g c = let all = c.loop-pass.invariant.all in
     all_numbered (λ j. j.worker.index) c.loop-pass.jobs.items (length c.loop-pass.back.passes.items) (length c.args.back.now.passes.items) (omega (arith, c.in_default-pop-3.ensures.cases.0)) all c.loop-pass.invariant.numbered
+
+-- why none are hired
+pub returns-in_err-publish_labels-clause-cause : goal.returns-in_err-publish_labels-clause-cause
+returns-in_err-publish_labels-clause-cause g c = labels_fail c.args.sizes.publishers _ _ c.from_residual.result c.in_err-publish_labels.field-0.0 c.from_residual.ensures.1 c.in_err-publish_labels.ensures.fault
+
+pub returns-in_err-task-clause-cause : goal.returns-in_err-task-clause-cause
+returns-in_err-task-clause-cause g c = out_of_memory IsCallsFault c.from_residual-in_err-task.result c.in_err-task.field-0.0 c.from_residual-in_err-task.ensures.1 c.in_err-task.ensures.cause tt

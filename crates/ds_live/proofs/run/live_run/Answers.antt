@@ -1,7 +1,10 @@
-use Rattle.std.proofs.Common.{arith}
+use Rattle.std.proofs.Common.{IsTrue, arith, inr, refl, sym, ◌∙◌}
 use Rattle.desk.specs.Desk.{first_call, identity, opened_with}
 use Rattle.crew.proofs.BackLemmas.{each_back, same_length, same_sum}
 use Rattle.ds_workers.specs.Workers.{ComesBack, IsOf, others_in}
+use Rattle.ds_live.specs.Fails.{IsLiveFault}
+use Rattle.ds_live.specs.Sizes.{are_fit}
+use Rattle.ds_live.proofs.FailLemmas.{calls_told, out_of_memory, run_by_calls, run_failed, told_last}
 use Rattle.ds_live.proofs.HistoryLemmas.{closes_after}
 use Rattle.ds_live.proofs.RunLemmas.{has_run, none_of_two, ok_of_three, without_fault}
 use Rattle.ds_live.proofs.run.live_run.Goals as goal
@@ -68,3 +71,27 @@ returns-clause-report g c = c.close_both.ensures.report
 
 pub returns-clause-account : goal.returns-clause-account
 returns-clause-account g c = c.close_both.ensures.account
+
+-- the fault of the threads, of a worker that can't finish, or of a desk that stays open
+pub returns-clause-cause : goal.returns-clause-cause
+returns-clause-cause g c =
+    let js = c.in_ok-jobs.jobs.items in let e = c.in_ok-jobs.ensures in let sizes = c.args.sizes in let answers = g.G.Gate.answers c.args.gate.now in
+    let fit : IsTrue (are_fit sizes) = sym c.are_fit.ensures ∙ c.if-not-are_fit.false in
+    told_last (IsLiveFault answers sizes) c.work_all-jobs.result.1 c.dismiss-fault.result c.close_both.result
+    (run_failed (λ j. j.worker) g.G.Gate.answers (λ j. j.gate.now) c.args.gate.now sizes fit js c.work_all-jobs.result.1 e.ready e.gates e.numbered
+    (omega (arith, e.all, c.in_ok-first.ensures.count.1, c.workers.ensures)) c.work_all-jobs.ensures.cause)
+    c.dismiss-fault.ensures.cause c.close_both.ensures.cause (run_by_calls answers sizes) (inr refl)
+
+-- and before the threads
+pub returns-in_err-first-clause-cause : goal.returns-in_err-first-clause-cause
+returns-in_err-first-clause-cause g c =
+    out_of_memory (IsLiveFault (g.G.Gate.answers c.args.gate.now) c.args.sizes) c.from_residual.result c.in_err-first.field-0.0 c.from_residual.ensures.1 c.in_err-first.ensures.cause tt
+
+pub returns-in_err-second-clause-cause : goal.returns-in_err-second-clause-cause
+returns-in_err-second-clause-cause g c =
+    out_of_memory (IsLiveFault (g.G.Gate.answers c.args.gate.now) c.args.sizes) c.from_residual-in_err-second.result c.in_err-second.field-0.0 c.from_residual-in_err-second.ensures.1
+    c.in_err-second.ensures.cause tt
+
+pub returns-in_err-jobs-clause-cause : goal.returns-in_err-jobs-clause-cause
+returns-in_err-jobs-clause-cause g c =
+    calls_told (g.G.Gate.answers c.args.gate.now) c.args.sizes c.from_residual-in_err-jobs.result c.in_err-jobs.field-0.0 c.from_residual-in_err-jobs.ensures.1 c.in_err-jobs.ensures.cause

@@ -1,13 +1,15 @@
 use denote.Param.Send.{sendable}
 use Rattle.desk.proofs.CrossingLemmas.{desk_sync}
-use Rattle.std.proofs.Common.{◌≡◌, true}
+use Rattle.std.proofs.Common.{◌≡◌, Some, true, map, ap, inr, ◌∙◌}
 use Rattle.std.specs.List.{list_all}
 use Rattle.crew.specs.Back.{AreBack}
-use Rattle.ds_live.specs.Faults.{has_ended}
+use Rattle.ds_live.specs.Faults.{FailsTurns, OneFails, fault_or, has_ended}
+use Rattle.ds_live.specs.declared.fault.LiveFault.TheVariants.{NoThread}
 use Rattle.ds_workers.specs.Workers.{ComesBack, TookAll, Worked, plain}
 use Rattle.ds_workers.proofs.CrossingLemmas.{turns_send}
 use Rattle.ds_workers.proofs.WorkerLemmas.{is_back}
 use Rattle.ds_live.proofs.CrossingLemmas.{desks_sync, store_slot_send, store_worker_send}
+use Rattle.ds_live.proofs.FailLemmas.{caused, one_failed, or_as}
 use Rattle.ds_live.proofs.RunLemmas.{all_ended, back_all, none_then, took_all}
 use Rattle.ds_live.proofs.working.work_all.Goals as goal
 
@@ -31,3 +33,16 @@ returns-in-Ok-clause-took g c =
     (all_ended (λ j k. Worked (g.G.Gate.answers j.gate.now) j.worker k.worker) (λ j k. TookAll (g.G.Gate.answers j.gate.now) (plain j.worker) (plain k.worker)) (λ j. has_ended j.worker.fault)
     (λ j k w ended. took_all (g.G.Gate.answers j.gate.now) (plain j.worker) (plain k.worker) k.worker.fault w.ended ended) c.args.jobs.items c.in-Ok.jobs.items c.in-Ok.ensures.ran)
     c.fault_of-fault.ensures.none
+
+pub returns-in-Ok-clause-cause : goal.returns-in-Ok-clause-cause
+returns-in-Ok-clause-cause g c =
+    caused (OneFails (λ j. FailsTurns (g.G.Gate.answers j.gate.now) (plain j.worker)) c.args.jobs.items) (map (λ j. j.worker.fault) c.in-Ok.jobs.items) c.fault_of-fault.result
+    c.fault_of-fault.ensures.fault
+    (one_failed (λ j. j.worker) (λ j. g.G.Gate.answers j.gate.now) 0 c.args.jobs.items c.in-Ok.jobs.items c.in-Ok.ensures.ran c.requires.idle)
+
+pub returns-in-Err-clause-cause : goal.returns-in-Err-clause-cause
+returns-in-Err-clause-cause g c =
+    let faults = map (λ j. j.worker.fault) c.in-Err.refused.jobs.items in
+    caused (OneFails (λ j. FailsTurns (g.G.Gate.answers j.gate.now) (plain j.worker)) c.args.jobs.items) faults c.or.result
+    (inr (c.or.ensures ∙ or_as c.find_fault-fault.result (Some NoThread) ∙ ap (λ f. fault_or f (Some NoThread)) c.find_fault-fault.ensures))
+    (one_failed (λ j. j.worker) (λ j. g.G.Gate.answers j.gate.now) c.in-Err.refused.place c.args.jobs.items c.in-Err.refused.jobs.items c.in-Err.ensures.refused c.requires.idle)

@@ -1,4 +1,5 @@
 use Rattle.std.proofs.Common.{refl, ◌∙◌, ◌++◌, []}
+use Rattle.std.proofs.lemmas.Result.{err_from_is_err_and}
 use Rattle.ds_pass.proofs.RecordLemmas.{made_more, made_none}
 use Rattle.ds_workers.proofs.WorkerLemmas.{theirs_both}
 use Rattle.ds_workers.proofs.following.bring_up_at.Goals as goal
@@ -39,3 +40,9 @@ returns-in-UpTo-clause-called g c =
       only.0 ∙ i.seat,
       (i.calls.0 ++ only.1.own, made_more c.args.seat.now.pass l.seat.pass c.refresh.new.seat.pass i.calls.0 only.1.own i.calls.1 only.1.made),
     )
+
+pub returns-in_err-fresh-clause-fault : goal.returns-in_err-fresh-clause-fault
+returns-in_err-fresh-clause-fault g c =
+    let exit = err_from_is_err_and c.from_residual.result c.from_residual.ensures.1 in
+    let l = c.loop in let i = l.invariant in
+    rw (exit.1, exit.2) (l.seat.pass, l.follower, (i.calls.0, i.calls.1), i.same, c.in_err-fresh.ensures.fault)
