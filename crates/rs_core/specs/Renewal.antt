@@ -1,5 +1,6 @@
 -- Renewal: RS continues with other settings. Whatever happens to a service is decided by its label.
-use Rattle.std.specs.Prelude.{◌≡◌, ◌⊎◌, ℕ, ◌+◌, nat_lt, Bool, true, false, not, ◌&&◌, map, List, [], ◌∷◌, Option, Some, None, option_map, unwrap_or, if◌then◌else◌}
+use Rattle.std.specs.Prelude.{◌≡◌, ◌⊎◌, ℕ, ◌+◌, nat_lt, Bool, true, false, not, ◌&&◌, map}
+use Rattle.std.specs.Prelude.{List, [], ◌∷◌, Option, Some, None, option_map, unwrap_or, if◌then◌else◌}
 use Rattle.std.specs.List.{list_any, flat_map}
 use Rattle.ds_entry.specs.SingleNumbered.{IsSingleNumbered}
 use Rattle.history.specs.History.{Path}

@@ -1,5 +1,6 @@
 -- The service that a table of the settings describes, or the table's first fault.
-use Rattle.std.specs.Prelude.{ℕ, Bool, false, not, ◌&&◌, ◌||◌, is_none, List, [], ◌∷◌, ◌++◌, length, codes, Option, Some, None, option_and_then, ok_or, Result, Ok, Err, if◌then◌else◌}
+use Rattle.std.specs.Prelude.{ℕ, Bool, false, not, ◌&&◌, ◌||◌, is_none, List, [], ◌∷◌, ◌++◌}
+use Rattle.std.specs.Prelude.{length, codes, Option, Some, None, option_and_then, ok_or, Result, Ok, Err, if◌then◌else◌}
 use Rattle.toml.specs.Data.{Data, Items, no_items, item, Members, get_member, as_table}
 use Rattle.rs_settings.specs.declared.class.Class.{Class}
 use Rattle.rs_settings.specs.declared.service.Service.{Service}

@@ -15,7 +15,8 @@ use Rattle.trace_model.specs.declared.header.Header.{Header}
 use Rattle.trace_model.specs.Head.{HasNoHead}
 use Rattle.trace_model.specs.Legal.{StepOf, EntryLeads, AllLead, IsTrace, opened_by}
 use Rattle.trace_model.specs.OneReply.{IsTraced}
-use Rattle.trace_model.specs.Text.{TraceEntry, IsEntry, IsHeader, HasNoHeader, MayAsk, MayMerge, command_asked, worded_as, marked, header_text, asked_text, pass_text, merge_text, plus_text, entry_text}
+use Rattle.trace_model.specs.Text.{TraceEntry, IsEntry, IsHeader, HasNoHeader, MayAsk, MayMerge, command_asked, worded_as}
+use Rattle.trace_model.specs.Text.{marked, header_text, asked_text, pass_text, merge_text, plus_text, entry_text}
 use Rattle.trace_model.specs.Verdict.{IsLegal, MayBegin, WantsReply, Fails}
 
 -- What may follow a trace that led to the state.

@@ -30,7 +30,8 @@ use Rattle.trace_record.specs.declared.recorder.Recorder.{Recorder}
 use Rattle.trace_record.specs.Asking.{IsPlaceOfLine, AsksNothing, IsFirstLines, IsRingLine, asked_by}
 use Rattle.trace_record.specs.Reading.{ComesToNext, IsAtLine}
 use Rattle.trace_record.specs.Record.{IsBeforeFault}
-use Rattle.trace_record.specs.Steps.{AddedEntry, AddedLines, AddsEntry, AddsItem, AddsItems, AddsLines, AnswersAsked, FailsAtHead, MissesItem, FailsInEntry, MissesItems, MissesLines, GoesOver, HeadsFrom, IsLackingNext, IsLackingOne, KeepsOutput, KeepsRun, Recorded, AnswersIn}
+use Rattle.trace_record.specs.Steps.{AddedEntry, AddedLines, AddsEntry, AddsItem, AddsItems, AddsLines, AnswersAsked, FailsAtHead, MissesItem, FailsInEntry}
+use Rattle.trace_record.specs.Steps.{MissesItems, MissesLines, GoesOver, HeadsFrom, IsLackingNext, IsLackingOne, KeepsOutput, KeepsRun, Recorded, AnswersIn}
 use Rattle.trace_record.proofs.AskingLemmas.{asked_behind}
 use Rattle.trace_record.proofs.BadLineLemmas.{asks_nothing, front_there, lacks_item, lacks_long}
 use Rattle.trace_record.proofs.EntryLemmas.{recorded_more}

@@ -19,7 +19,8 @@ use Rattle.trace_model.specs.declared.header.Header.{Header}
 use Rattle.trace_model.specs.Head.{IsHeadOf}
 use Rattle.trace_model.specs.Legal.{IsTrace, StepOf, opened_by}
 use Rattle.trace_model.specs.OneReply.{IsTraced}
-use Rattle.trace_model.specs.Text.{TraceEntry, IsHeader, MayAsk, MayMerge, asked_text, command_asked, header_text, marked, plus_text, worded_as}
+use Rattle.trace_model.specs.Text.{TraceEntry, IsHeader, MayAsk, MayMerge, asked_text, command_asked}
+use Rattle.trace_model.specs.Text.{header_text, marked, plus_text, worded_as}
 use Rattle.trace_record.specs.declared.fault.RecordFault.{RecordFault}
 use Rattle.trace_record.specs.declared.fault.RecordFault.TheVariants.{BadLine, WriteFault}
 use Rattle.trace_record.specs.declared.form.Form.{Form}

@@ -31,7 +31,8 @@ use Rattle.trace_walk.specs.declared.place.Place.{Place}
 use Rattle.trace_walk.specs.declared.sweep.Sweep.{Sweep}
 use Rattle.trace_walk.specs.declared.walk.Walk.{Walk}
 use Rattle.trace_walk.specs.Passing.{HasPassed, IsRefusedAs}
-use Rattle.trace_walk.specs.Walking.{Spot, IsAt, HasLine, IsRead, IsLongFault, IsShort, IsWrongBy, Walks, IsFault, Heads, Lists, HasAsked, Hears, IsEnded, IsThere, GoesOnSaying, IsToBeSaid, IsStopFault, IsForStore}
+use Rattle.trace_walk.specs.Walking.{Spot, IsAt, HasLine, IsRead, IsLongFault, IsShort, IsWrongBy, Walks, IsFault, Heads, Lists}
+use Rattle.trace_walk.specs.Walking.{HasAsked, Hears, IsEnded, IsThere, GoesOnSaying, IsToBeSaid, IsStopFault, IsForStore}
 
 -- ---- lines
 

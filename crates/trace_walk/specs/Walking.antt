@@ -28,7 +28,8 @@ use Rattle.trace_model.specs.declared.verdict.Verdict.TheVariants as verdicts
 use Rattle.trace_model.specs.Head.{MayHead, head_text}
 use Rattle.trace_model.specs.Legal.{StepOf}
 use Rattle.trace_model.specs.Noroom.{noroom_line, stopped_line}
-use Rattle.trace_model.specs.Text.{TraceEntry, MayAsk, MayMerge, asked_text, command_asked, entry_text, marked, merge_text, pass_text, plus_text, worded_as}
+use Rattle.trace_model.specs.Text.{TraceEntry, MayAsk, MayMerge, asked_text, command_asked, entry_text}
+use Rattle.trace_model.specs.Text.{marked, merge_text, pass_text, plus_text, worded_as}
 use Rattle.trace_model.specs.Upgrade.{BecomesAs}
 use Rattle.trace_model.specs.Verdict.{IsWrongAt, WantsReply}
 use Rattle.trace_model.specs.Walk.{IsBehind, IsPlaceInEntry, NoneEnds}
