@@ -61,7 +61,23 @@ word_number words.Acted = 16
 
 -- The answer with this word, and zeros.
 abbrev pub worded : Word → Answer
-worded word = record { count = 0; taken = 0; stale = 0; before = 0; after = 0; pieces = 0; word = word_number word; refusal = 0; epoch = 0; seq = 0; value = 0; value_slot = 0; kind = 0; last = 0; owed = replicate 16 0 }
+worded word = record {
+  count = 0;
+  taken = 0;
+  stale = 0;
+  before = 0;
+  after = 0;
+  pieces = 0;
+  word = word_number word;
+  refusal = 0;
+  epoch = 0;
+  seq = 0;
+  value = 0;
+  value_slot = 0;
+  kind = 0;
+  last = 0;
+  owed = replicate 16 0;
+}
 
 -- The answer to a request that isn't a command.
 abbrev pub no_request : Answer

@@ -36,7 +36,8 @@ lacks_field fields =
 -- The service with these parts, if each of them could be read.
 abbrev pub service_of : Option (List ℕ) → Option Class → Option (Option ℕ) → Option ℕ → Option ℕ → Option (List (List ℕ)) →
     Option (Option (List (List ℕ))) → Option (Option (List (List ℕ))) → Option ℕ → Option ℕ → Option Service
-service_of (Some label) (Some class) (Some unit) (Some period) (Some limit) (Some publishes) (Some complains) (Some connects) (Some forget) (Some startup) =
+service_of (Some label) (Some class) (Some unit) (Some period) (Some limit)
+    (Some publishes) (Some complains) (Some connects) (Some forget) (Some startup) =
     Some (record {
       label = label;
       class = class;
