@@ -38,7 +38,9 @@ use Rattle.ds_system.proofs.AskLemmas.{proper_one}
 
 -- ---- the judgement
 -- the service's instance, as RS returned it for the label
-pub up_from : (rs : RsRecord) (label : List ℕ) (i : ℕ) (o : Option State) (state : State) (r : Running) → o ≡ option_map (state_at rs) (place_of_label rs label) → place_of_label rs label ≡ Some i → o ≡ Some state → state ≡ Up r → state_at rs i ≡ Up r
+pub up_from : (rs : RsRecord) (label : List ℕ) (i : ℕ) (o : Option State) (state : State) (r : Running)
+    → o ≡ option_map (state_at rs) (place_of_label rs label) → place_of_label rs label ≡ Some i → o ≡ Some state → state ≡ Up r
+    → state_at rs i ≡ Up r
 up_from rs label i o state r told place is up = some (state_at rs i) state (sym (ap (option_map (state_at rs)) place) ∙ (sym told ∙ is)) ∙ up
   where
     some : (a b : State) → Some a ≡ Some b → a ≡ b
@@ -169,7 +171,9 @@ module _ (value : SystemRecord) (label : List ℕ) (key : Key) (side : Side) whe
             (next, leads, told, refl),
           )
 
-  pub wrote : (content : Body) (it : Instance) (number : Version) (left : NumbererRecord) (reply : Reply) (next : WorldRecord) → judged value.rs value.numberers label key content ≡ Ok it → Gives (numbers_left value.numberers it) left number → IsChange (change_of key label number content)
+  pub wrote : (content : Body) (it : Instance) (number : Version) (left : NumbererRecord) (reply : Reply) (next : WorldRecord)
+      → judged value.rs value.numberers label key content ≡ Ok it → Gives (numbers_left value.numberers it) left number
+      → IsChange (change_of key label number content)
       → EventLeads (Ask side (asking_for it.running.endpoint key number content)) (results.Replied reply) value.world next → IsTold (Ask side (asking_for it.running.endpoint key number content)) (results.Replied reply) value.world next
       → SystemEventLeads (write_event label key content side) (Replied reply) value (written content it number left reply next)
   wrote (Put v) it number left reply next is drawn change leads told = writes (Put v) it number left reply next is drawn change leads told

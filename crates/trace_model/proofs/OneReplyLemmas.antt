@@ -143,7 +143,9 @@ module _ (format : Format) (limits : LimitsRecord) (command : Command) (s t u : 
       (ap (λ (r : Reply). reply_lines AsMerge r limits) one.0, one.1)
 
 -- if memory runs out for an offer, however its reply says so, its text is one, and nothing changed
-pub offer_wants : (limits : LimitsRecord) (s t : State) (i : Item) (reply : Reply) → Step s (Merge (i ∷ [])) reply t → is_some (room_wanted reply) ≡ true → (reply_lines AsOffer reply limits ≡ reply_lines AsOffer (Refused refusals.NoRoom) limits) × (t ≡ s)
+pub offer_wants : (limits : LimitsRecord) (s t : State) (i : Item) (reply : Reply)
+    → Step s (Merge (i ∷ [])) reply t → is_some (room_wanted reply) ≡ true
+    → (reply_lines AsOffer reply limits ≡ reply_lines AsOffer (Refused refusals.NoRoom) limits) × (t ≡ s)
 offer_wants limits s t i reply step e = let one = one_item s t i reply step e in (by_reply reply e one.1, one.0)
   where
     noroom_is : (fault : Refusal) → is_noroom fault ≡ true → fault ≡ refusals.NoRoom

@@ -115,7 +115,8 @@ head_by format limits [] line more each ends text =
 head_by format limits (e ∷ entries) line more each ends text =
     let is : IsEntry format e = each 0 e (omega arith) in
     let h = head_is format e.pass e.asked is.pass is.asked in
-    let split = text ∙ ap (λ (l : List ℕ). l ++ flat_map (entry_text limits) entries) (entry_splits limits e e.asked) ∙ append_assoc (head_text e.pass (head_of e.asked)) (behind_head limits e e.asked) (flat_map (entry_text limits) entries) in
+    let split =
+        text ∙ ap (λ (l : List ℕ). l ++ flat_map (entry_text limits) entries) (entry_splits limits e e.asked) ∙ append_assoc (head_text e.pass (head_of e.asked)) (behind_head limits e e.asked) (flat_map (entry_text limits) entries) in
     let one = lines_one line (head_text e.pass (head_of e.asked)) more (behind_head limits e e.asked ++ flat_map (entry_text limits) entries) ends h.1 split in
     (e.pass, head_of e.asked, subst (IsHeadOf format e.pass (head_of e.asked)) (sym one.0) h.0, subst (λ (l : List ℕ). length l ≤ 4097) (sym one.0) h.2)
 

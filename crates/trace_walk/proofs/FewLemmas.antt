@@ -225,7 +225,9 @@ merge_few s k None a b c e = (omega (arith, a), omega (arith, b), omega (arith, 
 
 -- ---- all commands
 
-few_or : {X : Type 0} (s : State) (o : Option X) (f : X → Reply) (reply : Reply) (new : State) → ((x : X) → o ≡ Some x → IsFewReply (f x)) → (o ≡ None → IsFewReply reply) → IsFewReply (option_map_or {U = Reply × State} (λ x. (f x, s)) o (reply, new)).0
+few_or : {X : Type 0} (s : State) (o : Option X) (f : X → Reply) (reply : Reply) (new : State)
+    → ((x : X) → o ≡ Some x → IsFewReply (f x)) → (o ≡ None → IsFewReply reply)
+    → IsFewReply (option_map_or {U = Reply × State} (λ x. (f x, s)) o (reply, new)).0
 few_or s (Some x) f reply new each own = each x refl
 few_or s None f reply new each own = own refl
 
@@ -361,5 +363,6 @@ by_format One s t (Snapshot scope) reply traced proper small x = few_traced One 
 by_format One s t (Page scope after max) reply traced proper small x = few_traced One s t (Page scope after max) reply traced proper small x
 by_format One s t (Merge items) reply traced proper small x = few_traced One s t (Merge items) reply traced proper small x
 
-pub few_reply : (format : Format) (pass : ℕ) (s t : State) (asked : Asked) (command : Command) (reply : Reply) → IsTraced format s → MayAsk format pass asked → command_asked asked ≡ Some command → StepOf format s command reply t → IsFewReply reply
+pub few_reply : (format : Format) (pass : ℕ) (s t : State) (asked : Asked) (command : Command) (reply : Reply)
+    → IsTraced format s → MayAsk format pass asked → command_asked asked ≡ Some command → StepOf format s command reply t → IsFewReply reply
 few_reply format pass s t asked command reply traced may asks step = by_format format s t command reply traced (asked_proper format pass asked command may asks) (asked_small format pass asked command may asks) step

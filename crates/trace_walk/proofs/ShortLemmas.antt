@@ -197,7 +197,9 @@ text_short said r l items few is =
 
 -- ---- the replies of steps
 
-pub reply_short : (h : Header) (pass : ℕ) (s t : State) (asked : Asked) (command : Command) (reply : Reply) → IsHeader h → IsTraced h.format s → MayAsk h.format pass asked → command_asked asked ≡ Some command → StepOf h.format s command reply t →
+pub reply_short : (h : Header) (pass : ℕ) (s t : State) (asked : Asked) (command : Command) (reply : Reply)
+    → IsHeader h → IsTraced h.format s → MayAsk h.format pass asked → command_asked asked ≡ Some command
+    → StepOf h.format s command reply t →
     (given next left : List ℕ) → reply_lines (worded_as asked) reply h.limits ≡ given ++ (next ++ left) → EndsLine next → length next ≤ 4095
 reply_short h pass s t asked command reply is traced may asks step =
     text_short (worded_as asked) reply h.limits (reply_spelt h.format s t command reply traced (asked_small h.format pass asked command may asks) step).items (few_reply h.format pass s t asked command reply traced may asks step) (limits_are h.format h.limits is.limits)

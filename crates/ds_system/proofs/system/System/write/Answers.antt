@@ -26,7 +26,8 @@ pub returns-in_default : goal.returns-in_default
 returns-in_default c =
     let i = c.self.inside in
     let v = c.args.self.now in
-    let same : system_of i.rs i.numberers.items i.world i.file i.net c.copy_with_room.new.made.items ≡ v = ap (λ (l : List ChangeRecord). system_of i.rs i.numberers.items i.world i.file i.net l) c.copy_with_room.ensures.items ∙ c.self.view_is in
+    let same : system_of i.rs i.numberers.items i.world i.file i.net c.copy_with_room.new.made.items ≡ v =
+        ap (λ (l : List ChangeRecord). system_of i.rs i.numberers.items i.world i.file i.net l) c.copy_with_room.ensures.items ∙ c.self.view_is in
     subst (λ (w : SystemRecord). SystemEventLeads (write_event c.args.label c.args.key.now c.args.content c.args.side) (Refused refusals.NoRoom) v w) (sym same)
     (write_wanting v c.args.label c.args.key.now c.args.side c.args.content (instance_at c.in-Ok.draw.place c.in-Ok.draw.running) c.in-Ok.ensures.drawn)
 
