@@ -70,7 +70,14 @@ module _ (rs : RsRecord) (numberers : List NumbererRecord) (label : List ℕ) (k
 
         module _ (kind : is_of_kind key.kind content ≡ true) (n : NumbererRecord) (numbers : n ≡ numbers_left numberers (instance_at i r)) where
           in_kind : judged rs numberers label key content ≡ cond (is_spent n) (Err SeqSpent) (Ok (instance_at i r))
-          in_kind = in_up ∙ (ap (λ (b : Bool). cond (not b) (Err BadKind) (cond (is_spent (numbers_left numberers (instance_at i r))) (Err SeqSpent) (Ok (instance_at i r)))) kind ∙ ap (λ (m : NumbererRecord). cond (is_spent m) (Err SeqSpent) (Ok (instance_at i r))) (sym numbers))
+          in_kind =
+              in_up
+              ∙ (ap
+                     (λ (b : Bool).
+                         cond (not b) (Err BadKind)
+                             (cond (is_spent (numbers_left numberers (instance_at i r))) (Err SeqSpent) (Ok (instance_at i r))))
+                     kind
+                 ∙ ap (λ (m : NumbererRecord). cond (is_spent m) (Err SeqSpent) (Ok (instance_at i r))) (sym numbers))
 
           pub spent : is_spent n ≡ true → judged rs numberers label key content ≡ Err SeqSpent
           spent e = in_kind ∙ ap (λ (b : Bool). cond b (Err SeqSpent) (Ok (instance_at i r))) e
@@ -144,7 +151,10 @@ module _ (value : SystemRecord) (label : List ℕ) (key : Key) (side : Side) whe
     abbrev pub written : SystemRecord
     written = record value { numberers = slice_set value.numberers it.place left; world = next; made = value.made ++ change_of key label number content ∷ [] }
 
-    module _ (is : judged value.rs value.numberers label key content ≡ Ok it) (drawn : Gives (numbers_left value.numberers it) left number) (change : IsChange (change_of key label number content)) (leads : EventLeads (Ask side (asking_for it.running.endpoint key number content)) (results.Replied reply) value.world next) (told : IsTold (Ask side (asking_for it.running.endpoint key number content)) (results.Replied reply) value.world next) where
+    module _ (is : judged value.rs value.numberers label key content ≡ Ok it) (drawn : Gives (numbers_left value.numberers it) left number)
+        (change : IsChange (change_of key label number content))
+        (leads : EventLeads (Ask side (asking_for it.running.endpoint key number content)) (results.Replied reply) value.world next)
+        (told : IsTold (Ask side (asking_for it.running.endpoint key number content)) (results.Replied reply) value.world next) where
       writes : (s : System) → SystemStands value s → (t : System) × (steps : Steps) × WritesEntry s label key content side reply steps t × SystemStands written t × AreTold value.world steps.events next
       writes s st =
           let led = leads s.world st.world in
@@ -157,7 +167,15 @@ module _ (value : SystemRecord) (label : List ℕ) (key : Key) (side : Side) whe
               number = number;
               left = left;
               drawn = subst (λ (n : List NumbererRecord). Gives (numbers_left n it) left number) (sym st.numberers) drawn;
-              asked = record { steps_are = refl; proper = proper_one event (results.Replied reply) (asking_proper it.running.endpoint key number content (change_parts (change_of key label number content) change)); happen = (led.0, led.1, refl) };
+              asked =
+                  record {
+                    steps_are = refl;
+                    proper =
+                        proper_one event (results.Replied reply)
+                            (asking_proper it.running.endpoint key number content
+                                 (change_parts (change_of key label number content) change));
+                    happen = (led.0, led.1, refl);
+                  };
               system_is = refl;
             },
             record {

@@ -61,7 +61,16 @@ module _ (b : Spot) (old l : LinesContent) (store : ContentRecord) (h : Header) 
       → (IsShort (with_newline line) → HasNoHead h.format (with_newline line))
       → WantsEntry (BadLineAt number)
   head_fails number line before more lines behind counted whole none =
-      let wrong : IsWrongAt b.bytes number b.front = record { before = before; rest = line ∷ more; lines = lines; behind = behind; counted = counted; begins = behind_begins b.front h b.state b.count w.behind; fails = bad_head b.front line more h b.state b.count w.behind whole none } in
+      let wrong : IsWrongAt b.bytes number b.front =
+          record {
+            before = before;
+            rest = line ∷ more;
+            lines = lines;
+            behind = behind;
+            counted = counted;
+            begins = behind_begins b.front h b.state b.count w.behind;
+            fails = bad_head b.front line more h b.state b.count w.behind whole none;
+          } in
       ((b.front, wrong, no_reply b.front h b.state b.count w.behind, none_here b.front), (b.front, wrong, (b.count, legal_front b h w.behind)))
 
   -- it is none

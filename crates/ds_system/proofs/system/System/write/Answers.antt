@@ -56,6 +56,11 @@ returns c =
     subst (λ (x : Command). EventLeads (Ask side x) (results.Replied c.reply-reply.result) i.world c.reply-reply.new.self) c.asking-command.ensures c.reply-reply.ensures.leads in
     let told : IsTold (Ask side (asking_for it.running.endpoint key number content)) (results.Replied c.reply-reply.result) i.world c.reply-reply.new.self =
     subst (λ (x : Command). IsTold (Ask side x) (results.Replied c.reply-reply.result) i.world c.reply-reply.new.self) c.asking-command.ensures c.reply-reply.ensures.told in
-    subst (λ (v : SystemRecord). SystemEventLeads (write_event label key content side) (Replied c.reply-reply.result) v (system_of i.rs (slice_set i.numberers.items it.place left) c.reply-reply.new.self i.file i.net c.push_reserved.new.self.items)) c.self.view_is
+    subst
+        (λ (v : SystemRecord).
+            SystemEventLeads (write_event label key content side) (Replied c.reply-reply.result) v
+                (system_of i.rs (slice_set i.numberers.items it.place left) c.reply-reply.new.self i.file i.net
+                     c.push_reserved.new.self.items))
+        c.self.view_is
     (subst (λ (l : List ChangeRecord). SystemEventLeads (write_event label key content side) (Replied c.reply-reply.result) v (system_of i.rs (slice_set i.numberers.items it.place left) c.reply-reply.new.self i.file i.net l)) (sym made)
     (wrote v label key side content it number left c.reply-reply.result c.reply-reply.new.self is drawn change leads told))
