@@ -73,11 +73,11 @@ module _ (rs : RsRecord) (numberers : List NumbererRecord) (label : List ℕ) (k
           in_kind =
               in_up
               ∙ (ap
-                     (λ (b : Bool).
-                         cond (not b) (Err BadKind)
-                             (cond (is_spent (numbers_left numberers (instance_at i r))) (Err SeqSpent) (Ok (instance_at i r))))
-                     kind
-                 ∙ ap (λ (m : NumbererRecord). cond (is_spent m) (Err SeqSpent) (Ok (instance_at i r))) (sym numbers))
+              (λ (b : Bool).
+              cond (not b) (Err BadKind)
+              (cond (is_spent (numbers_left numberers (instance_at i r))) (Err SeqSpent) (Ok (instance_at i r))))
+              kind
+              ∙ ap (λ (m : NumbererRecord). cond (is_spent m) (Err SeqSpent) (Ok (instance_at i r))) (sym numbers))
 
           pub spent : is_spent n ≡ true → judged rs numberers label key content ≡ Err SeqSpent
           spent e = in_kind ∙ ap (λ (b : Bool). cond b (Err SeqSpent) (Ok (instance_at i r))) e
@@ -172,8 +172,8 @@ module _ (value : SystemRecord) (label : List ℕ) (key : Key) (side : Side) whe
                     steps_are = refl;
                     proper =
                         proper_one event (results.Replied reply)
-                            (asking_proper it.running.endpoint key number content
-                                 (change_parts (change_of key label number content) change));
+                        (asking_proper it.running.endpoint key number content
+                        (change_parts (change_of key label number content) change));
                     happen = (led.0, led.1, refl);
                   };
               system_is = refl;

@@ -47,12 +47,13 @@ older_plain s caller owner generation = by_tests (is_rs caller) (nat_le (next_po
   where
     by_tests : (a b : Bool)
         → IsPlain
-            (cond {A = Reply × State} a
-                (cond b
-                    (Swept (length (tombstones (held s) owner generation)) (owed s (tombstones (held s) owner generation)),
-                     takes_effect s (tombstones (held s) owner generation))
-                    (Refused refusals.Worn, s))
-                (Refused refusals.NotAllowed, s)).0
+        (cond {A = Reply × State} a
+        (cond b (
+          Swept (length (tombstones (held s) owner generation)) (owed s (tombstones (held s) owner generation)),
+          takes_effect s (tombstones (held s) owner generation),
+        )
+        (Refused refusals.Worn, s))
+        (Refused refusals.NotAllowed, s)).0
     by_tests true true = (refl, refl, refl)
     by_tests true false = (refl, refl, refl)
     by_tests false b = (refl, refl, refl)
@@ -202,6 +203,6 @@ reply_is_one format limits pass (askeds.Merge items) command s t u reply other t
 reply_is_one format limits pass (askeds.Line (lines.Offer i)) command s t u reply other traced may e x y h =
     let same : command ≡ Merge (i ∷ []) = sym (same_Some (Merge (i ∷ [])) command e) in
     offer_one format limits s t u i reply other traced
-        (is_merge format s t (i ∷ []) reply (subst (λ (c : Command). StepOf format s c reply t) same x))
-        (is_merge format s u (i ∷ []) other (subst (λ (c : Command). StepOf format s c other u) same y)) h
+    (is_merge format s t (i ∷ []) reply (subst (λ (c : Command). StepOf format s c reply t) same x))
+    (is_merge format s u (i ∷ []) other (subst (λ (c : Command). StepOf format s c other u) same y)) h
 reply_is_one format limits pass (askeds.Line c) command s t u reply other traced may e x y h = merge_one format limits command s t u reply other traced (line_small c command may.0 e) x y h

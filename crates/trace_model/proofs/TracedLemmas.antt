@@ -159,9 +159,9 @@ module _ (s : State) (owner : List ℕ) (generation : ℕ) (traced : IsTraced On
       by_tests : (a b : Bool)
           → nat_le (next_position s + length gone) last_place ≡ b
           → IsTraced One
-              (cond {A = Reply × State} a
-                  (cond b (Swept (length gone) (owed s gone), takes_effect s gone) (Refused refusals.Worn, s))
-                  (Refused refusals.NotAllowed, s)).1
+          (cond {A = Reply × State} a
+          (cond b (Swept (length gone) (owed s gone), takes_effect s gone) (Refused refusals.Worn, s))
+          (Refused refusals.NotAllowed, s)).1
       by_tests true true e = swept_stays (leb-true (next_position s + length gone) last_place e)
       by_tests true false e = traced
       by_tests false b e = traced

@@ -233,25 +233,27 @@ module _ (form : Form) (ring : ℕ) (known : Option (List ℕ)) (first : List �
       → WritesPart mid has waits
       → StopsRecording form known had has WriteFault
   settled_unwritten Holds count whole r p =
-      inr
-          (first ++ r.asking,
-           r.sent ++ waits,
-           count,
-           is_record form ring first r.asking (r.sent ++ waits) r.state count opens r.recorded,
-           part_more had mid has r.sent waits r.written p,
-           by_known known _ (λ bytes k. whole bytes (first ++ r.asking) (r.input bytes k)))
+      inr (
+        first ++ r.asking,
+        r.sent ++ waits,
+        count,
+        is_record form ring first r.asking (r.sent ++ waits) r.state count opens r.recorded,
+        part_more had mid has r.sent waits r.written p,
+        by_known known _ (λ bytes k. whole bytes (first ++ r.asking) (r.input bytes k)),
+      )
 
   -- it failed before
   settled_failed : HasFailed known first had header mid → Appends mid has [] → StopsRecording form known had has WriteFault
   settled_failed r a =
       let p = r.written in
-      inr
-          (first ++ r.asking,
-           r.text,
-           r.count,
-           is_record form ring first r.asking r.text r.state r.count opens r.recorded,
-           (p.0, p.1, p.2, subst (Appends had has) (append-nil p.0) (Appends-trans had mid has p.0 [] p.3 a)),
-           by_known known _ r.input)
+      inr (
+        first ++ r.asking,
+        r.text,
+        r.count,
+        is_record form ring first r.asking r.text r.state r.count opens r.recorded,
+        (p.0, p.1, p.2, subst (Appends had has) (append-nil p.0) (Appends-trans had mid has p.0 [] p.3 a)),
+        by_known known _ r.input,
+      )
 
   -- another fault came
   settled_up_to : (fault : RecordFault) (count : ℕ)
@@ -260,14 +262,15 @@ module _ (form : Form) (ring : ℕ) (known : Option (List ℕ)) (first : List �
       → StopsRecording form known had has fault
   settled_up_to fault count other r a =
       let written = other (r.sent ++ waits) (Appends-trans had mid has r.sent waits r.written a) in
-      inr
-          (first ++ r.asking,
-           r.sent ++ waits,
-           count,
-           is_record form ring first r.asking (r.sent ++ waits) r.state count opens r.recorded,
-           written,
-           by_known known _
-               (λ bytes k. subst (λ (f : Format). IsBeforeFault f fault bytes (first ++ r.asking)) (format_is form ring) (r.input bytes k)))
+      inr (
+        first ++ r.asking,
+        r.sent ++ waits,
+        count,
+        is_record form ring first r.asking (r.sent ++ waits) r.state count opens r.recorded,
+        written,
+        by_known known _
+            (λ bytes k. subst (λ (f : Format). IsBeforeFault f fault bytes (first ++ r.asking)) (format_is form ring) (r.input bytes k)),
+      )
 
   whole_front : (bytes input : List ℕ) → IsAllLines bytes input → IsFirstLines bytes input
   whole_front bytes input w = (w.0, [], subst (HasLines bytes) (sym (append-nil w.0)) w.1, w.2)

@@ -74,12 +74,13 @@ rest_short : (f : Format) (l : LimitsRecord) → FormatHas f l → length (limit
 rest_short One l has = omega arith
 rest_short Two l has =
     let few = few_limits l has in
-    omega
-        (arith,
-         length-append (decimal l.subs) (32 ∷ (decimal l.keys ++ 10 ∷ [])),
-         length-append (decimal l.keys) (10 ∷ []),
-         length-decimal-le 20 l.subs (omega arith) (omega (arith, few.0)) (omega (arith, few.0)),
-         length-decimal-le 20 l.keys (omega arith) (omega (arith, few.1)) (omega (arith, few.1)))
+    omega (
+      arith,
+      length-append (decimal l.subs) (32 ∷ (decimal l.keys ++ 10 ∷ [])),
+      length-append (decimal l.keys) (10 ∷ []),
+      length-decimal-le 20 l.subs (omega arith) (omega (arith, few.0)) (omega (arith, few.0)),
+      length-decimal-le 20 l.keys (omega arith) (omega (arith, few.1)) (omega (arith, few.1)),
+    )
 
 format_short : (f : Format) → length (format_text f) ≡ 8
 format_short One = refl

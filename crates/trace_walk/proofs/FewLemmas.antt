@@ -222,10 +222,10 @@ course_counts (i ∷ items) k n are x =
 merge_few : (s : State) (k : Course) (o : Option Refusal)
     → k.done ≤ 256 → length k.taken ≤ 256 → k.stale ≤ 256 → IsFewStop o
     → IsFewReply
-        (option_map_or {U = Reply}
-            (λ fault. MergeStopped k.done fault (owed s k.taken))
-            o
-            (Merged k.done (length k.taken) k.stale (owed s k.taken)))
+    (option_map_or {U = Reply}
+    (λ fault. MergeStopped k.done fault (owed s k.taken))
+    o
+    (Merged k.done (length k.taken) k.stale (owed s k.taken)))
 merge_few s k (Some r) a b c e = (omega (arith, a), fault_few r e)
 merge_few s k None a b c e = (omega (arith, a), omega (arith, b), omega (arith, c))
 
@@ -309,12 +309,12 @@ module _ (s : State) (reached : IsReached s) (within : IsWithin s) (are : AreIte
   few_outcome (Publish caller key version value overwrite) proper small =
       let a : AskedChange = published caller key version overwrite in
       few_or s (cause_against s a (Put value)) answer_for _ _
-          (λ c e.
-              answer_few c
-                  (change_cause version
-                       (against_asked (standing_of s (asked_in s a (Put value))) (name_of (held s) a.caller) a (Put value)) c
-                       (proper.epoch, proper.seq) e))
-          (λ e. tt)
+      (λ c e.
+      answer_few c
+      (change_cause version
+      (against_asked (standing_of s (asked_in s a (Put value))) (name_of (held s) a.caller) a (Put value)) c
+      (proper.epoch, proper.seq) e))
+      (λ e. tt)
   few_outcome (Delete caller key version) proper small =
       let a : AskedChange = deleted caller key version in
       few_or s (cause_against s a Gone) answer_for _ _ (λ c e. answer_few c (change_cause version (against_asked (standing_of s (asked_in s a Gone)) (name_of (held s) a.caller) a Gone) c (proper.epoch, proper.seq) e)) (λ e. tt)
@@ -355,9 +355,9 @@ module _ (s : State) (owner : List ℕ) (generation : ℕ) where
       by_tests : (a b : Bool)
           → nat_le (next_position s + length gone) last_place ≡ b
           → IsFewReply
-              (cond {A = Reply × State} a
-                  (cond b (Swept (length gone) (owed s gone), takes_effect s gone) (Refused refusals.Worn, s))
-                  (Refused refusals.NotAllowed, s)).0
+          (cond {A = Reply × State} a
+          (cond b (Swept (length gone) (owed s gone), takes_effect s gone) (Refused refusals.Worn, s))
+          (Refused refusals.NotAllowed, s)).0
       by_tests true true e = omega (arith, leb-true (next_position s + length gone) last_place e)
       by_tests true false e = tt
       by_tests false b e = tt

@@ -62,15 +62,15 @@ module _ (b : Spot) (old l : LinesContent) (store : ContentRecord) (h : Header) 
       → WantsEntry (BadLineAt number)
   head_fails number line before more lines behind counted whole none =
       let wrong : IsWrongAt b.bytes number b.front =
-          record {
-            before = before;
-            rest = line ∷ more;
-            lines = lines;
-            behind = behind;
-            counted = counted;
-            begins = behind_begins b.front h b.state b.count w.behind;
-            fails = bad_head b.front line more h b.state b.count w.behind whole none;
-          } in
+      record {
+        before = before;
+        rest = line ∷ more;
+        lines = lines;
+        behind = behind;
+        counted = counted;
+        begins = behind_begins b.front h b.state b.count w.behind;
+        fails = bad_head b.front line more h b.state b.count w.behind whole none;
+      } in
       ((b.front, wrong, no_reply b.front h b.state b.count w.behind, none_here b.front), (b.front, wrong, (b.count, legal_front b h w.behind)))
 
   -- it is none
@@ -116,7 +116,7 @@ module _ (b : Spot) (old l : LinesContent) (store : ContentRecord) (h : Header) 
   plus_wrong line badly.NoRoom number less line_is here none e = (tt, tt)
   plus_wrong line badly.BadLine number less line_is here none e =
       let wrong =
-          wrong_there Form b.front b.bytes (b.front ++ (pass_text pass (merge_text most) ++ flat_map plus_text items)) line l to number (IsPlus h.format) here (plus_place less) (λ plus. none refl plus.0 plus.1 (line_is ∙ plus.2)) e in
+      wrong_there Form b.front b.bytes (b.front ++ (pass_text pass (merge_text most) ++ flat_map plus_text items)) line l to number (IsPlus h.format) here (plus_place less) (λ plus. none refl plus.0 plus.1 (line_is ∙ plus.2)) e in
       (wrong.0, plus_wanted less (BadLineAt number) wrong.1)
 
   pub plus_on : (line : List ℕ) (item : Item) (now : List ℕ)

@@ -62,9 +62,9 @@ gone_push owner generation (d ∷ cs) c = by_test (is_swept owner generation d) 
   where
     by_test : (b : Bool)
         → gone_of owner generation (cs ++ c ∷ [])
-          ≡ gone_of owner generation cs ++ cond (is_swept owner generation c) (tombstone owner generation c ∷ []) []
+        ≡ gone_of owner generation cs ++ cond (is_swept owner generation c) (tombstone owner generation c ∷ []) []
         → map (tombstone owner generation)
-              (cond b (d ∷ filter (is_swept owner generation) (cs ++ c ∷ [])) (filter (is_swept owner generation) (cs ++ c ∷ [])))
+        (cond b (d ∷ filter (is_swept owner generation) (cs ++ c ∷ [])) (filter (is_swept owner generation) (cs ++ c ∷ [])))
         ≡ map (tombstone owner generation) (cond b (d ∷ filter (is_swept owner generation) cs) (filter (is_swept owner generation) cs)) ++ cond (is_swept owner generation c) (tombstone owner generation c ∷ []) []
     by_test true rest = ap (λ (l : List Item). tombstone owner generation d ∷ l) rest
     by_test false rest = rest

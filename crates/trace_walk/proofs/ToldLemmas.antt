@@ -154,7 +154,7 @@ module _ (format : Format) (limits : LimitsRecord) (pass : ℕ) (s : State) (com
   stopped_line_is (askeds.Merge js) t reply done first rest asks step x e text ends is room stops may =
       let same : js ≡ x.items = items_same js x.items (same_Some (commands.Merge js) command asks ∙ x.merge) in
       let said : first ≡ stop_said done =
-          stop_first done (owed s (course s (take done x.items)).taken) limits first rest (few_stop s t x.items reply done x.stops) (ap (λ (r : Reply). reply_lines AsMerge r limits) (sym x.stops.reply_is) ∙ text) ends in
+      stop_first done (owed s (course s (take done x.items)).taken) limits first rest (few_stop s t x.items reply done x.stops) (ap (λ (r : Reply). reply_lines AsMerge r limits) (sym x.stops.reply_is) ∙ text) ends in
       stops js done refl (subst (λ (l : List Item). done < length l) (sym same) x.stops.some_left) (is ∙ ap (λ (l : List ℕ). 60 ∷ 32 ∷ l) said)
     where
       items_same : (a b : List Item) → commands.Merge a ≡ commands.Merge b → a ≡ b
@@ -208,10 +208,10 @@ stop_told format limits pass s items done line traced may less is m =
     let both : HaveOneFirst (reply_lines AsMerge m.reply limits) (reply_lines AsMerge (MergeStopped done refusals.NoRoom 0) limits) =
     record { line = m.first; ends = m.ends; left = m.rest; right = owed_line limits 0; a_is = m.text; b_is = stop_text done 0 limits ∙ ap (λ (l : List ℕ). l ++ owed_line limits 0) (sym said) } in
     let wants : room_wanted m.reply ≡ Some (Some done) =
-        first_lines_tell limits m.reply (MergeStopped done refusals.NoRoom 0)
-            (reply_spelt format s m.new (commands.Merge items) m.reply traced
-                 (asked_small format pass (askeds.Merge items) (commands.Merge items) may refl) step)
-            none both in
+    first_lines_tell limits m.reply (MergeStopped done refusals.NoRoom 0)
+    (reply_spelt format s m.new (commands.Merge items) m.reply traced
+    (asked_small format pass (askeds.Merge items) (commands.Merge items) may refl) step)
+    none both in
     let x = stop_is format s m.new (commands.Merge items) m.reply done step wants in
     subst (λ (l : List Item). (course s (take done l)).stop ≡ None) (items_same x.items items (sym x.merge)) x.stops.not_refused
   where
