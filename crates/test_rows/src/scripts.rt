@@ -29,8 +29,14 @@ const ROWS: [Row; 4] = [
         }),
     },
     Row {
-        script: b"offer eth0 label rs 3.0 = 3/17\nsnapshot *\nside b\ndeliver 0 b *\nshow\nmap \".*\" 1\ndeliver 0 m0 *\nentries 0\nclear 0\nentries 0\nrestart b 3\nshow\ndeliver 1 b *\n",
-        answers: b"taken\neth0 label rs 3.0 = 3/17\nsnapshot 1 1 1\nside b\nmerged 1 1 0\neth0 label rs 3.0 = 3/17\nshown 1\nmap 0\nmerged 1 1 0\neth0 label rs 3.0 = 3/17\nshown 1\ncleared\nshown 0\nrestarted\nshown 0\nrefused nomessage\n",
+        script: b"\
+            offer eth0 label rs 3.0 = 3/17\nsnapshot *\nside b\ndeliver 0 b *\nshow\n\
+            map \".*\" 1\ndeliver 0 m0 *\nentries 0\nclear 0\nentries 0\n\
+            restart b 3\nshow\ndeliver 1 b *\n",
+        answers: b"\
+            taken\neth0 label rs 3.0 = 3/17\nsnapshot 1 1 1\nside b\nmerged 1 1 0\neth0 label rs 3.0 = 3/17\nshown 1\n\
+            map 0\nmerged 1 1 0\neth0 label rs 3.0 = 3/17\nshown 1\ncleared\nshown 0\n\
+            restarted\nshown 0\nrefused nomessage\n",
         end: Ok(13),
     },
     Row {
