@@ -84,6 +84,12 @@ module _ (old new : TableRecord) (t : DriverTable) (stands : TableStands old t) 
       ((replying t endpoint id).1, record { answer_is = one_answer (replying t endpoint id).0 (Ok step) (answers t stands); after = refl; unchanged = tt }, leaves t stands)
   reply_step endpoint id (Err fault) answers leaves same = (
     t,
-    record { answer_is = one_answer (replying t endpoint id).0 (Err fault) (same_answer (replying t endpoint id).0 (Err fault) (answers t stands) (never_wants t endpoint id)); after = tt; unchanged = refl },
+    record {
+      answer_is =
+          one_answer (replying t endpoint id).0 (Err fault)
+          (same_answer (replying t endpoint id).0 (Err fault) (answers t stands) (never_wants t endpoint id));
+      after = tt;
+      unchanged = refl;
+    },
     subst (λ (v : TableRecord). TableStands v t) (sym same) stands,
   )

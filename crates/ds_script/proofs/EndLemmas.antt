@@ -238,12 +238,15 @@ pub come_stop : (fault : ReplayFault) (from mid to had is has : Option (List ℕ
 come_stop fault from mid to had is has policy old pending waiting p whole s =
     elim s [
       | inl t ↦
-          text_stopped fault from to had has p.first policy (p.bytes ++ t.0) waiting p.opened (Consumes-trans from mid to p.bytes t.0 p.read t.1)
-          (stops_then fault to had is has (start p.first policy) old p.bytes pending t.0 (pending ++ t.0) (p.bytes ++ t.0) waiting p.text refl refl t.2)
+          text_stopped fault from to had has p.first policy (p.bytes ++ t.0) waiting p.opened
+          (Consumes-trans from mid to p.bytes t.0 p.read t.1)
+          (stops_then fault to had is has (start p.first policy) old p.bytes pending t.0 (pending ++ t.0) (p.bytes ++ t.0) waiting
+          p.text refl refl t.2)
       | inr t ↦ elim t.2 [
         | inl u ↦
             text_stopped fault from to had has p.first policy p.bytes waiting p.opened (read_all from mid to p.bytes p.read t.0)
-            (stops_then fault to had is has (start p.first policy) old p.bytes pending [] pending p.bytes waiting p.text (append-nil pending) (append-nil p.bytes) u)
+            (stops_then fault to had is has (start p.first policy) old p.bytes pending [] pending p.bytes waiting p.text
+            (append-nil pending) (append-nil p.bytes) u)
         | inr u ↦ subst (λ (f : ReplayFault). Stopped policy f from to had has waiting) (sym u.0) (last_stopped from mid to had is has policy old pending waiting p whole t.0 t.1 u.1)
       ]
     ]

@@ -53,8 +53,8 @@ texts_then a b c old mid new text rest bytes more whole last p left all q =
     record {
       lines = p.lines ++ q.lines;
       split =
-          sym all ∙ ap (λ t. t ++ bytes) p.split ∙ append_assoc (joined p.lines) rest bytes ∙ ap (λ t. joined p.lines ++ t) (left ∙ q.split) ∙ sym (append_assoc (joined p.lines) (joined q.lines) last)
-          ∙ ap (λ t. t ++ last) (sym (joined-append p.lines q.lines));
+          sym all ∙ ap (λ t. t ++ bytes) p.split ∙ append_assoc (joined p.lines) rest bytes ∙ ap (λ t. joined p.lines ++ t) (left ∙ q.split)
+          ∙ sym (append_assoc (joined p.lines) (joined q.lines) last) ∙ ap (λ t. t ++ last) (sym (joined-append p.lines q.lines));
       unbroken = All-append IsUnbroken p.lines q.lines p.unbroken q.unbroken;
       takes = takes_then a b c old mid new p.lines q.lines p.takes q.takes;
     }

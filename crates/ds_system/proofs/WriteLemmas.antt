@@ -72,7 +72,11 @@ module _ (rs : RsRecord) (numberers : List NumbererRecord) (label : List ℕ) (k
           in_kind : judged rs numberers label key content ≡ cond (is_spent n) (Err SeqSpent) (Ok (instance_at i r))
           in_kind =
               in_up
-              ∙ (ap (λ (b : Bool). cond (not b) (Err BadKind) (cond (is_spent (numbers_left numberers (instance_at i r))) (Err SeqSpent) (Ok (instance_at i r)))) kind
+              ∙ (ap
+              (λ (b : Bool).
+              cond (not b) (Err BadKind)
+              (cond (is_spent (numbers_left numberers (instance_at i r))) (Err SeqSpent) (Ok (instance_at i r))))
+              kind
               ∙ ap (λ (m : NumbererRecord). cond (is_spent m) (Err SeqSpent) (Ok (instance_at i r))) (sym numbers))
 
           pub spent : is_spent n ≡ true → judged rs numberers label key content ≡ Err SeqSpent
@@ -147,7 +151,8 @@ module _ (value : SystemRecord) (label : List ℕ) (key : Key) (side : Side) whe
     abbrev pub written : SystemRecord
     written = record value { numberers = slice_set value.numberers it.place left; world = next; made = value.made ++ change_of key label number content ∷ [] }
 
-    module _ (is : judged value.rs value.numberers label key content ≡ Ok it) (drawn : Gives (numbers_left value.numberers it) left number) (change : IsChange (change_of key label number content))
+    module _ (is : judged value.rs value.numberers label key content ≡ Ok it) (drawn : Gives (numbers_left value.numberers it) left number)
+        (change : IsChange (change_of key label number content))
         (leads : EventLeads (Ask side (asking_for it.running.endpoint key number content)) (results.Replied reply) value.world next)
         (told : IsTold (Ask side (asking_for it.running.endpoint key number content)) (results.Replied reply) value.world next) where
       writes : (s : System) → SystemStands value s → (t : System) × (steps : Steps) × WritesEntry s label key content side reply steps t × SystemStands written t × AreTold value.world steps.events next
@@ -165,7 +170,10 @@ module _ (value : SystemRecord) (label : List ℕ) (key : Key) (side : Side) whe
               asked =
                   record {
                     steps_are = refl;
-                    proper = proper_one event (results.Replied reply) (asking_proper it.running.endpoint key number content (change_parts (change_of key label number content) change));
+                    proper =
+                        proper_one event (results.Replied reply)
+                        (asking_proper it.running.endpoint key number content
+                        (change_parts (change_of key label number content) change));
                     happen = (led.0, led.1, refl);
                   };
               system_is = refl;

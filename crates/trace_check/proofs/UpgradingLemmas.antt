@@ -204,4 +204,5 @@ module _ (bytes : List ℕ) (w : Walk) (from : Option (List ℕ)) (walks : Walks
   pub stops_in_header : w.header.format ≡ One → (sent left : List ℕ) → header_text (upgraded w.header) ≡ sent ++ left → IsUpgradedInPart bytes sent
   stops_in_header one sent left split =
       part_of bytes (first_spot bytes w.header) w.lines from refl walks.at sent left 0
-      (subst (λ (l : List ℕ). IsUpgraded (header_text w.header) l 0) split (is_upgraded (first_spot bytes w.header) w.header (header_text (upgraded w.header)) 0 (header_upgrades one)))
+      (subst (λ (l : List ℕ). IsUpgraded (header_text w.header) l 0) split
+      (is_upgraded (first_spot bytes w.header) w.header (header_text (upgraded w.header)) 0 (header_upgrades one)))

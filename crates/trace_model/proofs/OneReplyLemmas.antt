@@ -144,8 +144,8 @@ asked_small format pass (askeds.Merge items) command may e = subst IsSmall (same
 
 -- ---- one reply
 
-module _ (format : Format) (limits : LimitsRecord) (command : Command) (s t u : State) (reply other : Reply) (traced : IsTraced format s) (small : IsSmall command) (x : StepOf format s command reply t)
-    (y : StepOf format s command other u) where
+module _ (format : Format) (limits : LimitsRecord) (command : Command) (s t u : State) (reply other : Reply) (traced : IsTraced format s)
+    (small : IsSmall command) (x : StepOf format s command reply t) (y : StepOf format s command other u) where
   merge_one : HaveOneFirst (reply_lines AsMerge reply limits) (reply_lines AsMerge other limits) → (reply_lines AsMerge reply limits ≡ reply_lines AsMerge other limits) × (t ≡ u)
   merge_one h =
       let one = steps_told format s t u command reply other x y (first_lines_tell limits reply other (reply_spelt format s t command reply traced small x) (reply_spelt format s u command other traced small y) h) in

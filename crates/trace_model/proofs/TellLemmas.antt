@@ -215,7 +215,8 @@ stopped_by limits reply d rest is few e =
     let behind : List ℕ = decimal d ++ 32 ∷ (codes "noroom\n" ++ rest) in
     let low : get_or behind 0 0 < 97 = number_low d (32 ∷ (codes "noroom\n" ++ rest)) few in
     words_stopped d reply last rest few is.few
-    (behind_items (shown_by reply) (codes "stopped") (with_newline (reply_words AsMerge reply) ++ last) behind is.items (above_space (codes "stopped") refl) (omega arith) (λ l. absurd (omega (arith, l, low))) e)
+    (behind_items (shown_by reply) (codes "stopped") (with_newline (reply_words AsMerge reply) ++ last) behind is.items
+    (above_space (codes "stopped") refl) (omega arith) (λ l. absurd (omega (arith, l, low))) e)
 
 -- ---- what is written if memory ran out
 

@@ -97,7 +97,8 @@ head_first pass (Merge count) r s = refl
 first_by : (limits : LimitsRecord) (entries : List TraceEntry) (b : ℕ) (more : List ℕ) → b ∷ more ≡ flat_map (entry_text limits) entries → b ≡ 62
 first_by limits [] b more text = absurd (omega (arith, ap length text))
 first_by limits (e ∷ entries) b more text =
-    ap (λ (l : List ℕ). get_or l 0 0) (text ∙ ap (λ (l : List ℕ). l ++ flat_map (entry_text limits) entries) (entry_splits limits e e.asked))
+    ap (λ (l : List ℕ). get_or l 0 0)
+    (text ∙ ap (λ (l : List ℕ). l ++ flat_map (entry_text limits) entries) (entry_splits limits e e.asked))
     ∙ head_first e.pass (head_of e.asked) (behind_head limits e e.asked) (flat_map (entry_text limits) entries)
 
 goes_first : (format : Format) (limits : LimitsRecord) (s : State) (b : ℕ) (more : List ℕ) → MayComeBehind format limits s (b ∷ more) → b ≡ 62

@@ -120,8 +120,8 @@ pub record IsBehind (known : Option (List ℕ)) (first : List ℕ) (had : Option
   pub at : (bytes : List ℕ) → known ≡ Some bytes → IsAt bytes (first ++ asking) w.lines from
   pub some : first ++ asking ≢ []
 
-module _ (known : Option (List ℕ)) (first : List ℕ) (had : Option (List ℕ)) (h : Header) (w new : Recorder) (from to has : Option (List ℕ)) (next : Result Bool RecordFault) (count : ℕ)
-    (r : Runs known first had h w from has next count) (there : next ≡ Ok true) where
+module _ (known : Option (List ℕ)) (first : List ℕ) (had : Option (List ℕ)) (h : Header) (w new : Recorder) (from to has : Option (List ℕ))
+    (next : Result Bool RecordFault) (count : ℕ) (r : Runs known first had h w from has next count) (there : next ≡ Ok true) where
   abbrev at_line : (bytes : List ℕ) → known ≡ Some bytes → IsAtLine bytes (first ++ r.asking) w.lines from
   at_line bytes k = subst (ComesToNext bytes (first ++ r.asking) w.lines from) there (r.comes bytes k)
 
@@ -268,7 +268,8 @@ module _ (form : Form) (ring : ℕ) (known : Option (List ℕ)) (first : List �
         count,
         is_record form ring first r.asking (r.sent ++ waits) r.state count opens r.recorded,
         written,
-        by_known known _ (λ bytes k. subst (λ (f : Format). IsBeforeFault f fault bytes (first ++ r.asking)) (format_is form ring) (r.input bytes k)),
+        by_known known _
+            (λ bytes k. subst (λ (f : Format). IsBeforeFault f fault bytes (first ++ r.asking)) (format_is form ring) (r.input bytes k)),
       )
 
   whole_front : (bytes input : List ℕ) → IsAllLines bytes input → IsFirstLines bytes input

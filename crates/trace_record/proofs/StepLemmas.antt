@@ -98,7 +98,8 @@ module _ (w mid new : Recorder) (from there to : Option (List ℕ)) (count : ℕ
     keeps_on w mid new x.keeps f.1,
     λ bytes front at.
         lacking_one w.header.format bytes front most fault x.may (omega (arith, x.counted, less))
-        (subst (λ (h : Header). IsLackingNext h.format bytes (front ++ flat_map plus_text items) fault) x.keeps.0 (f.2 bytes (front ++ flat_map plus_text items) (x.over bytes front at))),
+        (subst (λ (h : Header). IsLackingNext h.format bytes (front ++ flat_map plus_text items) fault) x.keeps.0
+        (f.2 bytes (front ++ flat_map plus_text items) (x.over bytes front at))),
   )
 
 -- an item's line isn't reached

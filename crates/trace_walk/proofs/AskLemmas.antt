@@ -50,7 +50,8 @@ pub reply_wanted : (b : Spot) (l : LinesContent) (store : ContentRecord) (h : He
     → IsPlaceInEntry b.front (b.front ++ asked_text pass asked) true IsShort
 reply_wanted b l store h from pass asked kept x =
     place_of b.front _ true (MayReply h.format h.limits b.state asked) IsShort
-    (λ line m. may_short h pass b.state asked line x.behind.trace.header x.behind.traced x.may m) (reply_places b.front h b.state b.count pass asked x.behind x.pass_few x.may)
+    (λ line m. may_short h pass b.state asked line x.behind.trace.header x.behind.traced x.may m)
+    (reply_places b.front h b.state b.count pass asked x.behind x.pass_few x.may)
 
 -- and does
 pub hears : (b : Spot) (old l : LinesContent) (store : ContentRecord) (h : Header) (from to : Option (List ℕ)) (pass : ℕ)
@@ -161,13 +162,15 @@ module _ (b : Spot) (old : LinesContent) (store : ContentRecord) (h : Header) (f
       → MayReply h.format h.limits b.state asked (with_newline x.line) →
       (next left : List ℕ) → reply_lines (worded_as asked) reply h.limits ≡ next ++ left → EndsALine next → with_newline x.line ≡ 60 ∷ 32 ∷ next
   known_by said command reply t f room step m next left is ends =
-      told h.format h.limits pass b.state command (with_newline x.line) asked t reply x.may f.asks (f.steps b.state t reply step) (none_of (room_wanted reply) room) (λ e. f.room (x.line_is ∙ e))
+      told h.format h.limits pass b.state command (with_newline x.line) asked t reply x.may f.asks (f.steps b.state t reply step)
+      (none_of (room_wanted reply) room) (λ e. f.room (x.line_is ∙ e))
       (λ items done e less q. f.stops items done e less (x.line_is ∙ q)) m next left is ends
 
 -- ---- a Merge that was stopped
 
-module _ (b : Spot) (old : LinesContent) (store : ContentRecord) (h : Header) (from : Option (List ℕ)) (pass : ℕ) (items : List Item) (kept : List ℕ) (x : Hears b old store h from pass (askeds.Merge items) kept)
-    (done : ℕ) (less : done < length items) (is : old.line ≡ stopped_line done) where
+module _ (b : Spot) (old : LinesContent) (store : ContentRecord) (h : Header) (from : Option (List ℕ)) (pass : ℕ) (items : List Item)
+    (kept : List ℕ) (x : Hears b old store h from pass (askeds.Merge items) kept) (done : ℕ) (less : done < length items)
+    (is : old.line ≡ stopped_line done) where
   pub stop_known : (reply : AReply) (t : State) → StopsForRoom b.state items reply t done → (next left : List ℕ) → reply_lines AsMerge reply h.limits ≡ next ++ left → EndsALine next → with_newline x.line ≡ 60 ∷ 32 ∷ next
   stop_known reply t stops next left text ends =
       sym x.line_is ∙ is ∙ ap (λ (l : List ℕ). 60 ∷ 32 ∷ l) (sym (stop_first done _ h.limits next left (omega (arith, less, x.may.0)) (ap (λ (r : AReply). reply_lines AsMerge r h.limits) (sym stops.reply_is) ∙ text) ends))

@@ -309,7 +309,12 @@ module _ (s : State) (reached : IsReached s) (within : IsWithin s) (are : AreIte
   few_outcome (Publish caller key version value overwrite) proper small =
       let a : AskedChange = published caller key version overwrite in
       few_or s (cause_against s a (Put value)) answer_for _ _
-      (λ c e. answer_few c (change_cause version (against_asked (standing_of s (asked_in s a (Put value))) (name_of (held s) a.caller) a (Put value)) c (proper.epoch, proper.seq) e)) (λ e. tt)
+      (λ c e.
+      answer_few c
+      (change_cause version
+      (against_asked (standing_of s (asked_in s a (Put value))) (name_of (held s) a.caller) a (Put value)) c
+      (proper.epoch, proper.seq) e))
+      (λ e. tt)
   few_outcome (Delete caller key version) proper small =
       let a : AskedChange = deleted caller key version in
       few_or s (cause_against s a Gone) answer_for _ _ (λ c e. answer_few c (change_cause version (against_asked (standing_of s (asked_in s a Gone)) (name_of (held s) a.caller) a Gone) c (proper.epoch, proper.seq) e)) (λ e. tt)

@@ -22,7 +22,8 @@ pub by_course : (s t : State) (items : List Item) (reply : Reply)
     → (reply ≡ merge_reply s (course s items)) × (t ≡ (course s items).state)
 by_course s t items reply few room step =
     let one =
-    steps_one s t (outcome s (commands.Merge items)).1 (commands.Merge items) reply (outcome s (commands.Merge items)).0 step (inl (inl (record { reply_is = refl; state_is = refl })))
+    steps_one s t (outcome s (commands.Merge items)).1 (commands.Merge items) reply (outcome s (commands.Merge items)).0 step
+    (inl (inl (record { reply_is = refl; state_is = refl })))
     (none_of (room_wanted reply) room ∙ sym (outcomes_want_none s (commands.Merge items))) in
     let out : outcome s (commands.Merge items) ≡ (merge_reply s (course s items), (course s items).state) = ap (λ (o : Option Refusal). merging s items o) (none_stands (length items) few) in
     (one.0 ∙ ap (λ (o : Reply × State). o.0) out, one.1 ∙ ap (λ (o : Reply × State). o.1) out)
@@ -60,4 +61,9 @@ pub other_stop : (s t : State) (first : List Item) (reply : Reply)
 other_stop s t first reply few room step none e =
     let k = course s first in
     none k.done (length k.taken) k.stale (owed s k.taken)
-    ((by_course s t first reply few room step).0 ∙ ap (λ (o : Option Refusal). option_map_or (λ fault. MergeStopped k.done fault (owed s k.taken)) o (Merged k.done (length k.taken) k.stale (owed s k.taken))) e)
+    ((by_course s t first reply few room step).0
+    ∙ ap
+    (λ (o : Option Refusal).
+    option_map_or (λ fault. MergeStopped k.done fault (owed s k.taken)) o
+    (Merged k.done (length k.taken) k.stale (owed s k.taken)))
+    e)

@@ -210,8 +210,8 @@ pub reply_short : (h : Header) (pass : ℕ) (s t : State) (asked : Asked) (comma
     (given next left : List ℕ) → reply_lines (worded_as asked) reply h.limits ≡ given ++ (next ++ left) → EndsLine next → length next ≤ 4095
 reply_short h pass s t asked command reply is traced may asks step =
     text_short (worded_as asked) reply h.limits
-    (reply_spelt h.format s t command reply traced (asked_small h.format pass asked command may asks) step).items (few_reply h.format pass s t asked command reply traced may asks step)
-    (limits_are h.format h.limits is.limits)
+    (reply_spelt h.format s t command reply traced (asked_small h.format pass asked command may asks) step).items
+    (few_reply h.format pass s t asked command reply traced may asks step) (limits_are h.format h.limits is.limits)
 
 pub may_short : (h : Header) (pass : ℕ) (s : State) (asked : Asked) (line : List ℕ) → IsHeader h → IsTraced h.format s → MayAsk h.format pass asked → MayReply h.format h.limits s asked line → IsShort line
 may_short h pass s asked line is traced may m =

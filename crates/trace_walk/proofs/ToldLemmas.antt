@@ -209,7 +209,9 @@ stop_told format limits pass s items done line traced may less is m =
     record { line = m.first; ends = m.ends; left = m.rest; right = owed_line limits 0; a_is = m.text; b_is = stop_text done 0 limits ∙ ap (λ (l : List ℕ). l ++ owed_line limits 0) (sym said) } in
     let wants : room_wanted m.reply ≡ Some (Some done) =
     first_lines_tell limits m.reply (MergeStopped done refusals.NoRoom 0)
-    (reply_spelt format s m.new (commands.Merge items) m.reply traced (asked_small format pass (askeds.Merge items) (commands.Merge items) may refl) step) none both in
+    (reply_spelt format s m.new (commands.Merge items) m.reply traced
+    (asked_small format pass (askeds.Merge items) (commands.Merge items) may refl) step)
+    none both in
     let x = stop_is format s m.new (commands.Merge items) m.reply done step wants in
     subst (λ (l : List Item). (course s (take done l)).stop ≡ None) (items_same x.items items (sym x.merge)) x.stops.not_refused
   where

@@ -12,8 +12,9 @@ returns-in_err-first-clause-none c =
 pub returns-in_err-ring-clause-none : goal.returns-in_err-ring-clause-none
 returns-in_err-ring-clause-none c =
     rw c.from_residual-in_err-ring.ensures
-    (no_second_ring c.args.bytes.now c.in_ok-incarnation.rest.now c.in_ok-first.rest.now c.in_ok-incarnation.incarnation c.in_ok-first.first (omega (arith, c.in_ok-incarnation.ensures.limit))
-    (omega (arith, c.in_ok-first.ensures.limit)) c.in_ok-incarnation.ensures.found c.in_ok-first.ensures.found c.in_err-ring.ensures.none)
+    (no_second_ring c.args.bytes.now c.in_ok-incarnation.rest.now c.in_ok-first.rest.now c.in_ok-incarnation.incarnation c.in_ok-first.first
+    (omega (arith, c.in_ok-incarnation.ensures.limit)) (omega (arith, c.in_ok-first.ensures.limit)) c.in_ok-incarnation.ensures.found
+    c.in_ok-first.ensures.found c.in_err-ring.ensures.none)
 
 pub returns-in_err-subs-clause-none : goal.returns-in_err-subs-clause-none
 returns-in_err-subs-clause-none c =
@@ -43,8 +44,9 @@ returns-in_err-keys-clause-none c =
       third = c.in_ok-ring.ensures.found;
     } in
     rw c.from_residual-in_err-keys.ensures
-    (no_keys c.args.bytes.now c.in_ok-ring.rest.now c.in_ok-subs.rest.now c.in_ok-incarnation.incarnation c.in_ok-first.first c.in_ok-ring.ring c.in_ok-subs.subs t (omega (arith, c.in_ok-ring.ensures.limit))
-    (omega (arith, c.in_ok-subs.ensures.limit)) c.in_ok-subs.ensures.found c.in_err-keys.ensures.none)
+    (no_keys c.args.bytes.now c.in_ok-ring.rest.now c.in_ok-subs.rest.now c.in_ok-incarnation.incarnation c.in_ok-first.first
+    c.in_ok-ring.ring c.in_ok-subs.subs t (omega (arith, c.in_ok-ring.ensures.limit)) (omega (arith, c.in_ok-subs.ensures.limit))
+    c.in_ok-subs.ensures.found c.in_err-keys.ensures.none)
 
 pub returns-then-ring-eq0-clause-none : goal.returns-then-ring-eq0-clause-none
 returns-then-ring-eq0-clause-none c = λ h same is e.
@@ -59,8 +61,10 @@ returns-then-ring-eq0-clause-none c = λ h same is e.
       third = c.in_ok-ring.ensures.found;
     } in
     let all =
-    two_end c.args.bytes.now c.in_ok-ring.rest.now c.in_ok-subs.rest.now c.in_ok-keys.rest.now c.in_ok-incarnation.incarnation c.in_ok-first.first c.in_ok-ring.ring c.in_ok-subs.subs c.in_ok-keys.keys h t
-    (omega (arith, c.in_ok-ring.ensures.limit)) (omega (arith, c.in_ok-subs.ensures.limit)) (omega (arith, c.in_ok-keys.ensures.limit)) c.in_ok-subs.ensures.found c.in_ok-keys.ensures.found same is e in
+    two_end c.args.bytes.now c.in_ok-ring.rest.now c.in_ok-subs.rest.now c.in_ok-keys.rest.now c.in_ok-incarnation.incarnation
+    c.in_ok-first.first c.in_ok-ring.ring c.in_ok-subs.subs c.in_ok-keys.keys h t (omega (arith, c.in_ok-ring.ensures.limit))
+    (omega (arith, c.in_ok-subs.ensures.limit)) (omega (arith, c.in_ok-keys.ensures.limit)) c.in_ok-subs.ensures.found
+    c.in_ok-keys.ensures.found same is e in
     omega (arith, all.0, is.ring.some, c.if-ring-eq0.true)
 
 pub returns-then-not-is_empty-clause-none : goal.returns-then-not-is_empty-clause-none
@@ -76,8 +80,10 @@ returns-then-not-is_empty-clause-none c = λ h same is e.
       third = c.in_ok-ring.ensures.found;
     } in
     let all =
-    two_end c.args.bytes.now c.in_ok-ring.rest.now c.in_ok-subs.rest.now c.in_ok-keys.rest.now c.in_ok-incarnation.incarnation c.in_ok-first.first c.in_ok-ring.ring c.in_ok-subs.subs c.in_ok-keys.keys h t
-    (omega (arith, c.in_ok-ring.ensures.limit)) (omega (arith, c.in_ok-subs.ensures.limit)) (omega (arith, c.in_ok-keys.ensures.limit)) c.in_ok-subs.ensures.found c.in_ok-keys.ensures.found same is e in
+    two_end c.args.bytes.now c.in_ok-ring.rest.now c.in_ok-subs.rest.now c.in_ok-keys.rest.now c.in_ok-incarnation.incarnation
+    c.in_ok-first.first c.in_ok-ring.ring c.in_ok-subs.subs c.in_ok-keys.keys h t (omega (arith, c.in_ok-ring.ensures.limit))
+    (omega (arith, c.in_ok-subs.ensures.limit)) (omega (arith, c.in_ok-keys.ensures.limit)) c.in_ok-subs.ensures.found
+    c.in_ok-keys.ensures.found same is e in
     some_left c.in_ok-keys.rest.now c.if-not-is_empty.ensures all.3
 
 pub returns-in_err-of-clause-none : goal.returns-in_err-of-clause-none
@@ -93,6 +99,7 @@ returns-in_err-of-clause-none c =
       third = c.in_ok-ring.ensures.found;
     } in
     rw c.from_residual-in_err-of.ensures
-    (no_limits c.args.bytes.now c.in_ok-ring.rest.now c.in_ok-subs.rest.now c.in_ok-keys.rest.now c.in_ok-incarnation.incarnation c.in_ok-first.first c.in_ok-ring.ring c.in_ok-subs.subs c.in_ok-keys.keys t
-    (omega (arith, c.in_ok-ring.ensures.limit)) (omega (arith, c.in_ok-subs.ensures.limit)) (omega (arith, c.in_ok-keys.ensures.limit)) c.in_ok-subs.ensures.found c.in_ok-keys.ensures.found
-    (sym c.of.ensures ∙ c.in_err-of.was))
+    (no_limits c.args.bytes.now c.in_ok-ring.rest.now c.in_ok-subs.rest.now c.in_ok-keys.rest.now c.in_ok-incarnation.incarnation
+    c.in_ok-first.first c.in_ok-ring.ring c.in_ok-subs.subs c.in_ok-keys.keys t (omega (arith, c.in_ok-ring.ensures.limit))
+    (omega (arith, c.in_ok-subs.ensures.limit)) (omega (arith, c.in_ok-keys.ensures.limit)) c.in_ok-subs.ensures.found
+    c.in_ok-keys.ensures.found (sym c.of.ensures ∙ c.in_err-of.was))

@@ -57,8 +57,8 @@ loop-rest-preserved c =
             on.0,
             on.1,
             on.2,
-            one_merged s c.args.pass c.args.limits before.0 batch rest more c.loop-rest.merges c.add.new.self c.in_ok-mask.mask is (omega (arith, some)) fills merged.0 before.4 c.in_ok-add.ensures.text
-                c.in_ok-add.ensures.count,
+            one_merged s c.args.pass c.args.limits before.0 batch rest more c.loop-rest.merges c.add.new.self c.in_ok-mask.mask is
+                (omega (arith, some)) fills merged.0 before.4 c.in_ok-add.ensures.text c.in_ok-add.ensures.count,
           );
     }
 

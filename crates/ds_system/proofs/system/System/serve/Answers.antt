@@ -40,8 +40,8 @@ returns-in-Err c =
     SystemEventLeads (events.Service c.args.event c.args.tick c.args.side) (Refused (refusals.Service c.in-Err.fault)) v
     (system_of c.event.new.self i.numberers.items i.world i.file i.net c.room_for-room.new.made.items))
     c.self.view_is
-    (rs_kept (system_of i.rs i.numberers.items i.world i.file i.net i.made.items) c.args.event c.args.tick c.args.side c.in-Err.fault c.event.new.self c.room_for-room.new.made.items c.in-Err.ensures.unchanged
-    c.room_for-room.ensures.made fault)
+    (rs_kept (system_of i.rs i.numberers.items i.world i.file i.net i.made.items) c.args.event c.args.tick c.args.side c.in-Err.fault
+    c.event.new.self c.room_for-room.new.made.items c.in-Err.ensures.unchanged c.room_for-room.ensures.made fault)
 
 pub returns-in-Ok : goal.returns-in-Ok
 returns-in-Ok c =
@@ -50,7 +50,8 @@ returns-in-Ok c =
     let made : c.pass_on.new.made.items ≡ i.made.items ++ offers acts = c.pass_on.ensures.made ∙ ap (λ (l : List ChangeRecord). l ++ offers acts) c.room_for-room.ensures.made in
     subst
     (λ (r : List Reply).
-    SystemEventLeads (events.Service c.args.event c.args.tick c.args.side) (Acted acts r) c.args.self.now (system_of c.event.new.self i.numberers.items c.pass_on.new.world i.file i.net c.pass_on.new.made.items))
+    SystemEventLeads (events.Service c.args.event c.args.tick c.args.side) (Acted acts r) c.args.self.now
+    (system_of c.event.new.self i.numberers.items c.pass_on.new.world i.file i.net c.pass_on.new.made.items))
     (sym c.of.ensures)
     (subst
     (λ (l : List ChangeRecord).

@@ -59,7 +59,8 @@ returns c =
     subst
     (λ (v : SystemRecord).
     SystemEventLeads (write_event label key content side) (Replied c.reply-reply.result) v
-    (system_of i.rs (slice_set i.numberers.items it.place left) c.reply-reply.new.self i.file i.net c.push_reserved.new.self.items))
+    (system_of i.rs (slice_set i.numberers.items it.place left) c.reply-reply.new.self i.file i.net
+    c.push_reserved.new.self.items))
     c.self.view_is
     (subst (λ (l : List ChangeRecord). SystemEventLeads (write_event label key content side) (Replied c.reply-reply.result) v (system_of i.rs (slice_set i.numberers.items it.place left) c.reply-reply.new.self i.file i.net l)) (sym made)
     (wrote v label key side content it number left c.reply-reply.result c.reply-reply.new.self is drawn change leads told))

@@ -103,6 +103,9 @@ returns-in_default-clause-carried c =
     on_each c.append_nomap.result (
       nomap_line,
       subst
-          (λ o. ServersLead (λ a b. AnswersSubmit c.args.server c.args.id c.args.unit (map_items (option_copied o)) a nomap_line b) c.args.self.now c.args.self.now) (sym c.in_default.is)
-          (λ s stands. (s, (refl, refl), stands)),
+          (λ o.
+          ServersLead
+          (λ a b. AnswersSubmit c.args.server c.args.id c.args.unit (map_items (option_copied o)) a nomap_line b) c.args.self.now
+          c.args.self.now)
+          (sym c.in_default.is) (λ s stands. (s, (refl, refl), stands)),
     )
