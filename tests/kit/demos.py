@@ -1,4 +1,4 @@
-"""Seeded scripts that a model answers, too, for services, pairs and store of tests/programs."""
+"""Seeded scripts that a model answers, too, for services and store of tests/programs."""
 import pathlib
 import random
 import tempfile
