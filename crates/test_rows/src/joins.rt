@@ -67,7 +67,7 @@ fn tell_join(text: &mut Vec<u8>, alloc: Global, held: &mut Held, lines: &[&[u8]]
     }
 }
 
-// Writes the first change, and the first behind the key of each.
+// Writes the first change, and the first after the key of each.
 fn tell_by_key(text: &mut Vec<u8>, held: &Held) -> Option<()> {
     let mut after = None;
     for _ in 0..MOST {
