@@ -1,6 +1,6 @@
 use Rattle.std.proofs.Common.{All, take}
 use Rattle.ds_entry.specs.Item.{IsItem}
-use Rattle.ds_world.proofs.parts.read_items.Given as goal
+use Rattle.ds_world.proofs.parts.items_proof.Given as goal
 
 -- those that were read are changes and floors
 abbrev pub invariant-loop-item : goal.invariant-loop-item
