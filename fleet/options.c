@@ -1,10 +1,7 @@
 /* The command line of dsfleet. See options.h. */
 #include "options.h"
-#include "log.h"
 #include <errno.h>
 #include <fcntl.h>
-#include <getopt.h>
-#include <stdio.h>
 #include <stdlib.h>
 #include <string.h>
 #include <unistd.h>
@@ -42,56 +39,36 @@ static const char help[] =
     "`listen SUB`, upon which `notice SUB` comes whenever the subscription is owed one; `as ENDPOINT`; `state`; `metrics`.\n"
     "Statuses: 0 ended by a signal, 1 --check found a fault, 2 usage or a stream of another scope, 3 a failure.\n";
 
-static const char no_group[] = "there is no such group";
-static const char version[] = "dsfleet " DS_VERSION "\n";
-
 enum {
-    PASSWORD = 256,      /* bytes, with the zero */
-    READABLE = 0666,     /* the socket's mode if readers are others than writers */
+    PASSWORD = 256,  /* bytes, with the zero */
+    READABLE = 0666, /* the socket's mode if readers are others than writers */
     MODE_BITS = 0777,
     OCTAL = 8,
     DECIMAL = 10,
     ALL_KINDS = 15
 };
 
-static int usage(const char *why) {
-    fprintf(stderr, "dsfleet: %s; see dsfleet --help\n", why);
-    return USAGE;
-}
-
-static int shown(const char *text) {
-    fputs(text, stdout);
-    return DONE;
+static bool read_mode(void *mode, char *text) {
+    size_t number;
+    bool is_mode = usage_number(text, OCTAL, 1, MODE_BITS, &number);
+    *(mode_t *)mode = (mode_t)number;
+    return is_mode;
 }
 
 /* Cuts the kinds off after the last space. */
-static bool read_scope(char *scope, struct ds_fleet_options *options) {
-    char *space = strrchr(scope, ' '), *end;
-    if (!space) return false;
-    long kinds = strtol(space + 1, &end, DECIMAL);
-    if (*end || end == space + 1 || kinds < 1 || kinds > ALL_KINDS) return false;
+static bool read_scope(void *fleet, char *scope) {
+    struct ds_fleet_options *options = fleet;
+    char *space = strrchr(scope, ' ');
+    size_t kinds;
+    if (!space || !usage_number(space + 1, DECIMAL, 1, ALL_KINDS, &kinds)) return false;
     *space = '\0';
     options->pattern = scope;
     options->kinds = (uint8_t)kinds;
     return true;
 }
 
-static bool read_number(const char *text, int base, long least, long most, long *number) {
-    char *end;
-    *number = strtol(text, &end, base);
-    return !*end && *text >= '0' && *text <= '9' && *number >= least && *number <= most;
-}
-
-static bool read_mode(const char *text, struct place_access *access) {
-    long mode;
-    if (!read_number(text, OCTAL, 1, MODE_BITS, &mode)) return false;
-    access->mode = (mode_t)mode;
-    access->has_mode = true;
-    return true;
-}
-
 /* Reads the first line of a file. */
-static bool read_password(const char *path, struct ds_fleet_options *options) {
+static bool read_password(void *to, char *path) {
     static char password[PASSWORD];
     int file = open(path, O_RDONLY | O_CLOEXEC);
     ssize_t length = file < 0 ? -1 : read(file, password, sizeof password - 1);
@@ -99,7 +76,7 @@ static bool read_password(const char *path, struct ds_fleet_options *options) {
     if (length < 0) return false;
     password[length] = '\0';
     password[strcspn(password, "\r\n")] = '\0';
-    options->password = password;
+    *(const char **)to = password;
     return *password != '\0';
 }
 
@@ -116,98 +93,53 @@ static bool take_url(char *word, struct options *options) {
     return options->url;
 }
 
-/* The options whose value is a number, and what is said of another one. */
-static const struct { int option; long least, most; const char *fault; } numbers[] = {
-    {'k', 1, 1000000000, "a stream keeps 1 to 1000000000 entries"},
-    {'n', 0, 100, "replicas are 0 to 100"},
-    {'i', 1, 60000, "--within is 1 to 60000 milliseconds"},
-    {'x', 1, CLIENTS, "clients are 1 to 512"},
-    {'t', 0, 1000000, "a timeout is 0 to 1000000 seconds"},
-    {'o', CLIENT_FEW, 1 << 30, "an output limit is 16384 to 1073741824 bytes"},
-    {'a', CLIENT_FEW, 1L << 40, "the memory of clients is 16384 to 1099511627776 bytes"},
-};
-
-static void keep_number(int option, long number, struct options *options) {
-    switch (option) {
-    case 'k': options->fleet.keep = number; break;
-    case 'n': options->fleet.replicas = (int)number; break;
-    case 'i': options->fleet.within = (int)number; break;
-    case 'x': options->limits.clients = (size_t)number; break;
-    case 't': options->limits.timeout = (uint64_t)number; break;
-    case 'o': options->limits.output = (size_t)number; break;
-    case 'a': options->limits.all_output = (size_t)number; break;
-    }
-}
-
-static int take_number(int option, const char *value, struct options *options) {
-    long number;
-    for (size_t i = 0; i < sizeof numbers / sizeof *numbers; i++) {
-        if (numbers[i].option != option) continue;
-        if (!read_number(value, DECIMAL, numbers[i].least, numbers[i].most, &number)) return usage(numbers[i].fault);
-        keep_number(option, number, options);
-        return -1;
-    }
-    return usage("no such option, or no value after it");
-}
-
-/* Takes an option; -1: continue. */
-static int read_option(int option, char *value, struct options *options) {
-    switch (option) {
-    case 'h': return shown(help);
-    case 'v': return shown(version);
-    case 'c': options->checks = true; return -1;
-    case 's': options->fleet.stream = value; return -1;
-    case 'p': return read_scope(value, &options->fleet) ? -1 : usage("a scope is a pattern, a space, and kinds from 1 to 15");
-    case 'w': return read_password(value, &options->fleet) ? -1 : usage("the password file can't be read, or its first line is empty");
-    case 'l': return log_read_format(value, &options->logs_json) ? -1 : usage("a log's format is text or json");
-    case 'm': return read_mode(value, &options->access) ? -1 : usage("a mode is octal, 1 to 777");
-    case 'g':
-        options->access.has_group = true;
-        return rights_read_group(value, &options->access.group) ? -1 : usage(no_group);
-    case 'r':
-        options->rights.has_readers = true;
-        return rights_read_group(value, &options->rights.readers) ? -1 : usage(no_group);
-    default: return take_number(option, value, options);
-    }
-}
-
-/* What goes by other words. */
-static int finish(int count, char **words, struct options *options) {
+/* Reads what goes by other words, and puts what depends on several options. */
+static int finish(const struct usage *usage, int count, char **words, struct options *options) {
     int wanted = options->checks ? 1 : 2;
-    if (count != wanted) return usage(options->checks ? "an address of redis is wanted" : "a socket and an address of redis are wanted");
+    if (count != wanted) return usage_refuse(usage, options->checks ? "an address of redis is wanted" : "a socket and an address of redis are wanted");
     options->socket = options->checks ? "-" : words[0];
-    if (strlen(options->socket) >= PLACE_PATH) return usage("the socket's path is too long");
+    if (strlen(options->socket) >= PLACE_PATH) return usage_refuse(usage, "the socket's path is too long");
     char *url = words[count - 1];
-    if (strcmp(url, "-")) {
-        if (!take_url(url, options)) return usage("out of memory");
-    } else {
-        options->fleet.url = getenv("DSFLEET_URL");
-    }
-    if (!options->fleet.url) return usage("DSFLEET_URL isn't set");
+    if (!strcmp(url, "-")) options->fleet.url = getenv("DSFLEET_URL");
+    else if (!take_url(url, options)) return usage_refuse(usage, "out of memory");
+    if (!options->fleet.url) return usage_refuse(usage, "DSFLEET_URL isn't set");
     if (!options->fleet.password) options->fleet.password = getenv("DSFLEET_PASSWORD");
-    if (!options->rights.has_readers) return -1;
-    options->rights.writers = options->access.has_group ? options->access.group : getegid();
-    if (!options->access.has_mode) options->access.mode = READABLE;
-    options->access.has_mode = true;
-    return -1;
+    options->fleet.keep = (long)options->keep;
+    options->fleet.replicas = (int)options->replicas;
+    options->fleet.within = (int)options->within;
+    if (options->rights.readers == NO_GROUP) return GO_ON;
+    options->rights.writers = options->access.group == NO_GROUP ? getegid() : options->access.group;
+    if (!options->access.mode) options->access.mode = READABLE;
+    return GO_ON;
 }
 
-int options_read(int count, char **words, struct options *options) {
-    static const struct option known[] = {
-        {"check", no_argument, NULL, 'c'}, {"password-file", required_argument, NULL, 'w'}, {"stream", required_argument, NULL, 's'},
-        {"scope", required_argument, NULL, 'p'}, {"keep", required_argument, NULL, 'k'}, {"replicas", required_argument, NULL, 'n'},
-        {"within", required_argument, NULL, 'i'}, {"mode", required_argument, NULL, 'm'}, {"group", required_argument, NULL, 'g'},
-        {"readers", required_argument, NULL, 'r'}, {"maxclients", required_argument, NULL, 'x'}, {"timeout", required_argument, NULL, 't'},
-        {"client-output-buffer-limit", required_argument, NULL, 'o'}, {"maxmemory-clients", required_argument, NULL, 'a'},
-        {"log-format", required_argument, NULL, 'l'}, {"help", no_argument, NULL, 'h'}, {"version", no_argument, NULL, 'v'}, {0},
+int options_read(int count, char **words, struct options *it) {
+    static const char no_group[] = "there is no such group";
+    const struct option_row rows[] = {
+        {"check", .flag = &it->checks}, {"stream", .text = &it->fleet.stream},
+        {"password-file", .read = read_password, .context = &it->fleet.password, .fault = "the password file can't be read, or its first line is empty"},
+        {"scope", .read = read_scope, .context = &it->fleet, .fault = "a scope is a pattern, a space, and kinds from 1 to 15"},
+        {"log-format", .read = log_read_format, .context = &it->logs_json, .fault = "a log's format is text or json"},
+        {"mode", .read = read_mode, .context = &it->access.mode, .fault = "a mode is octal, 1 to 777"},
+        {"group", .read = rights_read_group, .context = &it->access.group, .fault = no_group},
+        {"readers", .read = rights_read_group, .context = &it->rights.readers, .fault = no_group},
+        {"keep", .number = &it->keep, .least = 1, .most = 1000000000, .fault = "a stream keeps 1 to 1000000000 entries"},
+        {"replicas", .number = &it->replicas, .most = 100, .fault = "replicas are 0 to 100"},
+        {"within", .number = &it->within, .least = 1, .most = 60000, .fault = "--within is 1 to 60000 milliseconds"},
+        {"maxclients", .number = &it->limits.clients, .least = 1, .most = CLIENTS, .fault = "clients are 1 to 512"},
+        {"timeout", .number = &it->limits.timeout, .most = 1000000, .fault = "a timeout is 0 to 1000000 seconds"},
+        {"client-output-buffer-limit", .number = &it->limits.output, .least = CLIENT_FEW, .most = 1 << 30,
+         .fault = "an output limit is 16384 to 1073741824 bytes"},
+        {"maxmemory-clients", .number = &it->limits.all_output, .least = CLIENT_FEW, .most = 1L << 40,
+         .fault = "the memory of clients is 16384 to 1099511627776 bytes"},
+        {0},
     };
-    opterr = 0;
-    options->limits = (struct clients_limits){.clients = CLIENTS, .output = CLIENT_WAITS, .all_output = CLIENTS_WAIT};
-    for (int option; (option = getopt_long(count, words, "h", known, NULL)) != -1;) {
-        int status = read_option(option, optarg, options);
-        if (status >= 0) return status;
-    }
-    return finish(count - optind, words + optind, options);
+    const struct usage usage = {.name = "dsfleet", .help = help, .version = "dsfleet " DS_VERSION "\n", .rows = rows};
+    int first, status;
+    it->access.group = it->rights.readers = NO_GROUP;
+    it->limits = (struct clients_limits){.clients = CLIENTS, .output = WIRE_WAITS, .all_output = CLIENTS_WAIT};
+    status = usage_read(&usage, count, words, &first);
+    return status == GO_ON ? finish(&usage, count - first, words + first, it) : status;
 }
 
 const char *options_explained(enum ds_fleet_word word) {
