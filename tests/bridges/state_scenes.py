@@ -1,6 +1,6 @@
-"""The tables of fleet/*.h, row by row: each state of a part of a bridge meets each event, over a scripted server. scenes.py lists these.
+"""The tables of fleet/, row by row: each state of a part of a bridge meets each event, over a scripted server. scenes.py lists these.
 
-A table has lines ` *   STATE | event | becomes, and does`. A scene names each row that it walks, and fails if the header has another one.
+A table has lines ` *   STATE | event | becomes, and does`. A scene names each row that it walks, and fails if the file has another one.
 """
 import contextlib
 import re
@@ -21,16 +21,16 @@ class Walk:
 
     def __init__(self, name, fleet):
         self.name, self.fleet = name, fleet
-        self.rows = {f"{it[1].strip()} | {it[2]}" for it in ROW.finditer((ROOT / "fleet" / f"{name}.h").read_text())}
+        self.rows = {f"{it[1].strip()} | {it[2]}" for it in ROW.finditer((ROOT / "fleet" / f"{name}.c").read_text())}
         self.walked = set()
 
     def __call__(self, row):
-        assert row in self.rows, f"fleet/{self.name}.h has no row `{row}`"
+        assert row in self.rows, f"fleet/{self.name}.c has no row `{row}`"
         self.walked.add(row)
 
     def ends(self):
-        assert self.rows, f"fleet/{self.name}.h has no table"
-        assert self.rows == self.walked, f"fleet/{self.name}.h has rows that aren't walked: {self.rows - self.walked}"
+        assert self.rows, f"fleet/{self.name}.c has no table"
+        assert self.rows == self.walked, f"fleet/{self.name}.c has rows that aren't walked: {self.rows - self.walked}"
 
 
 @contextlib.contextmanager

@@ -1,6 +1,6 @@
 /* What dsfleet says of itself: the answers to `state` and to `metrics`. */
-#ifndef DS_FLEET_FIGURES_H
-#define DS_FLEET_FIGURES_H
+#ifndef DSFLEET_FIGURES_H
+#define DSFLEET_FIGURES_H
 
 #include "clients.h"
 

@@ -6,8 +6,8 @@
  * over all clients, past which each may have CLIENT_FEW bytes of short answers. Half of that room, and half of the
  * places, are for clients that read: where a client needs one and slow clients have more than their half, the one
  * that has read nothing for longest is dropped. */
-#ifndef DS_FLEET_CLIENTS_H
-#define DS_FLEET_CLIENTS_H
+#ifndef DSFLEET_CLIENTS_H
+#define DSFLEET_CLIENTS_H
 
 #include "ds_fleet.h"
 #include "log.h"

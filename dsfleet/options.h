@@ -1,6 +1,6 @@
 /* The command line of dsfleet. Used by dsfleet.c alone. */
-#ifndef DS_FLEET_OPTIONS_H
-#define DS_FLEET_OPTIONS_H
+#ifndef DSFLEET_OPTIONS_H
+#define DSFLEET_OPTIONS_H
 
 #include "clients.h"
 #include "place.h"
