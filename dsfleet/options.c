@@ -147,7 +147,7 @@ const char *options_explained(enum ds_fleet_word word) {
     case DS_FLEET_BADURL:
         return "an address is redis://[[USER]:PASSWORD@]HOST[:PORT][,..][/DATABASE], redis-sentinel://.../NAME or unix://[[USER]:PASSWORD@]/PATH";
     case DS_FLEET_NOTLS:
-        return "TLS isn't spoken: an address begins with redis:// or unix://, and a tunnel leads to other sites";
+        return "TLS isn't spoken: let a tunnel on this host speak it, such as stunnel, and give its socket, as unix:///run/dsfleet/redis";
     case DS_FLEET_BADNAME:
         return "the name of a stream is 1 to 128 printable characters of ASCII and no space; on a cluster it has a part in braces, as {ds}";
     case DS_FLEET_BADSCOPE:
