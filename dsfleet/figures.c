@@ -2,39 +2,32 @@
 #include "figures.h"
 #include <string.h>
 
-static const char state_word[] = "state", metrics_word[] = "metrics";
+struct count { const char *name; uint64_t count; };
 
-static bool is_word(const char *line, size_t length, const char *word) {
-    return length == strlen(word) && !memcmp(line, word, length);
-}
-
-bool figures_asked(const char *line, size_t length) {
-    return is_word(line, length, state_word) || is_word(line, length, metrics_word);
-}
-
-static bool put_count(struct text *to, const char *name, uint64_t count) {
-    return text_print(to, "%s %llu\n", name, (unsigned long long)count);
-}
-
-static bool put_limits(const struct clients *clients, struct text *to) {
-    const struct clients_limits *limits = &clients->limits;
-    return put_count(to, "clients", clients->count) && put_count(to, "maxclients", limits->clients) && put_count(to, "timeout", limits->timeout) &&
-           put_count(to, "client-output-buffer-limit", limits->output) && put_count(to, "maxmemory-clients", limits->all_output);
+static bool put_counts(struct text *to, const struct count *it, size_t rows) {
+    bool put = true;
+    for (; put && rows; rows--, it++) put = text_print(to, "%s %llu\n", it->name, (unsigned long long)it->count);
+    return put;
 }
 
 static bool put_state(const struct clients *clients, const struct ds_fleet_state *state, struct text *to) {
     const char *server = *state->server ? state->server : "-", *said = *state->said ? state->said : "-";
-    const struct { const char *name; uint64_t count; } counts[] = {
+    const struct clients_limits *limits = &clients->limits;
+    const struct count counts[] = {
         {"behind", state->behind}, {"position", state->position}, {"untold", state->untold},
         {"told", state->entries_told}, {"read", state->entries_read}, {"connections", state->connections},
         {"compactions", state->compactions}, {"differing", state->differing}, {"unread", state->unread},
+    }, bounds[] = {
+        {"clients", clients->count}, {"maxclients", limits->clients}, {"timeout", limits->timeout},
+        {"client-output-buffer-limit", limits->output}, {"maxmemory-clients", limits->all_output},
     };
     bool put = text_print(to, "state %s\nserver %s\nlast %s\n", ds_fleet_word(state->word), server, state->last);
-    for (size_t i = 0; put && i < sizeof counts / sizeof *counts; i++) put = put_count(to, counts[i].name, counts[i].count);
+    put = put && put_counts(to, counts, sizeof counts / sizeof *counts);
     for (uint32_t i = 0; put && i <= DS_NOROOM; i++) {
-        if (state->refused[i]) put = text_print(to, "refused ") && put_count(to, ds_fleet_refusal(i), state->refused[i]);
+        const struct count refused = {ds_fleet_refusal(i), state->refused[i]};
+        if (refused.count) put = text_print(to, "refused ") && put_counts(to, &refused, 1);
     }
-    return put && put_limits(clients, to) && text_print(to, "said %s\n", said);
+    return put && put_counts(to, bounds, sizeof bounds / sizeof *bounds) && text_print(to, "said %s\n", said);
 }
 
 static bool put_heads(struct text *to, const char *name, const char *help) {
@@ -86,5 +79,5 @@ static bool put_metrics(const struct clients *clients, const struct ds_fleet_sta
 bool figures_put(const struct clients *clients, const char *line, struct text *to) {
     struct ds_fleet_state state;
     ds_fleet_state(clients->fleet, &state);
-    return *line == *state_word ? put_state(clients, &state, to) : put_metrics(clients, &state, to);
+    return *line == 's' ? put_state(clients, &state, to) : put_metrics(clients, &state, to);
 }

@@ -1,6 +1,6 @@
 /* The time that no administrator sets. */
-#ifndef DS_FLEET_CLOCK_H
-#define DS_FLEET_CLOCK_H
+#ifndef SERVE_CLOCK_H
+#define SERVE_CLOCK_H
 
 #include <stdint.h>
 #include <time.h>

@@ -1,4 +1,4 @@
-/* The place of dsfleet's socket. See place.h. */
+/* The place of a program's socket. See place.h. */
 #include "place.h"
 #include <errno.h>
 #include <fcntl.h>
@@ -87,8 +87,7 @@ bool place_lock(struct place *place) {
 /* Nobody can connect before the socket listens, so not before it has its mode. */
 static bool has_access(const struct place *place) {
     const struct place_access *access = &place->access;
-    if (access->has_group && lchown(place->path, (uid_t)-1, access->group)) return false;
-    return !access->has_mode || !chmod(place->path, access->mode);
+    return !lchown(place->path, (uid_t)-1, access->group) && (!access->mode || !chmod(place->path, access->mode));
 }
 
 bool place_serve(struct place *place) {
@@ -110,6 +109,8 @@ bool place_serve(struct place *place) {
     log_say(place->log, LOG_INFO, "serves: %s", place->path);
     return true;
 }
+
+int place_accept(const struct place *place) { return accept4(place->listener, NULL, NULL, SOCK_NONBLOCK | SOCK_CLOEXEC); }
 
 void place_keep(struct place *place) {
     char path[PLACE_PATH + 8];

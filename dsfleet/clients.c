@@ -14,9 +14,8 @@
 static void drop_client(struct clients *clients, size_t at) {
     struct client *client = clients->client[at];
     close(client->socket);
-    text_free(&client->in);
+    wire_free(&client->wire);
     text_free(&client->held);
-    text_free(&client->out);
     free(client);
     clients->count--;
     memmove(clients->client + at, clients->client + at + 1, (clients->count - at) * sizeof *clients->client);
@@ -31,23 +30,24 @@ bool clients_add(struct clients *clients, int socket) {
     }
     client->socket = socket;
     client->role = rights_of(&clients->rights, socket);
-    client->ended = client->failed = client->role == ROLE_NOBODY;
+    client->wire.ended = client->failed = client->role == ROLE_NOBODY;
     client->moved = client->heard = clock_now();
     clients->client[clients->count++] = client;
     return true;
 }
 
 /* Bytes of answers that wait for a client. */
-static size_t backlog(const struct client *client) { return client->held.length + client->out.length; }
+static size_t backlog(const struct client *client) { return client->held.length + client->wire.out.length; }
 
 /* Whether its next lines may be answered: its last ones are, and it reads. */
 static bool is_free(const struct clients *clients, const struct client *client) {
-    return !client->held.length && client->out.length < clients->limits.output;
+    return !client->held.length && client->wire.out.length < clients->limits.output;
 }
 
 struct pollfd clients_watched(const struct clients *clients, const struct client *client) {
-    bool reads = !client->ended && (client->gone || (is_free(clients, client) && client->in.length < CLIENT_READS));
-    bool writes = client->out.length > 0;
+    const struct wire *wire = &client->wire;
+    bool reads = !wire->ended && (client->gone || (is_free(clients, client) && wire->in.length < WIRE_READS));
+    bool writes = wire->out.length > 0;
     return (struct pollfd){.fd = client->socket, .events = (short)((reads ? POLLIN : 0) | (writes ? POLLOUT : 0))};
 }
 
@@ -55,17 +55,15 @@ struct pollfd clients_watched(const struct clients *clients, const struct client
 static void hang_up(struct client *client) {
     client->gone = true;
     text_free(&client->held);
-    text_free(&client->out);
+    text_free(&client->wire.out);
 }
 
 void clients_read(struct client *client, short events) {
-    char some[CLIENT_READS];
+    size_t before = client->wire.in.length;
     if (events & (POLLHUP | POLLERR)) hang_up(client);
     if (!(events & (POLLIN | POLLHUP | POLLERR))) return;
-    ssize_t got = recv(client->socket, some, sizeof some, MSG_DONTWAIT);
-    if (got > 0) client->heard = clock_now();
-    if (got > 0 && !text_put(&client->in, some, (size_t)got)) client->failed = true;
-    if (got == 0 || (got < 0 && errno != EAGAIN && errno != EINTR)) client->ended = true;
+    if (!wire_read(&client->wire, client->socket)) client->failed = true;
+    if (client->wire.in.length > before) client->heard = clock_now();
 }
 
 /* ---- slow clients ---- */
@@ -74,7 +72,7 @@ void clients_read(struct client *client, short events) {
 static bool is_slow(const struct client *client, uint64_t now) {
     int unread = 0;
     if (now < client->moved + CLIENT_SLOW) return false;
-    return client->out.length || (!ioctl(client->socket, SIOCOUTQ, &unread) && unread > 0);
+    return client->wire.out.length || (!ioctl(client->socket, SIOCOUTQ, &unread) && unread > 0);
 }
 
 bool clients_drop_slowest(struct clients *clients, bool for_place) {
@@ -85,7 +83,7 @@ bool clients_drop_slowest(struct clients *clients, bool for_place) {
         if (!is_slow(client, now)) continue;
         if (!places || client->moved < clients->client[slowest]->moved) slowest = i;
         places++;
-        room += client->out.length;
+        room += client->wire.out.length;
     }
     if (for_place ? places <= clients->limits.clients / 2 : room <= clients->limits.all_output / 2) return false;
     const char *needed = for_place ? "place" : "room";
@@ -95,33 +93,16 @@ bool clients_drop_slowest(struct clients *clients, bool for_place) {
 }
 
 void clients_drop_idle(struct clients *clients) {
-    static const uint8_t nothing[sizeof clients->client[0]->listens];
+    static const uint8_t nothing[sizeof clients->client[0]->wire.listens];
     uint64_t now = clock_now(), limit = clients->limits.timeout * 1000;
     for (size_t i = clients->count; limit && i-- > 0;) {
         const struct client *client = clients->client[i];
-        bool is_idle = now >= client->heard + limit && !backlog(client) && !memcmp(client->listens, nothing, sizeof nothing);
+        bool is_idle = now >= client->heard + limit && !backlog(client) && !memcmp(client->wire.listens, nothing, sizeof nothing);
         if (is_idle) drop_client(clients, i);
     }
 }
 
 /* ---- lines ---- */
-
-/* Returns how many bytes the next whole line from a byte on has, and its length without the newline; 0 where there is
- * none. Bytes without a newline aren't a line, even if no more can come. */
-static size_t next_line(const struct client *client, size_t from, size_t *length) {
-    size_t left = client->in.length - from;
-    const char *line = client->in.bytes + from, *newline = left ? memchr(line, '\n', left) : NULL;
-    *length = newline ? (size_t)(newline - line) : left;
-    return newline ? *length + 1 : 0;
-}
-
-/* Drops the lines that are done. Of one that is too long already no more is kept than tells that it was. */
-static void drop_lines(struct client *client, size_t done) {
-    text_drop(&client->in, done);
-    if (client->in.length <= CLIENT_LINE || memchr(client->in.bytes, '\n', client->in.length)) return;
-    client->too_long = true;
-    text_drop(&client->in, client->in.length - 1);
-}
 
 /* Whether a line may be answered now. */
 static bool may_answer(const struct clients *clients, const struct client *client, const char *line, size_t length) {
@@ -142,23 +123,23 @@ static void note_refused(struct clients *clients, const struct client *client) {
 static bool answer_lines(struct clients *clients, struct client *client) {
     size_t done = 0, length, used;
     bool fine = true, holds = false, alone = false;
-    while (fine && !alone && (used = next_line(client, done, &length)) > 0) {
-        const char *line = client->in.bytes + done;
+    while (fine && !alone && (used = wire_line(&client->wire, done, &length)) > 0) {
+        const char *line = client->wire.in.bytes + done;
         bool may = may_answer(clients, client, line, length);
         alone = !client->gone && !session_is_short(line, length);
         if (!may) note_refused(clients, client);
         if (!may || (alone && done)) break;
         size_t before = backlog(client);
-        client->lines++;
+        client->wire.lines++;
         if (client->gone) session_carry_out(clients, client, line, length);
         else fine = session_answer(clients, client, line, length, &holds) && text_put(&client->held, "\n", 1);
         clients->waiting += backlog(client) - before;
         clients->long_one |= alone;
         done += used;
     }
-    drop_lines(client, done);
+    wire_drop_lines(&client->wire, done);
     if (holds) client->mark = ds_fleet_mark(clients->fleet);
-    else fine &= text_move(&client->out, &client->held);
+    else fine &= text_move(&client->wire.out, &client->held);
     return fine;
 }
 
@@ -184,48 +165,37 @@ void clients_answer(struct clients *clients) {
 /* ---- notices, and what is written ---- */
 
 void clients_owe(struct clients *clients, const uint8_t owed[16]) {
-    for (size_t i = 0; i < clients->count; i++) {
-        struct client *client = clients->client[i];
-        for (size_t byte = 0; byte < sizeof client->due; byte++) client->due[byte] |= owed[byte] & client->listens[byte];
-    }
-}
-
-/* A notice says no more than that there is something, so that one of each subscription is enough for a client that
- * doesn't read. */
-static void put_notices(const struct clients *clients, struct client *client) {
-    for (int sub = 0; sub < CLIENT_SUBS && client->out.length < clients->limits.output && !client->gone; sub++) {
-        bool is_due = client->due[sub / 8] >> sub % 8 & 1;
-        if (is_due && text_print(&client->out, "notice %d\n\n", sub)) client->due[sub / 8] &= (uint8_t)~(1 << sub % 8);
-    }
+    for (size_t i = 0; i < clients->count; i++) wire_owe(&clients->client[i]->wire, owed);
 }
 
 static void release_held(struct clients *clients, struct client *client) {
     if (!client->held.length) return;
     if (!client->mark) client->mark = ds_fleet_mark(clients->fleet); /* memory ran out */
     if (!ds_fleet_is_told(clients->fleet, client->mark)) return;
-    text_move(&client->out, &client->held);
+    text_move(&client->wire.out, &client->held);
 }
 
 static void write_out(struct client *client) {
-    uint64_t now = clock_now();
-    if (!client->out.length) return;
-    ssize_t put = send(client->socket, client->out.bytes, client->out.length, MSG_DONTWAIT | MSG_NOSIGNAL);
+    struct text *out = &client->wire.out;
+    if (!out->length) return;
+    ssize_t put = send(client->socket, out->bytes, out->length, MSG_DONTWAIT | MSG_NOSIGNAL);
     if (put < 0 && errno != EAGAIN && errno != EINTR) hang_up(client);
     if (put <= 0) return;
-    text_drop(&client->out, (size_t)put);
-    client->moved = now;
+    text_drop(out, (size_t)put);
+    client->moved = clock_now();
 }
 
 /* Whether nothing is left to be done for a client. */
 static bool is_done(const struct client *client) {
     size_t length;
-    return client->failed || (client->ended && !backlog(client) && !next_line(client, 0, &length));
+    return client->failed || (client->wire.ended && !backlog(client) && !wire_line(&client->wire, 0, &length));
 }
 
 /* Whether a client has a line that may be answered. */
 static bool is_ready(const struct clients *clients, const struct client *client) {
     size_t length;
-    return is_free(clients, client) && next_line(client, 0, &length) && may_answer(clients, client, client->in.bytes, length);
+    const struct wire *wire = &client->wire;
+    return is_free(clients, client) && wire_line(wire, 0, &length) && may_answer(clients, client, wire->in.bytes, length);
 }
 
 bool clients_write(struct clients *clients) {
@@ -234,7 +204,7 @@ bool clients_write(struct clients *clients) {
     for (size_t i = clients->count; i-- > 0;) {
         struct client *client = clients->client[i];
         release_held(clients, client);
-        put_notices(clients, client);
+        if (!client->gone) wire_put_notices(&client->wire, clients->limits.output);
         write_out(client);
         if (client->failed && client->role == ROLE_NOBODY) log_say(clients->log, LOG_WARN, "stranger: a process of neither group hangs up");
         else if (client->failed) log_say(clients->log, LOG_WARN, "noroom: a client is dropped");

@@ -7,6 +7,7 @@
 #include "log.h"
 #include "notify.h"
 #include "options.h"
+#include "signals.h"
 #include <errno.h>
 #include <malloc.h>
 #include <signal.h>
@@ -15,8 +16,6 @@
 #include <string.h>
 #include <sys/resource.h>
 #include <sys/signalfd.h>
-#include <sys/socket.h>
-#include <time.h>
 #include <unistd.h>
 
 enum {
@@ -39,11 +38,6 @@ struct program {
     bool ended, told_waiting;
 };
 
-static void tell(void *context, const char *line) {
-    bool is_fine = !strncmp(line, "met:", 4) || !strncmp(line, "compacted:", 10);
-    log_say(context, is_fine ? LOG_INFO : LOG_WARN, "%s", line);
-}
-
 /* ---- a turn ---- */
 
 /* Takes in the clients that wait, up to the limit. Where one can't be, as out of descriptors, the listener rests, since
@@ -52,7 +46,7 @@ static void admit(struct program *program) {
     struct pollfd waiting = {.fd = program->place.listener, .events = POLLIN};
     while (poll(&waiting, 1, 0) > 0) {
         bool is_full = program->clients.count == program->clients.limits.clients && !clients_drop_slowest(&program->clients, true);
-        int client = is_full ? -1 : accept4(program->place.listener, NULL, NULL, SOCK_NONBLOCK | SOCK_CLOEXEC);
+        int client = is_full ? -1 : place_accept(&program->place);
         if (client >= 0 && clients_add(&program->clients, client)) continue;
         program->admit_at = clock_now() + REST;
         return;
@@ -104,7 +98,7 @@ static void look_after(struct program *program, enum ds_fleet_word word) {
     notify("STATUS=%s, %zu clients\nWATCHDOG=1", ds_fleet_word(word), program->clients.count);
 }
 
-/* -1: continue; else the status to end with. */
+/* Returns GO_ON, or the status to end with. */
 static int turn(struct program *program, bool *ready) {
     uint8_t owed[16] = {0};
     wait_and_read(program, *ready);
@@ -121,7 +115,7 @@ static int turn(struct program *program, bool *ready) {
     look_after(program, word);
     bool is_unfit = word == DS_FLEET_BADSCOPE || word == DS_FLEET_BADNAME;
     bool is_misused = is_unfit && program->place.listener < 0; /* one that serves may find its scope again */
-    if (word != DS_FLEET_CLOSED && !is_misused) return -1;
+    if (word != DS_FLEET_CLOSED && !is_misused) return GO_ON;
     log_say(&program->log, LOG_ERROR, "%s: %s", ds_fleet_word(word), options_explained(word));
     return is_misused ? USAGE : FAILED;
 }
@@ -129,12 +123,12 @@ static int turn(struct program *program, bool *ready) {
 /* Serves until a signal comes, and then as long as clients wait for answers, but not for ever. */
 static int run(struct program *program) {
     bool ready = false;
-    int status = -1;
-    while (!program->ended && status < 0) status = turn(program, &ready);
+    int status = GO_ON;
+    while (!program->ended && status == GO_ON) status = turn(program, &ready);
     notify("STOPPING=1");
     uint64_t end = clock_now() + LAST;
-    while (status < 0 && !clients_are_done(&program->clients) && clock_now() < end) status = turn(program, &ready);
-    return status < 0 ? DONE : status;
+    while (status == GO_ON && !clients_are_done(&program->clients) && clock_now() < end) status = turn(program, &ready);
+    return status == GO_ON ? DONE : status;
 }
 
 /* ---- beginning and ending ---- */
@@ -160,28 +154,14 @@ static void allow_descriptors(struct program *program) {
             (unsigned long long)allowed, program->clients.limits.clients);
 }
 
-/* Lets signals be read from a descriptor. A write to a client that hung up raises none. */
-static bool hold_signals(struct program *program) {
-    sigset_t ends;
-    sigemptyset(&ends);
-    sigaddset(&ends, SIGTERM);
-    sigaddset(&ends, SIGINT);
-    sigaddset(&ends, SIGHUP);
-    sigprocmask(SIG_BLOCK, &ends, NULL);
-    signal(SIGPIPE, SIG_IGN);
-    program->signals = signalfd(-1, &ends, SFD_CLOEXEC);
-    return program->signals >= 0;
-}
-
 static int open_all(struct program *program, const struct options *options) {
-    struct timespec it;
+    static const int ends[] = {SIGTERM, SIGINT, SIGHUP};
     give_memory_back();
     if (options->shows_password) {
         log_say(&program->log, LOG_WARN, "password: other users saw it in the URL until now: use --password-file, or DSFLEET_PASSWORD");
     }
     allow_descriptors(program);
-    clock_gettime(CLOCK_REALTIME, &it); /* each run has another incarnation */
-    if (ds_open(&program->store, (uint64_t)it.tv_sec * 1000000000 + (uint64_t)it.tv_nsec, 0, RING)) {
+    if (ds_open(&program->store, run_number(), 0, RING)) {
         log_say(&program->log, LOG_ERROR, "noroom: out of memory");
         return FAILED;
     }
@@ -194,7 +174,8 @@ static int open_all(struct program *program, const struct options *options) {
     program->clients.fleet = program->fleet;
     program->clients.log = &program->log;
     program->begun = clock_now();
-    if (hold_signals(program)) return place_lock(&program->place) ? DONE : FAILED;
+    program->signals = signals_open(ends, sizeof ends / sizeof *ends);
+    if (program->signals >= 0) return place_lock(&program->place) ? GO_ON : FAILED;
     log_say(&program->log, LOG_ERROR, "signalfd: %s", strerror(errno));
     return FAILED;
 }
@@ -209,10 +190,10 @@ static void close_all(struct program *program) {
 }
 
 int main(int count, char **words) {
-    struct options options = {.fleet = {.tell = tell}};
+    struct options options = {.fleet = {.tell = log_tell}};
     struct program program = {.store = DS_CLOSED, .place = {.lock = -1, .listener = -1}, .signals = -1};
     int status = options_read(count, words, &options);
-    if (status >= 0) return status;
+    if (status != GO_ON) return status;
     if (options.checks) {
         status = check_server(&options.fleet) ? DONE : UNFIT;
         free(options.url);
@@ -227,7 +208,7 @@ int main(int count, char **words) {
     program.url = options.fleet.url;
     options.fleet.context = &program.log;
     status = open_all(&program, &options);
-    if (status == DONE) status = run(&program);
+    if (status == GO_ON) status = run(&program);
     close_all(&program);
     free(options.url);
     return status;

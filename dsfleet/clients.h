@@ -6,51 +6,43 @@
  * over all clients, past which each may have CLIENT_FEW bytes of short answers. Half of that room, and half of the
  * places, are for clients that read: where a client needs one and slow clients have more than their half, the one
  * that has read nothing for longest is dropped. */
-#ifndef DS_FLEET_CLIENTS_H
-#define DS_FLEET_CLIENTS_H
+#ifndef DSFLEET_CLIENTS_H
+#define DSFLEET_CLIENTS_H
 
 #include "ds_fleet.h"
 #include "log.h"
 #include "rights.h"
-#include "text.h"
+#include "wire.h"
 #include <poll.h>
 
 enum {
     CLIENTS = 512,           /* at once, at most */
-    CLIENT_LINE = 4096,      /* bytes of a line */
-    CLIENT_READS = 1 << 16,  /* bytes that are read at a time */
-    CLIENT_WAITS = 1 << 20,  /* bytes that wait for a client before more is answered */
-    CLIENT_FEW = 1 << 14,    /* the same, where CLIENTS_WAIT is used up */
+    CLIENT_FEW = 1 << 14,    /* bytes that wait for a client before more is answered, where CLIENTS_WAIT is used up; else WIRE_WAITS */
     CLIENTS_WAIT = 64 << 20, /* bytes that wait for all clients */
     CLIENT_SLOW = 1000,      /* milliseconds: a client that leaves an answer unread for so long is slow */
     CLIENTS_TURN = 50,       /* milliseconds of one turn after which no long answer begins */
-    CLIENT_SUBS = 128,       /* numbers of subscriptions */
     CLIENT_ENDPOINT = 16     /* bytes of an endpoint, with its zero */
 };
 
 /* What an administrator may set. */
 struct clients_limits {
     size_t clients;    /* at once */
-    size_t output;     /* bytes that wait for a client before more is answered: CLIENT_WAITS */
+    size_t output;     /* bytes that wait for a client before more is answered: WIRE_WAITS */
     size_t all_output; /* bytes that wait for all clients: CLIENTS_WAIT */
-    uint64_t timeout;  /* seconds after which a client that sends nothing is dropped; 0: never */
+    size_t timeout;    /* seconds after which a client that sends nothing is dropped; 0: never */
 };
 
 struct client {
     int socket;
     enum role role;
     char endpoint[CLIENT_ENDPOINT]; /* the one under which it acts, by `as`; or nothing */
-    bool ended;            /* no more comes from it */
     bool gone;             /* it reads no more answers: it hung up */
     bool failed;           /* out of memory for it */
-    bool too_long;         /* the line that is being read */
-    uint64_t lines;        /* how many it has sent */
     uint64_t heard;        /* when it last sent something, in milliseconds */
     uint64_t moved;        /* when it last had no answer to read, or read some of one, in milliseconds */
-    struct text in, held, out; /* held: answers to what isn't in the stream yet; out: what is to be written */
+    struct wire wire;      /* it owns the subscriptions that it made: their numbers are free once it is gone */
+    struct text held;      /* answers to what isn't in the stream yet */
     uint64_t mark;         /* held may be written once everything before this mark is in the stream */
-    uint8_t owns[16];      /* the subscriptions that it made: their numbers are free once it is gone */
-    uint8_t listens[16], due[16]; /* the subscriptions whose notices it wants, and those of them that it has to be sent */
 };
 
 struct clients {

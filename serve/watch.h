@@ -1,7 +1,7 @@
 /* Descriptors that an epoll watches. The loop only marks what is ready, and each owner looks at its own marks in its
  * turn, so nothing is freed that an event still points to. */
-#ifndef DSRS_WATCH_H
-#define DSRS_WATCH_H
+#ifndef SERVE_WATCH_H
+#define SERVE_WATCH_H
 
 #include <stdbool.h>
 #include <stdint.h>

@@ -1,6 +1,6 @@
 /* Bytes that grow, and how the front of bytes is read. A text begins with zeros and ends with text_free. */
-#ifndef DS_FLEET_TEXT_H
-#define DS_FLEET_TEXT_H
+#ifndef SERVE_TEXT_H
+#define SERVE_TEXT_H
 
 #include <stdbool.h>
 #include <stddef.h>

@@ -11,21 +11,30 @@
 
 enum { MOST_GROUPS = 1024 };
 
-bool rights_read_group(const char *name, gid_t *group) {
+bool rights_read_group(void *group, char *name) {
     char *end;
     const struct group *known = getgrnam(name);
     unsigned long number = strtoul(name, &end, 10);
-    *group = known ? known->gr_gid : (gid_t)number;
+    *(gid_t *)group = known ? known->gr_gid : (gid_t)number;
     return known || (*name >= '0' && *name <= '9' && !*end);
 }
 
+static struct ucred other_end(int socket) {
+    struct ucred peer = {.uid = (uid_t)-1, .gid = NO_GROUP};
+    socklen_t length = sizeof peer;
+    getsockopt(socket, SOL_SOCKET, SO_PEERCRED, &peer, &length);
+    return peer;
+}
+
+uid_t rights_user(int socket) { return other_end(socket).uid; }
+
 enum role rights_of(const struct rights *rights, int socket) {
-    struct ucred peer;
     gid_t groups[MOST_GROUPS + 1];
-    socklen_t length = sizeof peer, room = MOST_GROUPS * sizeof *groups;
+    socklen_t room = MOST_GROUPS * sizeof *groups;
     enum role role = ROLE_NOBODY;
-    if (!rights->has_readers) return ROLE_WRITER;
-    if (getsockopt(socket, SOL_SOCKET, SO_PEERCRED, &peer, &length)) return ROLE_NOBODY;
+    if (rights->readers == NO_GROUP) return ROLE_WRITER;
+    const struct ucred peer = other_end(socket);
+    if (peer.uid == (uid_t)-1) return ROLE_NOBODY;
     if (!peer.uid || peer.uid == geteuid()) return ROLE_WRITER;
     if (getsockopt(socket, SOL_SOCKET, SO_PEERGROUPS, groups, &room)) room = 0;
     size_t count = room / sizeof *groups;

@@ -16,9 +16,10 @@ enum {
     LOG_NAME = 100
 };
 
-bool log_read_format(const char *word, bool *as_json) {
-    *as_json = !strcmp(word, "json");
-    return *as_json || !strcmp(word, "text");
+bool log_read_format(void *as_json, char *word) {
+    bool is_json = !strcmp(word, "json");
+    *(bool *)as_json = is_json;
+    return is_json || !strcmp(word, "text");
 }
 
 /* A pipe or a terminal is opened anew, not to wait: that standard error itself doesn't wait would be seen by all who
@@ -81,6 +82,11 @@ void log_say(struct log *log, const char *level, const char *format, ...) {
     length = quote(log, line, length, text + rest, strlen(text + rest));
     length += (size_t)sprintf(line + length, log->as_json ? "}\n" : "\n");
     if (!is_due(log, text, event) || !written(log, line, length)) log->left_out++;
+}
+
+void log_tell(void *log, const char *line) {
+    bool is_fine = !strncmp(line, "met:", 4) || !strncmp(line, "compacted:", 10);
+    log_say(log, is_fine ? LOG_INFO : LOG_WARN, "%s", line);
 }
 
 /* Writes a line of another program as JSON. */

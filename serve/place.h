@@ -1,18 +1,18 @@
-/* The place of dsfleet's socket: its path, and the lock beside it. Only a socket that this user owns and that nobody
- * serves is taken over, and only the one that was made here is removed; what else is at the path is left alone. Used
- * by dsfleet.c alone. */
-#ifndef DS_FLEET_PLACE_H
-#define DS_FLEET_PLACE_H
+/* The place of a program's socket: its path, and the lock beside it. Only a socket that this user owns and that nobody
+ * serves is taken over, and only the one that was made here is removed; what else is at the path is left alone. */
+#ifndef SERVE_PLACE_H
+#define SERVE_PLACE_H
 
 #include "log.h"
+#include "rights.h"
 #include <stdbool.h>
 #include <sys/types.h>
 #include <sys/un.h>
 
 enum { PLACE_PATH = sizeof((struct sockaddr_un *)0)->sun_path /* bytes of a path, with its zero */ };
 
-/* Who may connect: else the umask and this process's group say it. */
-struct place_access { bool has_mode, has_group; mode_t mode; gid_t group; };
+/* Who may connect. A mode of 0: the umask says it; NO_GROUP: the group is this process's. */
+struct place_access { mode_t mode; gid_t group; };
 
 struct place {
     const char *path;
@@ -30,6 +30,9 @@ struct place {
 bool place_lock(struct place *place);
 /* Makes the socket, and listens. */
 bool place_serve(struct place *place);
+
+/* Takes in a client. Returns its socket, or -1 with errno. */
+int place_accept(const struct place *place);
 
 /* Makes the lock anew where somebody removed it, as those do who clean /tmp. */
 void place_keep(struct place *place);

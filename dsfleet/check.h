@@ -1,6 +1,6 @@
 /* `dsfleet --check`: whether a server and its rights will do. Used by dsfleet.c alone. */
-#ifndef DS_FLEET_CHECK_H
-#define DS_FLEET_CHECK_H
+#ifndef DSFLEET_CHECK_H
+#define DSFLEET_CHECK_H
 
 #include "ds_fleet.h"
 

@@ -1,6 +1,6 @@
 /* What one client says, line by line: what it may ask, and the lines that are dsfleet's own. Used by clients.c alone. */
-#ifndef DS_FLEET_SESSION_H
-#define DS_FLEET_SESSION_H
+#ifndef DSFLEET_SESSION_H
+#define DSFLEET_SESSION_H
 
 #include "clients.h"
 
