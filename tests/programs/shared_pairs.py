@@ -30,6 +30,13 @@ def shared_out(threads, chance):
     return callers, 0 if chance % 3 == 0 else max(1, min(32, threads - callers))
 
 
+def counted(callers, followers, calls):
+    """What such a crew does, for the sums of tests/soak. In 16 turns a caller reports three ticks and a death."""
+    done = {"calls of RS and its store": calls, "ticks": sum(it % 16 in (5, 10, 13) for it in range(calls)), "deaths": (calls + 9) // 16}
+    refreshed = {"refreshes of a follower of RS's store": followers * calls}
+    return {**{what: callers * count for what, count in done.items()}, **refreshed, "threads": callers + followers}
+
+
 def fault(program, sizes):
     """Runs a crew, and says what is wrong with what it prints, or answers None."""
     ran = harness.run([program], asked(*sizes))
