@@ -127,6 +127,74 @@ fn lines_of_rs() {
     assert_eq!(text, "start log 1/16\noffer log label rs 1.0 = 1/16\ntaken\nactions 2\n");
 }
 
+fn endpoint_of(text: &str) -> Endpoint {
+    let (generation, slot) = text.split_once('/').unwrap();
+    Endpoint::new(generation.parse().unwrap(), slot.parse().unwrap())
+}
+
+/// Returns the action that a line of an answer is, if it is one.
+fn action_of(line: &str) -> Option<Action<'_>> {
+    match line.split(' ').collect::<Vec<_>>()[..] {
+        ["kill", at] => Some(Action::Kill { endpoint: endpoint_of(at) }),
+        ["start", label, at] => Some(Action::Start { label, endpoint: endpoint_of(at) }),
+        ["ping", at] => Some(Action::Ping { endpoint: endpoint_of(at) }),
+        ["offer", label, _, _, _, "=", at] => Some(Action::Offer { label, endpoint: Some(endpoint_of(at)), refused: None }),
+        ["offer", label, _, _, _, "-"] => Some(Action::Offer { label, endpoint: None, refused: None }),
+        ["sweep", label, generation] => Some(Action::Sweep { label, generation: generation.parse().unwrap(), refused: None }),
+        _ => None,
+    }
+}
+
+/// Numbers that are the same in each run.
+struct Drawn(u64);
+
+impl Drawn {
+    fn below(&mut self, bound: u32) -> u32 {
+        self.0 = self.0.wrapping_mul(6_364_136_223_846_793_005).wrapping_add(1_442_695_040_888_963_407);
+        (self.0 >> 33) as u32 % bound
+    }
+
+    /// Makes an event by a call, and returns its line too.
+    fn event(&mut self, rs: &mut Rs, tick: u64) -> (Result<Acted, Error>, String) {
+        let label = ["eth0", "log", "tty"][self.below(3) as usize];
+        let at = Endpoint::new(rs.next_generation().saturating_sub(self.below(4)), 16 + self.below(2) as u16);
+        let causes = [Cause::Exit, Cause::Exception, Cause::Killed, Cause::Silent, Cause::Complaint, Cause::Update];
+        let cause = causes[self.below(6) as usize];
+        match self.below(8) {
+            0 => (rs.up(label, tick), format!("service up {label} {tick}")),
+            1 => (rs.down(label, tick), format!("service down {label} {tick}")),
+            2 => (rs.refresh(label, tick), format!("service refresh {label} {tick}")),
+            3 => (rs.restart(label, tick), format!("service restart {label} {tick}")),
+            4 | 5 => (rs.death(at, cause, tick), format!("death {at} {} {tick}", cause as u32)),
+            6 => (rs.beat(at, tick), format!("beat {at} {tick}")),
+            _ => (rs.tick(tick), format!("tick {tick}")),
+        }
+    }
+}
+
+/// RS answers each of many drawn events as it answers its line, and both stores hold the same at the end.
+#[test]
+fn calls_and_lines() {
+    let (mut called, mut lined, mut drawn, mut tick, mut taken) = (opened(), opened(), Drawn(1), 0, 0);
+    for _ in 0..3000 {
+        tick += u64::from(drawn.below(3));
+        let (acted, line) = drawn.event(&mut called, tick);
+        let answer = lined.store().line(&line).and_then(|mut it| Ok(it.text()?));
+        let text = match (&acted, answer) {
+            (Ok(_), Ok(text)) => text,
+            (Err(error), Err(other)) if *error == other => continue,
+            others => panic!("{line}: {others:?}"),
+        };
+        let told = actions(&acted).into_iter().filter(|it| !matches!(it, Action::GiveUp { .. })).collect::<Vec<_>>();
+        assert_eq!(told, text.lines().filter_map(action_of).collect::<Vec<_>>(), "{line}");
+        taken += u32::from(!told.is_empty());
+    }
+    assert!(taken > 300, "{taken}");
+    assert_eq!((called.due(), called.next_generation()), (lined.due(), lined.next_generation()));
+    let held = |rs: &mut Rs| rs.store().snapshot(None).unwrap().items().unwrap();
+    assert_eq!(held(&mut called), held(&mut lined));
+}
+
 #[test]
 fn a_run_continues_the_generations_of_the_last() {
     let mut rs = opened();
