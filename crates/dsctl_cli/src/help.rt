@@ -220,7 +220,7 @@ Parts of lines and answers:
   more               another page follows this one
   last               no page follows this one
   done               the driver carried the request out
-  fault              the driver is no block driver, and is missing or died
+  fault              the driver, no block driver, is missing or died
 
 Two replicas, in six lines:
   publish 0/2 new eth0 label 3.0 = 3/17   at side a, where a script begins
