@@ -13,8 +13,8 @@ put-self-inside-requires c =
     let w = made_place c.self.inside.held c.self.inside.subscriptions c.args.sub (subst (λ (v : ContentRecord). is_some (get_or v.subscriptions c.args.sub None) ≡ true) (sym c.self.view_is) c.requires.made) in
     few_seats c.self.inside.held c.self.inside.journal c.self.inside.stamp c.self.inside.subscriptions c.self.invariant.stood.0 c.self.invariant.stood.1 c.self.invariant.places c.args.sub w.0 w.1
 
-pub invariant_of-self-then-shown-eq0 : goal.invariant_of-self-then-shown-eq0
-invariant_of-self-then-shown-eq0 c =
+pub invariant_of-self : goal.invariant_of-self
+invariant_of-self c =
     let w = made_place c.self.inside.held c.self.inside.subscriptions c.args.sub (subst (λ (v : ContentRecord). is_some (get_or v.subscriptions c.args.sub None) ≡ true) (sym c.self.view_is) c.requires.made) in
     let place = few_seats c.self.inside.held c.self.inside.journal c.self.inside.stamp c.self.inside.subscriptions c.self.invariant.stood.0 c.self.invariant.stood.1 c.self.invariant.places c.args.sub w.0 w.1 in
     let rest : IsRestOf c.self.inside.held c.args.sub 0 c.args.shown.now.more =
