@@ -106,18 +106,6 @@ impl Content {
         )
     }
 
-    /// Notes that subscription `sub` isn't pending, if nothing was found for it: its next check ends at once. Callers see
-    /// no difference.
-    pub fn note_rest(&mut self, sub: u32, shown: &Shown)
-        requires made { is_some (slice_index_or self.old.subscriptions sub None) ≡ true }
-        requires rest { IsRest self.old sub shown.now.passed shown.now.more }
-        ensures { self.new ≡ self.old }
-    {
-        if shown.passed == 0 {
-            self.pending = self.pending.put(sub as usize, shown.more);
-        }
-    }
-
     /// Marks the items as shown to subscription `sub`, which takes the next stamp. Takes no memory.
     pub fn show(&mut self, sub: u32, shown: &Shown)
         requires made { is_some (slice_index_or self.old.subscriptions sub None) ≡ true }

@@ -77,7 +77,6 @@ impl Store {
         };
         let count = shown.items.len();
         if count == 0 {
-            self.content.note_rest(sub, &shown);
             return Reply::Checked {
                 items: shown.items,
                 before,

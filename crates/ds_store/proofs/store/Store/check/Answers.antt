@@ -58,11 +58,7 @@ returns-then-count-eq0-clause-step c = λ s stands.
     let empty = no_items c.in-Ok-first_unseen.shown.items (sym c.len-count.ensures ∙ c.if-count-eq0.true) in
     let has = sym (some_is s b.seer c.args.max c.in-Ok-first_unseen.shown.items c.in-Ok.ensures.checkable.some items) in
     let none = b.left ∙ ap (λ x. refusal_of_showing x s.stamp) (has ∙ ap are_some empty) in
-    (
-      s,
-      inl (check_empty s c.args.sub c.args.max b.seer b.here c.in-Ok.before c.in-Ok-first_unseen.shown.items none items empty b.stamp_is),
-      subst (λ (x : ContentRecord). ContentStands x s) (sym (c.note_rest.ensures ∙ c.deref_mut.ensures.value)) here,
-    )
+    (s, inl (check_empty s c.args.sub c.args.max b.seer b.here c.in-Ok.before c.in-Ok-first_unseen.shown.items none items empty b.stamp_is), stands)
 
 pub returns-in-Some-clause-step : goal.returns-in-Some-clause-step
 returns-in-Some-clause-step c = λ s stands.
@@ -94,5 +90,5 @@ returns-clause-step c = λ s stands.
     let none = b.left ∙ ap₂ refusal_of_showing (has ∙ some) (sym stamp) ∙ sym c.refusal_of_showing.ensures.value ∙ c.in_default-refusal_of_showing.is in (
       subscribes s c.args.sub b.seer.query (b.seer.shown ++ c.in-Ok-first_unseen.shown.items),
       inl (check_done s c.args.sub c.args.max b.seer b.here c.in-Ok.before (c.stamp-stamp.result + 1) c.in-Ok-first_unseen.shown.items none items some b.stamp_is (ap (λ n. n + 1) stamp)),
-      c.show.ensures s b.seer (subst (λ (x : ContentRecord). ContentStands x s) (sym c.deref_mut-2.ensures.value) here) b.here,
+      c.show.ensures s b.seer (subst (λ (x : ContentRecord). ContentStands x s) (sym c.deref_mut.ensures.value) here) b.here,
     )
