@@ -20,6 +20,11 @@ abbrev pub AreUnseen : ContentRecord → ℕ → List Item → ℕ → Type 0
 AreUnseen content sub items passed =
     (f : Followed) → slice_index_or content.subscriptions sub None ≡ Some f → items ≡ flagged f.unseen (take passed content.held)
 
+-- Unless there may be more, none of the held items after the first `passed` is still to be shown to the subscription.
+abbrev pub IsRest : ContentRecord → ℕ → ℕ → Bool → Type 0
+IsRest content sub passed more =
+    (f : Followed) → slice_index_or content.subscriptions sub None ≡ Some f → more ≡ false → (k : ℕ) → passed ≤ k → slice_index_or f.unseen k false ≡ false
+
 -- The index found is that of the first element at or after `from` that passes the test. If there is none, no such
 -- element passes.
 pub record IsNext {X : Type 0} (test : X → Bool) (xs : List X) (from : ℕ) (found : Option ℕ) : Type 0 where
@@ -44,9 +49,10 @@ pub record AreFirst (h : MarkedHolding Masks) (sub max : ℕ) (items : List Item
   pub few : length items ≤ max
   pub enough : (length items ≡ max) ⊎ (items ≡ filter (is_to_show h sub) (held_items h.held))
 
--- The held item at the index is still to be shown to the subscription.
-abbrev pub IsToShowAt : MarkedHolding Masks → ℕ → ℕ → Type 0
-IsToShowAt h sub index = (i : Item) × (slice_get (held_items h.held) index ≡ Some i) × (is_to_show h sub i ≡ true)
+-- Unless there may be more, none of the items after the first `passed` ones is still to be shown to the subscription.
+abbrev pub IsRestOf : MarkedHolding Masks → ℕ → ℕ → Bool → Type 0
+IsRestOf h sub passed more =
+    more ≡ false → (k : ℕ) (i : Item) → slice_get (held_items h.held) k ≡ Some i → passed ≤ k → is_to_show h sub i ≡ false
 
 -- The flag says whether there is a held item at the index that is still to be shown to the subscription.
 pub record IsToShowHere (h : MarkedHolding Masks) (sub index : ℕ) (flag : Bool) : Type 0 where
