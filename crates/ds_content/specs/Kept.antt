@@ -45,7 +45,8 @@ pub record AreMarked (h : MarkedHolding Masks) (ws : List (Option Watching)) : T
 -- The flags of 128 subscriptions, of which each one is set that a held item is still to be shown to.
 pub record ArePending (h : MarkedHolding Masks) (pending : List Bool) : Type 0 where
   pub long : length pending ≡ 128
-  pub each : (i : Item) (k : ℕ) → Contains (held_items h.held) i → slice_index_or (unseen_at h i) k false ≡ true → slice_index_or pending k false ≡ true
+  pub each : (i : Item) (k : ℕ) → Contains (held_items h.held) i → slice_index_or (unseen_at h i) k false ≡ true
+      → slice_index_or pending k false ≡ true
 
 -- Each subscription has its place, held items are marked by these places, those that something is to be shown to are
 -- pending, and the content stands for some state.

@@ -1,5 +1,6 @@
 -- What to show to a subscription first.
-use Rattle.std.specs.Prelude.{◌≡◌, ℕ, ◌<◌, ◌≤◌, ◌⊎◌, Bool, true, false, List, [], ◌∷◌, ◌++◌, length, take, filter, slice_get, slice_index_or, Option, Some, None, IfSome}
+use Rattle.std.specs.Prelude.{◌≡◌, ℕ, ◌<◌, ◌≤◌, ◌⊎◌, Bool, true, false, List, [], ◌∷◌, ◌++◌}
+use Rattle.std.specs.Prelude.{length, take, filter, slice_get, slice_index_or, Option, Some, None, IfSome}
 use Rattle.ds_entry.specs.declared.item.Item.{Item}
 use Rattle.ds_held.specs.Held.{Holding, held_items}
 use Rattle.ds_marked.specs.Marked.{MarkedHolding}
@@ -23,7 +24,8 @@ AreUnseen content sub items passed =
 -- Unless there may be more, none of the held items after the first `passed` is still to be shown to the subscription.
 abbrev pub IsRest : ContentRecord → ℕ → ℕ → Bool → Type 0
 IsRest content sub passed more =
-    (f : Followed) → slice_index_or content.subscriptions sub None ≡ Some f → more ≡ false → (k : ℕ) → passed ≤ k → slice_index_or f.unseen k false ≡ false
+    (f : Followed) → slice_index_or content.subscriptions sub None ≡ Some f → more ≡ false
+    → (k : ℕ) → passed ≤ k → slice_index_or f.unseen k false ≡ false
 
 -- The index found is that of the first element at or after `from` that passes the test. If there is none, no such
 -- element passes.
