@@ -106,7 +106,7 @@ static enum ds_fleet_word snapshot_written(struct ds_fleet *fleet) {
     return DS_FLEET_INSTEP;
 }
 
-/* What was watched leads to the next round, which is asked at once. */
+/* What was watched leads to the next round, which is sent at once. */
 static enum ds_fleet_word compacted(struct ds_fleet *fleet) {
     return fleet->compacting.state == COMPACTING_WATCHES ? snapshot_watched(fleet) : snapshot_written(fleet);
 }

@@ -46,7 +46,7 @@ impl<'a> Unpacking<'a> {
     }
 
     /// Returns a reader of the first `count` items, or `None` if fewer are left.
-    #[tactic(auto, using(crate::proofs::RowsLemmas::unpacked_first, crate::proofs::RowsLemmas::first_rows))]
+    #[tactic(auto, using(crate::proofs::RowsLemmas::unpacked_first, crate::proofs::RowsLemmas::first_rows, crate::proofs::RowsLemmas::unpacked_length))]
     pub fn first(&self, count: usize) -> Option<Unpacking<'a>>
         ensures some { IfSome result (AreFirstItems count self.now) }
         ensures few { IfNone result (length self.now < count) }
