@@ -204,11 +204,12 @@ static bool has_news(const struct ds_fleet *fleet) {
     return fleet->items.untold.length && fleet->server.state == SERVER_MET && !fleet->server.round;
 }
 
-/* The bell is heard, unless news can be sent first: then one wait is for its answer, too, be it that of the next step. */
+/* The bell is heard at least once, unless news is on its way: then one wait is for its answer, too, be it that of the next step. */
 enum ds_fleet_word ds_fleet_step(struct ds_fleet *fleet, unsigned patience) {
     uint64_t end = clock_now() + patience;
     enum ds_fleet_word gathered = items_gather(&fleet->items);
-    if (!has_news(fleet)) hear_bell(fleet, 0);
+    bool has_heard = !has_news(fleet);
+    if (has_heard) hear_bell(fleet, 0);
     for (;;) {
         if (gathered != DS_FLEET_INSTEP) gathered = items_gather(&fleet->items);
         enum ds_fleet_word word = gathered == DS_FLEET_INSTEP ? turn_both(fleet) : gathered;
@@ -216,8 +217,9 @@ enum ds_fleet_word ds_fleet_step(struct ds_fleet *fleet, unsigned patience) {
         fleet->state.word = word;
         if (word == DS_FLEET_INSTEP) fleet->state.caught_up = true;
         uint64_t time = clock_now(), left = time < end ? end - time : 0;
-        if (ends_step(word) || !left) return word;
+        if (ends_step(word) || (!left && (has_heard || fleet->server.round))) return word;
         hear_bell(fleet, left < PERIOD ? (int)left : PERIOD);
+        has_heard = true;
     }
 }
 
