@@ -187,8 +187,7 @@ static void write_out(struct client *client) {
 
 /* Whether nothing is left to be done for a client. */
 static bool is_done(const struct client *client) {
-    size_t length;
-    return client->failed || (client->wire.ended && !backlog(client) && !wire_line(&client->wire, 0, &length));
+    return client->failed || (client->wire.ended && !backlog(client) && !wire_has_line(&client->wire));
 }
 
 /* Whether a client has a line that may be answered. */

@@ -53,7 +53,7 @@ static enum ds_fleet_word take_entry(struct ds_fleet *fleet, const redisReply *e
         items_unread_entry(&fleet->items, name->str);
     } else if (is_text(from) && !strcmp(from->str, fleet->me)) {
         items_note(&fleet->items, lines->str, lines->len);
-        fleet->server.teller.quiet = false; /* the server sends the answer to its teller just after it */
+        if (fleet->server.round) fleet->server.teller.quiet = false; /* the server answers the teller just after it */
     } else {
         word = items_take(&fleet->items, name->str, lines->str, lines->len);
         fleet->state.entries_read++;

@@ -63,8 +63,7 @@ static bool may_answer(const struct peer *peer) { return has_room(peer) && peer-
 
 /* Whether it has a line that may be answered. */
 static bool is_ready(const struct peer *peer) {
-    size_t length;
-    return may_answer(peer) && wire_line(&peer->wire, 0, &length) > 0;
+    return may_answer(peer) && wire_has_line(&peer->wire);
 }
 
 static void answer_lines(struct rs *rs, struct peer *peer) {
@@ -82,8 +81,7 @@ static void answer_lines(struct rs *rs, struct peer *peer) {
 }
 
 static bool is_done(const struct peer *peer) {
-    size_t length;
-    return peer->wire.ended && !peer->wire.out.length && !wire_line(&peer->wire, 0, &length);
+    return peer->wire.ended && !peer->wire.out.length && !wire_has_line(&peer->wire);
 }
 
 /* A peer that is added meanwhile comes after those that are there, and isn't ready. */

@@ -23,9 +23,11 @@ size_t wire_line(const struct wire *wire, size_t from, size_t *length) {
     return newline ? *length + 1 : 0;
 }
 
+bool wire_has_line(const struct wire *wire) { return wire->in.length && memchr(wire->in.bytes, '\n', wire->in.length); }
+
 void wire_drop_lines(struct wire *wire, size_t done) {
     text_drop(&wire->in, done);
-    if (wire->in.length <= WIRE_LINE || memchr(wire->in.bytes, '\n', wire->in.length)) return;
+    if (wire->in.length <= WIRE_LINE || wire_has_line(wire)) return;
     wire->too_long = true;
     text_drop(&wire->in, wire->in.length - 1);
 }

@@ -27,6 +27,8 @@ bool wire_read(struct wire *wire, int socket);
 /* Returns how many bytes the next whole line from a byte on has, and its length without the newline; 0 where there is none. Bytes without a
  * newline aren't a line, even if no more can come. */
 size_t wire_line(const struct wire *wire, size_t from, size_t *length);
+/* Whether a whole line has come. */
+bool wire_has_line(const struct wire *wire);
 /* Drops the lines that are done. Of one that is too long already no more is kept than tells that it was. */
 void wire_drop_lines(struct wire *wire, size_t done);
 /* Owes it the notices of a mask to which it listens. Returns whether there are any. */

@@ -60,9 +60,10 @@ class Memory:
         return said
 
     def asker(self):
-        """Returns which function asked for the growth that was refused last."""
+        """Returns which function asked for the growth that was refused last, without its types; those in C only pass it on."""
         stack = (ctypes.c_ulong * self.words.value).in_dll(self.library, "growths_stack")
-        return self.askers.asker(bytes(stack))
+        found = (it for it in self.askers.callers(bytes(stack)) if "::" in it and not askers.BELOW.search(it))
+        return next(found, "-").partition("::<")[0]
 
 
 class Store(c_calls.Runs):
