@@ -4,11 +4,11 @@ use crate::described::{FILE, add, add_made, described, file, flag, named, with_f
 use crate::help::{ABOUT, LINES, LONG_ABOUT};
 use crate::help_traces::{UPGRADE_ABOUT, UPGRADE_LONG_ABOUT, VERIFY_ABOUT, VERIFY_LONG_ABOUT};
 use crate::help_word::print_explained;
-use crate::input::{SUBCOMMANDS, nearest_command};
 use crate::help_words::{
     AFTER_HELP, ENDS_ABOUT, KEEP_GOING_ABOUT, LINE_ABOUT, SETTINGS_ABOUT, SETTINGS_LONG_ABOUT,
     STOP_ABOUT,
 };
+use crate::input::{SUBCOMMANDS, nearest_command};
 use crate::live_words::{add_live, crew_of};
 use crate::record_words::{add_record, form_of, too_many_keys};
 use clap::error::ErrorKind;
