@@ -2,9 +2,9 @@
 //!
 //! Each line is one test. The output doesn't depend on the order of the threads' turns.
 //! - `CALLERS FOLLOWERS CALLS`, 1 to 64 threads in all: RS begins, and each caller makes CALLS calls. It starts, stops and kills services,
-//!   lets ticks pass and beats, and publishes and reads as a service. Each follower is refreshed as often. Then RS and a store of one thread
-//!   get the callers' calls in the order of their places. Every reply is compared with theirs, and each map with the store at the map's
-//!   place. Without followers, the subscriptions that are owed a notice, and stamps, are compared too.
+//!   lets ticks pass and beats, and publishes and reads as a service. Each follower is refreshed as often. Then RS and a store of one
+//!   thread get the callers' calls in the order of their places. Every reply is compared with theirs, and each map with the store at the
+//!   map's place. Without followers, the subscriptions that are owed a notice, and stamps, are compared too.
 //! - `notice`: one pass follows labels, and RS starts a service and restarts it by another pass. The output has what each of them learns.
 #![tactic(auto)]
 

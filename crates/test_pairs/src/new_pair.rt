@@ -17,8 +17,8 @@ service = [
 /// The labels of the services.
 pub(crate) const LABELS: [&[u8]; 4] = [b"disk", b"eth0", b"inet", b"tty"];
 
-/// Returns RS, which hasn't begun, and an empty store. They are on the heap, since each turn takes them out of the desk's slot and puts them
-/// back. `None` if memory runs out.
+/// Returns RS, which hasn't begun, and an empty store. They are on the heap, since each turn takes them out of the desk's slot and puts
+/// them back. `None` if memory runs out.
 pub(crate) fn new_pair(alloc: Global) -> Option<Box<RsStore>> {
     let pair = RsStore::open(alloc, 1, 0, 256).ok()?;
     Box::new(alloc, pair).ok()
