@@ -23,7 +23,7 @@ use Rattle.ds_machine.specs.declared.reply.Reply.TheVariants as replies
 use Rattle.ds_judge.specs.Last.{IsLast}
 use Rattle.ds_reader.specs.Asked.{Goes, subscribe_anew}
 use Rattle.ds_reader.specs.declared.fault.ReadFault.{ReadFault}
-use Rattle.ds_reader.specs.declared.fault.ReadFault.TheVariants.{Refused, NoRoom, Unfinished, Overtaken}
+use Rattle.ds_reader.specs.declared.fault.ReadFault.TheVariants.{Refused, NoRoom, Unfinished, Overtaken, Worn}
 use Rattle.ds_reader.specs.declared.reading.Reading.{Reading}
 
 -- Whether the store refuses the command in this state for this cause. Out-of-memory is reported after every other cause.
@@ -85,7 +85,7 @@ StopsChecks s t sub reading (Refused refusal) =
 StopsChecks s t sub reading Unfinished = (turns : List CheckTurn) × AreAllFull s t sub reading turns × (length turns ≡ reading.questions)
 StopsChecks s t sub reading Overtaken = (turns : List CheckTurn) × IsOvertaken s t sub reading turns
 StopsChecks s t sub reading NoRoom = (t ≡ s) ⊎ ((turns : List CheckTurn) × IsCheckedMore s t reading turns)
-StopsChecks s t sub reading _ = Unit {0}
+StopsChecks s t sub reading Worn = Unit {0}
 
 -- ---- a reader by the journal
 
@@ -108,7 +108,7 @@ pub record IsJournaledMore (t : State) (reading : Reading) (from : Cursor) (turn
   pub some : turn.since.items ≢ []
 
 -- Whether reading the journal stopped with this fault: the next Since was refused, the allowed number of them wasn't
--- enough, or memory ran out for the next one or for its items.
+-- enough, or memory ran out for the next one or for its items. It has no subscription that another program could take over.
 abbrev pub StopsSinces : State → Reading → Cursor → ReadFault → Type 0
 StopsSinces t reading from (Refused refusal) =
     (turns : List SinceTurn) × AreFullSinces t reading from turns ×
@@ -117,7 +117,8 @@ StopsSinces t reading from Unfinished = (turns : List SinceTurn) × AreFullSince
 StopsSinces t reading from NoRoom =
     (turns : List SinceTurn) × (length turns < reading.questions) ×
     (AreFullSinces t reading from turns ⊎ IsJournaledMore t reading from turns)
-StopsSinces t reading from _ = Unit {0}
+StopsSinces t reading from Overtaken = ⊥
+StopsSinces t reading from Worn = Unit {0}
 
 -- ---- a reader by pages
 
@@ -146,7 +147,7 @@ pub record IsPagedMore (s t : State) (reading : Reading) (pages : List PageTurn)
   pub some : turn.page.items ≢ []
 
 -- Whether reading pages stopped with this fault: the next Page was refused, the allowed number of them wasn't enough, or
--- memory ran out for the next one or for its items.
+-- memory ran out for the next one or for its items. It has no subscription that another program could take over.
 abbrev pub StopsOpen : State → State → Reading → ReadFault → Type 0
 StopsOpen s t reading (Refused refusal) =
     (pages : List PageTurn) × AreAllOpen s t reading pages ×
@@ -154,7 +155,8 @@ StopsOpen s t reading (Refused refusal) =
 StopsOpen s t reading Unfinished = (pages : List PageTurn) × AreAllOpen s t reading pages × (length pages ≡ reading.questions)
 StopsOpen s t reading NoRoom =
     (pages : List PageTurn) × (length pages < reading.questions) × (AreAllOpen s t reading pages ⊎ IsPagedMore s t reading pages)
-StopsOpen s t reading _ = Unit {0}
+StopsOpen s t reading Overtaken = ⊥
+StopsOpen s t reading Worn = Unit {0}
 
 -- Whether a reader by pages stopped with this fault, before the last page, or in the journal after it.
 abbrev pub StopsPages : State → State → Reading → ReadFault → Type 0
