@@ -2,8 +2,8 @@
 #include "answers.h"
 #include "ds.h"
 #include "text.h"
+#include "usage.h"
 #include <errno.h>
-#include <getopt.h>
 #include <poll.h>
 #include <signal.h>
 #include <stdio.h>
@@ -13,8 +13,13 @@
 #include <sys/un.h>
 #include <unistd.h>
 
-enum { DONE = 0, REFUSED = 1, USAGE = 2 }; /* statuses */
-enum { PIECE = 1 << 16 /* bytes that are read at a time */ };
+enum { REFUSED = 1 /* a status */ };
+enum {
+    PIECE = 1 << 16, /* bytes that are read at a time */
+    ALL_KINDS = 15,
+    FIRST_SUB = 120, /* the first that is tried if none is named */
+    SUBS = 128
+};
 
 static const char help[] =
     "usage: dsask SOCKET [LINE ..]\n"
@@ -63,11 +68,6 @@ struct asking {
     struct watching *watching; /* or NULL */
 };
 
-static int usage(const char *why) {
-    fprintf(stderr, "dsask: %s; see dsask --help\n", why);
-    return USAGE;
-}
-
 static int out_of_memory(void) {
     fprintf(stderr, "dsask: out of memory\n");
     return REFUSED;
@@ -75,46 +75,33 @@ static int out_of_memory(void) {
 
 /* ---- words ---- */
 
-static int shown(const char *text) {
-    fputs(text, stdout);
-    return DONE;
+static int finish(const struct usage *usage, int count, char **words, struct options *options) {
+    if (!count) return usage_refuse(usage, "a socket is wanted");
+    options->socket = words[0];
+    options->line = words + 1;
+    options->count = count - 1;
+    if (options->watching.pattern && options->count) return usage_refuse(usage, "no line comes with --watch");
+    if (strlen(options->socket) >= sizeof((struct sockaddr_un *)0)->sun_path) return usage_refuse(usage, "the socket's path is too long");
+    return GO_ON;
 }
 
-/* Takes an option; -1: continue. */
-static int read_option(int option, char *value, struct watching *watching) {
-    char *end = value;
-    long number = value ? strtol(value, &end, 10) : 0;
-    bool is_number = end != value && !*end;
-    switch (option) {
-    case 'h': return shown(help);
-    case 'v': return shown("dsask " DS_VERSION "\n");
-    case 'w': watching->pattern = value; return -1;
-    case 'k': watching->kinds = (int)number; return is_number && number >= 1 && number <= 15 ? -1 : usage("kinds are 1 to 15");
-    case 's':
-        watching->sub = watching->last_sub = (int)number;
-        return is_number && number >= 0 && number <= 127 ? -1 : usage("a subscription is 0 to 127");
-    default: return usage("no such option, or no value after it");
-    }
-}
-
-/* -1: continue. Lines may begin with a dash, so options come first. */
+/* Lines may begin with a dash, so options come first. */
 static int read_words(int count, char **words, struct options *options) {
-    static const struct option known[] = {
-        {"watch", required_argument, NULL, 'w'}, {"kinds", required_argument, NULL, 'k'}, {"sub", required_argument, NULL, 's'},
-        {"help", no_argument, NULL, 'h'}, {"version", no_argument, NULL, 'v'}, {0},
+    struct watching *watching = &options->watching;
+    size_t kinds = ALL_KINDS, sub = SUBS;
+    const struct option_row rows[] = {
+        {"watch", .text = &watching->pattern},
+        {"kinds", .number = &kinds, .least = 1, .most = ALL_KINDS, .fault = "kinds are 1 to 15"},
+        {"sub", .number = &sub, .most = SUBS - 1, .fault = "a subscription is 0 to 127"},
+        {0},
     };
-    opterr = 0;
-    for (int option; (option = getopt_long(count, words, "+h", known, NULL)) != -1;) {
-        int status = read_option(option, optarg, &options->watching);
-        if (status >= 0) return status;
-    }
-    if (optind == count) return usage("a socket is wanted");
-    options->socket = words[optind];
-    options->line = words + optind + 1;
-    options->count = count - optind - 1;
-    if (options->watching.pattern && options->count) return usage("no line comes with --watch");
-    if (strlen(options->socket) >= sizeof((struct sockaddr_un *)0)->sun_path) return usage("the socket's path is too long");
-    return -1;
+    const struct usage usage = {.name = "dsask", .help = help, .version = "dsask " DS_VERSION "\n", .rows = rows, .options_first = true};
+    int first, status = usage_read(&usage, count, words, &first);
+    if (status != GO_ON) return status;
+    watching->kinds = (int)kinds;
+    watching->sub = sub < SUBS ? (int)sub : FIRST_SUB;
+    watching->last_sub = sub < SUBS ? (int)sub : SUBS - 1;
+    return finish(&usage, count - first, words + first, options);
 }
 
 /* ---- asking ---- */
@@ -221,9 +208,9 @@ static int ask(const struct options *options, struct asking *asking) {
 }
 
 int main(int count, char **words) {
-    struct options options = {.watching = {.kinds = 15, .sub = 120, .last_sub = 127}};
+    struct options options = {0};
     int status = read_words(count, words, &options);
-    if (status >= 0) return status;
+    if (status != GO_ON) return status;
     signal(SIGPIPE, SIG_IGN);
     struct asking asking = {.socket = connected(options.socket), .last = '\n'};
     if (asking.socket < 0) return REFUSED;

@@ -1,18 +1,140 @@
-/* A bridge: the parts of a fleet, each a struct and an enum of states of its own. Their headers have a table each, of what becomes of a
- * state by an event. docs/design/bridge.md says which part asks next. Used within the library.
+/* A bridge: the parts of a fleet, each a struct and an enum of states of its own. The files of the parts begin with a table each, of what becomes
+ * of a state by an event. docs/design/bridge.md says which part asks next. Used within the library.
  *
  * The parts share one connection, the teller's, for one round of questions at a time. */
 #ifndef DS_FLEET_BRIDGE_H
 #define DS_FLEET_BRIDGE_H
 
-#include "comparing.h"
-#include "compacting.h"
 #include "ds_fleet.h"
 #include "items.h"
+#include "loss.h"
+#include "master.h"
 #include "peers.h"
-#include "reading.h"
-#include "server.h"
-#include "telling.h"
+
+/* A round of the teller's questions. */
+struct round {
+    bool (*is_due)(const struct ds_fleet *fleet);
+    enum ds_fleet_word (*ask)(struct ds_fleet *fleet); /* returns INSTEP, or why it can't be asked */
+    enum ds_fleet_word (*answered)(struct ds_fleet *fleet);
+};
+
+extern const struct round meeting_round, fetching_round, comparing_round, compacting_round, telling_round;
+
+/* ---- server ---- */
+
+enum server_state {
+    SERVER_AWAY,   /* no connection; `parted` says why */
+    SERVER_CALLED, /* both connections are opened, and only the meeting may be asked */
+    SERVER_MET     /* the meeting was answered: the other parts may ask */
+};
+
+struct server {
+    enum server_state state;
+    const struct round *round;                     /* the teller's; NULL: none, as in AWAY */
+    struct master master;
+    struct link teller, listener;                  /* open in CALLED and MET */
+    enum ds_fleet_word parted;                     /* in AWAY: AWAY, or why there is no connection by choice */
+    bool logs_meeting;                             /* the next meeting is logged: the log's last word on the server is that it went */
+    char run[DS_FLEET_ID], history[DS_FLEET_ID];   /* of the server that was met last, or nothing */
+    uint64_t pause;                                /* milliseconds of the last pause; 0: the server was of use since */
+    uint64_t call_at, ask_at;                      /* in AWAY, when a server is called; when what was denied is tried again */
+    char name[DS_FLEET_ID];                        /* of both connections */
+};
+
+enum ds_fleet_word server_open(struct ds_fleet *fleet, const struct ds_fleet_options *options);
+void server_close(struct server *server);
+
+bool server_is_connected(const struct server *server);
+/* Calls a server if there is none. Returns INSTEP if both connections are open, else why not. */
+enum ds_fleet_word server_call(struct ds_fleet *fleet);
+/* Opens the listener's connection anew: a reading may wait there for what comes after an entry that is no longer the last one read. */
+void server_reopen_listener(struct server *server);
+
+/* Both connections end. What got no answer is sent to the next server. */
+enum ds_fleet_word server_hang_up(struct ds_fleet *fleet, enum ds_fleet_word word, const char *why);
+enum ds_fleet_word server_went(struct ds_fleet *fleet, const char *why);
+/* The server answered by something that is of no use, or by an error. */
+enum ds_fleet_word server_puzzles(struct ds_fleet *fleet, const char *why);
+enum ds_fleet_word server_denied(struct ds_fleet *fleet, const redisReply *error);
+
+/* Notes the history that the server names now. Returns whether it is another one than before. */
+bool server_changed_history(struct server *server, const redisReply *replication);
+/* Whether the stream has another scope than this bridge, and how that is refused. */
+bool server_has_other_scope(const struct ds_fleet *fleet, const redisReply *scope);
+enum ds_fleet_word server_refuse_scope(struct ds_fleet *fleet, const redisReply *scope);
+
+/* ---- telling ---- */
+
+enum telling_state { TELLING_NEWS, TELLING_ADDED };
+
+struct telling {
+    enum telling_state state;
+    bool owes_all;      /* everything held is put to what is untold, once the stream is read to its end */
+    size_t sent;        /* in a round of telling, and in ADDED: bytes of the untold that the round adds, or added */
+    unsigned parts;     /* in a round of telling: the entries that it adds */
+    int replicas;       /* that have to have each entry; 0: none */
+    int within;         /* milliseconds in which they are to have it */
+    uint64_t told;      /* bytes that count as told */
+    struct trail trail; /* the entries told */
+};
+
+void telling_cut(struct telling *telling);
+
+/* ---- reading ---- */
+
+enum reading_state {
+    READING_BEHIND, /* there may be entries that aren't read: a reading doesn't wait for more */
+    READING_END,    /* everything that was there is read: a reading waits for more */
+    READING_GAP     /* the snapshot is to be fetched first */
+};
+
+struct reading {
+    enum reading_state state;
+    struct entry_id last;       /* the last entry read */
+    struct entry_id read_up_to; /* all entries up to this id are read, or went before; 0-0, or above last */
+    char passed[DS_FLEET_ID];   /* the `at` of a snapshot that isn't to be fetched again: of no entry there ever was, or with no items */
+    struct trail trail;         /* the entries read */
+};
+
+/* The listener's round. */
+void reading_ask(struct ds_fleet *fleet);
+enum ds_fleet_word reading_answered(struct ds_fleet *fleet);
+void reading_cut(struct reading *reading);
+
+/* ---- compacting ---- */
+
+enum compacting_state { COMPACTING_RESTS, COMPACTING_WATCHES, COMPACTING_WRITES };
+
+struct compacting {
+    enum compacting_state state; /* RESTS, but in a round of compacting */
+    long keep, length;           /* a stream of more entries than keep is compacted; length: of the stream, as last heard */
+    struct entry_id at;          /* in WRITES: the entry up to which the snapshot goes that is being written */
+    uint64_t due_at;             /* no sooner than this */
+};
+
+/* ---- comparing ---- */
+
+enum { WITNESSES = 4 /* entries that have to be there: a stream that took the place of another one lacks one of them */ };
+
+struct comparing {
+    uint64_t due_at;
+    struct stock stock;
+    struct entry_id asked;                /* the last entry read at the comparing before */
+    struct entry_id witnesses[WITNESSES]; /* in a round of comparing: those that are looked for */
+    uint64_t digest, digested;            /* the last digest, and the store's position then; NOT_DIGESTED: there is none */
+    uint64_t digest_at;                   /* while entries come, no sooner than this */
+    unsigned long long beat;              /* of the digests that are published */
+    unsigned rest, wait;                  /* comparings until it tells all again to those that differ, and how many these last were */
+    struct peers peers;
+};
+
+/* Another entry is about to be read. While entries come, all bridges take a digest where the second of the ids changes, so that they
+ * take it at the same entry. */
+void comparing_next(struct ds_fleet *fleet, struct entry_id next);
+/* The server, or its stream, is another one, which has this. */
+void comparing_begin_anew(struct comparing *comparing, const struct stock *stock);
+
+/* ---- all of it ---- */
 
 enum { PERIOD = 1000 /* milliseconds from one comparing to the next */ };
 
@@ -30,6 +152,7 @@ struct ds_fleet {
     struct ds_fleet_state state; /* what is reported */
 };
 
+bool bridge_is_at_end(const struct ds_fleet *fleet);
 /* Reads everything once more, from the stream's start. */
 void bridge_read_from_start(struct ds_fleet *fleet);
 /* Reads what a server has of the stream. Returns INSTEP, or how an answer is refused. */

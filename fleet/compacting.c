@@ -1,5 +1,18 @@
-/* Compacting. See compacting.h. */
+/* Compacting: a stream that has grown long becomes a snapshot of everything held.
+ *
+ *   state   | event                                     | becomes, and does
+ *   --------+-------------------------------------------+----------------------------------------------------------------
+ *   RESTS   | it is due                                 | WATCHES: watches the snapshot, and asks for it
+ *   WATCHES | good answers                              | WRITES: one transaction writes the snapshot and trims the stream
+ *   WATCHES | another bridge's snapshot goes further    | WRITES: ends the watch alone
+ *   WATCHES | another scope                             | RESTS: badscope
+ *   WATCHES | an error, or out of memory                | WRITES: ends the watch alone; denied, or noroom
+ *   WRITES  | it is written                             | RESTS
+ *   WRITES  | another bridge wrote meanwhile            | RESTS: nothing was written
+ *   WRITES  | an error                                  | RESTS: denied
+ *   any     | the connection ends                       | RESTS */
 #include "bridge.h"
+#include "clock.h"
 
 /* The questions of a watching, and of the transaction; the fields of the snapshot that are asked for. */
 enum { WATCHING_WATCH, WATCHING_SNAPSHOT, WATCHING_STREAM };
@@ -7,19 +20,20 @@ enum { WRITING_MULTI, WRITING_SNAPSHOT, WRITING_TRIM, WRITING_EXEC, WRITING_QUES
 enum { WATCHED_AT, WATCHED_SCOPE, WATCHED_TRIMMED, WATCHED_FIELDS };
 enum { REST = 250 /* milliseconds between two compactings */ };
 
-bool compacting_is_due(const struct ds_fleet *fleet, uint64_t time) {
+static bool is_due(const struct ds_fleet *fleet) {
     const struct compacting *compacting = &fleet->compacting;
-    return compacting->length > compacting->keep && !fleet->items.lost && time >= compacting->due_at;
+    bool is_long = compacting->length > compacting->keep && !fleet->items.lost;
+    return is_long && bridge_is_at_end(fleet) && clock_now() >= compacting->due_at;
 }
 
-void compacting_ask(struct ds_fleet *fleet, uint64_t time) {
+static enum ds_fleet_word watch_snapshot(struct ds_fleet *fleet) {
     struct link *teller = &fleet->server.teller;
-    fleet->server.round = ROUND_COMPACTING;
     fleet->compacting.state = COMPACTING_WATCHES;
-    fleet->compacting.due_at = time + REST;
+    fleet->compacting.due_at = clock_now() + REST;
     link_ask(teller, "WATCH %s:snapshot", fleet->stream);
     link_ask(teller, "HMGET %s:snapshot at scope trimmed", fleet->stream);
     link_ask(teller, "XINFO STREAM %s:items", fleet->stream);
+    return DS_FLEET_INSTEP;
 }
 
 /* Trims the stream, and counts what went into the snapshot. */
@@ -92,6 +106,9 @@ static enum ds_fleet_word snapshot_written(struct ds_fleet *fleet) {
     return DS_FLEET_INSTEP;
 }
 
-enum ds_fleet_word compacting_answered(struct ds_fleet *fleet) {
+/* What was watched leads to the next round, which is sent at once. */
+static enum ds_fleet_word compacted(struct ds_fleet *fleet) {
     return fleet->compacting.state == COMPACTING_WATCHES ? snapshot_watched(fleet) : snapshot_written(fleet);
 }
+
+const struct round compacting_round = {is_due, watch_snapshot, compacted};

@@ -1,4 +1,15 @@
-/* Comparing. See comparing.h. */
+/* Comparing: each second, whether the server has what it had, and whether others hold the same at the same entry.
+ *
+ * `stock` is what the stream had at the look before, the first one of which is that of the meeting.
+ *
+ *   state | event                                    | does
+ *   ------+------------------------------------------+-------------------------------------------------------------------
+ *   any   | good answers                             | keeps what the stream has
+ *   any   | .. of a server that lost something       | reads everything again, and then tells what isn't there
+ *   any   | .. with another scope                    | badscope, and the connections end
+ *   any   | an entry of a second ago hasn't come     | away, both connections are made anew
+ *   any   | others differ, and this is the first of its kind | tells everything again, less and less often
+ *   any   | an error                                 | denied */
 #include "bridge.h"
 #include "clock.h"
 #include <string.h>
@@ -57,7 +68,9 @@ static void ask_for_witnesses(struct ds_fleet *fleet) {
     trail_ask(read);
 }
 
-enum ds_fleet_word comparing_ask(struct ds_fleet *fleet) {
+static bool is_due(const struct ds_fleet *fleet) { return bridge_is_at_end(fleet) && clock_now() >= fleet->comparing.due_at; }
+
+static enum ds_fleet_word compare(struct ds_fleet *fleet) {
     struct comparing *comparing = &fleet->comparing;
     struct link *teller = &fleet->server.teller;
     char digest[DIGEST_TEXT];
@@ -66,7 +79,6 @@ enum ds_fleet_word comparing_ask(struct ds_fleet *fleet) {
     enum ds_fleet_word word = items_retry(&fleet->items);
     if (word == DS_FLEET_INSTEP && is_at_rest) word = keep_digest(fleet);
     if (word != DS_FLEET_INSTEP) return word;
-    fleet->server.round = ROUND_COMPARING;
     comparing->asked = fleet->reading.last;
     link_ask(teller, "INFO replication");
     link_ask(teller, "MULTI");
@@ -155,7 +167,7 @@ static void judge_peers(struct ds_fleet *fleet, const redisReply *digests) {
     }
 }
 
-enum ds_fleet_word comparing_answered(struct ds_fleet *fleet) {
+static enum ds_fleet_word compared(struct ds_fleet *fleet) {
     struct link *teller = &fleet->server.teller;
     struct redisReply **answers = teller->answers, *looked = answers[ASKED_EXEC], *digests = answers[ASKED_DIGESTS];
     const redisReply *error = error_of(answers, ASKED_DIGESTS);
@@ -172,6 +184,8 @@ enum ds_fleet_word comparing_answered(struct ds_fleet *fleet) {
     server_reopen_listener(&fleet->server);
     return DS_FLEET_INSTEP;
 }
+
+const struct round comparing_round = {is_due, compare, compared};
 
 void comparing_begin_anew(struct comparing *comparing, const struct stock *stock) {
     comparing->asked = NO_ENTRY;

@@ -24,6 +24,8 @@ enum {
 
 /* ---- the teller and the listener ---- */
 
+bool bridge_is_at_end(const struct ds_fleet *fleet) { return fleet->reading.state == READING_END; }
+
 void bridge_read_from_start(struct ds_fleet *fleet) {
     fleet->reading.last = NO_ENTRY;
     fleet->reading.state = READING_BEHIND;
@@ -48,52 +50,38 @@ void bridge_begin_anew(struct ds_fleet *fleet, const struct stock *stock) {
     comparing_begin_anew(&fleet->comparing, stock);
 }
 
-static enum ds_fleet_word round_answered(struct ds_fleet *fleet) {
-    switch (fleet->server.round) {
-    case ROUND_MEETING: return meeting_answered(fleet);
-    case ROUND_TELLING: return telling_answered(fleet);
-    case ROUND_FETCHING: return fetching_answered(fleet);
-    case ROUND_COMPACTING: return compacting_answered(fleet);
-    case ROUND_COMPARING: return comparing_answered(fleet);
-    case ROUND_NONE: break;
-    }
-    return DS_FLEET_INSTEP;
-}
-
 /* Ends the teller's round. Compacting may have asked the next one already, and a connection that went has none. */
 static enum ds_fleet_word end_round(struct ds_fleet *fleet) {
-    enum ds_fleet_word word = round_answered(fleet);
+    enum ds_fleet_word word = fleet->server.round->answered(fleet);
     if (fleet->compacting.state == COMPACTING_WRITES || !fleet->server.teller.redis) return word;
     link_done(&fleet->server.teller);
-    fleet->server.round = ROUND_NONE;
+    fleet->server.round = NULL;
     return word;
 }
 
-/* Asks the teller's next round, if anything is to be asked. LATE: something is. */
+/* Puts everything held to what is untold, if that is owed and the stream is read to its end. */
+static enum ds_fleet_word gather_owed(struct ds_fleet *fleet) {
+    if (!fleet->telling.owes_all || !bridge_is_at_end(fleet)) return DS_FLEET_INSTEP;
+    enum ds_fleet_word word = items_gather_all(&fleet->items);
+    if (word != DS_FLEET_INSTEP) return word;
+    fleet->telling.owes_all = false;
+    items_forget_noted(&fleet->items);
+    return word;
+}
+
+/* Asks the first of the teller's rounds that is due. LATE: there is one. */
 static enum ds_fleet_word ask_next(struct ds_fleet *fleet) {
-    uint64_t time = clock_now();
-    bool is_at_end = fleet->reading.state == READING_END;
-    enum ds_fleet_word word = DS_FLEET_INSTEP;
-    if (time < fleet->server.ask_at) return DS_FLEET_DENIED;
-    if (is_at_end && fleet->telling.owes_all) {
-        word = items_gather_all(&fleet->items);
-        fleet->telling.owes_all = word != DS_FLEET_INSTEP;
-        if (word == DS_FLEET_INSTEP) items_forget_noted(&fleet->items);
+    static const struct round *const rounds[] = {&meeting_round, &fetching_round, &comparing_round, &compacting_round, &telling_round};
+    if (clock_now() < fleet->server.ask_at) return DS_FLEET_DENIED;
+    enum ds_fleet_word word = gather_owed(fleet);
+    for (size_t i = 0; i < sizeof rounds / sizeof *rounds; i++) {
+        if (!rounds[i]->is_due(fleet)) continue;
+        word = rounds[i]->ask(fleet);
+        if (word != DS_FLEET_INSTEP) return word;
+        fleet->server.round = rounds[i];
+        return DS_FLEET_LATE;
     }
-    if (fleet->server.state != SERVER_MET) {
-        meeting_ask(fleet);
-    } else if (fleet->reading.state == READING_GAP) {
-        fetching_ask(fleet);
-    } else if (is_at_end && time >= fleet->comparing.due_at) {
-        word = comparing_ask(fleet);
-    } else if (is_at_end && compacting_is_due(fleet, time)) {
-        compacting_ask(fleet, time);
-    } else if (word == DS_FLEET_INSTEP && fleet->items.untold.length) {
-        telling_ask(fleet);
-    } else {
-        return word;
-    }
-    return word == DS_FLEET_INSTEP ? DS_FLEET_LATE : word;
+    return word;
 }
 
 /* Continues the teller: LATE if more may come of it at once, else INSTEP or why not. */
@@ -126,8 +114,7 @@ static enum ds_fleet_word turn_listener(struct ds_fleet *fleet) {
 }
 
 static bool is_in_step(const struct ds_fleet *fleet) {
-    bool is_read = fleet->server.state == SERVER_MET && fleet->reading.state == READING_END;
-    return is_read && !fleet->telling.owes_all && !fleet->items.untold.length;
+    return fleet->server.state == SERVER_MET && bridge_is_at_end(fleet) && !fleet->telling.owes_all && !fleet->items.untold.length;
 }
 
 /* Goes as far as it can without waiting. If one of the two is denied, the other continues. */
@@ -214,10 +201,10 @@ static bool ends_step(enum ds_fleet_word word) {
 
 /* Whether there is news that can be sent at once. */
 static bool has_news(const struct ds_fleet *fleet) {
-    return fleet->items.untold.length && fleet->server.state == SERVER_MET && fleet->server.round == ROUND_NONE;
+    return fleet->items.untold.length && fleet->server.state == SERVER_MET && !fleet->server.round;
 }
 
-/* The bell is heard at least once. News is sent before that, so that one wait is for its answer, too. */
+/* The bell is heard at least once, unless news is on its way: then one wait is for its answer, too, be it that of the next step. */
 enum ds_fleet_word ds_fleet_step(struct ds_fleet *fleet, unsigned patience) {
     uint64_t end = clock_now() + patience;
     enum ds_fleet_word gathered = items_gather(&fleet->items);
@@ -230,7 +217,7 @@ enum ds_fleet_word ds_fleet_step(struct ds_fleet *fleet, unsigned patience) {
         fleet->state.word = word;
         if (word == DS_FLEET_INSTEP) fleet->state.caught_up = true;
         uint64_t time = clock_now(), left = time < end ? end - time : 0;
-        if (ends_step(word) || (has_heard && !left)) return word;
+        if (ends_step(word) || (!left && (has_heard || fleet->server.round))) return word;
         hear_bell(fleet, left < PERIOD ? (int)left : PERIOD);
         has_heard = true;
     }
@@ -268,20 +255,13 @@ static bool good_name(const char *stream) {
 }
 
 /* The scope, for the store, and as the stream's field has it: `PATTERN KINDS`, or a word of its own, which has no space. */
-static enum ds_fleet_word read_scope(struct ds_fleet *fleet, const char *pattern, uint8_t kinds) {
-    struct text scope = {0};
+static enum ds_fleet_word read_scope(struct ds_fleet *fleet, const char *pattern, unsigned kinds) {
     if (kinds && !pattern) return DS_FLEET_BADSCOPE;
-    bool kept = !kinds || text_put(&fleet->items.scope, pattern, strlen(pattern));
-    if (kinds) {
-        char end[sizeof " 255"];
-        snprintf(end, sizeof end, " %u", (unsigned)kinds);
-        kept = kept && text_put(&scope, pattern, strlen(pattern)) && text_put(&scope, end, strlen(end) + 1);
-    } else {
-        kept = text_put(&scope, "everything", sizeof "everything");
-    }
-    fleet->items.kinds = kinds;
-    fleet->scope = scope.bytes;
-    return kept ? DS_FLEET_INSTEP : DS_FLEET_NOROOM;
+    fleet->items.kinds = (uint8_t)kinds;
+    bool is_kept = !kinds || text_put(&fleet->items.scope, pattern, strlen(pattern));
+    int length = kinds ? asprintf(&fleet->scope, "%s %u", pattern, kinds) : asprintf(&fleet->scope, "everything");
+    if (length < 0) fleet->scope = NULL;
+    return is_kept && length >= 0 ? DS_FLEET_INSTEP : DS_FLEET_NOROOM;
 }
 
 static enum ds_fleet_word read_options(struct ds_fleet *fleet, const struct ds_fleet_options *options) {

@@ -1,4 +1,16 @@
-/* Where the master is. See master.h. */
+/* Where the master is. See master.h.
+ *
+ *   state   | event                       | becomes, and does
+ *   --------+-----------------------------+--------------------------------------------------------------
+ *   LISTED  | a server's address is found | LISTED: that is where it is
+ *   LISTED  | a Sentinel's is found       | ASKED: asks it for the master
+ *   LISTED  | no address                  | LISTED: unknown
+ *   ASKED   | it names the master         | NAMED
+ *   ASKED   | it knows none, or is lost   | LISTED: unknown
+ *   NAMED   | the address is found        | NAMED: that is where it is
+ *   NAMED   | no address                  | LISTED: unknown
+ *   any     | no server was met there     | LISTED: the next address of the URL is due
+ *   any     | a node names another one    | NAMED */
 #include "master.h"
 #include "answers.h"
 #include "text.h"

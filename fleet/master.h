@@ -1,17 +1,5 @@
 /* Where the master is: one of the addresses of a URL in order, the one that a Sentinel names, or the one to which a node of a cluster
- * sends. Used by server.c and check.c.
- *
- *   state   | event                       | becomes, and does
- *   --------+-----------------------------+--------------------------------------------------------------
- *   LISTED  | a server's address is found | LISTED: that is where it is
- *   LISTED  | a Sentinel's is found       | ASKED: asks it for the master
- *   LISTED  | no address                  | LISTED: unknown
- *   ASKED   | it names the master         | NAMED
- *   ASKED   | it knows none, or is lost   | LISTED: unknown
- *   NAMED   | the address is found        | NAMED: that is where it is
- *   NAMED   | no address                  | LISTED: unknown
- *   any     | no server was met there     | LISTED: the next address of the URL is due
- *   any     | a node names another one    | NAMED */
+ * sends. Used by server.c and check.c. */
 #ifndef DS_FLEET_MASTER_H
 #define DS_FLEET_MASTER_H
 

@@ -1,4 +1,17 @@
-/* Reading. See reading.h. */
+/* Reading: the entries of others are merged into the store, and the snapshot where it has what was trimmed before it was read.
+ *
+ *   state  | event                                     | becomes, and does
+ *   -------+-------------------------------------------+---------------------------------------------------------
+ *   BEHIND | a full reading                            | BEHIND: its entries are merged
+ *   BEHIND | a reading that isn't full                 | END: its entries are merged
+ *   END    | entries                                   | END, or BEHIND if it is full: they are merged
+ *   any    | .. and a snapshot that goes further       | GAP: they are merged, too; further than the last entry read before
+ *   any    | an error, or out of memory                | BEHIND: denied, or noroom; the entries are asked for again
+ *   GAP    | the snapshot is fetched                   | BEHIND: it is merged
+ *   GAP    | an error, or out of memory                | GAP: denied, or noroom
+ *   BEHIND, END | the connections end                  | BEHIND
+ *   GAP    | the connections end                       | GAP: what was read past it hides it from the next reading
+ *   any    | everything is to be read once more        | BEHIND: from the first entry on */
 #include "bridge.h"
 #include <stdio.h>
 #include <string.h>
@@ -40,6 +53,7 @@ static enum ds_fleet_word take_entry(struct ds_fleet *fleet, const redisReply *e
         items_unread_entry(&fleet->items, name->str);
     } else if (is_text(from) && !strcmp(from->str, fleet->me)) {
         items_note(&fleet->items, lines->str, lines->len);
+        if (fleet->server.round) fleet->server.teller.quiet = false; /* the server answers the teller just after it */
     } else {
         word = items_take(&fleet->items, name->str, lines->str, lines->len);
         fleet->state.entries_read++;
@@ -69,14 +83,16 @@ enum ds_fleet_word reading_answered(struct ds_fleet *fleet) {
     return DS_FLEET_INSTEP;
 }
 
-void fetching_ask(struct ds_fleet *fleet) {
-    fleet->server.round = ROUND_FETCHING;
+static bool has_gap(const struct ds_fleet *fleet) { return fleet->reading.state == READING_GAP; }
+
+static enum ds_fleet_word fetch(struct ds_fleet *fleet) {
     link_ask(&fleet->server.teller, "XINFO STREAM %s:items", fleet->stream);
     link_ask(&fleet->server.teller, "HMGET %s:snapshot at items", fleet->stream);
+    return DS_FLEET_INSTEP;
 }
 
 /* Merges the snapshot, whatever entry it says that it is of. If there was such an entry, everything up to it is read then. */
-enum ds_fleet_word fetching_answered(struct ds_fleet *fleet) {
+static enum ds_fleet_word fetched(struct ds_fleet *fleet) {
     struct reading *reading = &fleet->reading;
     struct entry_id generated = id_of(field_of(fleet->server.teller.answers[FETCHING_STREAM], "last-generated-id"));
     const redisReply *snapshot = fleet->server.teller.answers[FETCHING_SNAPSHOT];
@@ -98,6 +114,8 @@ enum ds_fleet_word fetching_answered(struct ds_fleet *fleet) {
     }
     return DS_FLEET_INSTEP;
 }
+
+const struct round fetching_round = {has_gap, fetch, fetched};
 
 void reading_cut(struct reading *reading) {
     if (reading->state == READING_END) reading->state = READING_BEHIND;

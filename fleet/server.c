@@ -1,4 +1,18 @@
-/* The server comes and goes. See server.h. */
+/* The server comes and goes: two connections to it, and the meeting by which a bridge gets to know it.
+ *
+ *   state   | event                              | becomes, and does
+ *   --------+------------------------------------+--------------------------------------------------------------------
+ *   AWAY    | the pause is over, master found    | CALLED: opens both connections
+ *   AWAY    | no master is found                 | AWAY: a longer pause
+ *   CALLED  | a meeting answered, as it should   | MET
+ *   CALLED  | .. by another server or history    | MET: everything is read, and then told what isn't there
+ *   CALLED  | .. with another scope              | AWAY: badscope
+ *   CALLED  | .. by a cluster, keys on many nodes| AWAY: badname
+ *   CALLED  | .. by a replica, others are listed | AWAY: denied
+ *   any     | an error                           | unchanged: denied, asked again after PATIENCE
+ *   any     | an error of a demoted server       | AWAY: denied
+ *   any     | MOVED                              | AWAY: denied, and the node that it names is called
+ *   any     | a connection is lost, or is silent | AWAY */
 #include "bridge.h"
 #include "clock.h"
 #include <stdio.h>
@@ -40,7 +54,7 @@ enum ds_fleet_word server_hang_up(struct ds_fleet *fleet, enum ds_fleet_word wor
     link_close(&server->listener);
     master_failed(&server->master);
     server->state = SERVER_AWAY;
-    server->round = ROUND_NONE;
+    server->round = NULL;
     server->parted = word;
     telling_cut(&fleet->telling);
     reading_cut(&fleet->reading);
@@ -112,14 +126,16 @@ void server_reopen_listener(struct server *server) { link_open(&server->listener
 /* The questions of a meeting, in their order. */
 enum { MEETING_INFO, MEETING_CLAIM, MEETING_MULTI, MEETING_LOOK, MEETING_EXEC = MEETING_LOOK + LOOK_QUESTIONS, MEETING_QUESTIONS };
 
-void meeting_ask(struct ds_fleet *fleet) {
+static bool is_unmet(const struct ds_fleet *fleet) { return fleet->server.state != SERVER_MET; }
+
+static enum ds_fleet_word ask_to_meet(struct ds_fleet *fleet) {
     struct link *teller = &fleet->server.teller;
-    fleet->server.round = ROUND_MEETING;
     link_ask(teller, "INFO");
     link_ask(teller, "HSETNX %s:snapshot scope %s", fleet->stream, fleet->scope);
     link_ask(teller, "MULTI");
     look_ask(teller, fleet->stream);
     link_ask(teller, "EXEC");
+    return DS_FLEET_INSTEP;
 }
 
 bool server_changed_history(struct server *server, const redisReply *replication) {
@@ -165,7 +181,7 @@ static void log_meeting(struct ds_fleet *fleet, bool may_evict) {
 }
 
 /* A replica takes no scope. If it has the right one, and no other server is known, it is met: a bridge sees what becomes of the stream. */
-enum ds_fleet_word meeting_answered(struct ds_fleet *fleet) {
+static enum ds_fleet_word met(struct ds_fleet *fleet) {
     struct server *server = &fleet->server;
     struct redisReply **answers = server->teller.answers, *info = answers[MEETING_INFO], *looked = answers[MEETING_EXEC];
     if (is_error(info)) return server_denied(fleet, info);
@@ -191,6 +207,8 @@ enum ds_fleet_word meeting_answered(struct ds_fleet *fleet) {
     log_meeting(fleet, may_evict);
     return DS_FLEET_INSTEP;
 }
+
+const struct round meeting_round = {is_unmet, ask_to_meet, met};
 
 /* ---- opening and closing ---- */
 

@@ -1,4 +1,15 @@
-/* Telling. See telling.h. */
+/* Telling: what took effect in the store becomes entries of the stream.
+ *
+ *   state | event                                | becomes, and does
+ *   ------+--------------------------------------+----------------------------------------------------------------------
+ *   NEWS  | asked                                | NEWS: asks to add `sent` bytes of the untold, in parts
+ *   NEWS  | each part was added, replicas enough | NEWS: these bytes count as told
+ *   NEWS  | each part was added, too few replicas| ADDED: denied
+ *   NEWS  | a part wasn't added                  | NEWS: denied, and nothing counts as told
+ *   ADDED | asked                                | ADDED: asks for the replicas alone
+ *   ADDED | replicas enough                      | NEWS: these bytes count as told
+ *   ADDED | too few replicas, or an error        | ADDED: denied
+ *   any   | the connection ends                  | NEWS: tells the next server again */
 #include "bridge.h"
 #include <stdio.h>
 #include <string.h>
@@ -31,14 +42,19 @@ static void ask_to_add(struct ds_fleet *fleet) {
     link_ask(&fleet->server.teller, "XLEN %s:items", fleet->stream);
 }
 
-void telling_ask(struct ds_fleet *fleet) {
+/* If everything held has yet to be gathered, news waits for that. */
+static bool has_news(const struct ds_fleet *fleet) {
+    return fleet->items.untold.length && !(fleet->telling.owes_all && bridge_is_at_end(fleet));
+}
+
+static enum ds_fleet_word tell(struct ds_fleet *fleet) {
     struct telling *telling = &fleet->telling;
-    fleet->server.round = ROUND_TELLING;
     telling->parts = 0;
     if (telling->state == TELLING_NEWS) ask_to_add(fleet);
-    if (!telling->replicas) return;
+    if (!telling->replicas) return DS_FLEET_INSTEP;
     link_ask(&fleet->server.teller, "WAIT %d %d", telling->replicas, telling->within);
     fleet->server.teller.blocks = (unsigned)telling->within;
+    return DS_FLEET_INSTEP;
 }
 
 /* Each part has to be there: else all of them are sent again. */
@@ -63,7 +79,7 @@ static enum ds_fleet_word lacks_replicas(struct ds_fleet *fleet, const redisRepl
     return server_puzzles(fleet, why);
 }
 
-enum ds_fleet_word telling_answered(struct ds_fleet *fleet) {
+static enum ds_fleet_word told(struct ds_fleet *fleet) {
     struct telling *telling = &fleet->telling;
     const struct link *teller = &fleet->server.teller;
     enum ds_fleet_word word = telling->state == TELLING_NEWS ? note_added(fleet) : DS_FLEET_INSTEP;
@@ -76,6 +92,8 @@ enum ds_fleet_word telling_answered(struct ds_fleet *fleet) {
     fleet->server.pause = 0;
     return DS_FLEET_INSTEP;
 }
+
+const struct round telling_round = {has_news, tell, told};
 
 void telling_cut(struct telling *telling) {
     telling->state = TELLING_NEWS;

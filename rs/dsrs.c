@@ -5,9 +5,11 @@
 #include "place.h"
 #include "reload.h"
 #include "rs.h"
+#include "signals.h"
+#include "usage.h"
 #include <dirent.h>
 #include <errno.h>
-#include <getopt.h>
+#include <limits.h>
 #include <signal.h>
 #include <stdio.h>
 #include <stdlib.h>
@@ -16,12 +18,9 @@
 #include <sys/prctl.h>
 #include <sys/resource.h>
 #include <sys/signalfd.h>
-#include <sys/socket.h>
 #include <sys/stat.h>
 #include <sys/timerfd.h>
 #include <unistd.h>
-
-enum { DONE = 0, USAGE = 2, FAILED = 3 }; /* statuses */
 
 enum {
     TICK = 10, TICK_MOST = 60000,   /* milliseconds */
@@ -58,13 +57,10 @@ static const char help[] =
 
 #define STREAM "DSRS_STREAM"
 
-static const char version[] = "dsrs " DS_VERSION "\n";
-
 struct options {
-    long tick, grace, slot;
+    size_t tick, grace, slot;
     bool logs_json;
-    const char *settings, *services, *socket, *cgroup, *stream, *stream_name;
-    char generations[4096];
+    const char *settings, *services, *socket, *cgroup, *stream, *stream_name, *generations;
 };
 
 struct host {
@@ -85,68 +81,37 @@ static int failed(struct host *host, const char *what) {
 
 /* ---- words ---- */
 
-static int usage(const char *why) {
-    fprintf(stderr, "dsrs: %s; see dsrs --help\n", why);
-    return USAGE;
+static bool read_stream(void *stream, char *url) {
+    const char *taken = strcmp(url, "-") ? url : getenv(STREAM);
+    *(const char **)stream = taken;
+    return taken;
 }
 
-static int shown(const char *text) {
-    fputs(text, stdout);
-    return DONE;
+static int finish(const struct usage *usage, int count, char **words, struct options *options) {
+    static char generations[PATH_MAX];
+    if (count != 3) return usage_refuse(usage, "settings, a folder of services and a socket are wanted");
+    options->settings = words[0];
+    options->services = words[1];
+    options->socket = words[2];
+    if (strlen(options->socket) >= PLACE_PATH) return usage_refuse(usage, "the socket's path is too long");
+    snprintf(generations, sizeof generations, "%s/.generation", options->services);
+    if (!options->generations) options->generations = generations;
+    return GO_ON;
 }
 
-/* Reads a number of an option; -1: continue. */
-static int read_number(const char *text, long least, long most, long *value, const char *why) {
-    char *end;
-    *value = strtol(text, &end, 10);
-    bool is_number = *text >= '0' && *text <= '9' && !*end;
-    return is_number && *value >= least && *value <= most ? -1 : usage(why);
-}
-
-/* Takes an option; -1: continue. */
-static int read_option(int option, char *value, struct options *options) {
-    switch (option) {
-    case 'h': return shown(help);
-    case 'v': return shown(version);
-    case 't': return read_number(value, 1, TICK_MOST, &options->tick, "a tick has 1 to 60000 milliseconds");
-    case 'g': return read_number(value, 0, GRACE_MOST, &options->grace, "a grace has 0 to 3600000 milliseconds");
-    case 's': return read_number(value, SLOT, SLOT_MOST, &options->slot, "the first slot is 16 to 1023");
-    case 'l': return log_read_format(value, &options->logs_json) ? -1 : usage("a log's format is text or json");
-    case 'k': snprintf(options->generations, sizeof options->generations, "%s", value); return -1;
-    case 'c': options->cgroup = value; return -1;
-    case 'n': options->stream_name = value; return -1;
-    case 'u': options->stream = strcmp(value, "-") ? value : getenv(STREAM); return options->stream ? -1 : usage(STREAM " isn't set");
-    default: return usage("no such option, or no value after it");
-    }
-}
-
-/* -1: continue. */
-static int read_words(int count, char **words, struct options *options) {
-    static const struct option known[] = {
-        {"tick", required_argument, NULL, 't'},
-        {"grace", required_argument, NULL, 'g'},
-        {"slot", required_argument, NULL, 's'},
-        {"generations", required_argument, NULL, 'k'},
-        {"log-format", required_argument, NULL, 'l'},
-        {"cgroup", required_argument, NULL, 'c'},
-        {"stream", required_argument, NULL, 'u'},
-        {"stream-name", required_argument, NULL, 'n'},
-        {"help", no_argument, NULL, 'h'},
-        {"version", no_argument, NULL, 'v'},
+static int read_words(int count, char **words, struct options *it) {
+    const struct option_row rows[] = {
+        {"tick", .number = &it->tick, .least = 1, .most = TICK_MOST, .fault = "a tick has 1 to 60000 milliseconds"},
+        {"grace", .number = &it->grace, .most = GRACE_MOST, .fault = "a grace has 0 to 3600000 milliseconds"},
+        {"slot", .number = &it->slot, .least = SLOT, .most = SLOT_MOST, .fault = "the first slot is 16 to 1023"},
+        {"generations", .text = &it->generations}, {"cgroup", .text = &it->cgroup}, {"stream-name", .text = &it->stream_name},
+        {"stream", .read = read_stream, .context = &it->stream, .fault = STREAM " isn't set"},
+        {"log-format", .read = log_read_format, .context = &it->logs_json, .fault = "a log's format is text or json"},
         {0},
     };
-    opterr = 0;
-    for (int option; (option = getopt_long(count, words, "h", known, NULL)) != -1;) {
-        int status = read_option(option, optarg, options);
-        if (status >= 0) return status;
-    }
-    if (count - optind != 3) return usage("settings, a folder of services and a socket are wanted");
-    options->settings = words[optind];
-    options->services = words[optind + 1];
-    options->socket = words[optind + 2];
-    if (strlen(options->socket) >= PLACE_PATH) return usage("the socket's path is too long");
-    if (!*options->generations) snprintf(options->generations, sizeof options->generations, "%s/.generation", options->services);
-    return -1;
+    const struct usage usage = {.name = "dsrs", .help = help, .version = "dsrs " DS_VERSION "\n", .rows = rows};
+    int first, status = usage_read(&usage, count, words, &first);
+    return status == GO_ON ? finish(&usage, count - first, words + first, it) : status;
 }
 
 /* ---- beginning and ending ---- */
@@ -173,18 +138,6 @@ static bool open_folder(struct host *host) {
     return true;
 }
 
-static int open_signals(void) {
-    sigset_t some;
-    sigemptyset(&some);
-    sigaddset(&some, SIGTERM);
-    sigaddset(&some, SIGINT);
-    sigaddset(&some, SIGHUP);
-    sigaddset(&some, SIGCHLD);
-    sigprocmask(SIG_BLOCK, &some, NULL);
-    signal(SIGPIPE, SIG_IGN);
-    return signalfd(-1, &some, SFD_NONBLOCK | SFD_CLOEXEC);
-}
-
 /* A limit isn't raised, since services would have it, too. */
 static void look_at_limit(struct host *host) {
     struct rlimit limit;
@@ -194,28 +147,22 @@ static void look_at_limit(struct host *host) {
             (unsigned long long)limit.rlim_cur, (unsigned long long)wanted);
 }
 
-/* All may read; what more somebody may say is judged line by line. */
-static int open_place(struct host *host) {
-    if (!place_serve(&host->place)) return FAILED;
-    if (chmod(host->place.path, 0666)) return failed(host, host->place.path);
-    return watch_open(&host->listener, host->epoll, host->place.listener, EPOLLIN) ? DONE : failed(host, "epoll");
-}
-
 static int open_all(struct host *host) {
+    static const int signals[] = {SIGTERM, SIGINT, SIGHUP, SIGCHLD};
     struct rs *rs = &host->rs;
     look_at_limit(host);
     if (!place_lock(&host->place)) return FAILED;
     if (!open_folder(host)) return failed(host, "socket");
     host->epoll = rs->peers.epoll = rs->instances.epoll = epoll_create1(EPOLL_CLOEXEC);
     if (host->epoll < 0) return failed(host, "epoll");
-    if (!watch_open(&host->signals, host->epoll, open_signals(), EPOLLIN)) return failed(host, "signalfd");
+    if (!watch_open(&host->signals, host->epoll, signals_open(signals, sizeof signals / sizeof *signals), EPOLLIN)) return failed(host, "signalfd");
     int timer = timerfd_create(CLOCK_MONOTONIC, TFD_NONBLOCK | TFD_CLOEXEC);
     if (!watch_open(&host->timer, host->epoll, timer, EPOLLIN)) return failed(host, "timerfd");
     if (!heard_open(&host->heard, host->epoll, host->folder)) return failed(host, "notify");
     if (prctl(PR_SET_CHILD_SUBREAPER, 1)) return failed(host, "subreaper"); /* what a dead instance leaves is ours */
     if (!cgroups_open(&rs->instances.cgroups, host->cgroup, &rs->events)) return FAILED;
-    if (!rs_open(rs)) return FAILED;
-    return open_place(host);
+    if (!rs_open(rs) || !place_serve(&host->place)) return FAILED;
+    return watch_open(&host->listener, host->epoll, host->place.listener, EPOLLIN) ? GO_ON : failed(host, "epoll");
 }
 
 static void close_all(struct host *host) {
@@ -268,13 +215,10 @@ static void admit(struct host *host) {
     struct peers *peers = &host->rs.peers;
     host->listener.ready = 0;
     while (peers->of_public < PEERS_PUBLIC) {
-        struct ucred who = {.uid = (uid_t)-1};
-        socklen_t length = sizeof who;
-        int client = accept4(host->listener.file, NULL, NULL, SOCK_NONBLOCK | SOCK_CLOEXEC);
+        int client = place_accept(&host->place);
         if (client < 0 && errno != EAGAIN) host->admit_at = clock_now() + REST; /* as out of descriptors */
         if (client < 0) return;
-        getsockopt(client, SOL_SOCKET, SO_PEERCRED, &who, &length);
-        peers_add(peers, client, NULL, who.uid);
+        peers_add(peers, client, NULL, rights_user(client));
     }
 }
 
@@ -368,7 +312,8 @@ static void run(struct host *host) {
 static void prepare(struct host *host, const struct options *options) {
     struct rs *rs = &host->rs;
     host->listener.file = host->signals.file = host->timer.file = host->heard.file = -1;
-    host->place = (struct place){.path = options->socket, .log = &host->log, .lock = -1, .listener = -1};
+    /* All may read; what more somebody may say is judged line by line. */
+    host->place = (struct place){.path = options->socket, .access = {.mode = 0666, .group = NO_GROUP}, .log = &host->log, .lock = -1, .listener = -1};
     host->cgroup = options->cgroup;
     rs->path = options->settings;
     rs->slot = (uint16_t)options->slot;
@@ -389,12 +334,12 @@ int main(int count, char **words) {
     static struct host host; /* all zeros, so its store is closed */
     struct options options = {.tick = TICK, .grace = GRACE, .slot = SLOT};
     int status = read_words(count, words, &options);
-    if (status >= 0) return status;
+    if (status != GO_ON) return status;
     unsetenv(STREAM); /* it isn't for services */
     log_open(&host.log, options.logs_json);
     prepare(&host, &options);
     status = open_all(&host);
-    if (status == DONE) run(&host);
+    if (status == GO_ON) run(&host);
     close_all(&host);
-    return status;
+    return status == GO_ON ? DONE : status;
 }

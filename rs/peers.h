@@ -5,8 +5,8 @@
 
 #include "instances.h"
 #include "parcels.h"
-#include "text.h"
 #include "watch.h"
+#include "wire.h"
 #include <stdbool.h>
 #include <stdint.h>
 #include <sys/types.h>
@@ -14,10 +14,7 @@
 enum {
     PEERS = 512,             /* at once, of which two for each service are kept for instances */
     PEERS_PUBLIC = PEERS - 2 * SERVICES,
-    PEER_LINE = 4096,        /* bytes of a line */
-    PEER_READS = 1 << 16,    /* bytes that are read at a time */
-    PEER_WAITS = 1 << 20,    /* bytes that wait for a peer before more is answered */
-    PEERS_WAIT = 64 << 20,   /* the same for all of the public; then the one with the most is dropped */
+    PEERS_WAIT = 64 << 20,   /* bytes that wait for all of the public; then the one with the most is dropped */
     PEER_LINES = 64          /* that are answered in one turn */
 };
 
@@ -26,14 +23,9 @@ struct peer {
     bool is_instance;
     struct instance *instance; /* until it ends */
     uid_t user;                /* of one of the public */
-    bool ended;                /* no more comes from it */
-    bool too_long;             /* the line that is being read */
     bool gone;                 /* it is freed at the end of the turn */
-    uint64_t lines;            /* how many it has sent */
-    struct text in, out;
-    struct parcels parcels;       /* descriptors that go with bytes of `out` */
-    uint8_t listens[16], due[16]; /* the subscriptions whose notices it wants, and those of them that it has to be sent */
-    uint8_t leased[16];           /* the public's subscriptions that are its own as long as it is connected */
+    struct wire wire;          /* it owns what it was leased of the public's subscriptions */
+    struct parcels parcels;    /* descriptors that go with bytes of what it is to be sent */
 };
 
 struct peers {

@@ -4,10 +4,8 @@
 
 #include "peers.h"
 
-/* Puts the lines that answer a line, which is given without its newline, after what the peer is to be sent. These return
+/* Puts the lines that answer a line, which is given without its newline, after what the peer is to be sent. Returns
  * false where memory runs out; the line was carried out, or refused for the same reason. */
 bool requests_answer(struct rs *rs, struct peer *peer, const char *line, size_t length);
-/* The same, for a line that was too long to be kept. */
-bool requests_refuse_long(struct peer *peer);
 
 #endif

@@ -206,14 +206,12 @@ static void keep_generation(struct rs *rs) {
     events_tell(&rs->events, LOG_ERROR, "generations: %s: %s", rs->generations.path, strerror(errno));
 }
 
-/* Notes which servers get a notice of what RS did. */
+/* Owes the notices of what RS did, and notes which servers get one. */
 static void note_told(struct rs *rs, const uint8_t owed[16]) {
     for (size_t i = 0; i < rs->peers.count; i++) {
-        const struct peer *peer = rs->peers.peer[i];
+        struct peer *peer = rs->peers.peer[i];
         const struct instance *it = peer->instance;
-        bool is_told = false;
-        for (size_t byte = 0; byte < sizeof peer->listens; byte++) is_told |= owed[byte] & peer->listens[byte];
-        if (it && is_told) events_tell(&rs->events, LOG_INFO, "told: %s %s", it->service->label, it->endpoint);
+        if (wire_owe(&peer->wire, owed) && it) events_tell(&rs->events, LOG_INFO, "told: %s %s", it->service->label, it->endpoint);
     }
 }
 
@@ -228,7 +226,6 @@ static bool report(struct rs *rs, struct ds_rs_event *event, struct text *to, st
     bool put = !to || (answer->word == DS_NOREQUEST ? text_print(to, "norequest\n") : lines_fetch(&rs->store, to) == LINES_ANSWERED);
     while (count < ACTIONS && !ds_rs_action(&rs->store, count, &actions[count])) count++;
     for (size_t i = 0; i < count; i++) act(rs, &actions[i]);
-    peers_owe(&rs->peers, answer->owed);
     note_told(rs, answer->owed);
     return put;
 }

@@ -1,9 +1,9 @@
 /* The settings of RS. See settings.h. */
 #include "settings.h"
+#include "signals.h"
 #include <errno.h>
 #include <stdio.h>
 #include <string.h>
-#include <time.h>
 
 enum {
     RING = 4096,   /* items of the store's journal */
@@ -44,17 +44,10 @@ static bool name_folders(struct ds_handle *store) {
     return true;
 }
 
-/* Each run of a store has another incarnation. */
-static uint64_t new_incarnation(void) {
-    struct timespec now;
-    clock_gettime(CLOCK_REALTIME, &now);
-    return (uint64_t)now.tv_sec * 1000000000 + (uint64_t)now.tv_nsec;
-}
-
 bool settings_open(struct ds_handle *store, const char *path, const struct text *text, uint32_t next, uint16_t slot,
                    struct events *events) {
     struct ds_settings_fault fault = {.service = UINT32_MAX};
-    uint32_t refusal = ds_open(store, new_incarnation(), 0, RING);
+    uint32_t refusal = ds_open(store, run_number(), 0, RING);
     if (!refusal) refusal = ds_rs_open(store, text->bytes, text->length, next, slot, &fault);
     bool fine = refusal ? refused(events, path, refusal, &fault) : name_folders(store) || failed(events, path, "a label begins with a dot");
     if (!fine) ds_close(store);

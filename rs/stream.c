@@ -7,14 +7,9 @@
 
 enum { LAST = 2000 /* milliseconds, for the last news */ };
 
-static void tell(void *log, const char *line) {
-    bool is_fine = !strncmp(line, "met:", 4) || !strncmp(line, "compacted:", 10);
-    log_say(log, is_fine ? LOG_INFO : LOG_WARN, "%s", line);
-}
-
 bool stream_open(struct stream *stream, struct ds_handle *store, int epoll, struct log *log) {
     if (!stream->url) return true;
-    struct ds_fleet_options options = {.url = stream->url, .stream = stream->name, .tell = tell, .context = log};
+    struct ds_fleet_options options = {.url = stream->url, .stream = stream->name, .tell = log_tell, .context = log};
     enum ds_fleet_word word = ds_fleet_open(&stream->fleet, store, &options);
     stream->word = DS_FLEET_LATE;
     if (word == DS_FLEET_INSTEP && watch_open(&stream->bell, epoll, ds_fleet_bell(stream->fleet), EPOLLIN)) return true;

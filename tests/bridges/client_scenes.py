@@ -1,4 +1,4 @@
-"""What bridges must do for their clients and as processes: sockets, descriptors, logs, `fleet/ask`. scenes.py lists these."""
+"""What bridges must do for their clients and as processes: sockets, descriptors, logs, `dsfleet/ask`. scenes.py lists these."""
 import contextlib
 import fcntl
 import json
@@ -16,7 +16,7 @@ from scenes import number, numbers, offer, shows
 
 PLACES = 512  # clients that a bridge serves at once
 ROOM = 64 << 20  # bytes of answers that may wait for all of them
-ASK = ROOT / "fleet" / "ask"
+ASK = ROOT / "dsfleet" / "ask"
 NATIVE = ("answers_that_nobody_reads", "places_are_for_clients_that_read", "few_descriptors_are_told")  # not under valgrind's memory, pace and limits
 
 soft, hard = resource.getrlimit(resource.RLIMIT_NOFILE)
@@ -429,7 +429,7 @@ def the_version_and_bad_addresses(fleet, draw):
     assert (status, err) == (0, "") and "--version" in out and "redis://" in out
     place = f"{fleet.home}/s"
     for words, part in (
-        ([place, "http://h"], "an address is redis://"), ([place, "rediss://h"], "begins with redis://"), ([place, "localhost:6379"], "an address is redis://"),
+        ([place, "http://h"], "an address is redis://"), ([place, "rediss://h"], "let a tunnel on this host speak it, such as stunnel, and give its socket, as unix:///run/dsfleet/redis"), ([place, "localhost:6379"], "an address is redis://"),
         (["--stream", "a b", place, "redis://h"], "no space"), (["--scope", "a( 15", place, "redis://h"], "can't be read"),
     ):
         status, out, err = ran(*fleet.words, *words)
@@ -437,7 +437,7 @@ def the_version_and_bad_addresses(fleet, draw):
     assert not os.path.exists(place) and not os.path.exists(f"{place}.lock")
 
 
-# ---- fleet/ask ----
+# ---- dsfleet/ask ----
 
 
 def asked_from_a_shell(fleet, draw):

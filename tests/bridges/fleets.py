@@ -17,7 +17,6 @@ ROOT = pathlib.Path(__file__).resolve().parent.parent.parent
 PATIENCE = 30  # seconds that anything may take
 TICK = 0.005
 FAULT = re.compile(r"^.*(ERROR: |runtime error|==\d+== ).*$", re.MULTILINE)  # of a sanitizer, or of valgrind
-PROGRAM = ("check", "clients", "dsfleet", "figures", "lines", "log", "notify", "options", "place", "rights", "session")  # what isn't of the library
 DOWN_AFTER = 300  # milliseconds after which a Sentinel takes a master for dead
 MEMORY = "/dev/shm"  # where a server that syncs each change isn't held up by a disk
 
@@ -42,11 +41,11 @@ def until(so, what, seconds=PATIENCE):
         time.sleep(TICK)
 
 
-def build(library, program, *flags, folder=ROOT / "fleet"):
+def build(library, program, *flags, folder=ROOT / "dsfleet"):
     """Builds a bridge."""
     ran = subprocess.run([folder / "build", library, program, *flags], capture_output=True, text=True)
     if ran.returncode:
-        raise AssertionError(f"fleet/build: {ran.stderr[:3000]}")
+        raise AssertionError(f"dsfleet/build: {ran.stderr[:3000]}")
     return program
 
 
@@ -54,9 +53,9 @@ def build_over(library, program, source, *flags):
     """Builds a program over the library of a fleet alone."""
     page = subprocess.run(["rt", "doc"], capture_output=True, text=True, check=True).stdout.split()[0]
     heap = os.environ.get("DS_HEAP") or pathlib.Path(page).parent / "c" / "liblibc_c.a"
-    parts = [it for it in (ROOT / "fleet").glob("*.c") if it.stem not in PROGRAM]
+    parts = [ROOT / "serve" / "text.c", *(ROOT / "fleet").glob("*.c")]
     words = [os.environ.get("CC", "cc"), "-std=c11", "-pthread", "-D_GNU_SOURCE", "-Wall", "-Wextra", "-Wpedantic", "-Werror", "-O2", *flags]
-    subprocess.run([*words, "-I", ROOT / "c", "-I", ROOT / "fleet", "-o", program, source, *parts, library, heap, "-lhiredis"], check=True)
+    subprocess.run([*words, "-I", ROOT / "c", "-I", ROOT / "serve", "-I", ROOT / "fleet", "-o", program, source, *parts, library, heap, "-lhiredis"], check=True)
     return program
 
 

@@ -788,7 +788,7 @@ def a_driver_comes_back(fleet, draw):
     for name in ("one", "two", "three"):
         fleet.start(at=name)
     page = (ROOT / "docs" / "guide" / "hosts.md").read_text()
-    block = next(it for it in re.findall(r"(?:^    .*\n|^\n)+", page, re.MULTILINE) if "$ fleet/ask" in it)
+    block = next(it for it in re.findall(r"(?:^    .*\n|^\n)+", page, re.MULTILINE) if "$ dsfleet/ask" in it)
     for asked in re.split(r"^    \$ ", block, flags=re.MULTILINE)[1:]:
         command, *wanted = [it.removeprefix("    ") for it in asked.rstrip().splitlines()]
         words = [it.replace("/tmp/", f"{fleet.home}/") for it in shlex.split(command)]
@@ -806,7 +806,7 @@ def a_shell_script_watches(fleet, draw):
     """examples/shell/watch.sh prints where a driver is, each time that this changes, and nothing of others; with its end its client ends."""
     here, there = fleet.start(), fleet.start()
     here.ask("publish 0/2 new one.eth0 label 3.0 = 3/16")
-    words, named = [ROOT / "examples/shell/watch.sh", there.socket, "one.eth0"], {**os.environ, "DSFLEET_ASK": str(ROOT / "fleet/ask")}
+    words, named = [ROOT / "examples/shell/watch.sh", there.socket, "one.eth0"], {**os.environ, "DSFLEET_ASK": str(ROOT / "dsfleet/ask")}
     with subprocess.Popen(words, env=named, stdin=subprocess.DEVNULL, stdout=subprocess.PIPE, text=True) as watch:
         late = threading.Timer(60, watch.kill)
         late.start()

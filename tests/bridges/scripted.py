@@ -11,10 +11,13 @@ SWALLOW = object()  # nothing comes, and the connection stays
 
 
 class Rule:
-    """The next `times` answers to a question that begins so are made by a function of what the server answered."""
+    """The next `times` answers to a question that begins so, or is so as a `whole`, are made by a function of what the server answered."""
 
-    def __init__(self, question, made, times):
-        self.question, self.made, self.left = question, made, times
+    def __init__(self, question, made, times, whole):
+        self.question, self.made, self.left, self.whole = question, made, times, whole
+
+    def concerns(self, words):
+        return self.left and (words == self.question if self.whole else words.startswith(self.question))
 
     def is_used(self):
         return self.left == 0
@@ -27,9 +30,9 @@ class Scripted(Proxy):
         self.rules, self.asked, self.lock = [], collections.Counter(), threading.RLock()
         super().__init__(port)
 
-    def script(self, question, made, times=1):
+    def script(self, question, made, times=1, whole=False):
         """Scripts answers to `question`, the beginning of its words; `made` is bytes, CUT, SWALLOW, or a function from what the server answered."""
-        rule = Rule(question, made, times)
+        rule = Rule(question, made, times, whole)
         with self.lock:
             self.rules.append(rule)
         return rule
@@ -80,7 +83,7 @@ class Scripted(Proxy):
     def scripted(self, raw, words):
         with self.lock:
             for rule in self.rules:
-                if rule.left and words.startswith(rule.question):
+                if rule.concerns(words):
                     rule.left -= 1
                     return rule.made(raw) if callable(rule.made) else rule.made
         return raw

@@ -1,6 +1,6 @@
-"""The tables of fleet/*.h, row by row: each state of a part of a bridge meets each event, over a scripted server. scenes.py lists these.
+"""The tables of fleet/, row by row: each state of a part of a bridge meets each event, over a scripted server. scenes.py lists these.
 
-A table has lines ` *   STATE | event | becomes, and does`. A scene names each row that it walks, and fails if the header has another one.
+A table has lines ` *   STATE | event | becomes, and does`. A scene names each row that it walks, and fails if the file has another one.
 """
 import contextlib
 import re
@@ -21,16 +21,16 @@ class Walk:
 
     def __init__(self, name, fleet):
         self.name, self.fleet = name, fleet
-        self.rows = {f"{it[1].strip()} | {it[2]}" for it in ROW.finditer((ROOT / "fleet" / f"{name}.h").read_text())}
+        self.rows = {f"{it[1].strip()} | {it[2]}" for it in ROW.finditer((ROOT / "fleet" / f"{name}.c").read_text())}
         self.walked = set()
 
     def __call__(self, row):
-        assert row in self.rows, f"fleet/{self.name}.h has no row `{row}`"
+        assert row in self.rows, f"fleet/{self.name}.c has no row `{row}`"
         self.walked.add(row)
 
     def ends(self):
-        assert self.rows, f"fleet/{self.name}.h has no table"
-        assert self.rows == self.walked, f"fleet/{self.name}.h has rows that aren't walked: {self.rows - self.walked}"
+        assert self.rows, f"fleet/{self.name}.c has no table"
+        assert self.rows == self.walked, f"fleet/{self.name}.c has rows that aren't walked: {self.rows - self.walked}"
 
 
 @contextlib.contextmanager
@@ -86,7 +86,7 @@ def states_of_the_server(fleet, draw):
 
         offer(bridge, *(kept := [next(line) for _ in range(3)]))
         entries = fleet.entries()
-        script.script("INFO", lambda raw: raw.replace(b"run_id:", b"run_id:0", 1).replace(b"\r\nredis_git_sha1:00000000", b"\r\nredis_git_sha1:0000000", 1))
+        script.script("INFO", lambda raw: raw.replace(b"run_id:", b"run_id:0", 1).replace(b"\r\nredis_git_sha1:00000000", b"\r\nredis_git_sha1:0000000", 1), whole=True)
         reconnects(bridge, script.cut)
         says(bridge, "event=met", 2)
         assert fleet.entries() == entries, "what is there is told again"
@@ -99,21 +99,21 @@ def states_of_the_server(fleet, draw):
         in_step(bridge)
         walk("CALLED | .. with another scope")
 
-        script.script("INFO", lambda raw: raw.replace(b"cluster_enabled:0", b"cluster_enabled:1"))
+        script.script("INFO", lambda raw: raw.replace(b"cluster_enabled:0", b"cluster_enabled:1"), whole=True)
         script.cut()
         says(bridge, "event=badname")
         in_step(bridge)
         walk("CALLED | .. by a cluster, keys on many nodes")
 
         two = Scripted(fleet.port)
-        two.script("INFO", lambda raw: raw.replace(b"role:master", b"role:slave "))
+        two.script("INFO", lambda raw: raw.replace(b"role:master", b"role:slave "), whole=True)
         other = fleet.start(url=f"{two.url()},127.0.0.1:{fleet.port}")
         says(other, "it is a replica")
         offer(other, kept_by_other := next(line))
         assert two.count == 2, "it calls the replica again"
         walk("CALLED | .. by a replica, others are listed")
 
-        script.script("INFO", ERROR)
+        script.script("INFO", ERROR, whole=True)
         reconnects(bridge, script.cut)
         says(bridge, 'event=denied text="ERR scripted"')
         script.script_and_wait("INFO replication", ERROR)

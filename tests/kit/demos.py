@@ -75,41 +75,6 @@ def refused(script, ran, refuser):
     return harness.difference(ran.output, "".join(it + "\n" for it in wanted).encode())
 
 
-def cause_fault(refuser, room, it):
-    """Says what is wrong with the answer to a causes.Case's command when its growths are refused, or returns None."""
-
-    def answers(name, lines, **refused):
-        given = pathlib.Path(room) / name
-        given.write_text("".join(line + "\n" for line in lines))
-        ran, counts = refuser.run(harness.Case(name, [], given, b""), **refused)
-        wrong = None if (ran.status, ran.error) == (0, b"") else f"status {ran.status}, standard error {ran.error[:200]!r}"
-        return wrong, ran.output.decode().splitlines(), counts
-
-    name = it.name.replace(" ", "_")
-    wrong, before, counts = answers(name + ".before", it.before)
-    wrong_ample, ample, growths = answers(name, it.before + it.command, behind=counts["write"])
-    if wrong or wrong_ample or ample != before + it.ample:
-        return wrong or wrong_ample or f"answered {ample[len(before):]}, wanted {it.ample}"
-    tried = [(1, 1, it.without), *((n, 0, (it.ample, *it.without)) for n in range(1, growths["growth"] + 1))]
-    for n, later, may_come in tried:
-        wrong, answered, _ = answers(name, it.before + it.command, behind=counts["write"], growth=n, later=later)
-        if wrong or answered not in [before + lines for lines in may_come]:
-            which = "every growth" if later else f"growth {n}"
-            return f"{which} refused: {wrong or answered[len(before):]}, wanted {' or '.join(map(str, may_come))}"
-    return None
-
-
-def ample_fault(refuser, room, it):
-    """Says what is wrong with the answer to a causes.Case's command with ample memory, or returns None."""
-    given = pathlib.Path(room) / it.name.replace(" ", "_")
-    given.write_bytes(it.text())
-    ran, _ = refuser.run(harness.Case(it.name, [], given, b""))
-    if (ran.status, ran.error) != (0, b""):
-        return f"status {ran.status}, standard error {ran.error[:200]!r}"
-    answered = ran.output.decode().splitlines()
-    return None if answered[-len(it.ample) :] == it.ample else f"it ended with {answered[-3:]}, wanted {it.ample[-3:]}"
-
-
 def report(program, long, short, others=()):
     """Compares the long scripts and the short ones, each with its name, refuses the short ones memory, and reports.
 

@@ -220,12 +220,12 @@ def _done(at):
     return function(items[at])
 
 
-def at_once(function, items):
-    """Calls the function on each item, in as many processes as there are processors, and returns the results in order."""
+def at_once(function, items, processes=None):
+    """Calls the function on each item, in as many processes as are wanted, or as there are processors, and returns the results in order."""
     global _work
     items = list(items)
     _work = function, items
-    with ProcessPoolExecutor(os.cpu_count(), multiprocessing.get_context("fork")) as pool:
+    with ProcessPoolExecutor(processes or os.cpu_count(), multiprocessing.get_context("fork")) as pool:
         try:
             return list(pool.map(_done, range(len(items)), chunksize=1 + len(items) // 256))
         except Exception:

@@ -156,8 +156,8 @@ class Runs(Session):
     def ask(self, command, line, taken):
         return self.answers([line], 2)[0]
 
-    def answers(self, lines, places):
-        """What a script prints for the lines, each of a request; so many answers have a place at a time."""
+    def answers(self, lines, places, is_script=True):
+        """What a script prints for the lines, each of a request; so many answers have a place at a time. Else, an offer is a merge of one."""
         requests, text = (Request * len(lines))(), b""
         commands = [model.read(line) for line in lines]
         for request, line, (command, taken) in zip(requests, lines, commands):
@@ -172,7 +172,7 @@ class Runs(Session):
             if called or not done.value:
                 raise AssertionError(f"call {called}, {done.value} answers")
             for answer, (command, _) in zip(room[: done.value], commands[at:]):
-                printed.append(told(answer, self.pieces(answer), command == b"offer"))
+                printed.append(told(answer, self.pieces(answer), is_script and command == b"offer"))
         return printed
 
 

@@ -2,16 +2,15 @@
 
 A case ends with one command, and several causes stand against it, as far as one command can have several: the answer is
 the first in the order of docs/reference/refusals.md, so it was written down by that page, and not by what a store answers. With no
-memory at all the answer is the same, but for what a pattern needs. Beside them stand commands that aren't refused: those
-that take no memory are answered as ever, the others `noroom`.
+memory at all for the store the answer is the same, but for what a pattern needs. Beside them stand commands that aren't refused: those
+that take no memory are answered as ever, the others `noroom`. No change of a held number or label, no void change and no higher floor of
+an owner who has one takes memory, however much the floor drops.
 """
 from dataclasses import dataclass, replace
 from typing import List, Tuple
 
 LAST = 2**62  # where positions and stamps end
 MOST_KEYS = 4096
-MOST_SUBSCRIPTIONS = 128
-FEWER_KEYS, FEWER_SUBSCRIPTIONS = 1024, 64  # of a store with the smaller limits
 MOST_ITEMS = 256  # of one Merge
 
 
@@ -25,9 +24,6 @@ class Case:
     ample: List[str]
     without: Tuple[List[str], ...]  # each answer that may come where memory is wanting
 
-    def text(self):
-        return "".join(line + "\n" for line in self.before + self.command).encode()
-
 
 def case(name, before, command, ample, *without):
     """A case, from texts of lines; `without` is by default the one answer that comes with ample memory too."""
@@ -38,10 +34,9 @@ def merge(*offers):
     return "\n".join(["merge", *(f"offer {it}" for it in offers), "end"])
 
 
-def store(first=0, ring=256, fewer=False):
-    """The line that opens a store: where positions and stamps begin, how many items the journal keeps, and within which limits."""
-    subs, keys = (FEWER_SUBSCRIPTIONS, FEWER_KEYS) if fewer else (MOST_SUBSCRIPTIONS, MOST_KEYS)
-    return f"store 1 {first} {ring} {subs} {keys}\n"
+def store(first=0, ring=256):
+    """The line that opens a store: where positions and stamps begin, and how many items the journal keeps."""
+    return f"store 1 {first} {ring}\n"
 
 
 def begins(left, ring=256):
@@ -74,7 +69,6 @@ FLOOR = "sweep 0/2 eth0 3\n"  # under which eth0 still lives
 OWED = "\nowed 00000000000000000000000000000001"
 
 PUBLISH = [
-    case("badkind", begins(0), "mismatch", "refused badkind"),
     case("badlabel", begins(0), "publish 9/99 new eth0 label 3.1 = 3/17", "refused badlabel"),
     case("badversion", begins(1) + "offer mtu u32 tty 3.0 = 7", 'publish 9/99 new mtu u32 3.0 = 7', "refused badversion"),
     case("badversion of the last number", begins(1) + ETH, 'publish 3/17 new id str 3.4294967295 = "up"', "refused badversion"),
@@ -234,14 +228,6 @@ PAGE = [
     case("of one, with a pattern", HELD + ANOTHER + TTY_ENDS, 'page "i." 4 a u32 1', SAME + "\npage 1 last 1 3", NOROOM),
 ]
 
-AFTER_RESTART = "retrieve id str\ncheck 0 1\nsnapshot *\nsince * 1 0 1"
-FORGOTTEN = f"refused notfound\nrefused notfound\nsnapshot 0 2 {LAST - 3}\nrefused oldcursor"
-
-RESTART = [
-    case("of a store that holds something", begins(3) + SUB + HELD + TTY_ENDS, "restart a 2\n" + AFTER_RESTART, "restarted\n" + FORGOTTEN),
-    case("at the last place", begins(1) + HELD, "restart a 2\noffer id str eth0 3.1 -", "restarted\ntaken", "restarted\n" + NOROOM),
-]
-
 OFFER = [
     case("notowner", begins(1) + HELD, "offer " + FOREIGN, "refused notowner"),
     case("clash", begins(1) + HELD, "offer " + CLASHING, "refused clash 3.1"),
@@ -258,19 +244,60 @@ OFFER = [
     case("of a higher floor", HELD + SUB + "offer ! eth0 2", "offer ! eth0 3", "taken" + OWED),
 ]
 
-FEWER = store(fewer=True)
-OWED_FEWER = "\nowed 0000000000000001"
+NUMBER = "mtu u32 eth0 2.1 = 1500"
+TEXT = 'id str eth0 2.1 = "up"'
+LABEL = "eth0 label rs 2.0 = 2/17"
+OF_TTY = "irq u32 tty 3.0 = 9"
 
-WITHIN_FEWER = [
-    case("publish: full", FEWER + full(FEWER_KEYS), 'publish 3/17 new id str 3.0 = "up"', "refused full"),
-    case("publish: of the last key", FEWER + full(FEWER_KEYS - 1), 'publish 3/17 new id str 3.0 = "up"', "taken", NOROOM),
-    case("publish: of a number of a held key", FEWER + ETH + MTU + SUB, "publish 3/17 over mtu u32 3.2 = 9", "taken" + OWED_FEWER),
-    case("merge: full", FEWER + full(FEWER_KEYS), merge("tty0 u32 tty 1.0 = 0", NEW), "stopped 1 full"),
-    case("subscribe: badsub", FEWER, 'subscribe 64 "eth.*" 15 first new', "refused badsub"),
-    case("subscribe: of the last", FEWER, 'subscribe 63 "eth.*" 15 first new', "subscribed 1", NOROOM),
-    case("check: badsub", FEWER, "check 64 0", "refused badsub"),
-    case("sweep: of two entries", FEWER + ETH + MTU + ID + SUB, "sweep 0/2 eth0 3", "swept 2" + OWED_FEWER, NOROOM),
-    case("restart: and what is behind it", FEWER + ETH + SUB, "restart a 2\nretrieve eth0 label", "restarted\nrefused notfound"),
+
+def offers(*items):
+    return "".join(f"offer {it}\n" for it in items)
+
+
+ALL_KINDS = offers(LABEL, NUMBER, TEXT, "mac mem eth0 2.1 = 00ff", "link u32 eth0 2.3 -")
+
+VOID = [
+    case("of a number", offers("! eth0 3"), "offer mtu u32 eth0 3.1 = 7", "stale"),
+    case("of a text", offers("! eth0 3"), "offer " + TEXT, "stale"),
+    case("of a tombstone", offers("! eth0 3"), "offer mtu u32 eth0 3.1 -", "stale"),
+    case("of a held key", offers("mtu u32 eth0 4.0 = 9", "! eth0 3"), "offer mtu u32 eth0 3.1 = 7", "stale"),
+    case("of another owner's key", offers(OF_TTY, "! eth0 3"), "offer irq u32 eth0 3.1 = 7", "refused notowner"),
+    case("where all keys are used", full() + "\n" + offers("! eth0 3"), "offer mtu u32 eth0 3.1 = 7", "stale"),
+    case("but of a label, which none is", offers("! rs 9"), "offer " + LABEL, "taken", NOROOM),
+    case("above the floor", offers("! eth0 3"), "offer mtu u32 eth0 4.0 = 7", "taken", NOROOM),
+]
+
+HELD_KEY = [
+    case("known", ALL_KINDS, "offer " + TEXT, "known"),
+    case("stale", ALL_KINDS, 'offer id str eth0 2.0 = "down"', "stale"),
+    case("notowner", ALL_KINDS, 'offer id str tty 2.2 = "down"', "refused notowner"),
+    case("clash", ALL_KINDS, 'offer id str eth0 2.1 = "down"', "refused clash 2.1"),
+    case("of a label", ALL_KINDS, "offer eth0 label rs 3.0 = 3/17", "taken"),
+    case("of a number", ALL_KINDS, "offer mtu u32 eth0 2.2 = 7", "taken"),
+    case("of a text", ALL_KINDS, 'offer id str eth0 2.2 = "down"', "taken", NOROOM),
+    case("of a tombstone", ALL_KINDS, "offer id str eth0 2.2 -", "taken"),
+    case("where all keys are used", full(), "offer tty0 u32 tty 3.0 = 9", "taken"),
+    case("of the last key", full(MOST_KEYS - 1), "offer mtu u32 eth0 2.2 = 7", "taken", NOROOM),
+]
+
+FLOORS = [
+    case("of a second owner", offers("! tty 2"), "offer ! eth0 2", "taken", NOROOM, "taken"),
+    case("of an owner with a floor", offers("! eth0 1"), "offer ! eth0 2", "taken"),
+    case("that drops four of five", ALL_KINDS + offers("! eth0 1"), "offer ! eth0 2\nsnapshot *", f"taken\n! eth0 2\n{LABEL}\nsnapshot 2 1 7"),
+    case("that drops all keys but a label", full() + "\n" + offers("! tty 0"), "offer ! tty 1", "taken"),
+    case("of the last of all owners", floors(MOST_FLOORS), f"offer ! o{MOST_FLOORS - 1} 2", "taken"),
+    case("equal", ALL_KINDS + offers("! eth0 2"), "offer ! eth0 2", "known"),
+    case("lower", ALL_KINDS + offers("! eth0 2"), "offer ! eth0 1", "stale"),
+]
+
+SEVERAL = [
+    case("of nothing", ALL_KINDS, merge(), "merged 0 0 0"),
+    case("of known and stale items", ALL_KINDS + offers("! tty 3"), merge("! tty 2", NUMBER, 'id str eth0 2.0 = "old"'), "merged 3 0 2"),
+    case("of void changes", offers("! eth0 3"), merge(NUMBER, TEXT), "merged 2 0 2"),
+    case("of a higher floor", ALL_KINDS + offers("! eth0 1"), merge("! eth0 2", LABEL), "merged 2 1 0"),
+    case("of numbers of held keys", ALL_KINDS, merge("mtu u32 eth0 2.2 = 7", "link u32 eth0 2.4 = 1"), "merged 2 2 0"),
+    case("of a new owner's floor", ALL_KINDS, merge("! tty 3", NUMBER), "merged 2 1 0", "stopped 0 noroom"),
+    case("clash behind a known one", ALL_KINDS, merge(TEXT, "mtu u32 eth0 2.1 = 7"), "stopped 1 clash 2.1"),
 ]
 
 COMMANDS = {
@@ -284,10 +311,12 @@ COMMANDS = {
     "since": SINCE,
     "snapshot": SNAPSHOT,
     "page": PAGE,
-    "restart": RESTART,
     "merge": MERGE,
     "offer": OFFER,
-    "within 64 and 1024": WITHIN_FEWER,
+    "a void change": VOID,
+    "a change of a held key": HELD_KEY,
+    "a floor": FLOORS,
+    "a merge of several": SEVERAL,
 }
 
 

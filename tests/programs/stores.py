@@ -1,6 +1,6 @@
-"""A store that is asked drawn commands, for tests/programs/store.
+"""A store that is asked drawn commands, for tests/programs/store and c.
 
-They are answered by the program and by tests/model/store.py, which must agree. Which commands may be refused memory is told here: no
+They are answered by the store and by tests/model/store.py, which must agree. Which commands may be refused memory is told here: no
 change of a held key is but for a copied text or blob, no tombstone, no floor of an owner who has one, no question for a
 label or a number, no restart, and no command that is refused for another reason, but for what a pattern needs.
 """
@@ -9,7 +9,6 @@ import causes
 import demos
 import model
 
-LONG = 40  # scripts of many commands
 SHORT = 60  # scripts that are refused memory
 OPENING = [
     b'subscribe 0 ".*" 15 first new',
@@ -27,10 +26,10 @@ class Session:
         self.store = model.Store()
 
     def answer(self, line, _may=None):
-        """The line as it is given to the program, and its answers."""
+        """The line as it is given to the store, and its answers."""
         if line.startswith(b"store "):
-            incarnation, first, ring, subs, keys = map(int, line.split()[1:])
-            self.store = model.Store(ring, incarnation, first, subs, keys)
+            incarnation, first, ring = map(int, line.split()[1:])
+            self.store = model.Store(ring, incarnation, first)
             return line.decode(), ["ready"]
         command, taken = model.read(line)
         given = taken[1:] if command == b"restart" else taken  # there is one store, whatever side is named
@@ -38,12 +37,12 @@ class Session:
 
 
 class Script(demos.Script):
-    """Commands for a store, each with whether it may be refused memory. Every third has the fewer places, where a store may have them."""
+    """Commands for a store, each with whether it may be refused memory."""
 
-    def __init__(self, seed, count, subscribes, fewer=True):
+    def __init__(self, seed, count, subscribes):
         super().__init__(seed, Session)
         self.left_out = NOT_COMMANDS if subscribes else (b"subscribe", *NOT_COMMANDS)
-        self.ask(causes.store(ring=RING if seed % 2 else 256, fewer=fewer and seed % 3 == 0).strip().encode(), None)
+        self.ask(causes.store(ring=RING if seed % 2 else 256).strip().encode(), None)
         for line in OPENING:
             self.draw(line)
         while len(self.lines) < count:
@@ -111,14 +110,5 @@ def may_take(store, line):
     return None
 
 
-def long_scripts():
-    return [Script(seed, 400, True) for seed in range(LONG)]
-
-
 def short_scripts():
     return [Script(1000 + seed, 40, seed % 2 == 0) for seed in range(SHORT)]
-
-
-def cases():
-    """What else is tried: a name, how, and with what."""
-    return [(it.name, demos.cause_fault, it) for it in causes.ALL]

@@ -29,19 +29,18 @@ def run(host, library, number, count):
         asked(host, "status")
     except Ended:
         host.ended(3)  # it said why, and left nothing
-        assert "ERROR" in host.log(), host.log()
+        assert "ERROR" in host.log(), f"no error is logged: {host.log()!r}"
         equal(host.processes(), [])
         return made.exists()
     for label in "ab":  # one that memory lacked for at the start isn't started, and the log says so
         if host.has_logged(f"noroom {label}"):
             asked(host, f"service up {label}")
-    until(lambda: both_are_up(host), lambda: f"both are up: {host.log()}")
-    first = processes(host)[0]
+    first = until(lambda: both_up(host), lambda: f"both are up: {host.log()}")["a"]
     os.kill(first, signal.SIGKILL)
-    until(lambda: both_are_up(host) and processes(host)[0] != first, lambda: f"it is back: {host.log()}")
-    assert not lives(first)
+    until(lambda: both_up(host).get("a", first) != first, lambda: f"it is back: {host.log()}")
+    assert not lives(first), f"process {first} lives beside its next: {host.log()}"
     asked(host, "service refresh b")
-    until(lambda: both_are_up(host), lambda: f"it is replaced: {host.log()}")
+    until(lambda: both_up(host), lambda: f"it is replaced: {host.log()}")
     reload(host)
     host.process.send_signal(signal.SIGTERM)
     host.ended(0)  # the folder of sockets may be left, if it couldn't be listed
@@ -53,17 +52,17 @@ def reload(host):
     """Has settings read that leave b out, and have c, until they are in force. The process of a is the same."""
     host.service("c", LIVES)
     (host.home / "settings.toml").write_text(toml({"a": {"limit": 9}, "c": {"limit": 9}}))
-    first, next_time = processes(host)[0], time.monotonic()
+    first, next_time = processes(host)["a"], time.monotonic()
 
     def is_done():
         nonlocal next_time
         if time.monotonic() >= next_time:
             host.process.send_signal(signal.SIGHUP)
             next_time = time.monotonic() + 0.3
-        return "\nc up " in asked(host, "status") and both_are_up(host)
+        return "\nc up " in asked(host, "status") and both_up(host)
 
     until(is_done, lambda: f"it has the other settings: {host.log()}")
-    equal(processes(host)[0], first)
+    equal(processes(host)["a"], first)
 
 
 class Ended(Exception):
@@ -84,13 +83,15 @@ def asked(host, line):
 
 
 def processes(host):
-    """Of each service that is up its process."""
+    """The process of each service that is up, by its label."""
     rows = [it.split() for it in asked(host, "status").splitlines()[:-1]]
-    return [int(it[3]) for it in rows if it[1] == "up" and it[3] != "-"]
+    return {it[0]: int(it[3]) for it in rows if it[1] == "up" and it[3] != "-"}
 
 
-def both_are_up(host):
-    return len(processes(host)) == 2 and all(map(lives, processes(host)))
+def both_up(host):
+    """The processes of both services, once both are up and run; else nothing."""
+    found = processes(host)
+    return found if len(found) == 2 and all(map(lives, found.values())) else {}
 
 
 def refused_in_turn(host, count):

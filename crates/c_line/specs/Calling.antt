@@ -23,4 +23,5 @@ LineAsks command old answer new =
 
 -- Whether the command is carried out, as a show or by the store.
 abbrev pub CarriesOut : ScriptCommand → Session → Answer → Session → Type 0
-CarriesOut command old answer new = MatchOption (what_shows command) (LineAsks command old answer new) (λ all. ShowsIfRoom old all answer new)
+CarriesOut command old answer new =
+    MatchOption (what_shows command) (LineAsks command old answer new) (λ all. ShowsIfRoom old all answer new)

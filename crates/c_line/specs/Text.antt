@@ -27,7 +27,8 @@ pub record GivesPart (text : List ℕ) (first : ℕ) (old : List ℕ) (given : G
   pub count : given.count ≡ length text
   pub room : new ≡ take given.length (drop first text) ++ drop given.length old
   pub within : (given.length ≤ length (drop first text)) × (given.length ≤ length old)
-  pub stop : ((given.stop ≡ 0) × (given.length ≡ length (drop first text))) ⊎ ((given.stop ≡ 1) × (given.length ≡ length old) × (length old < length (drop first text)))
+  pub stop : ((given.stop ≡ 0) × (given.length ≡ length (drop first text)))
+      ⊎ ((given.stop ≡ 1) × (given.length ≡ length old) × (length old < length (drop first text)))
 
 -- Whether memory ran out for the text, and nothing is copied.
 pub record WantsText (old : List ℕ) (given : Given) (new : List ℕ) : Type 0 where

@@ -69,7 +69,8 @@ pub record StaysMap (old : SubMapRecord) (told answer : Answer) (new : SubMapRec
 -- Whether the items of the text are merged. If the text isn't the lines of items, or memory runs out for them, the map is unchanged.
 abbrev pub GivesItems : SubMapRecord → List ℕ → Answer → SubMapRecord → Type 0
 GivesItems old text answer new =
-    GivesItemsOf old text answer new ⊎ ((((items : List Item) → ¬ AreLines items text) × StaysMap old no_request answer new) ⊎ StaysMap old told_no_room answer new)
+    GivesItemsOf old text answer new
+    ⊎ ((((items : List Item) → ¬ AreLines items text) × StaysMap old no_request answer new) ⊎ StaysMap old told_no_room answer new)
 
 -- The reply of a Retrieve of a label with this endpoint, or NotFound without one.
 abbrev pub reply_of_label : Option EndpointRecord → Reply

@@ -43,7 +43,10 @@ gone_in Gone = 1
 
 -- The offer of a change of a label, whose epoch is its endpoint's generation; the sweep of a floor.
 abbrev pub told_change : ChangeRecord → RsAction
-told_change change = with_label (record (blank 3) { generation = change.version.epoch; slot = slot_in change.body; gone = gone_in change.body }) change.key.name
+told_change change =
+    with_label
+    (record (blank 3) { generation = change.version.epoch; slot = slot_in change.body; gone = gone_in change.body })
+    change.key.name
 
 abbrev pub told_floor : Floor → RsAction
 told_floor floor = with_label (record (blank 4) { generation = floor.generation }) floor.owner

@@ -31,4 +31,5 @@ event_of e = cond (nat_le e.kind 3) (of_label e) (cond (nat_le e.kind 5) (of_ins
 
 -- Whether the event is a turn of RS and its store; or there is none, and nothing changes.
 abbrev pub ServesEvent : RsEvent → RsSession → Answer → RsSession → Type 0
-ServesEvent e old answer new = MatchOption (event_of e) (SessionDoes RestsForNone old answer new) (λ event. ServesBy event e.tick old answer new)
+ServesEvent e old answer new =
+    MatchOption (event_of e) (SessionDoes RestsForNone old answer new) (λ event. ServesBy event e.tick old answer new)

@@ -25,7 +25,8 @@ pub record TellsFault (text : List ℕ) (fault : SettingsFault) (told : Settings
   pub service : told.service ≡ service_number fault.index
 
 -- Whether the text has settings, with which RS begins, or not, as the word says.
-pub record TextBegins (text : List ℕ) (next first : ℕ) (before : SettingsRefusal) (word : ℕ) (fault : SettingsRefusal) (new : Option RsRecord) : Type 0 where
+pub record TextBegins (text : List ℕ) (next first : ℕ) (before : SettingsRefusal) (word : ℕ)
+    (fault : SettingsRefusal) (new : Option RsRecord) : Type 0 where
   pub settings : SettingsRecord
   pub read : settings_of text ≡ Ok settings
   pub reply : RsReply
@@ -52,7 +53,8 @@ OpensIf None text next first before word fault new = TextBegins text next first 
 OpensIf (Some rs) text next first before word fault new = (word ≡ 13) × (fault ≡ before) × (new ≡ Some rs)
 
 -- Whether RS is opened so beside the store; the store and the last answer are unchanged.
-pub record OpensRs (text : List ℕ) (next first : ℕ) (old : RsSession) (before : SettingsRefusal) (word : ℕ) (fault : SettingsRefusal) (new : RsSession) : Type 0 where
+pub record OpensRs (text : List ℕ) (next first : ℕ) (old : RsSession) (before : SettingsRefusal)
+    (word : ℕ) (fault : SettingsRefusal) (new : RsSession) : Type 0 where
   pub opens : OpensIf old.services text next first before word fault new.services
   pub session : new.session ≡ old.session
   pub told : new.told ≡ old.told

@@ -58,7 +58,8 @@ abbrev pub EntriesOfRun : List ℕ → List Request → List Answer → List (En
 EntriesOfRun texts [] [] [] = Unit {0}
 EntriesOfRun texts (r ∷ rs) (a ∷ ys) es =
     (IsNoEntry a × EntriesOfRun texts rs ys es)
-    ⊎ ((e : Entry Command Reply) × (rest : List (Entry Command Reply)) × (es ≡ e ∷ rest) × IsEntryOf texts r a e × EntriesOfRun texts rs ys rest)
+    ⊎ ((e : Entry Command Reply) × (rest : List (Entry Command Reply)) ×
+    (es ≡ e ∷ rest) × IsEntryOf texts r a e × EntriesOfRun texts rs ys rest)
 EntriesOfRun texts [] [] (e ∷ es) = ⊥
 EntriesOfRun texts [] (a ∷ ys) es = ⊥
 EntriesOfRun texts (r ∷ rs) [] es = ⊥

@@ -46,7 +46,8 @@ with_settings service = record {
 -- The struct of a service in a state.
 abbrev pub told_service : Service → State → RsService
 told_service service Down = with_settings service
-told_service service (Up r) = record (with_settings service) { state = 1; generation = r.endpoint.generation; slot = r.endpoint.slot; failures = r.failures }
+told_service service (Up r) =
+    record (with_settings service) { state = 1; generation = r.endpoint.generation; slot = r.endpoint.slot; failures = r.failures }
 told_service service (Waiting p) = record (with_settings service) { state = 2; until = p.until; failures = p.failures }
 told_service service GaveUp = record (with_settings service) { state = 3 }
 

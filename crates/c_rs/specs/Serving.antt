@@ -29,4 +29,5 @@ pub record SessionDoes (does : Session → Answer → Session → Type 0) (old :
 
 -- Whether a command is refused, and the store and RS are unchanged.
 abbrev pub RefusesCommand : Refusal → RsSession → Answer → RsSession → Type 0
-RefusesCommand refusal old answer new = SessionDoes (λ s a t. Rests s (answer_of (Refused refusal)) (Reply (Refused refusal) AsMerge) a t) old answer new
+RefusesCommand refusal old answer new =
+    SessionDoes (λ s a t. Rests s (answer_of (Refused refusal)) (Reply (Refused refusal) AsMerge) a t) old answer new

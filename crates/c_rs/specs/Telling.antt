@@ -51,7 +51,10 @@ action_count actions (Some service) = min (length actions + 1) (2 ^ 64 - 1)
 -- event is refused.
 abbrev pub told_answer : RsReply → Answer
 told_answer (replies.Acted actions given service) =
-    record (worded words.Acted) { count = action_count actions service; owed = to_le_bytes w128 (owed_in (replies.Acted actions given service)) }
+    record (worded words.Acted) {
+      count = action_count actions service;
+      owed = to_le_bytes w128 (owed_in (replies.Acted actions given service));
+    }
 told_answer (replies.Refused fault) = told_cause (rs_fault_number fault)
 told_answer _ = no_request
 

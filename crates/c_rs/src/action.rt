@@ -2,7 +2,8 @@
 
 ghost use Rattle.std.specs.Prelude.{◌≡◌};
 ghost use Rattle.std.specs.Option.{option_copied};
-ghost use Rattle.c_rs.specs.Action.{action_at, action_in, blank, given_up_action, label_block, told_action, told_change, told_floor, told_part, with_endpoint, with_label};
+ghost use Rattle.c_rs.specs.Action.{action_at, action_in, blank, given_up_action, label_block, told_action};
+ghost use Rattle.c_rs.specs.Action.{told_change, told_floor, told_part, with_endpoint, with_label};
 
 use crate::session::RsSession;
 use c_values::answer_of;

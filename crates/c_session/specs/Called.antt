@@ -52,7 +52,8 @@ pub record AnswersRequest (old : Session) (r : Request) (text : List ℕ) (answe
 -- command has a text, a blob, a pattern or items, memory may run out for these.
 abbrev pub CalledWith : Session → Request → List ℕ → Answer → Session → Type 0
 CalledWith old r text answer new =
-    AnswersRequest old r text answer new ⊎ ((StandsForNone r text × RestsForNone old answer new) ⊎ (IsTrue (has_text r) × RestsForRoom old answer new))
+    AnswersRequest old r text answer new
+    ⊎ ((StandsForNone r text × RestsForNone old answer new) ⊎ (IsTrue (has_text r) × RestsForRoom old answer new))
 
 -- The effect of a request whose text is in the texts. If its text isn't within them, it isn't a command.
 abbrev pub Called : Session → Request → Option (List ℕ) → Answer → Session → Type 0

@@ -62,6 +62,7 @@ abbrev pub AssignsIn : ℕ → ℕ → List ℕ → Tables → Option (Result (U
 AssignsIn unit class label old answer new = AssignsWith unit label (class_at old class) old answer new
 
 -- Whether the table takes a reply. The answer is never that memory ran out.
-pub record RepliesIn (endpoint : EndpointRecord) (id : ℕ) (old : Tables) (answer : Result (List Move) TableFault) (new : Tables) : Type 0 where
+pub record RepliesIn (endpoint : EndpointRecord) (id : ℕ) (old : Tables) (answer : Result (List Move) TableFault)
+    (new : Tables) : Type 0 where
   pub steps : StepsIn (calls.Reply endpoint id) old answer new
   pub exact : (t : DriverTable) → TableStands (kept old) t → answer ≡ one_move (replying t endpoint id).0

@@ -32,7 +32,9 @@ left_of (x ∷ xs) [] r xis yis e =
     absurd (let some : 0 < length (item_spelling x) = item_some x (All-head IsItem x xs xis) in
     omega (arith, ap length e, length-append (flat_map item_spelling (x ∷ xs)) r, length-append (item_spelling x) (flat_map item_spelling xs)))
 left_of (x ∷ xs) (y ∷ ys) r xis yis e =
-    left_of xs ys r (All-tail IsItem x xs xis) (All-tail IsItem y ys yis) (items_apart x y (flat_map item_spelling xs ++ r) (flat_map item_spelling ys) (All-head IsItem x xs xis) (All-head IsItem y ys yis) (sym (append_assoc (item_spelling x) (flat_map item_spelling xs) r) ∙ e)).1
+    left_of xs ys r (All-tail IsItem x xs xis) (All-tail IsItem y ys yis)
+    (items_apart x y (flat_map item_spelling xs ++ r) (flat_map item_spelling ys) (All-head IsItem x xs xis) (All-head IsItem y ys yis)
+    (sym (append_assoc (item_spelling x) (flat_map item_spelling xs) r) ∙ e)).1
 
 none_at : (rest : List ℕ) (zs : List Item) → 0 < length rest → HasNoItem rest → All IsItem zs → rest ≡ flat_map item_spelling zs → ⊥
 none_at rest [] some none is e = omega (arith, ap length e)

@@ -7,7 +7,8 @@ use Rattle.ds_machine.specs.Owed.{owed_by}
 use Rattle.ds_machine.specs.declared.refusal.Refusal.{Refusal}
 use Rattle.ds_machine.specs.declared.refusal.Refusal.TheVariants as refusals
 use Rattle.ds_machine.specs.declared.reply.Reply.{Reply}
-use Rattle.ds_machine.specs.declared.reply.Reply.TheVariants.{Changed, Known, Swept, Found, Named, Subscribed, Checked, Journaled, Snapped, Paged, Merged, MergeStopped, Refused}
+use Rattle.ds_machine.specs.declared.reply.Reply.TheVariants.{Changed, Known, Swept, Found, Named, Subscribed, Checked}
+use Rattle.ds_machine.specs.declared.reply.Reply.TheVariants.{Journaled, Snapped, Paged, Merged, MergeStopped, Refused}
 use Rattle.c_values.specs.Pieces.{pieces_of}
 use Rattle.c_values.specs.declared.answer.Answer.{Answer}
 use Rattle.c_values.specs.declared.answer.Word.{Word}
@@ -60,7 +61,23 @@ word_number words.Acted = 16
 
 -- The answer with this word, and zeros.
 abbrev pub worded : Word → Answer
-worded word = record { count = 0; taken = 0; stale = 0; before = 0; after = 0; pieces = 0; word = word_number word; refusal = 0; epoch = 0; seq = 0; value = 0; value_slot = 0; kind = 0; last = 0; owed = replicate 16 0 }
+worded word = record {
+  count = 0;
+  taken = 0;
+  stale = 0;
+  before = 0;
+  after = 0;
+  pieces = 0;
+  word = word_number word;
+  refusal = 0;
+  epoch = 0;
+  seq = 0;
+  value = 0;
+  value_slot = 0;
+  kind = 0;
+  last = 0;
+  owed = replicate 16 0;
+}
 
 -- The answer to a request that isn't a command.
 abbrev pub no_request : Answer

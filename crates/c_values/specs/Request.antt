@@ -16,7 +16,8 @@ use Rattle.ds_pattern.specs.declared.query.Query.{Query}
 use Rattle.ds_machine.specs.declared.command.Scope.{Scope}
 use Rattle.ds_machine.specs.declared.command.Scope.TheVariants.{All, Under}
 use Rattle.ds_machine.specs.declared.command.Command.{Command}
-use Rattle.ds_machine.specs.declared.command.Command.TheVariants.{Publish, Delete, Sweep, Retrieve, NameOf, Subscribe, Check, Since, Snapshot, Page}
+use Rattle.ds_machine.specs.declared.command.Command.TheVariants.{Publish, Delete, Sweep, Retrieve, NameOf}
+use Rattle.ds_machine.specs.declared.command.Command.TheVariants.{Subscribe, Check, Since, Snapshot, Page}
 use Rattle.c_values.specs.declared.request.Request.{Request}
 use Rattle.c_values.specs.declared.texts.Publication.{Publication}
 
@@ -36,7 +37,8 @@ version_at epoch seq = cond (nat_le epoch 2097151) (Some (record { epoch = epoch
 
 -- The kind with this number: 1 label, 2 u32, 4 str, 8 mem.
 unfoldable pub kind_at : ℕ → Option Kind
-kind_at n = cond (n == 1) (Some kinds.Label) (cond (n == 2) (Some kinds.U32) (cond (n == 4) (Some kinds.Str) (cond (n == 8) (Some kinds.Mem) None)))
+kind_at n =
+    cond (n == 1) (Some kinds.Label) (cond (n == 2) (Some kinds.U32) (cond (n == 4) (Some kinds.Str) (cond (n == 8) (Some kinds.Mem) None)))
 
 -- Whether the bytes are a name.
 abbrev pub is_name : List ℕ → Bool
@@ -98,7 +100,13 @@ behind_of r = cond (r.behind == 0) (Some None) (option_map Some (key_of_parts (n
 
 unfoldable pub publish_of : Request → List ℕ → Option Command
 publish_of r text =
-    option_and_then (λ (key : Key). option_and_then (λ caller. option_and_then (λ version. option_map (λ value. Publish caller key version value (not (r.overwrite == 0))) (valued r text key.kind)) (versioned r)) (caller_of r)) (key_of r)
+    option_and_then
+    (λ (key : Key). option_and_then
+    (λ caller. option_and_then
+    (λ version. option_map (λ value. Publish caller key version value (not (r.overwrite == 0))) (valued r text key.kind))
+    (versioned r))
+    (caller_of r))
+    (key_of r)
 
 -- The Publish with these parts.
 abbrev pub publish_command : Publication → Command
@@ -108,16 +116,21 @@ unfoldable pub delete_of : Request → Option Command
 delete_of r = option_and_then (λ caller. option_and_then (λ key. option_map (Delete caller key) (versioned r)) (key_of r)) (caller_of r)
 
 unfoldable pub sweep_of : Request → Option Command
-sweep_of r = option_and_then (λ caller. option_and_then (λ owner. option_map (Sweep caller owner) (generation_at r.value)) (named_in r)) (caller_of r)
+sweep_of r =
+    option_and_then
+    (λ caller. option_and_then (λ owner. option_map (Sweep caller owner) (generation_at r.value)) (named_in r))
+    (caller_of r)
 
 unfoldable pub subscribe_of : Request → List ℕ → Option Command
 subscribe_of r text = option_map (λ query. Subscribe r.sub query (not (r.initial == 0)) (not (r.overwrite == 0))) (query_at r.kinds text)
 
 unfoldable pub since_of_request : Request → List ℕ → Option Command
-since_of_request r text = option_map (λ scope. Since scope (record { incarnation = r.incarnation; position = r.position }) r.max) (scope_of r text)
+since_of_request r text =
+    option_map (λ scope. Since scope (record { incarnation = r.incarnation; position = r.position }) r.max) (scope_of r text)
 
 unfoldable pub page_of_request : Request → List ℕ → Option Command
-page_of_request r text = option_and_then (λ (after : Option Key). option_map (λ scope. Page scope after r.max) (scope_of r text)) (behind_of r)
+page_of_request r text =
+    option_and_then (λ (after : Option Key). option_map (λ scope. Page scope after r.max) (scope_of r text)) (behind_of r)
 
 -- The command of a request with this text, by its number. A Merge isn't among these.
 unfoldable pub command_of : Request → List ℕ → Option Command

@@ -75,9 +75,21 @@ module _ (old new : TableRecord) (t : DriverTable) (stands : TableStands old t) 
   submit_step id unit (Err fault) answers leaves same =
       (t, record { answer_is = one_answer (submitting t id unit).0 (Err fault) (answers t stands); after = tt; unchanged = refl }, subst (λ (v : TableRecord). TableStands v t) (sym same) stands)
 
-  pub reply_step : (endpoint : EndpointRecord) (id : ℕ) (answer : Result Move TableFault) → ((s : DriverTable) → TableStands old s → answer ≡ (replying s endpoint id).0) → LeavesAs old (λ s. replying s endpoint id) answer new → OnErr answer (new ≡ old)
+  pub reply_step : (endpoint : EndpointRecord) (id : ℕ) (answer : Result Move TableFault)
+      → ((s : DriverTable) → TableStands old s → answer ≡ (replying s endpoint id).0)
+      → LeavesAs old (λ s. replying s endpoint id) answer new
+      → OnErr answer (new ≡ old)
       → (u : DriverTable) × TableStep t (Reply endpoint id) (one_move answer) u × TableStands new u
   reply_step endpoint id (Ok step) answers leaves same =
       ((replying t endpoint id).1, record { answer_is = one_answer (replying t endpoint id).0 (Ok step) (answers t stands); after = refl; unchanged = tt }, leaves t stands)
-  reply_step endpoint id (Err fault) answers leaves same =
-      (t, record { answer_is = one_answer (replying t endpoint id).0 (Err fault) (same_answer (replying t endpoint id).0 (Err fault) (answers t stands) (never_wants t endpoint id)); after = tt; unchanged = refl }, subst (λ (v : TableRecord). TableStands v t) (sym same) stands)
+  reply_step endpoint id (Err fault) answers leaves same = (
+    t,
+    record {
+      answer_is =
+          one_answer (replying t endpoint id).0 (Err fault)
+          (same_answer (replying t endpoint id).0 (Err fault) (answers t stands) (never_wants t endpoint id));
+      after = tt;
+      unchanged = refl;
+    },
+    subst (λ (v : TableRecord). TableStands v t) (sym same) stands,
+  )

@@ -48,7 +48,12 @@ TableHandle = table_handle.the_row
 module _ {M : Type 1} {𝓤 : Ura M} (𝓛 : Logic 𝓤) (R : RattleType) (a : Global) where
   -- a box of the heap may be compared with null
   pub tested : (p : Ptr) (x : R.Denot) → ent 𝓤 (sem 𝓛 (box_owns chunk R p x)) (guard 𝓤 (Testable p) (sem 𝓛 (box_owns chunk R p x)))
-  tested p x = fact_use 𝓤 (Testable p) (via 𝓤 _ (snd∗ 𝓤 (sem 𝓛 (lies_at R full_share p x)) (sem 𝓛 (ghosts.dealloc_token a (bare (lone R.mir)) p))) (dealloc_token-Testable 𝓛 a (bare (lone R.mir)) p)) (guard_i 𝓤 (Testable p) (sem 𝓛 (box_owns chunk R p x)))
+  tested p x =
+      fact_use 𝓤 (Testable p)
+      (via 𝓤 _
+      (snd∗ 𝓤 (sem 𝓛 (lies_at R full_share p x)) (sem 𝓛 (ghosts.dealloc_token a (bare (lone R.mir)) p)))
+      (dealloc_token-Testable 𝓛 a (bare (lone R.mir)) p))
+      (guard_i 𝓤 (Testable p) (sem 𝓛 (box_owns chunk R p x)))
 
 module _ {M : Type 1} {𝓤 : Ura M} {𝓛 : Logic 𝓤} {K : Type 0} {Γ : List (Item 𝓤)} {G : Goal 𝓤 𝓛.H} where
   pub handle_out : K → (d : Handle.Denot) (vs : List Val) → (vs ≡ word (ptr_val d.at) ∷ [] → Seq K 𝓛 (‵ (holds d.at d.value) ∷ Γ) G) → Seq K 𝓛 (‵ (Handle.own_val d vs) ∷ Γ) G

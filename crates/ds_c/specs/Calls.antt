@@ -37,7 +37,9 @@ pub record IsOpenWord (first ring word : ℕ) : Type 0 where
 -- Whether a session is opened, whose store is in the machine's opening state, without RS; or none, for the first cause that applies.
 abbrev pub Opened : ℕ → ℕ → ℕ → ℕ → Option RsSession → Type 0
 Opened incarnation first ring word None = IsOpenWord first ring word
-Opened incarnation first ring word (Some s) = (word ≡ done) × ContentStands s.session.store (opening incarnation first ring larger) × (s.services ≡ None) × ((s.session.last ≡ Nothing) × (s.told ≡ None))
+Opened incarnation first ring word (Some s) =
+    (word ≡ done) × ContentStands s.session.store (opening incarnation first ring larger) × (s.services ≡ None) ×
+    ((s.session.last ≡ Nothing) × (s.told ≡ None))
 
 -- The effect of a call that opens. An open handle is unchanged.
 abbrev pub Opens : ℕ → ℕ → ℕ → Option RsSession → ℕ → Option RsSession → Type 0

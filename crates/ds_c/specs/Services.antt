@@ -75,7 +75,8 @@ FindsPublisher (Some s) generation slot kind name word = word ≡ cond (may_publ
 -- The effect of a call that judges whether an instance may complain of a service.
 abbrev pub FindsComplainer : Option RsSession → ℕ → ℕ → List ℕ → ℕ → Type 0
 FindsComplainer None generation slot label word = word ≡ is_closed
-FindsComplainer (Some s) generation slot label word = word ≡ cond (may_deal_in may_complain s.services generation slot label) done not_allowed
+FindsComplainer (Some s) generation slot label word =
+    word ≡ cond (may_deal_in may_complain s.services generation slot label) done not_allowed
 
 -- The effect of a call that judges whether an instance may connect to a service.
 abbrev pub FindsConnector : Option RsSession → ℕ → ℕ → List ℕ → ℕ → Type 0

@@ -28,22 +28,26 @@ CallsTo R old word answer None = ⊥
 CallsTo R old word answer (Some new) = (word ≡ done) × R old answer new
 
 -- The effect of a call on a table. If the handle is closed, it and the answer's place are unchanged.
-abbrev pub CallsTable : (ServerTable → Answer → ServerTable → Type 0) → Option ServerTable → Answer → ℕ → Answer → Option ServerTable → Type 0
+abbrev pub CallsTable : (ServerTable → Answer → ServerTable → Type 0) → Option ServerTable → Answer → ℕ →
+    Answer → Option ServerTable → Type 0
 CallsTable R None before word answer new = (word ≡ is_closed) × (answer ≡ before) × (new ≡ None)
 CallsTable R (Some old) before word answer new = CallsTo R old word answer new
 
 -- The effect of a call on a table with the items that a map holds. Without a map, the table and the answer's place are unchanged.
-abbrev pub CallsByMap : (List Item → ServerTable → Answer → ServerTable → Type 0) → Option SubMapRecord → ServerTable → Answer → ℕ → Answer → ServerTable → Type 0
+abbrev pub CallsByMap : (List Item → ServerTable → Answer → ServerTable → Type 0) → Option SubMapRecord → ServerTable →
+    Answer → ℕ → Answer → ServerTable → Type 0
 CallsByMap R None old before word answer new = (word ≡ is_closed) × (answer ≡ before) × (new ≡ old)
 CallsByMap R (Some map) old before word answer new = (word ≡ done) × R (held_items map.held) old answer new
 
 -- Whether the table of an open handle takes such a call, as `CallsByMap` says.
-abbrev pub CallsToByMap : (List Item → ServerTable → Answer → ServerTable → Type 0) → Option SubMapRecord → ServerTable → Answer → ℕ → Answer → Option ServerTable → Type 0
+abbrev pub CallsToByMap : (List Item → ServerTable → Answer → ServerTable → Type 0) → Option SubMapRecord → ServerTable → Answer → ℕ →
+    Answer → Option ServerTable → Type 0
 CallsToByMap R map old before word answer None = ⊥
 CallsToByMap R map old before word answer (Some new) = CallsByMap R map old before word answer new
 
 -- The effect of a call on the handles of a table and a map. If one is closed, both and the answer's place are unchanged.
-abbrev pub CallsWithMap : (List Item → ServerTable → Answer → ServerTable → Type 0) → Option SubMapRecord → Option ServerTable → Answer → ℕ → Answer → Option ServerTable → Type 0
+abbrev pub CallsWithMap : (List Item → ServerTable → Answer → ServerTable → Type 0) → Option SubMapRecord → Option ServerTable → Answer →
+    ℕ → Answer → Option ServerTable → Type 0
 CallsWithMap R map None before word answer new = (word ≡ is_closed) × (answer ≡ before) × (new ≡ None)
 CallsWithMap R map (Some old) before word answer new = CallsToByMap R map old before word answer new
 

@@ -1,7 +1,8 @@
 //! The calls on RS beside a store.
 
 ghost use Rattle.std.specs.Prelude.{◌≡◌, cond};
-ghost use Rattle.ds_c.specs.Services.{EventsReach, FindsComplainer, FindsConnector, FindsPublisher, OpensServices, ReadsAction, ReadsDueTick, ReadsNext, ReadsService, ReadsPart, not_allowed};
+ghost use Rattle.ds_c.specs.Services.{EventsReach, FindsComplainer, FindsConnector, FindsPublisher, OpensServices};
+ghost use Rattle.ds_c.specs.Services.{ReadsAction, ReadsDueTick, ReadsNext, ReadsService, ReadsPart, not_allowed};
 ghost use Rattle.ds_c.specs.Calls.{done};
 
 use crate::handle::Handle;

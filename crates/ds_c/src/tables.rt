@@ -118,7 +118,8 @@ pub extern "C" fn ds_table_submit(
     unit: u8,
     answer: &mut Answer,
 ) -> u32
-    ensures told { CallsWithMap (λ held. TableSubmits held id unit) map.old.value handle.old.value answer.old result answer.new handle.new.value }
+    ensures told { CallsWithMap (λ held. TableSubmits held id unit)
+        map.old.value handle.old.value answer.old result answer.new handle.new.value }
     ensures map { map.new.value ≡ map.old.value }
 {
     match handle.take(alloc) {

@@ -13,7 +13,7 @@ use Rattle.ds_held.specs.Limits.{LimitsRecord, IsLimits}
 use Rattle.ds_marked.specs.Marked.{MarkedHolding}
 use Rattle.ds_join.specs.ItemTop.{IsTop}
 use Rattle.ds_watch.specs.Followed.{owed_for}
-use Rattle.ds_watch.specs.Mask.{padded}
+use Rattle.ds_watch.specs.Mask.{either, padded}
 use Rattle.ds_watch.specs.Masks.{fresh}
 use Rattle.ds_watch.specs.Watching.{Watching}
 use Rattle.ds_watch.specs.Watching as keys
@@ -21,9 +21,9 @@ use Rattle.ds_watch.specs.declared.masks.Masks.{Masks}
 use Rattle.ds_machine.specs.State.{State, takes_effect}
 use Rattle.ds_content.specs.Content.{ContentRecord}
 use Rattle.ds_content.specs.Followed.{watches_item, followed_from}
-use Rattle.ds_content.specs.Kept.{AreMarked, masks_at, unseen_at}
+use Rattle.ds_content.specs.Kept.{AreMarked, ArePending, masks_at, unseen_at}
 use Rattle.ds_content.specs.Stands.{ContentStands}
-use Rattle.ds_content.proofs.KeptLemmas.{fresh_flag, other_flags, marked_more}
+use Rattle.ds_content.proofs.KeptLemmas.{fresh_flag, other_flags, marked_more, pending_more}
 use Rattle.ds_content.proofs.MarkLemmas.{stands_more}
 use Rattle.ds_content.proofs.OwedLemmas.{key_shown, key_watches, made_shown, floor_watches}
 use Rattle.ds_content.proofs.RoomLemmas.{Enters}
@@ -60,6 +60,10 @@ module _ (old new : MarkedHolding Masks) (before after : Kept) (stamp : ℕ) (ws
 
   pub marked_then : (s : State) → ContentStands (value_of old before stamp ws) s → length ws ≡ old.held.limits.subs → AreMarked old ws → AreMarked new ws
   marked_then s stands places are = marked_more old new i owed top here (kept (gone s stands)) ws owes (few_places (value_of old before stamp ws) s (length ws) stands places) are
+
+  pub pending_then : (s : State) → ContentStands (value_of old before stamp ws) s → length ws ≡ old.held.limits.subs → AreMarked old ws
+      → (pending : List Bool) → ArePending old pending → ArePending new (either pending owed)
+  pending_then s stands places are pending = pending_more old new i owed top here (kept (gone s stands)) ws owes (few_places (value_of old before stamp ws) s (length ws) stands places) are pending
 
   pub places_then : length ws ≡ old.held.limits.subs → length ws ≡ new.held.limits.subs
   places_then places = places ∙ ap (λ (l : LimitsRecord). l.subs) (sym bounds)

@@ -22,14 +22,15 @@ use Rattle.ds_held.specs.Merge.{after_merge}
 use Rattle.ds_held.specs.Raise.{after_raise, at_kept_keys, stays}
 use Rattle.ds_held.proofs.HeldLemmas.{is_held, change_in}
 use Rattle.ds_marked.specs.Marked.{MarkedHolding, mark_for, floor_mark_for, HasMarks}
-use Rattle.ds_watch.specs.Mask.{padded}
+use Rattle.ds_watch.specs.Mask.{either, padded}
 use Rattle.ds_watch.specs.Masks.{fresh}
 use Rattle.ds_watch.specs.Watching.{Watching}
 use Rattle.ds_watch.specs.Watching as keys
 use Rattle.ds_watch.specs.declared.masks.Masks.{Masks}
 use Rattle.ds_content.specs.Followed.{watches_item}
-use Rattle.ds_content.specs.Kept.{AreMarked, masks_at, under_at, unseen_at}
+use Rattle.ds_content.specs.Kept.{AreMarked, ArePending, masks_at, under_at, unseen_at}
 use Rattle.ds_content.proofs.OwedLemmas.{key_watches, padded_flag, padded_long}
+use Rattle.ds_content.proofs.PendingLemmas.{either_long, either_first, either_second}
 
 -- ---- an item that took effect, and has its fresh masks, where what else is held has those that it had
 module _ (old new : MarkedHolding Masks) (i : Item) (owed : List Bool) (top : IsTop (held_items new.held) (held_items old.held ++ i ∷ [])) (here : masks_at new i ≡ Some (fresh owed))
@@ -55,6 +56,17 @@ module _ (old new : MarkedHolding Masks) (i : Item) (owed : List Bool) (top : Is
         | inr q ↦ subst (λ (z : Item). length (unseen_at new z) ≡ 128) q (ap (λ (o : Option Masks). length (option_map_or (λ (m : Masks). m.unseen) o [])) here ∙ here_long)
       ];
     }
+
+    pub pending_more : (pending : List Bool) → ArePending old pending → ArePending new (either pending owed)
+    pending_more pending before =
+        let same : length pending ≡ length owed = before.long ∙ sym here_long in
+        record {
+          long = either_long pending owed same ∙ before.long;
+          each = λ y k h t. elim (Contains-push_cases (held_items old.held) i y (top.among y h)) [
+            | inl q ↦ either_first pending owed k same (before.each y k q (ap (λ (fs : List Bool). get_or fs k false) (sym (other_flags y h q)) ∙ t))
+            | inr q ↦ either_second pending owed k same (ap (λ (o : Option Masks). get_or (option_map_or (λ (m : Masks). m.unseen) o []) k false) (sym here) ∙ subst (λ (z : Item). get_or (unseen_at new z) k false ≡ true) (sym q) t)
+          ];
+        }
 
 -- ---- a change
 module _ (old new : MarkedHolding Masks) (c : ChangeRecord) (owed : List Bool) (sound : IsSound new.held) (held : new.held ≡ after_merge old.held c (Ok Taken))

@@ -5,6 +5,7 @@ pub mod RoomLemmas
 pub mod SeenLemmas
 pub mod HoldingLemmas
 pub mod OwedLemmas
+pub mod PendingLemmas
 pub mod KeptLemmas
 pub mod RemarkLemmas
 pub mod OpenLemmas

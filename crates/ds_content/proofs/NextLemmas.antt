@@ -1,5 +1,5 @@
 -- The next item that is still to be shown, by the masks.
-use Rattle.std.proofs.Common.{◌≡◌, ℕ, zero, suc, ◌+◌, ◌-◌, ◌<◌, ◌≤◌, ◌⊎◌, Bool, true, false, cond, List, [], ◌∷◌, length, take, filter, map, length-append, Option, Some, None, refl, ap, sym, ◌∙◌, subst, inl, inr, arith}
+use Rattle.std.proofs.Common.{◌≡◌, ℕ, zero, suc, ◌+◌, ◌-◌, ◌<◌, ◌≤◌, ◌⊎◌, Bool, true, false, cond, List, [], ◌∷◌, length, take, filter, map, length-append, get_or, Option, Some, None, refl, ap, sym, ◌∙◌, subst, inl, inr, arith}
 use Rattle.std.specs.Prelude.{slice_get}
 use Rattle.std.specs.Option.{option_map, IfSome}
 use Rattle.std.proofs.lemmas.List.{length-map}
@@ -12,9 +12,9 @@ use Rattle.ds_held.specs.Kept.{floored}
 use Rattle.ds_held.proofs.HeldLemmas.{count_is}
 use Rattle.ds_marked.specs.Marked.{MarkedHolding, AreMarks, AreFloorMarks}
 use Rattle.ds_watch.specs.declared.masks.Masks.{Masks}
-use Rattle.ds_content.specs.Kept.{masks_at}
-use Rattle.ds_content.specs.Shown.{says_unseen, is_to_show, IsNext}
-use Rattle.ds_content.proofs.FlagLemmas.{below_or_not, below_or_at}
+use Rattle.ds_content.specs.Kept.{ArePending, masks_at}
+use Rattle.ds_content.specs.Shown.{says_unseen, is_to_show, AreFirst, IsNext}
+use Rattle.ds_content.proofs.FlagLemmas.{below_or_not, below_or_at, index_among, few_taken}
 use Rattle.ds_content.proofs.HoldingLemmas.{count_floors, items_floored, floor_item_at, change_item_at}
 use Rattle.ds_content.proofs.IndexLemmas.{flag_is}
 
@@ -172,3 +172,21 @@ items_counted h count floors c f =
     let fs = count_floors h in
     let cs = count_is h in
     omega (arith, both, sum, m, n, fs, cs, c, f)
+
+-- ---- a subscription that isn't pending
+module _ (h : MarkedHolding Masks) (pending : List Bool) (sub : ℕ) (are : ArePending h pending) (none : get_or pending sub false ≡ false) where
+  -- nothing is to be shown to it
+  pub not_pending : (k : ℕ) (i : Item) → slice_get (held_items h.held) k ≡ Some i → is_to_show h sub i ≡ false
+  not_pending k i at = by_test (is_to_show h sub i) refl
+    where
+      by_test : (b : Bool) → is_to_show h sub i ≡ b → is_to_show h sub i ≡ false
+      by_test false e = e
+      by_test true e = absurd (let no : false ≡ true = sym none ∙ are.each i sub (index_among (held_items h.held) k i at) e in cc)
+
+  pub nothing_first : (max : ℕ) → AreFirst h sub max [] 0
+  nothing_first max = record {
+    shown = refl;
+    few = omega arith;
+    enough = inr (sym (filter_past (is_to_show h sub) 0 (length (held_items h.held)) (held_items h.held) (omega arith) (λ k i at l w. not_pending k i at))
+        ∙ ap (λ (l : List Item). filter (is_to_show h sub) l) (few_taken (length (held_items h.held)) (held_items h.held) (omega arith)));
+  }

@@ -1,5 +1,5 @@
 -- What a content stands for at its opening, and small facts about what it returns.
-use Rattle.std.proofs.Common.{◌≡◌, ℕ, zero, suc, ◌≤◌, Bool, List, [], ◌∷◌, ◌++◌, map, length, replicate, Option, None, Result, Ok, Err, IfOk, refl, ap, ap₂, sym, ◌∙◌, subst, arith, Contains}
+use Rattle.std.proofs.Common.{◌≡◌, ℕ, zero, suc, ◌≤◌, Bool, false, List, [], ◌∷◌, ◌++◌, map, length, replicate, Option, None, Result, Ok, Err, IfOk, refl, ap, ap₂, sym, ◌∙◌, subst, arith, Contains}
 use Rattle.std.proofs.lemmas.List.{length-replicate}
 use Rattle.std.specs.FinMap.{entries, len, len-entries, len-empty}
 use Rattle.std.specs.Option.{option_map}
@@ -19,7 +19,7 @@ use Rattle.ds_watch.specs.declared.masks.Masks.{Masks}
 use Rattle.ds_machine.specs.State.{State, cursor, opening}
 use Rattle.ds_machine.proofs.WithinLemmas.{opening_is_within}
 use Rattle.ds_content.specs.Followed.{followed_of, followed_from}
-use Rattle.ds_content.specs.Kept.{AreMarked, unseen_at}
+use Rattle.ds_content.specs.Kept.{AreMarked, ArePending, unseen_at}
 use Rattle.ds_content.specs.Stands.{ContentStands}
 use Rattle.ds_names.specs.Limits.{last_place}
 use Rattle.ds_machine.proofs.ReachedLemmas.{opening_is_reached}
@@ -60,6 +60,12 @@ module _ (h : MarkedHolding Masks) (ws : List (Option Watching)) (limits : Limit
   none_marked = record {
     under = λ i k. absurd (Contains-nil i (subst (λ (l : List Item). Contains l i) nothing_here k));
     long = λ i k. absurd (Contains-nil i (subst (λ (l : List Item). Contains l i) nothing_here k));
+  }
+
+  pub none_pending : (pending : List Bool) → pending ≡ replicate 128 false → ArePending h pending
+  none_pending pending is = record {
+    long = ap (λ (fs : List Bool). length fs) is ∙ length-replicate 128 false;
+    each = λ i k h t. absurd (Contains-nil i (subst (λ (l : List Item). Contains l i) nothing_here h));
   }
 
   pub stands_opening : (journal : Kept) (incarnation first ring stamp : ℕ) → Keeps journal (feeds.opening_feed incarnation first ring) → stamp ≡ first → IsLimits limits → first ≤ last_place

@@ -1,5 +1,6 @@
 -- Other masks beside what is held, one index after the other.
-use Rattle.std.proofs.Common.{◌≡◌, ℕ, zero, suc, ◌+◌, ◌-◌, ◌<◌, ◌≤◌, ◌⊎◌, Bool, true, false, cond, ◌&&◌, List, [], ◌∷◌, ◌++◌, length, get_or, set, map, replicate, Option, Some, None, refl, ap, ap₂, sym, ◌∙◌, subst, inl, inr, arith, Contains}
+use Rattle.std.proofs.Common.{◌≡◌, ℕ, zero, suc, ◌+◌, ◌-◌, ◌<◌, ◌≤◌, ◌⊎◌, Bool, true, false, cond, ◌&&◌, List, [], ◌∷◌, ◌++◌, length, get_or, set, map, replicate, Option, Some, None}
+use Rattle.std.proofs.Common.{refl, ap, ap₂, sym, ◌∙◌, subst, inl, inr, arith, Contains}
 use Rattle.std.specs.Prelude.{slice_get}
 use Rattle.std.specs.FinMap.{FinMap, get, get-insert}
 use Rattle.std.specs.Option.{option_map, option_map_or}
@@ -24,10 +25,12 @@ use Rattle.ds_watch.specs.Masks.{shown_to, made_at}
 use Rattle.ds_watch.specs.Watching.{Watching, watching}
 use Rattle.ds_watch.specs.declared.masks.Masks.{Masks}
 use Rattle.ds_content.specs.Followed.{watches_item}
-use Rattle.ds_content.specs.Kept.{AreMarked, masks_at, under_at, unseen_at}
+use Rattle.ds_content.specs.Kept.{AreMarked, ArePending, masks_at, under_at, unseen_at}
 use Rattle.ds_content.specs.Marking.{IsSet, IsRemarked, AreRemarked}
+use Rattle.ds_content.specs.Shown.{IsRestOf}
 use Rattle.ds_content.proofs.FlagLemmas.{apart, index_of, index_among, cleared, below_or_not, below_or_at}
 use Rattle.ds_content.proofs.HoldingLemmas.{floor_item_at, change_item_at, top_itself}
+use Rattle.ds_content.proofs.PendingLemmas.{set_flag, and_second}
 use Rattle.ds_pattern.specs.Under.{is_under}
 use Rattle.ds_entry.specs.Item.{passes}
 
@@ -215,6 +218,23 @@ module _ (old new : MarkedHolding Masks) (count sub : ℕ) (all : AreRemarked ol
     long = λ i h. check_long i (there i h) ∙ are.long i (there i h);
   }
 
+  -- where there may be no more, nothing is to be shown
+  check_none : (more : Bool) → IsRestOf old sub count more → more ≡ false → (i : Item) → Contains (held_items old.held) i → get_or (unseen_at new i) sub false ≡ false
+  check_none more rest none i h =
+      let at = index_of (held_items old.held) i h in
+      elim (below_or_not at.0 count) [ inl l ↦ check_first at.0 i at.1 l | inr m ↦ check_rest at.0 i at.1 m ∙ rest none at.0 i at.1 m ]
+
+  pub check_pending : (pending : List Bool) (more : Bool) → sub < 128 → IsRestOf old sub count more → ArePending old pending → ArePending new (set pending sub more)
+  check_pending pending more place rest before = record {
+    long = length-set pending sub more ∙ before.long;
+    each = λ i k h. set_flag pending sub more (subst (λ n. sub < n) (sym before.long) place) k (get_or (unseen_at new i) k false) (λ e t. by_more more refl i (there i h) (subst (λ n. get_or (unseen_at new i) n false ≡ true) e t))
+        (λ d t. before.each i k (there i h) (sym (check_others i (there i h) k d) ∙ t));
+  }
+    where
+      by_more : (b : Bool) → more ≡ b → (i : Item) → Contains (held_items old.held) i → get_or (unseen_at new i) sub false ≡ true → more ≡ true
+      by_more true q i h t = q
+      by_more false q i h t = absurd (let no : false ≡ true = sym (check_none more rest q i h) ∙ t in cc)
+
 -- ---- after a subscription was made
 set_padded : (fs rest : List Bool) (sub : ℕ) (b : Bool) → sub < length fs → set (fs ++ rest) sub b ≡ set fs sub b ++ rest
 set_padded [] rest sub b l = absurd (omega arith)
@@ -259,4 +279,13 @@ module _ (old new : MarkedHolding Masks) (sub : ℕ) (place : sub < 128) (q : Qu
         ∙ ap₂ (λ fs b. set fs sub b) (are.under i k) (ap (λ (x : Query). passes (is_under x) i) (sym same)) ∙ padded_set (map (watches_item i) ws) sub (passes (is_under w.query) i) few
         ∙ ap padded (sym (map-set (watches_item i) ws sub (Some w))));
     long = λ i h. ap (λ (o : Option Masks). length (option_map_or (λ (m : Masks). m.unseen) o [])) (made_each i (here_too i h)) ∙ made_long sub (passes (is_under q) i) initial (masks_at old i) ∙ are.long i (here_too i h);
+  }
+
+  pub made_pending : (pending : List Bool) → ((i : Item) → Contains (held_items old.held) i → length (unseen_at old i) ≡ 128) → ArePending old pending → ArePending new (set pending sub initial)
+  made_pending pending long before = record {
+    long = length-set pending sub initial ∙ before.long;
+    each = λ i k h.
+        set_flag pending sub initial (subst (λ n. sub < n) (sym before.long) place) k (get_or (unseen_at new i) k false)
+        (λ e t. and_second (passes (is_under q) i) initial (sym (made_flag i (here_too i h) (long i (here_too i h))) ∙ subst (λ n. get_or (unseen_at new i) n false ≡ true) e t))
+        (λ d t. before.each i k (here_too i h) (sym (made_other i (here_too i h) k d) ∙ t));
   }

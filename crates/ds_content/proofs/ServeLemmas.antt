@@ -1,8 +1,10 @@
 -- A subscription that was made or shown something: what the content stands for then.
-use Rattle.std.proofs.Common.{◌≡◌, ℕ, zero, suc, ◌+◌, ◌<◌, ◌≤◌, ◌⊎◌, Bool, true, false, cond, ◌||◌, List, [], ◌∷◌, ◌++◌, map, filter, length, take, get_or, set, Option, Some, None, is_some, refl, ap, ap₂, sym, ◌∙◌, subst, inl, inr, arith, Contains}
+use Rattle.std.proofs.Common.{◌≡◌, ℕ, zero, suc, ◌+◌, ◌<◌, ◌≤◌, ◌⊎◌, Bool, true, false, cond, ◌||◌, List, [], ◌∷◌, ◌++◌, map, filter, length, take, get_or, set, Option, Some, None, is_some}
+use Rattle.std.proofs.Common.{refl, ap, ap₂, sym, ◌∙◌, subst, inl, inr, arith, Contains}
 use Rattle.std.specs.List.{list_any}
 use Rattle.std.specs.Option.{option_map}
-use Rattle.std.proofs.lemmas.Option.{same_Some}
+use Rattle.std.proofs.lemmas.List.{get_or-map}
+use Rattle.std.proofs.lemmas.Option.{same_Some, slice_get_within, get_or_from_slice_get}
 use Rattle.ds_entry.specs.declared.item.Item.{Item}
 use Rattle.ds_entry.proofs.Members.{Contains-from_filter, Contains-from_take}
 use Rattle.ds_feed.specs.Kept.{Kept}
@@ -21,12 +23,13 @@ use Rattle.ds_content.specs.Content.{ContentRecord}
 use Rattle.ds_content.specs.Followed.{followed_of, followed_by, followed_from}
 use Rattle.ds_content.specs.Kept.{AreMarked, unseen_at}
 use Rattle.ds_content.specs.Marking.{AreRemarked}
-use Rattle.ds_content.specs.Shown.{flagged, AreUnseen, AreFirst, is_to_show}
+use Rattle.ds_content.specs.Shown.{flagged, AreUnseen, AreFirst, IsRest, IsRestOf, is_to_show}
 use Rattle.ds_content.specs.Stands.{ContentStands}
 use Rattle.ds_content.proofs.EnterLemmas.{value_of, few_places}
 use Rattle.ds_content.proofs.FlagLemmas.{taken_first, few_taken}
 use Rattle.ds_content.proofs.HoldingLemmas.{top_itself}
 use Rattle.ds_content.proofs.MarkLemmas.{none_more}
+use Rattle.ds_content.proofs.PendingLemmas.{none_at}
 use Rattle.ds_content.proofs.RemarkLemmas.{check_others, check_first, check_rest, made_flag, made_other}
 use Rattle.ds_content.proofs.SeenLemmas.{at_from, made_so, to_show_is, shown_so, stands_subscribed, first_part, place_of, twin, shown_part}
 use Rattle.ds_names.specs.Limits.{last_place}
@@ -99,6 +102,23 @@ module _ (h : MarkedHolding Masks) (ws : List (Option Watching)) (sub : ℕ) whe
           let same : followed_by (held_items h.held) (unseen_at h) sub w ≡ f = same_Some (followed_by (held_items h.held) (unseen_at h) sub w) f
           (sym (shown_place ∙ ap (option_map (followed_by (held_items h.held) (unseen_at h) sub)) q) ∙ e) in
           is ∙ sym (flagged_are (is_to_show h sub) passed (held_items h.held)) ∙ ap (λ (x : Followed). flagged x.unseen (take passed (held_items h.held))) same
+
+  -- and so what they say of the items after those
+  pub rest_items : (w : Watching) → get_or ws sub None ≡ Some w → (journal : Kept) (stamp passed : ℕ) (more : Bool) → IsRest (value_of h journal stamp ws) sub passed more → IsRestOf h sub passed more
+  rest_items w e journal stamp passed more rest none k i at l =
+      let within = slice_get_within (held_items h.held) k i at in
+      sym (get_or-map (is_to_show h sub) (held_items h.held) k i false within ∙ ap (is_to_show h sub) (get_or_from_slice_get (held_items h.held) k i i at))
+      ∙ rest (followed_by (held_items h.held) (unseen_at h) sub w) (shown_place ∙ ap (option_map (followed_by (held_items h.held) (unseen_at h) sub)) e) none k l
+
+  pub is_rest : (journal : Kept) (stamp passed : ℕ) (more : Bool) → IsRestOf h sub passed more → IsRest (value_of h journal stamp ws) sub passed more
+  is_rest journal stamp passed more rest f e none k l = by_place (get_or ws sub None) refl
+    where
+      by_place : (o : Option Watching) → get_or ws sub None ≡ o → get_or f.unseen k false ≡ false
+      by_place None q = absurd (let no : None ≡ Some f = sym (shown_place ∙ ap (option_map (followed_by (held_items h.held) (unseen_at h) sub)) q) ∙ e in cc)
+      by_place (Some w) q =
+          let same : followed_by (held_items h.held) (unseen_at h) sub w ≡ f = same_Some (followed_by (held_items h.held) (unseen_at h) sub w) f
+          (sym (shown_place ∙ ap (option_map (followed_by (held_items h.held) (unseen_at h) sub)) q) ∙ e) in
+          ap (λ (x : Followed). get_or x.unseen k false) (sym same) ∙ none_at (is_to_show h sub) (held_items h.held) k (λ i at. rest none k i at l)
 
   -- ---- what the masks say is what the state says
   module _ (sound : IsSound h.held) (journal : Kept) (stamp : ℕ) (s : State) (stands : ContentStands (value_of h journal stamp ws) s) (seer : Subscription) (here : subscription_at s sub ≡ Some seer) where

@@ -1,5 +1,5 @@
 -- How a content's fields make its value.
-use Rattle.std.specs.Prelude.{◌≡◌, List, Bool, [], Option, length, map, Contains}
+use Rattle.std.specs.Prelude.{◌≡◌, ℕ, List, Bool, true, false, [], Option, length, map, slice_index_or, Contains}
 use Rattle.std.specs.Option.{option_map_or}
 use Rattle.ds_entry.specs.declared.item.Item.{Item}
 use Rattle.ds_entry.specs.declared.item.Item.TheVariants.{Change as Changed, Floor as Floored}
@@ -42,8 +42,16 @@ pub record AreMarked (h : MarkedHolding Masks) (ws : List (Option Watching)) : T
   pub under : (i : Item) → Contains (held_items h.held) i → under_at h i ≡ padded (map (watches_item i) ws)
   pub long : (i : Item) → Contains (held_items h.held) i → length (unseen_at h i) ≡ 128
 
--- Each subscription has its place, held items are marked by these places, and the content stands for some state.
+-- The flags of 128 subscriptions, of which each one is set that a held item is still to be shown to.
+pub record ArePending (h : MarkedHolding Masks) (pending : List Bool) : Type 0 where
+  pub long : length pending ≡ 128
+  pub each : (i : Item) (k : ℕ) → Contains (held_items h.held) i → slice_index_or (unseen_at h i) k false ≡ true
+      → slice_index_or pending k false ≡ true
+
+-- Each subscription has its place, held items are marked by these places, those that something is to be shown to are
+-- pending, and the content stands for some state.
 pub record IsContentSound (s : Inside) : Type 0 where
   pub places : length s.subscriptions ≡ s.held.held.limits.subs
   pub marked : AreMarked s.held s.subscriptions
+  pub pending : ArePending s.held s.pending
   pub stood : (state : State) × ContentStands (content_of s) state

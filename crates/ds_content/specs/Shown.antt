@@ -1,5 +1,6 @@
 -- What to show to a subscription first.
-use Rattle.std.specs.Prelude.{◌≡◌, ℕ, ◌<◌, ◌≤◌, ◌⊎◌, Bool, true, false, List, [], ◌∷◌, ◌++◌, length, take, filter, slice_get, slice_index_or, Option, Some, None, IfSome}
+use Rattle.std.specs.Prelude.{◌≡◌, ℕ, ◌<◌, ◌≤◌, ◌⊎◌, Bool, true, false, List, [], ◌∷◌, ◌++◌}
+use Rattle.std.specs.Prelude.{length, take, filter, slice_get, slice_index_or, Option, Some, None, IfSome}
 use Rattle.ds_entry.specs.declared.item.Item.{Item}
 use Rattle.ds_held.specs.Held.{Holding, held_items}
 use Rattle.ds_marked.specs.Marked.{MarkedHolding}
@@ -19,6 +20,12 @@ flagged (false ∷ flags) (i ∷ items) = flagged flags items
 abbrev pub AreUnseen : ContentRecord → ℕ → List Item → ℕ → Type 0
 AreUnseen content sub items passed =
     (f : Followed) → slice_index_or content.subscriptions sub None ≡ Some f → items ≡ flagged f.unseen (take passed content.held)
+
+-- Unless there may be more, none of the held items after the first `passed` is still to be shown to the subscription.
+abbrev pub IsRest : ContentRecord → ℕ → ℕ → Bool → Type 0
+IsRest content sub passed more =
+    (f : Followed) → slice_index_or content.subscriptions sub None ≡ Some f → more ≡ false
+    → (k : ℕ) → passed ≤ k → slice_index_or f.unseen k false ≡ false
 
 -- The index found is that of the first element at or after `from` that passes the test. If there is none, no such
 -- element passes.
@@ -44,9 +51,10 @@ pub record AreFirst (h : MarkedHolding Masks) (sub max : ℕ) (items : List Item
   pub few : length items ≤ max
   pub enough : (length items ≡ max) ⊎ (items ≡ filter (is_to_show h sub) (held_items h.held))
 
--- The held item at the index is still to be shown to the subscription.
-abbrev pub IsToShowAt : MarkedHolding Masks → ℕ → ℕ → Type 0
-IsToShowAt h sub index = (i : Item) × (slice_get (held_items h.held) index ≡ Some i) × (is_to_show h sub i ≡ true)
+-- Unless there may be more, none of the items after the first `passed` ones is still to be shown to the subscription.
+abbrev pub IsRestOf : MarkedHolding Masks → ℕ → ℕ → Bool → Type 0
+IsRestOf h sub passed more =
+    more ≡ false → (k : ℕ) (i : Item) → slice_get (held_items h.held) k ≡ Some i → passed ≤ k → is_to_show h sub i ≡ false
 
 -- The flag says whether there is a held item at the index that is still to be shown to the subscription.
 pub record IsToShowHere (h : MarkedHolding Masks) (sub index : ℕ) (flag : Bool) : Type 0 where

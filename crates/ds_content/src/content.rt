@@ -20,7 +20,7 @@ use ds_feed::{Cursor, Journal, OpenFault};
 use ds_held::{Held, Limits};
 use ds_index::Indexed;
 use ds_names::{Generation, Key, Name};
-use ds_watch::{Masks, Subscriptions};
+use ds_watch::{Mask, Masks, Subscriptions};
 use std::alloc::Global;
 use std::marker::Model;
 
@@ -40,10 +40,13 @@ pub use showing::Shown;
 ///
 /// It stands for a state of the store's machine, which keeps every item that took effect. Its calls don't judge: their
 /// preconditions say that no cause applies.
+///
+/// A subscription that isn't in `pending` has been shown everything that it is owed, so its check ends at once.
 #[derive(Drop)]
 pub struct Content {
     alloc: Global,
     held: Indexed<Masks>,
+    pending: Mask,
     journal: Journal,
     stamp: u64,
     subscriptions: Subscriptions,
@@ -80,6 +83,7 @@ impl Content {
         Ok(Content {
             alloc,
             held: Indexed::bounded(alloc, limits),
+            pending: Mask::none(),
             journal,
             stamp: first,
             subscriptions: Subscriptions::new(subs as usize),
@@ -95,6 +99,7 @@ impl Content {
         let _cursor = self.journal.cursor();
         self.journal.restart(incarnation);
         self.held = Indexed::bounded(self.alloc, limits);
+        self.pending = Mask::none();
         self.stamp = self.journal.first();
         self.subscriptions = Subscriptions::new(limits.subs() as usize);
     }

@@ -34,22 +34,31 @@ impl Value {
         ensures kind { result ≡ kind_of self.now }
         ensures valid { IsValue self.now }
     {
+        self.is_value_proof();
+        match self {
+            Value::Label(_) => Kind::Label,
+            Value::U32(_) => Kind::U32,
+            Value::Str(_) => Kind::Str,
+            Value::Mem(_) => Kind::Mem,
+        }
+    }
+
+    // For the prover alone: what the value holds is in its range, as its type guarantees.
+    fn is_value_proof(&self)
+        ensures { IsValue self.now }
+    {
         match self {
             Value::Label(endpoint) => {
                 let _slot = endpoint.slot();
-                Kind::Label
             }
             Value::U32(number) => {
                 let _number = *number;
-                Kind::U32
             }
             Value::Str(text) => {
                 let _bytes = text.bytes();
-                Kind::Str
             }
             Value::Mem(blob) => {
                 let _bytes = blob.bytes();
-                Kind::Mem
             }
         }
     }

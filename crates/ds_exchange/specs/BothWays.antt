@@ -27,4 +27,5 @@ pub record ExchangesBothWays (p p' q r r' s : PassRecord) (x y : Exchanged) : Ty
 abbrev pub ExchangedAlike : Type 0
 ExchangedAlike =
     (p p' q r r' s : PassRecord) (x y : Exchanged) → ExchangesBothWays p p' q r r' s x y →
-    AfterEach q q.history (λ (t : State). AfterEach s s.history (λ (u : State). AreExact (t.feed.accepted ++ u.feed.accepted) → held t ≡ held u))
+    AfterEach q q.history
+    (λ (t : State). AfterEach s s.history (λ (u : State). AreExact (t.feed.accepted ++ u.feed.accepted) → held t ≡ held u))

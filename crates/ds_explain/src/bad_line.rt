@@ -79,8 +79,9 @@ fn explain_kind(rt: &impl Runtime, bad: &BadLine<'_>, kind: Option<TextKind>) ->
 const NOTE_WITHIN: &str =
     "the end of the line was expected; a comment was found: each has a line of its own, after `script 2` as the first line";
 
-const NOTE_AFTER_SPACE: &str =
-    "a command was expected; a space and a comment were found: `#` is the first byte of a comment's line, after `script 2` as the first line";
+const NOTE_AFTER_SPACE: &str = "\
+    a command was expected; a space and a comment were found: `#` is the first byte of a comment's line, \
+    after `script 2` as the first line";
 
 const ONLY_SPACES: &str =
     "a command was expected; only spaces were found: an empty line has none, after `script 2` as the first line";

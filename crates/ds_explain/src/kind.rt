@@ -11,7 +11,29 @@ pub enum TextKind {
     Trace,
     Settings,
     Commands,
+    Answers,
 }
+
+/// The words that answers begin with. Neither commands nor names of settings are among them.
+const ANSWERS: [&str; 17] = [
+    "taken",
+    "known",
+    "stale",
+    "refused",
+    "found",
+    "named",
+    "swept",
+    "subscribed",
+    "checked",
+    "merged",
+    "stopped",
+    "restarted",
+    "cleared",
+    "shown",
+    "assigned",
+    "actions",
+    "moves",
+];
 
 impl TextKind {
     /// Returns the kind of the text with this front, if that can be said: by its first line that is neither empty nor a
@@ -37,6 +59,9 @@ impl TextKind {
         if begins_settings(line) {
             return Some(TextKind::Settings);
         }
+        if ANSWERS.iter().any(|it| it.as_bytes() == word) {
+            return Some(TextKind::Answers);
+        }
         match read_decimal(line, 63) {
             Some((_, rest)) if has_command(rest) => Some(TextKind::Commands),
             _ => None,
@@ -52,6 +77,7 @@ impl fmt::Display for TextKind {
             TextKind::Settings => "these are settings: `dsctl settings` shows them",
             TextKind::Commands =>
                 "these are commands: `dsctl record` writes the trace of their run",
+            TextKind::Answers => "these are answers: a script has the lines that they answer",
         })
     }
 }

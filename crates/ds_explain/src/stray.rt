@@ -29,6 +29,9 @@ fn stray_first(rest: &[u8]) -> Option<&'static str> {
         Some(b'#') => Some(
             "a command was expected; a comment was found: `script 2` as the first line allows them",
         ),
+        Some(b'>') if rest.starts_with(b"> ") => {
+            Some("a command was expected; a prompt was found: leave out the `> `")
+        }
         _ => None,
     }
 }

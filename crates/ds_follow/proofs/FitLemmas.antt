@@ -226,4 +226,5 @@ module _ (s t : State) (sub : ℕ) (query : Query) (stamp max before after : ℕ
 
 pub checks_fit : ChecksFit
 checks_fit s t sub query stamp max before after items old new n (Changed c) fault r w f step took at refused = change_fits s t sub query stamp max before after items old new n (Changed c) r w f step took at c refl fault refused
-checks_fit s t sub query stamp max before after items old new n (Floored g) fault r w f step took at refused = floor_fits s t sub query stamp max before after items old new n (Floored g) r w f step took at g refl fault (floor_for new g.owner) refl refused
+checks_fit s t sub query stamp max before after items old new n (Floored g) fault r w f step took at refused =
+    floor_fits s t sub query stamp max before after items old new n (Floored g) r w f step took at g refl fault (floor_for new g.owner) refl refused

@@ -18,4 +18,5 @@ HoldsAll s items = CoversAll (held s) items
 -- A law: a store continues to hold merged items, whatever commands it gets.
 abbrev pub MergedStaysHeld : Type 0
 MergedStaysHeld =
-    (es : List (Entry Command Reply)) (s t : State) (items : List Item) → IsReached s → Run Answered s es t → HoldsAll s items → HoldsAll t items
+    (es : List (Entry Command Reply)) (s t : State) (items : List Item) → IsReached s → Run Answered s es t → HoldsAll s items →
+    HoldsAll t items

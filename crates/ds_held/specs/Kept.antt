@@ -1,5 +1,6 @@
 -- The holding that lists of floors and changes stand for.
-use Rattle.std.specs.Prelude.{◌≡◌, if◌then◌else◌, ℕ, ◌<◌, ◌≤◌, ◌&&◌, List, [], ◌∷◌, map, filter, not, length, All, Option, is_some, Result, Ok, Err, MatchResult, ⊤, slice_set}
+use Rattle.std.specs.Prelude.{◌≡◌, if◌then◌else◌, ℕ, ◌<◌, ◌≤◌, ◌&&◌, List, [], ◌∷◌, map, filter, not}
+use Rattle.std.specs.Prelude.{length, All, Option, is_some, Result, Ok, Err, MatchResult, ⊤, slice_set}
 use Rattle.std.specs.List.{insert, HoldsAt}
 use Rattle.std.specs.List.Sorted.{IsPartitionPoint}
 use Rattle.std.specs.declared.cmp.Ordering.{Ordering}

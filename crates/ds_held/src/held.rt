@@ -1,6 +1,7 @@
 //! Holders of changes and floors.
 
-ghost use Rattle.std.specs.Prelude.{◌≡◌, ◌≤◌, ◌++◌, ◌∷◌, [], All, IfOk, IfErr, IfSome, OnOk, drop, filter, option_and_then, slice_get, take};
+ghost use Rattle.std.specs.Prelude.{◌≡◌, ◌≤◌, ◌++◌, ◌∷◌};
+ghost use Rattle.std.specs.Prelude.{[], All, IfOk, IfErr, IfSome, OnOk, drop, filter, option_and_then, slice_get, take};
 ghost use Rattle.std.specs.Option.{option_copied, option_map};
 ghost use Rattle.std.specs.List.{find};
 ghost use Rattle.ds_entry.specs.Change.{IsChange, IsValue};

@@ -174,8 +174,8 @@ fn first_cause_of(
     cause_by_held(standing, &owner, asked, body)
 }
 
-// Shows that the parts of what the caller asks for are in their ranges, as their types guarantee.
-fn parts_are_in_range(asked: &Asked, caller: &Option<Name>)
+// For the prover alone: the parts of what the caller asks for are in their ranges, as their types guarantee.
+fn ranges_proof(asked: &Asked, caller: &Option<Name>)
     ensures name { IsName asked.now.key.name }
     ensures owner { IsName (unwrap_or caller.now rs_name) }
     ensures epoch { asked.now.version.epoch ≤ 2097151 }
@@ -200,6 +200,6 @@ pub fn cause_of_asked(
     ensures free { IfNone result (IsFree (machine_standing standing.now) (change_asked caller (request_of asked.now) body.now)) }
     ensures made { IfNone result (NamesRs caller asked.now.caller → IsChange (change_asked caller (request_of asked.now) body.now)) }
 {
-    parts_are_in_range(asked, &caller);
+    ranges_proof(asked, &caller);
     first_cause_of(standing, caller, asked, body)
 }

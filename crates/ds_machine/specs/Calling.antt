@@ -7,7 +7,8 @@ use Rattle.ds_pattern.specs.Patterns.{is_pattern}
 use Rattle.ds_machine.specs.declared.command.Scope.{Scope}
 use Rattle.ds_machine.specs.declared.command.Scope.TheVariants.{All, Under}
 use Rattle.ds_machine.specs.declared.refusal.Refusal.{Refusal}
-use Rattle.ds_machine.specs.declared.refusal.Refusal.TheVariants.{BadSub, TooMany, TooLong, BadPattern, Exists, NotFound, OldCursor, Ahead, Behind, Worn}
+use Rattle.ds_machine.specs.declared.refusal.Refusal.TheVariants.{BadSub, TooMany, TooLong, BadPattern, Exists}
+use Rattle.ds_machine.specs.declared.refusal.Refusal.TheVariants.{NotFound, OldCursor, Ahead, Behind, Worn}
 use Rattle.ds_names.specs.Limits.{most_items, longest_pattern, last_place}
 
 -- Whether `max` is outside 1 to 256.

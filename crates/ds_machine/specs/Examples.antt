@@ -14,12 +14,14 @@ use Rattle.ds_feed.specs.declared.cursor.Cursor.{Cursor}
 use Rattle.ds_held.specs.Limits.{larger}
 use Rattle.ds_machine.specs.State.{State, opening}
 use Rattle.ds_machine.specs.Machine.{outcome}
-use Rattle.ds_machine.specs.declared.refusal.Refusal.TheVariants.{TooMany, NotOwner, Clash, NotAllowed, NoCaller, Stale, Exists, NotFound, OldCursor, Ahead, Behind, Worn}
+use Rattle.ds_machine.specs.declared.refusal.Refusal.TheVariants.{TooMany, NotOwner, Clash, NotAllowed, NoCaller, Stale}
+use Rattle.ds_machine.specs.declared.refusal.Refusal.TheVariants.{Exists, NotFound, OldCursor, Ahead, Behind, Worn}
 use Rattle.ds_machine.specs.declared.command.Scope.TheVariants.{All}
 use Rattle.ds_machine.specs.declared.command.Command.{Command}
 use Rattle.ds_machine.specs.declared.command.Command.TheVariants.{Publish, Delete, Sweep, Retrieve, NameOf, Since, Snapshot, Page, Merge}
 use Rattle.ds_machine.specs.declared.reply.Reply.{Reply}
-use Rattle.ds_machine.specs.declared.reply.Reply.TheVariants.{Changed as Accepted, Known, Swept, Found, Named, Journaled, Snapped, Paged, Merged, MergeStopped, Refused}
+use Rattle.ds_machine.specs.declared.reply.Reply.TheVariants.{Changed as Accepted, Known, Swept, Found, Named}
+use Rattle.ds_machine.specs.declared.reply.Reply.TheVariants.{Journaled, Snapped, Paged, Merged, MergeStopped, Refused}
 use Rattle.ds_names.specs.Name.{rs_name}
 
 -- The replies to the commands, in order.

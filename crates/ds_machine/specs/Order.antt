@@ -5,7 +5,9 @@ use Rattle.ds_names.specs.declared.version.Version.{Version}
 use Rattle.ds_machine.specs.declared.refusal.Cause.{Cause}
 use Rattle.ds_machine.specs.declared.refusal.Cause.TheVariants.{Known, Refused}
 use Rattle.ds_machine.specs.declared.refusal.Refusal.{Refusal}
-use Rattle.ds_machine.specs.declared.refusal.Refusal.TheVariants.{BadSub, TooMany, TooLong, BadPattern, BadKind, BadLabel, BadVersion, NoCaller, NotAllowed, NotOwner, Clash, Stale, Exists, NotFound, OldCursor, Ahead, Behind, Full, Worn}
+use Rattle.ds_machine.specs.declared.refusal.Refusal.TheVariants.{BadSub, TooMany, TooLong, BadPattern, BadKind, BadLabel}
+use Rattle.ds_machine.specs.declared.refusal.Refusal.TheVariants.{BadVersion, NoCaller, NotAllowed, NotOwner, Clash, Stale}
+use Rattle.ds_machine.specs.declared.refusal.Refusal.TheVariants.{Exists, NotFound, OldCursor, Ahead, Behind, Full, Worn}
 
 -- The causes that need only the command and its caller. They come first.
 abbrev pub by_command : List Refusal

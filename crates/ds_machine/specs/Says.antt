@@ -29,9 +29,11 @@ use Rattle.ds_machine.specs.Effect.{brought_by}
 use Rattle.ds_machine.specs.declared.refusal.Refusal.{Refusal}
 use Rattle.ds_machine.specs.declared.command.Scope.{Scope}
 use Rattle.ds_machine.specs.declared.command.Command.{Command}
-use Rattle.ds_machine.specs.declared.command.Command.TheVariants.{Publish, Delete, Sweep, Retrieve, NameOf, Subscribe, Check, Since, Snapshot, Page, Merge}
+use Rattle.ds_machine.specs.declared.command.Command.TheVariants.{Publish, Delete, Sweep, Retrieve, NameOf}
+use Rattle.ds_machine.specs.declared.command.Command.TheVariants.{Subscribe, Check, Since, Snapshot, Page, Merge}
 use Rattle.ds_machine.specs.declared.reply.Reply.{Reply}
-use Rattle.ds_machine.specs.declared.reply.Reply.TheVariants.{Changed as Accepted, Known, Swept, Found, Named, Subscribed, Checked, Journaled, Snapped, Paged, Merged, MergeStopped, Refused}
+use Rattle.ds_machine.specs.declared.reply.Reply.TheVariants.{Changed as Accepted, Known, Swept, Found, Named, Subscribed}
+use Rattle.ds_machine.specs.declared.reply.Reply.TheVariants.{Checked, Journaled, Snapped, Paged, Merged, MergeStopped, Refused}
 
 -- A law: a refused command leaves the state unchanged.
 abbrev pub RefusedSays : Type 0

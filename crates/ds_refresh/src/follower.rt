@@ -29,7 +29,12 @@ impl Model for Follower {
 
     ghost Value = { FollowerRecord };
 
-    ghost coded = { code_by (ℕ × (Option ℕ × SubMapRecord)) (coded× coded_ℕ (coded× (coded_option coded_ℕ) map_row.coded)) (λ f. (f.sub, (f.stamp, f.map))) (λ p. follower_of p.0 p.1.0 p.1.1) (λ f i. f) };
+    ghost coded = { code_by
+        (ℕ × (Option ℕ × SubMapRecord))
+        (coded× coded_ℕ (coded× (coded_option coded_ℕ) map_row.coded))
+        (λ f. (f.sub, (f.stamp, f.map)))
+        (λ p. follower_of p.0 p.1.0 p.1.1)
+        (λ f i. f) };
 
     ghost view = { λ f. follower_of f.sub f.stamp f.map };
 

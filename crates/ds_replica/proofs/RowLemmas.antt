@@ -37,7 +37,8 @@ use Rattle.ds_replica.specs.Happens.{Asks, ask_outcome, items_given, HappenAll}
 use Rattle.ds_replica.specs.Delivery.{Tally, counting, StoreTakes, MapTakes}
 use Rattle.ds_replica.specs.Known.{known_by}
 use Rattle.ds_replica.specs.CaughtUp.{AreItems}
-use Rattle.ds_replica.specs.Rows.{fresh_world, driver_label, floor, irq, one, other, later, ended, renewed, OwnersChange, contradicted, with_both, with_other, AsksFor, ReplicasConverge, ReplicasDiffer, MapCatchesUp, MapLags, MapLeads, MapsCatchUp, MapsLag, MapsLead, ReplicasClash, MapClashes, MapsClash}
+use Rattle.ds_replica.specs.Rows.{fresh_world, driver_label, floor, irq, one, other, later, ended, renewed, OwnersChange, contradicted, with_both, with_other, AsksFor, ReplicasConverge}
+use Rattle.ds_replica.specs.Rows.{ReplicasDiffer, MapCatchesUp, MapLags, MapLeads, MapsCatchUp, MapsLag, MapsLead, ReplicasClash, MapClashes, MapsClash}
 use Rattle.ds_names.specs.Limits.{most_items}
 use Rattle.ds_names.specs.Key.{label_key}
 use Rattle.ds_entry.specs.Under.{under}

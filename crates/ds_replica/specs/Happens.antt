@@ -1,5 +1,6 @@
 -- What an event does to a world, and its outcome.
-use Rattle.std.specs.Prelude.{◌≡◌, ◌⊎◌, ℕ, Bool, true, false, not, ◌&&◌, nat_le, nat_lt, cond, List, [], ◌∷◌, ◌++◌, length, Option, Some, None, is_some, slice_set, take}
+use Rattle.std.specs.Prelude.{◌≡◌, ◌⊎◌, ℕ, Bool, true, false, not, ◌&&◌, nat_le, nat_lt, cond, List, [], ◌∷◌, ◌++◌}
+use Rattle.std.specs.Prelude.{length, Option, Some, None, is_some, slice_set, take}
 use Rattle.std.specs.List.{slice_get}
 use Rattle.std.specs.Option.{option_map_or, unwrap_or}
 use Rattle.ds_entry.specs.declared.item.Item.{Item}
@@ -21,7 +22,8 @@ use Rattle.ds_replica.specs.declared.event.Event.TheVariants.{Ask, NewMap, Deliv
 use Rattle.ds_replica.specs.declared.outcome.Outcome.{Outcome}
 use Rattle.ds_replica.specs.declared.outcome.Outcome.TheVariants.{Replied, Made, MapMade, Merged, Stopped, Cleared, Restarted, Refused}
 use Rattle.ds_replica.specs.declared.outcome.EventFault.{EventFault}
-use Rattle.ds_replica.specs.declared.outcome.EventFault.TheVariants.{MessagesFull, MapsFull, TooLong, BadPattern, NoMessage, NoMap, TooMany, OldIncarnation, NoRoom}
+use Rattle.ds_replica.specs.declared.outcome.EventFault.TheVariants.{MessagesFull, MapsFull, TooLong, BadPattern, NoMessage}
+use Rattle.ds_replica.specs.declared.outcome.EventFault.TheVariants.{NoMap, TooMany, OldIncarnation, NoRoom}
 use Rattle.ds_replica.specs.World.{MapState, World, store_at, with_state, with_items}
 use Rattle.ds_replica.specs.Delivery.{Tally, StoreTakes, MapTakes}
 

@@ -95,7 +95,9 @@ come_none from had old pending opened empty lines bad none =
     }
 
 -- a turn left more to read
-pub come_more : (from mid to had is has : Option (List ℕ)) (policy : BadLines) (old new : Reached) (pending rest : List ℕ) → Come from mid had is policy old pending → Turns true mid to is has old pending new rest → Come from to had has policy new rest × IsUnbroken rest
+pub come_more : (from mid to had is has : Option (List ℕ)) (policy : BadLines) (old new : Reached) (pending rest : List ℕ)
+    → Come from mid had is policy old pending → Turns true mid to is has old pending new rest
+    → Come from to had has policy new rest × IsUnbroken rest
 come_more from mid to had is has policy old new pending rest p t = (
   record {
     first = p.first;
@@ -107,7 +109,10 @@ come_more from mid to had is has policy old new pending rest p t = (
   t.3,
 )
 
-pub come_turn : (from mid to had is has : Option (List ℕ)) (policy : BadLines) (old new : Reached) (pending rest : List ℕ) (more : Bool) → more ≡ true → Come from mid had is policy old pending → Turns more mid to is has old pending new rest → Come from to had has policy new rest × IsUnbroken rest
+pub come_turn : (from mid to had is has : Option (List ℕ)) (policy : BadLines) (old new : Reached) (pending rest : List ℕ)
+    (more : Bool)
+    → more ≡ true → Come from mid had is policy old pending → Turns more mid to is has old pending new rest
+    → Come from to had has policy new rest × IsUnbroken rest
 come_turn from mid to had is has policy old new pending rest more same p t =
     come_more from mid to had is has policy old new pending rest p (subst (λ (m : Bool). Turns m mid to is has old pending new rest) same t)
 
@@ -120,7 +125,9 @@ read_all from mid to bytes first second = subst (Consumes from to) (append-nil b
 abbrev pub Answered : (from to had has : Option (List ℕ)) → BadLines → (count bad : ℕ) → Type 0
 Answered from to had has policy count bad = (input output : List ℕ) × Consumes from to input × IsAtEnd to × Appends had has output × IsReplayed policy input count bad output
 
-come_whole : (from mid to had is has : Option (List ℕ)) (policy : BadLines) (old new : Reached) (pending rest : List ℕ) → Come from mid had is policy old pending → IsUnbroken pending → Turns false mid to is has old pending new rest → Answered from to had has policy new.lines new.bad
+come_whole : (from mid to had is has : Option (List ℕ)) (policy : BadLines) (old new : Reached) (pending rest : List ℕ)
+    → Come from mid had is policy old pending → IsUnbroken pending → Turns false mid to is has old pending new rest
+    → Answered from to had has policy new.lines new.bad
 come_whole from mid to had is has policy old new pending rest p whole t =
     let lines : List (List ℕ) = p.text.lines ++ unended pending in
     let a : TakesLines had has (start p.first policy) lines new = takes_then had is has (start p.first policy) old new p.text.lines (unended pending) p.text.takes t.2 in
@@ -139,7 +146,9 @@ come_whole from mid to had is has policy old new pending rest p whole t =
       },
     )
 
-pub come_end : (from mid to had is has : Option (List ℕ)) (policy : BadLines) (old new : Reached) (pending rest : List ℕ) (more : Bool) → more ≡ false → Come from mid had is policy old pending → IsUnbroken pending → Turns more mid to is has old pending new rest → Answered from to had has policy new.lines new.bad
+pub come_end : (from mid to had is has : Option (List ℕ)) (policy : BadLines) (old new : Reached) (pending rest : List ℕ) (more : Bool)
+    → more ≡ false → Come from mid had is policy old pending → IsUnbroken pending → Turns more mid to is has old pending new rest
+    → Answered from to had has policy new.lines new.bad
 come_end from mid to had is has policy old new pending rest more same p whole t =
     come_whole from mid to had is has policy old new pending rest p whole (subst (λ (m : Bool). Turns m mid to is has old pending new rest) same t)
 
@@ -162,11 +171,17 @@ up_to had has first policy now input rest waiting opened t same =
       counted = omega (arith, t.takes.counted);
     }
 
-unwritten : (from to had has : Option (List ℕ)) (first : SessionContent) (policy : BadLines) (now : Reached) (input rest waiting : List ℕ) → IsOpened 256 first → Consumes from to input → (t : TakesText had has (start first policy) input now rest) → Stopped policy WriteFault from to had has waiting
+unwritten : (from to had has : Option (List ℕ)) (first : SessionContent) (policy : BadLines) (now : Reached)
+    (input rest waiting : List ℕ)
+    → IsOpened 256 first → Consumes from to input → (t : TakesText had has (start first policy) input now rest)
+    → Stopped policy WriteFault from to had has waiting
 unwritten from to had has first policy now input rest waiting opened read t =
     (input, t.takes.sent, read, t.takes.written, part_of policy to rest input t.takes.sent (t.takes.sent ++ now.waiting) now.waiting now.lines t.takes.bad (up_to had has first policy now input rest now.waiting opened t refl) refl)
 
-text_stopped : (fault : ReplayFault) (from to had has : Option (List ℕ)) (first : SessionContent) (policy : BadLines) (input waiting : List ℕ) → IsOpened 256 first → Consumes from to input → TextStops fault to had has (start first policy) input waiting → Stopped policy fault from to had has waiting
+text_stopped : (fault : ReplayFault) (from to had has : Option (List ℕ)) (first : SessionContent) (policy : BadLines)
+    (input waiting : List ℕ)
+    → IsOpened 256 first → Consumes from to input → TextStops fault to had has (start first policy) input waiting
+    → Stopped policy fault from to had has waiting
 text_stopped (BadLine number place expected) from to had has first policy input waiting opened read s =
     let t = s.2.takes in
     (input, t.sent, read, t.written, (sym t.policy ∙ s.3.0, (s.0.lines, t.bad, s.1, up_to had has first policy s.0 input s.1 waiting opened s.2 s.3.1, (s.3.2, s.3.3))))
@@ -179,7 +194,10 @@ text_stopped NoRoom from to had has first policy input waiting opened read s =
     (input, t.sent, read, t.written, (s.0.lines, t.bad, s.1, up_to had has first policy s.0 input s.1 waiting opened s.2 s.3, tt))
 
 -- the answer to the last line wasn't written whole
-last_stopped : (from mid to had is has : Option (List ℕ)) (policy : BadLines) (old : Reached) (pending waiting : List ℕ) → Come from mid had is policy old pending → IsUnbroken pending → Consumes mid to [] → IsAtEnd to → TakesNoneOrAll is has old (unended pending) → Stopped policy WriteFault from to had has waiting
+last_stopped : (from mid to had is has : Option (List ℕ)) (policy : BadLines) (old : Reached) (pending waiting : List ℕ)
+    → Come from mid had is policy old pending → IsUnbroken pending → Consumes mid to [] → IsAtEnd to
+    → TakesNoneOrAll is has old (unended pending)
+    → Stopped policy WriteFault from to had has waiting
 last_stopped from mid to had is has policy old pending waiting p whole read end s =
     let input : Consumes from to p.bytes = read_all from mid to p.bytes p.read read in
     elim s.2 [
@@ -213,12 +231,22 @@ last_stopped from mid to had is has policy old pending waiting p whole read end 
     ]
 
 -- a turn stopped
-pub come_stop : (fault : ReplayFault) (from mid to had is has : Option (List ℕ)) (policy : BadLines) (old : Reached) (pending waiting : List ℕ) → Come from mid had is policy old pending → IsUnbroken pending → TurnStops fault mid to is has old pending waiting → Stopped policy fault from to had has waiting
+pub come_stop : (fault : ReplayFault) (from mid to had is has : Option (List ℕ)) (policy : BadLines) (old : Reached)
+    (pending waiting : List ℕ)
+    → Come from mid had is policy old pending → IsUnbroken pending → TurnStops fault mid to is has old pending waiting
+    → Stopped policy fault from to had has waiting
 come_stop fault from mid to had is has policy old pending waiting p whole s =
     elim s [
-      | inl t ↦ text_stopped fault from to had has p.first policy (p.bytes ++ t.0) waiting p.opened (Consumes-trans from mid to p.bytes t.0 p.read t.1) (stops_then fault to had is has (start p.first policy) old p.bytes pending t.0 (pending ++ t.0) (p.bytes ++ t.0) waiting p.text refl refl t.2)
+      | inl t ↦
+          text_stopped fault from to had has p.first policy (p.bytes ++ t.0) waiting p.opened
+          (Consumes-trans from mid to p.bytes t.0 p.read t.1)
+          (stops_then fault to had is has (start p.first policy) old p.bytes pending t.0 (pending ++ t.0) (p.bytes ++ t.0) waiting
+          p.text refl refl t.2)
       | inr t ↦ elim t.2 [
-        | inl u ↦ text_stopped fault from to had has p.first policy p.bytes waiting p.opened (read_all from mid to p.bytes p.read t.0) (stops_then fault to had is has (start p.first policy) old p.bytes pending [] pending p.bytes waiting p.text (append-nil pending) (append-nil p.bytes) u)
+        | inl u ↦
+            text_stopped fault from to had has p.first policy p.bytes waiting p.opened (read_all from mid to p.bytes p.read t.0)
+            (stops_then fault to had is has (start p.first policy) old p.bytes pending [] pending p.bytes waiting p.text
+            (append-nil pending) (append-nil p.bytes) u)
         | inr u ↦ subst (λ (f : ReplayFault). Stopped policy f from to had has waiting) (sym u.0) (last_stopped from mid to had is has policy old pending waiting p whole t.0 t.1 u.1)
       ]
     ]
@@ -234,7 +262,10 @@ abbrev pub Told : BadLines → ReplayFault → (from to had has : Option (List �
 Told policy fault from to had has = (input output : List ℕ) × Consumes from to input × Appends had has output × StopsWith policy fault to input output
 
 -- the answers that waited were written, or the writer failed
-settles : (policy : BadLines) (fault given : ReplayFault) (from to had is has : Option (List ℕ)) (input output waiting rest : List ℕ) (count bad : ℕ) → Consumes from to input → Appends had is output → IsAnsweredUpTo policy rest input count bad (output ++ waiting) → StopsWith policy fault to input (output ++ waiting)
+settles : (policy : BadLines) (fault given : ReplayFault) (from to had is has : Option (List ℕ)) (input output waiting rest : List ℕ)
+    (count bad : ℕ)
+    → Consumes from to input → Appends had is output → IsAnsweredUpTo policy rest input count bad (output ++ waiting)
+    → StopsWith policy fault to input (output ++ waiting)
     → ((given ≡ fault) × Appends is has waiting) ⊎ ((given ≡ WriteFault) × ((sent left : List ℕ) × (waiting ≡ sent ++ left) × Appends is has sent)) → Told policy given from to had has
 settles policy fault given from to had is has input output waiting rest count bad read written up s h =
     elim h [
@@ -250,7 +281,8 @@ settles policy fault given from to had is has input output waiting rest count ba
           ))
     ]
 
-pub settled_stops : (policy : BadLines) (fault given : ReplayFault) (from to had is has : Option (List ℕ)) (waiting : List ℕ) → Stopped policy fault from to had is waiting → Settles given fault is has waiting → Told policy given from to had has
+pub settled_stops : (policy : BadLines) (fault given : ReplayFault) (from to had is has : Option (List ℕ)) (waiting : List ℕ)
+    → Stopped policy fault from to had is waiting → Settles given fault is has waiting → Told policy given from to had has
 settled_stops policy (BadLine number place expected) given from to had is has waiting s h =
     let at = s.4.1 in
     settles policy (BadLine number place expected) given from to had is has s.0 s.1 waiting at.2 at.0 at.1 s.2 s.3 at.3 s.4 h

@@ -92,7 +92,8 @@ event_answers command old out new (inr r) = inl r
 -- ---- other commands
 
 -- the map of the number, or that there is none, is the answer to `entries`
-pub entries_answers : (command : ScriptCommand) (number : ℕ) (session : SessionContent) (m : Option SubMapRecord) → command ≡ Entries number → m ≡ slice_get session.world.maps number → AnswersOrRefuses command session (entries_text m) session
+pub entries_answers : (command : ScriptCommand) (number : ℕ) (session : SessionContent) (m : Option SubMapRecord)
+    → command ≡ Entries number → m ≡ slice_get session.world.maps number → AnswersOrRefuses command session (entries_text m) session
 entries_answers command number session m is at = subst (λ (k : ScriptCommand). AnswersOrRefuses k session (entries_text m) session) (sym is) (inr (refl, ap entries_text at))
 
 pub entries_refused : (command : ScriptCommand) (number : ℕ) (session : SessionContent) (m : Option SubMapRecord) → command ≡ Entries number → m ≡ slice_get session.world.maps number → m ≢ None

@@ -124,7 +124,8 @@ made_service event tick old out new was a before =
           before,
     )
 
-made_command : (command : ScriptCommand) (old : SessionContent) (out : List ℕ) (new : SessionContent) (was : Past) → IsCommand command → AnswersCommand command old out new → Came old was → Makes (λ now. MakesEvents command old out new was now) new
+made_command : (command : ScriptCommand) (old : SessionContent) (out : List ℕ) (new : SessionContent) (was : Past)
+    → IsCommand command → AnswersCommand command old out new → Came old was → Makes (λ now. MakesEvents command old out new was now) new
 made_command Show old out new was is a before = (was, (a, refl), came_same old new was a.0 before)
 made_command All old out new was is a before = (was, (a, refl), came_same old new was a.0 before)
 made_command (Entries map) old out new was is a before = (was, (a, refl), came_same old new was a.0 before)
@@ -143,14 +144,18 @@ made_command command old out new was is a before = made_event command old out ne
 
 -- ---- lines
 
-made_line : (policy : BadLines) (before : ℕ) (old : SessionContent) (line out : List ℕ) (bad : ℕ) (new : SessionContent) (was : Past) → AnswersLine before old line out new → bad ≡ 0 → Came old was → Makes (λ now. LineMakesEvents policy before old line out bad new was now) new
+made_line : (policy : BadLines) (before : ℕ) (old : SessionContent) (line out : List ℕ) (bad : ℕ) (new : SessionContent) (was : Past)
+    → AnswersLine before old line out new → bad ≡ 0 → Came old was
+    → Makes (λ now. LineMakesEvents policy before old line out bad new was now) new
 made_line policy before old line out bad new was a none came =
     elim a.2 [
       | inl refused ↦ (was, inl (a.0, a.1, none, inl (refused.0, refused.1, refl)), came_same old new was refused.1.0 came)
       | inr answered ↦ let m = made_command a.0 old out new was (may_command before a.0 a.1.written) answered came in (m.0, inl (a.0, a.1, none, inr m.1), m.2)
     ]
 
-made_told : (policy : BadLines) (before : ℕ) (old : SessionContent) (line out : List ℕ) (bad : ℕ) (new : SessionContent) (was : Past) → AnswersOrTells policy before old line out bad new → Came old was → Makes (λ now. LineMakesEvents policy before old line out bad new was now) new
+made_told : (policy : BadLines) (before : ℕ) (old : SessionContent) (line out : List ℕ) (bad : ℕ) (new : SessionContent) (was : Past)
+    → AnswersOrTells policy before old line out bad new → Came old was
+    → Makes (λ now. LineMakesEvents policy before old line out bad new was now) new
 made_told policy before old line out bad new was a came =
     elim a [
       | inl answered ↦ made_line policy before old line out bad new was answered.0 answered.1 came

@@ -44,7 +44,9 @@ sums a b c x y first then = omega arith
 
 -- ---- answers to lines
 
-lines_both : (policy q : BadLines) (n k x y : ℕ) (a b c : SessionContent) (ls ms : List (List ℕ)) (o p : List ℕ) → q ≡ policy → k ≡ n + length ls → AnswersLines policy n a ls o x b → AnswersLines q k b ms p y c → AnswersLines policy n a (ls ++ ms) (o ++ p) (x + y) c
+lines_both : (policy q : BadLines) (n k x y : ℕ) (a b c : SessionContent) (ls ms : List (List ℕ)) (o p : List ℕ)
+    → q ≡ policy → k ≡ n + length ls → AnswersLines policy n a ls o x b → AnswersLines q k b ms p y c
+    → AnswersLines policy n a (ls ++ ms) (o ++ p) (x + y) c
 lines_both policy q n k x y a b c [] ms o p same e u v =
     let behind : k ≡ n = none_more k n e in
     let sum : y ≡ x + y = none_first x y u.1 in
@@ -63,7 +65,10 @@ abbrev pub waits : Reached → List ℕ → Reached
 waits old waiting = record old { waiting = waiting }
 
 -- some of the answers that wait are written, and nothing else changes
-pub takes_kept : (had has : Option (List ℕ)) (old new : Reached) (sent : List ℕ) → old.waiting ≡ sent ++ new.waiting → Appends had has sent → new.session ≡ old.session → new.lines ≡ old.lines → new.bad ≡ old.bad → new.policy ≡ old.policy → TakesLines had has old [] new
+pub takes_kept : (had has : Option (List ℕ)) (old new : Reached) (sent : List ℕ)
+    → old.waiting ≡ sent ++ new.waiting → Appends had has sent → new.session ≡ old.session → new.lines ≡ old.lines → new.bad ≡ old.bad
+    → new.policy ≡ old.policy
+    → TakesLines had has old [] new
 takes_kept had has old new sent split written session lines bad policy =
     record { output = []; sent = sent; bad = 0; answers = (refl, refl, session); split = append-nil old.waiting ∙ split; written = written; counted = same_sum new.lines old.lines lines; told = same_sum new.bad old.bad bad; policy = policy }
 
@@ -80,7 +85,10 @@ pub takes_none : (had : Option (List ℕ)) (old : Reached) → TakesLines had ha
 takes_none had old = takes_sent had had old [] old.waiting refl (Appends-nil had)
 
 -- a command's line is answered
-pub takes_line : (had : Option (List ℕ)) (old new : Reached) (out text : List ℕ) → new.waiting ≡ old.waiting ++ out → AnswersLine old.lines old.session text out new.session → new.lines ≡ old.lines + 1 → new.bad ≡ old.bad → new.policy ≡ old.policy → TakesLines had had old (text ∷ []) new
+pub takes_line : (had : Option (List ℕ)) (old new : Reached) (out text : List ℕ)
+    → new.waiting ≡ old.waiting ++ out → AnswersLine old.lines old.session text out new.session → new.lines ≡ old.lines + 1
+    → new.bad ≡ old.bad → new.policy ≡ old.policy
+    → TakesLines had had old (text ∷ []) new
 takes_line had old new out text grown line counted told policy =
     record {
       output = out;
@@ -95,7 +103,10 @@ takes_line had old new out text grown line counted told policy =
     }
 
 -- a bad one is passed over
-pub takes_bad : (had has : Option (List ℕ)) (old new : Reached) (number place : ℕ) (sent text : List ℕ) → old.policy ≡ GoOn → IsBadBehind old.lines text place → number ≡ suc old.lines → old.waiting ++ badline number place ≡ sent ++ new.waiting → Appends had has sent
+pub takes_bad : (had has : Option (List ℕ)) (old new : Reached) (number place : ℕ) (sent text : List ℕ)
+    → old.policy ≡ GoOn → IsBadBehind old.lines text place → number ≡ suc old.lines
+    → old.waiting ++ badline number place ≡ sent ++ new.waiting
+    → Appends had has sent
     → new.session ≡ old.session → new.lines ≡ old.lines + 1 → new.bad ≡ old.bad + 1 → new.policy ≡ old.policy → TakesLines had has old (text ∷ []) new
 takes_bad had has old new number place sent text goes bad numbered split written same counted told policy =
     let out : List ℕ = badline number place in
@@ -137,7 +148,9 @@ same_count had has old new p = none_more new.lines old.lines p.counted
 -- ---- a line that isn't answered
 
 -- a bad line ends the replay
-pub end_stops : (fault : ReplayFault) (had has : Option (List ℕ)) (old : Reached) (text output : List ℕ) (number place : ℕ) → EndsAtBad fault number place had has old.waiting output → number ≡ suc old.lines → old.policy ≡ End → IsBadBehind old.lines text place → LineStops fault had has old text output
+pub end_stops : (fault : ReplayFault) (had has : Option (List ℕ)) (old : Reached) (text output : List ℕ) (number place : ℕ)
+    → EndsAtBad fault number place had has old.waiting output → number ≡ suc old.lines → old.policy ≡ End → IsBadBehind old.lines text place
+    → LineStops fault had has old text output
 end_stops (BadLine n p expected) had has old text output number place e numbered ends bad =
     (waits old output, takes_written had has old output e.2 e.3, ends, refl, subst (IsBadBehind old.lines text) (sym e.1) bad, e.0 ∙ numbered)
 end_stops ReadFault had has old text output number place e numbered ends bad = absurd e
@@ -145,7 +158,9 @@ end_stops WriteFault had has old text output number place e numbered ends bad = 
 end_stops NoRoom had has old text output number place e numbered ends bad = absurd e
 
 -- it isn't passed over
-pub pass_stops : (fault : ReplayFault) (had has : Option (List ℕ)) (old : Reached) (text output : List ℕ) (number place : ℕ) → TellsBad fault number place had has old.waiting output → number ≡ suc old.lines → old.policy ≡ GoOn → IsBadBehind old.lines text place → LineStops fault had has old text output
+pub pass_stops : (fault : ReplayFault) (had has : Option (List ℕ)) (old : Reached) (text output : List ℕ) (number place : ℕ)
+    → TellsBad fault number place had has old.waiting output → number ≡ suc old.lines → old.policy ≡ GoOn → IsBadBehind old.lines text place
+    → LineStops fault had has old text output
 pass_stops (BadLine n p expected) had has old text output number place e numbered goes bad = absurd e
 pass_stops ReadFault had has old text output number place e numbered goes bad = absurd e
 pass_stops WriteFault had has old text output number place e numbered goes bad =

@@ -29,7 +29,9 @@ pub text_none : (had has : Option (List ℕ)) (old new : Reached) (text : List �
 text_none had has old new text p = record { lines = []; split = refl; unbroken = All-nil IsUnbroken; takes = p }
 
 -- one more line is answered
-pub text_more : (a b c : Option (List ℕ)) (old mid new : Reached) (text rest line more l : List ℕ) → TakesText a b old text mid rest → rest ≡ line ++ more → line ≡ with_newline l → IsUnbroken l → TakesLines b c mid (l ∷ []) new → TakesText a c old text new more
+pub text_more : (a b c : Option (List ℕ)) (old mid new : Reached) (text rest line more l : List ℕ)
+    → TakesText a b old text mid rest → rest ≡ line ++ more → line ≡ with_newline l → IsUnbroken l → TakesLines b c mid (l ∷ []) new
+    → TakesText a c old text new more
 text_more a b c old mid new text rest line more l p split is unbroken one =
     let lines : List (List ℕ) = p.lines in
     record {
@@ -44,11 +46,15 @@ pub text_sent : (a b c : Option (List ℕ)) (old mid new : Reached) (text rest :
 text_sent a b c old mid new text rest p sent = record { lines = p.lines; split = p.split; unbroken = p.unbroken; takes = takes_behind a b c old mid new p.lines p.takes sent }
 
 -- the lines of a text, and then those of its rest with what was read after it
-pub texts_then : (a b c : Option (List ℕ)) (old mid new : Reached) (text rest bytes more whole last : List ℕ) → TakesText a b old text mid rest → rest ++ bytes ≡ more → text ++ bytes ≡ whole → TakesText b c mid more new last → TakesText a c old whole new last
+pub texts_then : (a b c : Option (List ℕ)) (old mid new : Reached) (text rest bytes more whole last : List ℕ)
+    → TakesText a b old text mid rest → rest ++ bytes ≡ more → text ++ bytes ≡ whole → TakesText b c mid more new last
+    → TakesText a c old whole new last
 texts_then a b c old mid new text rest bytes more whole last p left all q =
     record {
       lines = p.lines ++ q.lines;
-      split = sym all ∙ ap (λ t. t ++ bytes) p.split ∙ append_assoc (joined p.lines) rest bytes ∙ ap (λ t. joined p.lines ++ t) (left ∙ q.split) ∙ sym (append_assoc (joined p.lines) (joined q.lines) last) ∙ ap (λ t. t ++ last) (sym (joined-append p.lines q.lines));
+      split =
+          sym all ∙ ap (λ t. t ++ bytes) p.split ∙ append_assoc (joined p.lines) rest bytes ∙ ap (λ t. joined p.lines ++ t) (left ∙ q.split)
+          ∙ sym (append_assoc (joined p.lines) (joined q.lines) last) ∙ ap (λ t. t ++ last) (sym (joined-append p.lines q.lines));
       unbroken = All-append IsUnbroken p.lines q.lines p.unbroken q.unbroken;
       takes = takes_then a b c old mid new p.lines q.lines p.takes q.takes;
     }
@@ -68,7 +74,9 @@ text_behind a b c old mid new text rest p q = record { lines = q.lines; split = 
 -- ---- a text whose lines aren't all answered
 
 -- its next line isn't answered
-pub line_stops : (fault : ReplayFault) (to a b c : Option (List ℕ)) (old mid : Reached) (text rest line more l output : List ℕ) → TakesText a b old text mid rest → rest ≡ line ++ more → line ≡ with_newline l → IsUnbroken l → LineStops fault b c mid l output → TextStops fault to a c old text output
+pub line_stops : (fault : ReplayFault) (to a b c : Option (List ℕ)) (old mid : Reached) (text rest line more l output : List ℕ)
+    → TakesText a b old text mid rest → rest ≡ line ++ more → line ≡ with_newline l → IsUnbroken l → LineStops fault b c mid l output
+    → TextStops fault to a c old text output
 line_stops (BadLine number place expected) to a b c old mid text rest line more l output p split is unbroken s =
     let same : s.0.lines ≡ mid.lines = same_count b c mid s.0 s.1 in (
       s.0,
@@ -97,14 +105,19 @@ line_stops WriteFault to a b c old mid text rest line more l output p split is u
 line_stops NoRoom to a b c old mid text rest line more l output p split is unbroken s = (s.0, rest, text_sent a b c old mid s.0 text rest p s.1, s.2)
 
 -- nor is its rest, with what was read after it
-pub stops_then : (fault : ReplayFault) (to a b c : Option (List ℕ)) (old mid : Reached) (text rest bytes more whole output : List ℕ) → TakesText a b old text mid rest → rest ++ bytes ≡ more → text ++ bytes ≡ whole → TextStops fault to b c mid more output → TextStops fault to a c old whole output
+pub stops_then : (fault : ReplayFault) (to a b c : Option (List ℕ)) (old mid : Reached) (text rest bytes more whole output : List ℕ)
+    → TakesText a b old text mid rest → rest ++ bytes ≡ more → text ++ bytes ≡ whole → TextStops fault to b c mid more output
+    → TextStops fault to a c old whole output
 stops_then fault to a b c old mid text rest bytes more whole output p left all s = (s.0, s.1, texts_then a b c old mid s.0 text rest bytes more whole s.1 p left all s.2, s.3)
 
 pub stops_behind : (fault : ReplayFault) (to a b c : Option (List ℕ)) (old mid : Reached) (text output : List ℕ) → TakesLines a b old [] mid → TextStops fault to b c mid text output → TextStops fault to a c old text output
 stops_behind fault to a b c old mid text output p s = (s.0, s.1, text_behind a b c old mid s.0 text s.1 p s.2, s.3)
 
 -- a front of a line is too long
-pub overlong : (fault : ReplayFault) (to had has : Option (List ℕ)) (old : Reached) (front output : List ℕ) (number place : ℕ) → EndsAtBad fault number place had has old.waiting output → number ≡ suc old.lines → place ≡ 4096 → old.policy ≡ End → IsUnbroken front → 4096 < length front → TextStops fault to had has old front output
+pub overlong : (fault : ReplayFault) (to had has : Option (List ℕ)) (old : Reached) (front output : List ℕ) (number place : ℕ)
+    → EndsAtBad fault number place had has old.waiting output → number ≡ suc old.lines → place ≡ 4096 → old.policy ≡ End → IsUnbroken front
+    → 4096 < length front
+    → TextStops fault to had has old front output
 overlong (BadLine n p expected) to had has old front output number place e numbered placed ends unbroken long = (
   waits old output,
   front,
@@ -118,7 +131,9 @@ overlong NoRoom to had has old front output number place e numbered placed ends 
 -- ---- the last line
 
 -- it isn't answered
-pub last_stops : (fault : ReplayFault) (to had has : Option (List ℕ)) (old : Reached) (pending output : List ℕ) → LineStops fault had has old pending output → unended pending ≡ pending ∷ [] → IsUnbroken pending → IsAtEnd to → LastStops fault to had has old pending output
+pub last_stops : (fault : ReplayFault) (to had has : Option (List ℕ)) (old : Reached) (pending output : List ℕ)
+    → LineStops fault had has old pending output → unended pending ≡ pending ∷ [] → IsUnbroken pending → IsAtEnd to
+    → LastStops fault to had has old pending output
 last_stops (BadLine number place expected) to had has old pending output s one unbroken end =
     let same : s.0.lines ≡ old.lines = same_count had has old s.0 s.1 in
     inl (
@@ -137,7 +152,9 @@ last_stops WriteFault to had has old pending output s one unbroken end = inr (re
 last_stops NoRoom to had has old pending output s one unbroken end = inl (s.0, pending, text_none had has old s.0 pending s.1, s.2)
 
 -- the writer failed before or after it
-pub last_unsent : (to a b c : Option (List ℕ)) (old mid : Reached) (pending sent left output : List ℕ) (ls : List (List ℕ)) → TakesLines a b old ls mid → (ls ≡ []) ⊎ (ls ≡ unended pending) → mid.waiting ≡ sent ++ left → Appends b c sent → LastStops WriteFault to a c old pending output
+pub last_unsent : (to a b c : Option (List ℕ)) (old mid : Reached) (pending sent left output : List ℕ) (ls : List (List ℕ))
+    → TakesLines a b old ls mid → (ls ≡ []) ⊎ (ls ≡ unended pending) → mid.waiting ≡ sent ++ left → Appends b c sent
+    → LastStops WriteFault to a c old pending output
 last_unsent to a b c old mid pending sent left output ls p which split written = inr (refl, (ls, waits mid left, which, takes_behind a b c old mid (waits mid left) ls p (takes_sent b c mid sent left split written)))
 
 pub last_behind : (fault : ReplayFault) (to a b c : Option (List ℕ)) (old mid : Reached) (pending output : List ℕ) → TakesLines a b old [] mid → LastStops fault to b c mid pending output → LastStops fault to a c old pending output
@@ -150,7 +167,9 @@ last_behind fault to a b c old mid pending output p s =
 -- ---- turns
 
 -- more is read, and lines of it were answered
-pub turns_more : (from to had has : Option (List ℕ)) (old new : Reached) (pending bytes whole rest : List ℕ) → Consumes from to bytes → whole ≡ pending ++ bytes → TakesText had has old whole new rest → IsUnbroken rest → Turns true from to had has old pending new rest
+pub turns_more : (from to had has : Option (List ℕ)) (old new : Reached) (pending bytes whole rest : List ℕ)
+    → Consumes from to bytes → whole ≡ pending ++ bytes → TakesText had has old whole new rest → IsUnbroken rest
+    → Turns true from to had has old pending new rest
 turns_more from to had has old new pending bytes whole rest read all text unbroken = (bytes, read, subst (λ (t : List ℕ). TakesText had has old t new rest) all text, unbroken)
 
 -- nothing is
@@ -160,15 +179,21 @@ turns_idle from to had old pending rest read same unbroken =
     turns_more from to had had old old pending [] rest rest read whole (text_none had had old old rest (takes_none had old)) (subst IsUnbroken (sym same) unbroken)
 
 -- there is no more
-pub turns_last : (from to had has : Option (List ℕ)) (old new : Reached) (pending whole rest : List ℕ) → Consumes from to [] → IsAtEnd to → whole ≡ pending → TakesLines had has old (unended whole) new → new.waiting ≡ [] → Turns false from to had has old pending new rest
+pub turns_last : (from to had has : Option (List ℕ)) (old new : Reached) (pending whole rest : List ℕ)
+    → Consumes from to [] → IsAtEnd to → whole ≡ pending → TakesLines had has old (unended whole) new → new.waiting ≡ []
+    → Turns false from to had has old pending new rest
 turns_last from to had has old new pending whole rest read end same takes none = (read, end, subst (λ (t : List ℕ). TakesLines had has old (unended t) new) same takes, none)
 
 -- a turn stops in what was read
-pub turn_stops : (fault : ReplayFault) (from to had has : Option (List ℕ)) (old : Reached) (pending bytes whole output : List ℕ) → Consumes from to bytes → whole ≡ pending ++ bytes → TextStops fault to had has old whole output → TurnStops fault from to had has old pending output
+pub turn_stops : (fault : ReplayFault) (from to had has : Option (List ℕ)) (old : Reached) (pending bytes whole output : List ℕ)
+    → Consumes from to bytes → whole ≡ pending ++ bytes → TextStops fault to had has old whole output
+    → TurnStops fault from to had has old pending output
 turn_stops fault from to had has old pending bytes whole output read all s = inl (bytes, read, subst (λ (t : List ℕ). TextStops fault to had has old t output) all s)
 
 -- it stops at the last line
-pub turn_stops_last : (fault : ReplayFault) (from to had has : Option (List ℕ)) (old : Reached) (pending whole output : List ℕ) → Consumes from to [] → IsAtEnd to → whole ≡ pending → LastStops fault to had has old whole output → TurnStops fault from to had has old pending output
+pub turn_stops_last : (fault : ReplayFault) (from to had has : Option (List ℕ)) (old : Reached) (pending whole output : List ℕ)
+    → Consumes from to [] → IsAtEnd to → whole ≡ pending → LastStops fault to had has old whole output
+    → TurnStops fault from to had has old pending output
 turn_stops_last fault from to had has old pending whole output read end same s = inr (read, end, subst (λ (t : List ℕ). LastStops fault to had has old t output) same s)
 
 -- the reader failed
@@ -190,7 +215,8 @@ pub turns_behind : (more : Bool) (from to a b c : Option (List ℕ)) (old mid ne
 turns_behind true from to a b c old mid new pending rest p t = (t.0, t.1, text_behind a b c old mid new (pending ++ t.0) rest p t.2, t.3)
 turns_behind false from to a b c old mid new pending rest p t = (t.0, t.1, takes_then a b c old mid new [] (unended pending) p t.2, t.3)
 
-pub turn_stops_behind : (fault : ReplayFault) (from to a b c : Option (List ℕ)) (old mid : Reached) (pending output : List ℕ) → TakesLines a b old [] mid → TurnStops fault from to b c mid pending output → TurnStops fault from to a c old pending output
+pub turn_stops_behind : (fault : ReplayFault) (from to a b c : Option (List ℕ)) (old mid : Reached) (pending output : List ℕ)
+    → TakesLines a b old [] mid → TurnStops fault from to b c mid pending output → TurnStops fault from to a c old pending output
 turn_stops_behind fault from to a b c old mid pending output p s =
     elim s [
       | inl t ↦ inl (t.0, t.1, stops_behind fault to a b c old mid (pending ++ t.0) output p t.2)

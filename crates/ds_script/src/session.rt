@@ -46,7 +46,12 @@ impl Model for Session {
 
     ghost Value = { SessionContent };
 
-    ghost coded = { code_by (WorldRecord × (Side × ServersRecord)) (coded× world_row.coded (coded× side_row.coded servers_row.coded)) (λ s. (s.world, (s.side, s.servers))) (λ p. record { world = p.0; side = p.1.0; servers = p.1.1 }) (λ s i. s) };
+    ghost coded = { code_by
+        (WorldRecord × (Side × ServersRecord))
+        (coded× world_row.coded (coded× side_row.coded servers_row.coded))
+        (λ s. (s.world, (s.side, s.servers)))
+        (λ p. record { world = p.0; side = p.1.0; servers = p.1.1 })
+        (λ s i. s) };
 
     ghost view = { λ s. record { world = s.world; side = s.side; servers = s.servers } };
 }

@@ -17,7 +17,7 @@ content_send =
       search (send, sendable) depth 40,
       (
         search (marked.the_send, masks.the_send, sendable, crosses) depth 40,
-        (search (journal.the_send, sendable) depth 40, (search sendable depth 40, (search (subscriptions_send, sendable) depth 40, tt))),
+        (search sendable depth 40, (search (journal.the_send, sendable) depth 40, (search sendable depth 40, (search (subscriptions_send, sendable) depth 40, tt)))),
       ),
     ) in
     search (inside, sendable) depth 40
@@ -28,7 +28,7 @@ content_sync =
       search (sync, sendable) depth 40,
       (
         search (marked.the_sync, masks.the_sync, sendable, crosses) depth 40,
-        (search (journal.the_sync, sendable) depth 40, (search sendable depth 40, (search (subscriptions_sync, sendable) depth 40, tt))),
+        (search sendable depth 40, (search (journal.the_sync, sendable) depth 40, (search sendable depth 40, (search (subscriptions_sync, sendable) depth 40, tt)))),
       ),
     ) in
     search (inside, sendable) depth 40

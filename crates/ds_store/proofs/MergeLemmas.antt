@@ -1,5 +1,6 @@
 -- How a merge continues.
-use Rattle.std.proofs.Common.{◌≡◌, ℕ, zero, suc, ◌+◌, ◌-◌, ◌<◌, ◌≤◌, Bool, false, List, [], ◌∷◌, ◌++◌, map, length, take, drop, get_or, fold, replicate, Option, Some, None, Ok, Err, refl, ap, ap₂, sym, ◌∙◌, subst, inl, inr, arith, length-append, ◌⊎◌, ◌||◌}
+use Rattle.std.proofs.Common.{◌≡◌, ℕ, zero, suc, ◌+◌, ◌-◌, ◌<◌, ◌≤◌, Bool, false, List, [], ◌∷◌, ◌++◌, map, length, take, drop, get_or, fold, replicate, Option, Some, None, Ok, Err}
+use Rattle.std.proofs.Common.{refl, ap, ap₂, sym, ◌∙◌, subst, inl, inr, arith, length-append, ◌⊎◌, ◌||◌}
 use Rattle.std.proofs.lemmas.List.Sums.{fold_more, fold-append}
 use Rattle.std.proofs.lemmas.List.{take-append-drop, take_all, length-map}
 use Rattle.std.proofs.lemmas.List.Folds.{list_any-append}

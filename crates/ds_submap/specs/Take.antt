@@ -1,5 +1,6 @@
 -- What a map takes of items in order, and where it stops.
-use Rattle.std.specs.Prelude.{◌≡◌, ◌⊎◌, Bool, true, false, List, [], ◌∷◌, ◌++◌, All, length, filter, take, slice_get, Option, Some, None, Result, Ok, Err, IsTrue, IsFalse}
+use Rattle.std.specs.Prelude.{◌≡◌, ◌⊎◌, Bool, true, false, List, [], ◌∷◌, ◌++◌, All}
+use Rattle.std.specs.Prelude.{length, filter, take, slice_get, Option, Some, None, Result, Ok, Err, IsTrue, IsFalse}
 use Rattle.ds_names.specs.Kind.{names_kind}
 use Rattle.ds_entry.specs.declared.item.Item.{Item}
 use Rattle.ds_entry.specs.declared.item.Item.TheVariants.{Change as Changed, Floor as Floored}

@@ -63,7 +63,9 @@ module _ (old new : TableRecord) (units : List (ℕ × Driver)) where
   pub no_unit : (o : Option (ℕ × Driver)) → o ≡ None → TableStands old (assigned_all units) → TableStands old (assigned_all (units ++ cons_option o []))
   no_unit o e st = subst (λ (l : List (ℕ × Driver)). TableStands old (assigned_all l)) (sym (ap (λ (o : Option (ℕ × Driver)). units ++ cons_option o []) e ∙ append-nil units)) st
 
-  assigned_stands : (unit : ℕ) (driver : Driver) (answer : Result (Unit {0}) TableFault) → answer ≢ Err NoRoom → AnswersAs old (λ (t : DriverTable). assigning t unit driver) answer → LeavesAs old (λ (t : DriverTable). assigning t unit driver) answer new
+  assigned_stands : (unit : ℕ) (driver : Driver) (answer : Result (Unit {0}) TableFault)
+      → answer ≢ Err NoRoom → AnswersAs old (λ (t : DriverTable). assigning t unit driver) answer
+      → LeavesAs old (λ (t : DriverTable). assigning t unit driver) answer new
       → OnErr answer (new ≡ old) → TableStands old (assigned_all units) → TableStands new (assigning (assigned_all units) unit driver).1
   assigned_stands unit driver (Ok x) some answers leaves same st = leaves (assigned_all units) st
   assigned_stands unit driver (Err fault) some answers leaves same st =

@@ -42,7 +42,8 @@ all_more : (xs : List SystemEntry) (e : SystemEntry) → all_events (xs ++ e ∷
 all_more xs e = all_of xs (e ∷ []) ∙ ap (λ (l : WorldEvents). all_events xs ++ l) (append-nil e.steps.events)
 
 -- one more event after a run
-pub run_more : (a b c : SystemRecord) (es : List SystemEvent) (os : List SystemOutcome) (event : SystemEvent) (outcome : SystemOutcome) → SystemRunLeads es os a b → SystemEventLeads event outcome b c → SystemRunLeads (es ++ event ∷ []) (os ++ outcome ∷ []) a c
+pub run_more : (a b c : SystemRecord) (es : List SystemEvent) (os : List SystemOutcome) (event : SystemEvent) (outcome : SystemOutcome)
+    → SystemRunLeads es os a b → SystemEventLeads event outcome b c → SystemRunLeads (es ++ event ∷ []) (os ++ outcome ∷ []) a c
 run_more a b c es os event outcome led one s st =
     let first = led s st in
     let next = one first.0 first.4 in

@@ -126,7 +126,9 @@ stands_fault rs event tick faults.GenerationsSpent e = e
 stands_fault rs event tick faults.NoSlot e = e
 
 -- unless something was against the event, RS refuses it only if memory runs out
-pub late_fault : (rs : RsRecord) (event : services.Event) (tick : ℕ) (fault : RsFault) → (fault ≢ faults.NoRoom → refusal rs event tick ≡ Some fault) → refusal rs event tick ≡ None → (fault ≡ faults.NoRoom → asks has_actions (asked rs event tick) ≡ true)
+pub late_fault : (rs : RsRecord) (event : services.Event) (tick : ℕ) (fault : RsFault)
+    → (fault ≢ faults.NoRoom → refusal rs event tick ≡ Some fault) → refusal rs event tick ≡ None
+    → (fault ≡ faults.NoRoom → asks has_actions (asked rs event tick) ≡ true)
     → IsServiceFault rs event tick fault
 late_fault rs event tick faults.NoRoom h none acts = (none, acts refl)
 late_fault rs event tick faults.TickBack h none acts = h (λ e. cc)

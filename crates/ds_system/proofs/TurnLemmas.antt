@@ -49,7 +49,8 @@ plain_turn t rounds stop u = record { before = t; rounds = rounds; stop = stop; 
 
 -- ---- a request
 -- what ended the follow ends the turn
-pub submit_ended : (held : List Item) (id unit : ℕ) (old new : TableRecord) (before rounds : List (List Move)) (fault : TableFault) → before ≡ [] → HasFollowed held old new before rounds (Some fault) → HasSubmitted held id unit old new rounds (Err fault)
+pub submit_ended : (held : List Item) (id unit : ℕ) (old new : TableRecord) (before rounds : List (List Move)) (fault : TableFault)
+    → before ≡ [] → HasFollowed held old new before rounds (Some fault) → HasSubmitted held id unit old new rounds (Err fault)
 submit_ended held id unit old new before rounds fault none h t st =
     let g = h t st in (
       record { before = t; rounds = g.1; stop = Some fault; followed = g.0; own = None; after = g.0 },
@@ -125,7 +126,8 @@ module _ (value : SystemRecord) where
   own_map : (s : System) → SystemStands value s → (table : Table) (turn : TableTurn) → FollowsItems (held_in value.world (Map (map_number table))) turn → FollowsItems (held_by s.world (Map (map_number table))) turn
   own_map s st table turn f = subst (λ (l : List Item). FollowsItems l turn) (held_is value.world s.world (map_number table) st.world) f
 
-  pub submit_leads : (table : Table) (id unit : ℕ) (next : TableRecord) (rounds : List (List Move)) (answer : Result Move TableFault) → HasSubmitted (held_in value.world (Map (map_number table))) id unit (kept_table value table) next rounds answer
+  pub submit_leads : (table : Table) (id unit : ℕ) (next : TableRecord) (rounds : List (List Move)) (answer : Result Move TableFault)
+      → HasSubmitted (held_in value.world (Map (map_number table))) id unit (kept_table value table) next rounds answer
       → SystemEventLeads (events.Submit table id unit) (moved_so rounds answer) value (keeping_table value table next)
   submit_leads table id unit next rounds answer h s st =
       let g = h (table_at s table) (table_stands value s table st) in (

@@ -38,7 +38,9 @@ use Rattle.ds_system.proofs.AskLemmas.{proper_one}
 
 -- ---- the judgement
 -- the service's instance, as RS returned it for the label
-pub up_from : (rs : RsRecord) (label : List ℕ) (i : ℕ) (o : Option State) (state : State) (r : Running) → o ≡ option_map (state_at rs) (place_of_label rs label) → place_of_label rs label ≡ Some i → o ≡ Some state → state ≡ Up r → state_at rs i ≡ Up r
+pub up_from : (rs : RsRecord) (label : List ℕ) (i : ℕ) (o : Option State) (state : State) (r : Running)
+    → o ≡ option_map (state_at rs) (place_of_label rs label) → place_of_label rs label ≡ Some i → o ≡ Some state → state ≡ Up r
+    → state_at rs i ≡ Up r
 up_from rs label i o state r told place is up = some (state_at rs i) state (sym (ap (option_map (state_at rs)) place) ∙ (sym told ∙ is)) ∙ up
   where
     some : (a b : State) → Some a ≡ Some b → a ≡ b
@@ -68,7 +70,14 @@ module _ (rs : RsRecord) (numberers : List NumbererRecord) (label : List ℕ) (k
 
         module _ (kind : is_of_kind key.kind content ≡ true) (n : NumbererRecord) (numbers : n ≡ numbers_left numberers (instance_at i r)) where
           in_kind : judged rs numberers label key content ≡ cond (is_spent n) (Err SeqSpent) (Ok (instance_at i r))
-          in_kind = in_up ∙ (ap (λ (b : Bool). cond (not b) (Err BadKind) (cond (is_spent (numbers_left numberers (instance_at i r))) (Err SeqSpent) (Ok (instance_at i r)))) kind ∙ ap (λ (m : NumbererRecord). cond (is_spent m) (Err SeqSpent) (Ok (instance_at i r))) (sym numbers))
+          in_kind =
+              in_up
+              ∙ (ap
+              (λ (b : Bool).
+              cond (not b) (Err BadKind)
+              (cond (is_spent (numbers_left numberers (instance_at i r))) (Err SeqSpent) (Ok (instance_at i r))))
+              kind
+              ∙ ap (λ (m : NumbererRecord). cond (is_spent m) (Err SeqSpent) (Ok (instance_at i r))) (sym numbers))
 
           pub spent : is_spent n ≡ true → judged rs numberers label key content ≡ Err SeqSpent
           spent e = in_kind ∙ ap (λ (b : Bool). cond b (Err SeqSpent) (Ok (instance_at i r))) e
@@ -142,7 +151,10 @@ module _ (value : SystemRecord) (label : List ℕ) (key : Key) (side : Side) whe
     abbrev pub written : SystemRecord
     written = record value { numberers = slice_set value.numberers it.place left; world = next; made = value.made ++ change_of key label number content ∷ [] }
 
-    module _ (is : judged value.rs value.numberers label key content ≡ Ok it) (drawn : Gives (numbers_left value.numberers it) left number) (change : IsChange (change_of key label number content)) (leads : EventLeads (Ask side (asking_for it.running.endpoint key number content)) (results.Replied reply) value.world next) (told : IsTold (Ask side (asking_for it.running.endpoint key number content)) (results.Replied reply) value.world next) where
+    module _ (is : judged value.rs value.numberers label key content ≡ Ok it) (drawn : Gives (numbers_left value.numberers it) left number)
+        (change : IsChange (change_of key label number content))
+        (leads : EventLeads (Ask side (asking_for it.running.endpoint key number content)) (results.Replied reply) value.world next)
+        (told : IsTold (Ask side (asking_for it.running.endpoint key number content)) (results.Replied reply) value.world next) where
       writes : (s : System) → SystemStands value s → (t : System) × (steps : Steps) × WritesEntry s label key content side reply steps t × SystemStands written t × AreTold value.world steps.events next
       writes s st =
           let led = leads s.world st.world in
@@ -155,7 +167,15 @@ module _ (value : SystemRecord) (label : List ℕ) (key : Key) (side : Side) whe
               number = number;
               left = left;
               drawn = subst (λ (n : List NumbererRecord). Gives (numbers_left n it) left number) (sym st.numberers) drawn;
-              asked = record { steps_are = refl; proper = proper_one event (results.Replied reply) (asking_proper it.running.endpoint key number content (change_parts (change_of key label number content) change)); happen = (led.0, led.1, refl) };
+              asked =
+                  record {
+                    steps_are = refl;
+                    proper =
+                        proper_one event (results.Replied reply)
+                        (asking_proper it.running.endpoint key number content
+                        (change_parts (change_of key label number content) change));
+                    happen = (led.0, led.1, refl);
+                  };
               system_is = refl;
             },
             record {
@@ -169,7 +189,9 @@ module _ (value : SystemRecord) (label : List ℕ) (key : Key) (side : Side) whe
             (next, leads, told, refl),
           )
 
-  pub wrote : (content : Body) (it : Instance) (number : Version) (left : NumbererRecord) (reply : Reply) (next : WorldRecord) → judged value.rs value.numberers label key content ≡ Ok it → Gives (numbers_left value.numberers it) left number → IsChange (change_of key label number content)
+  pub wrote : (content : Body) (it : Instance) (number : Version) (left : NumbererRecord) (reply : Reply) (next : WorldRecord)
+      → judged value.rs value.numberers label key content ≡ Ok it → Gives (numbers_left value.numberers it) left number
+      → IsChange (change_of key label number content)
       → EventLeads (Ask side (asking_for it.running.endpoint key number content)) (results.Replied reply) value.world next → IsTold (Ask side (asking_for it.running.endpoint key number content)) (results.Replied reply) value.world next
       → SystemEventLeads (write_event label key content side) (Replied reply) value (written content it number left reply next)
   wrote (Put v) it number left reply next is drawn change leads told = writes (Put v) it number left reply next is drawn change leads told

@@ -45,7 +45,9 @@ resting_rs settings next = rs_of settings (replicate (length settings.services) 
 -- If the old value stands for a table with these units assigned, and nothing was refused, the new value stands for that
 -- table with one more unit, if there is one.
 abbrev pub AddsUnit : Option (ℕ × Driver) → (old new : TableRecord) → Result (Unit {0}) room.NoRoom → Type 0
-AddsUnit unit old new result = (units : List (ℕ × Driver)) → TableStands old (assigned_all units) → OnOk result (TableStands new (assigned_all (units ++ cons_option unit [])))
+AddsUnit unit old new result =
+    (units : List (ℕ × Driver)) → TableStands old (assigned_all units) →
+    OnOk result (TableStands new (assigned_all (units ++ cons_option unit [])))
 
 -- The value has RS at rest, no drawn numbers, this world, the tables of the settings' units, and no made change.
 pub record BeginsOver (settings : SettingsRecord) (next : ℕ) (world : WorldRecord) (value : SystemRecord) : Type 0 where

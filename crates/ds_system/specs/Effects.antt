@@ -33,7 +33,8 @@ AskedIfAny side (Some command) before after old new =
 
 -- The empty list has room for the replies to the event's actions, at most five, and the changes that were made leave room
 -- for those that the actions offer.
-pub record HasRoomToAct (rs : RsRecord) (event : services.Event) (tick : ℕ) (replies : List Reply) (capacity made made_capacity : ℕ) : Type 0 where
+pub record HasRoomToAct (rs : RsRecord) (event : services.Event) (tick : ℕ) (replies : List Reply)
+    (capacity made made_capacity : ℕ) : Type 0 where
   pub none : replies ≡ []
   pub room : (asks has_actions (asked rs event tick) ≡ false) ⊎ ((5 ≤ capacity) × (made + 5 ≤ made_capacity))
 

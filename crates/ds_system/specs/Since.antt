@@ -106,14 +106,16 @@ pub record IsRightAmong (past : SystemPast) (front : List SystemEntry) (entry : 
 -- either table, and no label has units at both servers.
 pub record HoldsOfPast (past : SystemPast) : Type 0 where
   pub laws : SystemLaws (account_since past.a past.b past.entries) past.entries past.now
-  pub turns : (front back : List SystemEntry) (entry : SystemEntry) → past.entries ≡ front ++ entry ∷ back → IsRightAmong past front entry back
+  pub turns : (front back : List SystemEntry) (entry : SystemEntry) →
+      past.entries ≡ front ++ entry ∷ back → IsRightAmong past front entry back
   pub apart : (label : List ℕ) → has_label past.now.file.units label ≡ true → has_label past.now.net.units label ≡ true → ⊥
 
 -- Whether these events, with these outcomes, continued the past to that of the new value; the world ran its own events
 -- among them; and the laws of systems and of worlds hold of the whole past, from the first event on. So what snapshots,
 -- journals, pages and checks of any run brought is whole, as the laws of worlds say, and by the laws of systems nothing
 -- else is needed for *catch-up* and *no older generation*.
-pub record LawfulSince (past : SystemPast) (events : List SystemEvent) (outcomes : List SystemOutcome) (old new : SystemRecord) : Type 0 where
+pub record LawfulSince (past : SystemPast) (events : List SystemEvent) (outcomes : List SystemOutcome)
+    (old new : SystemRecord) : Type 0 where
   pub entries : List SystemEntry
   pub are : AreEntriesOf events outcomes entries
   pub ran : WorldRan old.world (all_events entries) new.world

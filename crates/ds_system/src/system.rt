@@ -55,7 +55,14 @@ impl Model for System {
 
     ghost Value = { SystemRecord };
 
-    ghost coded = { code_by (RsRecord × (List NumbererRecord × (WorldRecord × (TableRecord × (TableRecord × List ChangeRecord))))) (coded× rs_row.coded (coded× (coded_list numberer_row.coded) (coded× world_row.coded (coded× file_row.coded (coded× net_row.coded (coded_list change_row.coded)))))) (λ s. (s.rs, (s.numberers, (s.world, (s.file, (s.net, s.made)))))) (λ p. system_of p.0 p.1.0 p.1.1.0 p.1.1.1.0 p.1.1.1.1.0 p.1.1.1.1.1) (λ s i. s) };
+    ghost coded = { code_by
+        (RsRecord × (List NumbererRecord × (WorldRecord × (TableRecord × (TableRecord × List ChangeRecord)))))
+        (coded× rs_row.coded
+        (coded× (coded_list numberer_row.coded)
+        (coded× world_row.coded (coded× file_row.coded (coded× net_row.coded (coded_list change_row.coded))))))
+        (λ s. (s.rs, (s.numberers, (s.world, (s.file, (s.net, s.made))))))
+        (λ p. system_of p.0 p.1.0 p.1.1.0 p.1.1.1.0 p.1.1.1.1.0 p.1.1.1.1.1)
+        (λ s i. s) };
 
     ghost view = { λ s. system_of s.rs s.numberers.items s.world s.file s.net s.made.items };
 

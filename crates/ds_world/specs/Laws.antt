@@ -4,8 +4,10 @@ use Rattle.ds_replica.specs.declared.event.Event.{Event}
 use Rattle.ds_replica.specs.declared.outcome.Outcome.{Outcome}
 use Rattle.ds_replica.specs.Known.{Account, extended_all}
 use Rattle.ds_world.specs.World.{WorldRecord}
-use Rattle.ds_world.specs.Account.{IsFor, Agrees, CatchesUp, KeepsUp, NamesNewest, NothingClashes, NothingStops, NothingBelowFloors, FloorsStand, StayItems, StaysWhole}
-use Rattle.ds_world.specs.Messages.{SnapshotsAreWhole, SincesAreTurns, SinceMessagesExtend, PagesAreTurns, ChecksAreTurns, AllChecksAreWhole}
+use Rattle.ds_world.specs.Account.{IsFor, Agrees, CatchesUp, KeepsUp, NamesNewest, NothingClashes, NothingStops}
+use Rattle.ds_world.specs.Account.{NothingBelowFloors, FloorsStand, StayItems, StaysWhole}
+use Rattle.ds_world.specs.Messages.{SnapshotsAreWhole, SincesAreTurns, SinceMessagesExtend}
+use Rattle.ds_world.specs.Messages.{PagesAreTurns, ChecksAreTurns, AllChecksAreWhole}
 use Rattle.ds_world.specs.Pages.{AllPagesAreWhole}
 use Rattle.ds_world.specs.Told.{AreTold}
 

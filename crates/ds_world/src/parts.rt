@@ -1,17 +1,19 @@
-//! The changes and floors that commands name: each part is in its range, as its type guarantees.
+//! Functions for the prover alone: the parts of commands and items are in their ranges, and maps are sound, as their types guarantee.
 
 ghost use Rattle.std.specs.Prelude.{◌<◌, ◌≤◌, ◌^◌, All};
 ghost use Rattle.ds_names.specs.Name.{IsName};
 ghost use Rattle.ds_entry.specs.Item.{IsItem};
 ghost use Rattle.ds_entry.specs.declared.body.Body.TheVariants.{Put};
 ghost use Rattle.ds_replica.specs.Bringing.{AreParts, IsProper};
+ghost use Rattle.ds_submap.specs.Map.{IsMap};
 
 use ds_entry::{Item, Value};
 use ds_machine::Command;
 use ds_names::{Key, Version};
+use ds_submap::SubMap;
 
-// Shows it for a command.
-pub(crate) fn read_parts(command: &Command)
+// For the prover alone: a command's parts are in their ranges.
+pub(crate) fn command_proof(command: &Command)
     ensures { IsProper command.now }
 {
     match command {
@@ -20,8 +22,8 @@ pub(crate) fn read_parts(command: &Command)
             version,
             value,
             ..
-        } => read_published(key, version, value),
-        Command::Delete { key, version, .. } => read_version(key, version),
+        } => published_proof(key, version, value),
+        Command::Delete { key, version, .. } => version_proof(key, version),
         Command::Sweep {
             owner,
             generation,
@@ -30,7 +32,7 @@ pub(crate) fn read_parts(command: &Command)
             let _owner = owner.bytes();
             let _generation = generation.number();
         }
-        Command::Merge { items } => read_items(items.as_slice()),
+        Command::Merge { items } => items_proof(items.as_slice()),
         Command::Retrieve { .. }
         | Command::NameOf { .. }
         | Command::Subscribe { .. }
@@ -41,16 +43,16 @@ pub(crate) fn read_parts(command: &Command)
     }
 }
 
-// Shows it for a publish.
-fn read_published(key: &Key, version: &Version, value: &Value)
+// For the prover alone: so are those of a publication.
+fn published_proof(key: &Key, version: &Version, value: &Value)
     ensures { AreParts key.now version.now (Put value.now) }
 {
     let _kind = value.kind();
-    read_version(key, version);
+    version_proof(key, version);
 }
 
-// Shows it for a key and a version.
-fn read_version(key: &Key, version: &Version)
+// For the prover alone: so are those of a key and a version.
+fn version_proof(key: &Key, version: &Version)
     ensures name { IsName key.now.name }
     ensures epoch { version.now.epoch ≤ 2097151 }
     ensures seq { version.now.seq < 2 ^ 32 }
@@ -60,17 +62,17 @@ fn read_version(key: &Key, version: &Version)
     let _seq = version.seq;
 }
 
-// Shows it for items.
-fn read_items(items: &[Item])
+// For the prover alone: so are those of items.
+fn items_proof(items: &[Item])
     ensures { All IsItem items.now }
 {
     for item in items {
-        read_item(item);
+        item_proof(item);
     }
 }
 
-// Shows it for an item.
-pub(crate) fn read_item(item: &Item)
+// For the prover alone: so are those of an item.
+pub(crate) fn item_proof(item: &Item)
     ensures { IsItem item.now }
 {
     match item {
@@ -82,4 +84,11 @@ pub(crate) fn read_item(item: &Item)
             let _generation = floor.generation.number();
         }
     }
+}
+
+// For the prover alone: a map is sound.
+pub(crate) fn map_proof(map: &SubMap)
+    ensures { IsMap map.now }
+{
+    let _held = map.held();
 }

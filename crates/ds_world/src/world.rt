@@ -57,7 +57,12 @@ impl Model for World {
 
     ghost Value = { WorldRecord };
 
-    ghost coded = { code_by (ContentRecord × (ContentRecord × (List SubMapRecord × List Reply))) (coded× store_row.coded (coded× store_row.coded (coded× (coded_list map_row.coded) (coded_list reply_row.coded)))) (λ w. (w.a, (w.b, (w.maps, w.messages)))) (λ p. world_of p.0 p.1.0 p.1.1.0 p.1.1.1) (λ w i. w) };
+    ghost coded = { code_by
+        (ContentRecord × (ContentRecord × (List SubMapRecord × List Reply)))
+        (coded× store_row.coded (coded× store_row.coded (coded× (coded_list map_row.coded) (coded_list reply_row.coded))))
+        (λ w. (w.a, (w.b, (w.maps, w.messages))))
+        (λ p. world_of p.0 p.1.0 p.1.1.0 p.1.1.1)
+        (λ w i. w) };
 
     ghost view = { λ w. world_of w.a w.b w.maps.items w.messages.items };
 
@@ -114,7 +119,7 @@ impl World {
             return Err(WorldFault::NoRoom);
         };
         let outcomes = self.happen_all(events, outcomes);
-        let _maps = &self.maps;
+        self.maps_proof();
         Ok(outcomes)
     }
 
@@ -144,8 +149,15 @@ impl World {
     {
         answers_say();
         let outcome = self.carry_out(event);
-        let _maps = &self.maps;
+        self.maps_proof();
         outcome
+    }
+
+    // For the prover alone: every map is a sound one.
+    fn maps_proof(&self)
+        ensures { All IsMap self.now.maps }
+    {
+        let _maps = &self.maps;
     }
 
     // Lets an event happen, by its kind.

@@ -7,7 +7,8 @@ use std::io::{self, BufWriter, ErrorKind, Read};
 use std::process::ExitCode;
 use std::rt::Runtime;
 
-/// Parses settings, and prints their services, or them as a line of a script, or their first fault. Nothing is printed before the whole text is judged.
+/// Parses settings, and prints their services, or them as a line of a script, or their first fault. Nothing is printed
+/// before the whole text is judged.
 /// Greets a user at a terminal.
 pub(crate) fn show_input<R: Runtime + AllocGlobal>(
     rt: &R,

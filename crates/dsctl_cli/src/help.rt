@@ -213,6 +213,14 @@ Parts of lines and answers:
   PORT               the UNIT of a network driver
   ID                 the number of a request
   REST               a settings text in one line
+  new                nothing is replaced: the key has no live entry, SUB is free
+  over               what is there is replaced, and has to be there
+  first              all that is held is shown by the first checks
+  later              what is held already isn't shown
+  more               another page follows this one
+  last               no page follows this one
+  done               the driver carried the request out
+  fault              the driver, no block driver, is missing or died
 
 Two replicas, in six lines:
   publish 0/2 new eth0 label 3.0 = 3/17   at side a, where a script begins

@@ -53,15 +53,19 @@ pub(crate) const SUBCOMMANDS: [&str; 7] = [
     "replay", "settings", "verify", "upgrade", "record", "live", "help",
 ];
 
+/// Returns the subcommand that is nearest to a word, unless the word looks like a file's name.
+pub(crate) fn nearest_command(word: &str) -> Option<&'static str> {
+    match word.contains('.') || word.contains('/') {
+        true => None,
+        false => nearest(word.as_bytes(), &SUBCOMMANDS),
+    }
+}
+
 // Writes why a file can't be opened, with the nearest subcommand if its name may be one.
 fn tell_unopened(rt: &impl Runtime, name: &str, error: io::Error) {
-    let near = match name.contains('.') || name.contains('/') {
-        true => None,
-        false => nearest(name.as_bytes(), &SUBCOMMANDS),
-    };
-    match near {
-        Some(_) => {
-            let near = IfNear(near);
+    match nearest_command(name) {
+        Some(near) => {
+            let near = IfNear(Some(near));
             let _ = eprintln!(rt;
                 "dsctl: `{name}` is neither a command{near}, nor a file: {error}"
             );

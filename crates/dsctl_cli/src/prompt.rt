@@ -31,7 +31,9 @@ impl Greeting {
             Greeting::ScriptToStop => { "dsctl: `help` shows the lines, ^D or a bad line ends" }
             Greeting::Settings => "dsctl: a TOML text, as in dsctl settings --help, ^D ends",
             Greeting::Trace => "dsctl: a trace, as in dsctl verify --help, ^D ends",
-            Greeting::Commands => "dsctl: a command a line, as in dsctl record --help, ^D ends",
+            Greeting::Commands => {
+                "dsctl: a command a line, as in dsctl record --help, ^D or a bad line ends"
+            },
         }
     }
 }
@@ -202,12 +204,12 @@ At the prompt: help or ? shows the commonest lines, help all shows these, help
 WORD explains a line, an answer, a refusal or a kind, quit or exit or ^D ends.";
 
 fn meaning_of(line: &[u8]) -> Meaning {
-    let (word, rest) = first_word(line);
+    let (word, _) = first_word(line);
     if word.is_empty() || word.starts_with(b"#") {
         Meaning::Nothing
     } else if asks_for_help(word) {
         Meaning::Help
-    } else if rest.is_empty() && asks_to_end(word) {
+    } else if asks_to_end(word) {
         Meaning::End
     } else {
         Meaning::Line

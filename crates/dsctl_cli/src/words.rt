@@ -8,6 +8,7 @@ use crate::help_words::{
     AFTER_HELP, ENDS_ABOUT, KEEP_GOING_ABOUT, LINE_ABOUT, SETTINGS_ABOUT, SETTINGS_LONG_ABOUT,
     STOP_ABOUT,
 };
+use crate::input::{SUBCOMMANDS, nearest_command};
 use crate::live_words::{add_live, crew_of};
 use crate::record_words::{add_record, form_of, too_many_keys};
 use clap::error::ErrorKind;
@@ -312,6 +313,17 @@ fn tip_for(error: &Error, given: &[String]) -> Option<&'static str> {
     }
 }
 
+// Returns the subcommand that was meant by an unknown one, as in `dsctl verfy FILE`.
+fn meant_command(error: &Error, given: &[String]) -> Option<&'static str> {
+    let word = given.get(1)?.as_str();
+    match error.kind() {
+        ErrorKind::InvalidSubcommand | ErrorKind::UnknownArgument => {
+            nearest_command(word).filter(|near| *near != word)
+        }
+        _ => None,
+    }
+}
+
 // Whether an argument looks like a file's name.
 fn names_a_file(given: &[String]) -> bool {
     names_count(given) > 0
@@ -343,7 +355,9 @@ fn answer(rt: &(impl Runtime + AllocGlobal), error: &Error, given: &[String]) ->
         return Words::NoRoom;
     };
     let printed = print_message(rt, error, text.as_str());
-    if let Some(tip) = tip_for(error, given) {
+    if let Some(near) = meant_command(error, given) {
+        let _ = eprintln!(rt; "dsctl: the nearest command is `{near}`");
+    } else if let Some(tip) = tip_for(error, given) {
         let _ = rt.eprintln(tip);
     }
     match (error.use_stderr(), printed) {
@@ -376,15 +390,15 @@ fn print_message(rt: &impl Runtime, error: &Error, text: &str) -> io::Result<()>
     }
 }
 
-// Returns the word that `dsctl help` is asked for, if it isn't a subcommand. An answer may be given as printed.
+// Returns the word that `dsctl help` is asked for, if it isn't a subcommand. A line or an answer may be given as printed.
 fn word_asked<'a>(error: &Error, given: &'a [String]) -> Option<&'a str> {
     if !matches!(error.kind(), ErrorKind::InvalidSubcommand) || given.get(1)?.as_str() != "help" {
         return None;
     }
-    match (given.len(), given.get(2)?.as_str()) {
-        (3, word) => Some(word),
-        (4, "refused") => Some(given.get(3)?.as_str()),
-        _ => None,
+    match given.get(2)?.as_str() {
+        "refused" => Some(given.get(3).map_or("refused", |it| it.as_str())),
+        word if SUBCOMMANDS.contains(&word) => None,
+        word => Some(word),
     }
 }
 

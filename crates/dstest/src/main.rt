@@ -1,7 +1,7 @@
 //! `dstest`: the program for tests.
 //!
 //! Standard input has sections. Each begins with a line `=== NAME`, and has the lines up to the next such line:
-//! `store`, `rows`, `desk`, `threads`, `system`, `rs` or `pair`. The crates that answer the sections describe their
+//! `rows`, `desk`, `threads`, `pairs`, `system`, `rs` or `pair`. The crates that answer the sections describe their
 //! lines. Sections are answered in order.
 //!
 //! Status 0: done. 1: a line can't be read, or a call's answer was wrong. 3: memory, reading or writing failed, or a
@@ -63,6 +63,7 @@ fn answer_section<R: Runtime + AllocGlobal + Threads + Wait + Sync>(
     match name {
         "desk" => test_desk::answer(rt, lines),
         "threads" => test_threads::answer(rt, lines),
+        "pairs" => test_pairs::answer(rt, lines),
         _ => answer_alone(rt, name, lines),
     }
 }
@@ -70,7 +71,6 @@ fn answer_section<R: Runtime + AllocGlobal + Threads + Wait + Sync>(
 // Answers a section that makes no threads.
 fn answer_alone(rt: &(impl Runtime + AllocGlobal), name: &str, lines: &str) -> Result<(), Failure> {
     match name {
-        "store" => test_store::answer(rt, lines),
         "rows" => test_rows::answer(rt),
         "system" => test_system::answer_systems(rt, lines),
         "rs" => test_system::answer_rs(rt, lines),

@@ -1,5 +1,6 @@
 -- RS continues with other settings: whatever runs keeps its state, so the slots fit the new states.
-use Rattle.std.proofs.Common.{◌≡◌, ℕ, ◌<◌, ◌≤◌, ◌+◌, ◌==◌, ◌&&◌, ◌||◌, nat_lt, suc, Bool, true, false, not, cond, List, [], ◌∷◌, ◌++◌, map, get_or, length, drop, take, Option, Some, None, refl, sym, ◌∙◌, ap, subst, inl, inr, eq-eqb, arith, add-one}
+use Rattle.std.proofs.Common.{◌≡◌, ℕ, ◌<◌, ◌≤◌, ◌+◌, ◌==◌, ◌&&◌, ◌||◌, nat_lt, suc, Bool, true, false, not, cond, List, [], ◌∷◌, ◌++◌, map, get_or, length, drop, take, Option, Some, None}
+use Rattle.std.proofs.Common.{refl, sym, ◌∙◌, ap, subst, inl, inr, eq-eqb, arith, add-one}
 use Rattle.std.specs.Prelude.{count_by, option_map, unwrap_or, slice_get}
 use Rattle.std.specs.Cmp.Lexicographic.{same_text}
 use Rattle.std.proofs.lemmas.Bool.{cases_Bool, false≢true, or_parts, ltb-false}

@@ -117,7 +117,8 @@ module _ (s : RsRecord) (place : ℕ) where
   deed_says tick GaveUp here Begin left = begins GaveUp _ (new_endpoint s) tick (service_at s place).startup 0 (omega arith) (tt, (tt, tt)) refl (left refl) (inl refl) (only_put (new_endpoint s))
   deed_says tick (Waiting p) here Resume left = begins (Waiting p) _ (new_endpoint s) tick (service_at s place).startup p.failures (omega arith) (tt, (tt, tt)) refl (left refl) (inl refl) (only_put (new_endpoint s))
   deed_says tick (Up r) here Replace left =
-      begins (Up r) _ (same_slot s r) tick (service_at s place).startup (failures_left (service_at s place).forget tick r) (omega arith) (tt, (tt, (tt, (tt, (tt, tt))))) refl (left refl) (inr (inl refl)) (gone_and_put r (same_slot s r) here)
+      begins (Up r) _ (same_slot s r) tick (service_at s place).startup (failures_left (service_at s place).forget tick r) (omega arith)
+      (tt, (tt, (tt, (tt, (tt, tt))))) refl (left refl) (inr (inl refl)) (gone_and_put r (same_slot s r) here)
   deed_says tick (Up r) here (Lose kill) left =
       rests (Up r) (stop_actions kill (label_at s place) r.endpoint) _ (few_stops kill (label_at s place) r.endpoint) (own_stops kill (label_at s place) r.endpoint) (only_gone kill r here)
       (λ q up. absurd (none_runs (service_at s place).limit tick (failures_left (service_at s place).forget tick r + 1) q up))

@@ -1,10 +1,12 @@
 -- The faults against an event, in the one order of refusals.
-use Rattle.std.specs.Prelude.{ℕ, ◌^◌, Bool, true, false, not, ◌&&◌, nat_le, nat_lt, List, [], ◌∷◌, Option, Some, None, Result, Ok, Err, if◌then◌else◌}
+use Rattle.std.specs.Prelude.{ℕ, ◌^◌, Bool, true, false, not, ◌&&◌, nat_le, nat_lt}
+use Rattle.std.specs.Prelude.{List, [], ◌∷◌, Option, Some, None, Result, Ok, Err, if◌then◌else◌}
 use Rattle.std.specs.List.{find}
 use Rattle.rs_core.specs.declared.event.Event.{Event}
 use Rattle.rs_core.specs.declared.event.Event.TheVariants as events
 use Rattle.rs_core.specs.declared.fault.RsFault.{RsFault}
-use Rattle.rs_core.specs.declared.fault.RsFault.TheVariants.{TickBack, Worn, UnknownLabel, BadCause, AlreadyUp, NotUp, OldEndpoint, GenerationsSpent, NoSlot, NoRoom}
+use Rattle.rs_core.specs.declared.fault.RsFault.TheVariants.{TickBack, Worn, UnknownLabel, BadCause, AlreadyUp, NotUp}
+use Rattle.rs_core.specs.declared.fault.RsFault.TheVariants.{OldEndpoint, GenerationsSpent, NoSlot, NoRoom}
 use Rattle.rs_core.specs.declared.deed.Deed.{Deed}
 use Rattle.rs_core.specs.declared.deed.Deed.TheVariants.{Begin, Resume, Replace, Forget, Hear}
 use Rattle.rs_core.specs.declared.deed.Plan.{Plan}

@@ -1,5 +1,6 @@
 -- What holds for RS's states, slots and generations at any time.
-use Rattle.std.specs.Prelude.{◌≡◌, ◌≢◌, ◌⊎◌, ℕ, ◌+◌, ◌^◌, ◌<◌, ◌≤◌, ◌==◌, nat_lt, Bool, false, List, length, slice_index_or, count_by, if◌then◌else◌}
+use Rattle.std.specs.Prelude.{◌≡◌, ◌≢◌, ◌⊎◌, ℕ, ◌+◌, ◌^◌, ◌<◌, ◌≤◌, ◌==◌, nat_lt, Bool, false, List}
+use Rattle.std.specs.Prelude.{length, slice_index_or, count_by, if◌then◌else◌}
 use Rattle.ds_names.specs.Endpoint.{IsEndpoint}
 use Rattle.rs_settings.specs.Settings.{SettingsRecord, IsSettings}
 use Rattle.rs_core.specs.declared.state.State.{State}

@@ -1,5 +1,6 @@
 -- Renewal: RS continues with other settings. Whatever happens to a service is decided by its label.
-use Rattle.std.specs.Prelude.{◌≡◌, ◌⊎◌, ℕ, ◌+◌, nat_lt, Bool, true, false, not, ◌&&◌, map, List, [], ◌∷◌, Option, Some, None, option_map, unwrap_or, if◌then◌else◌}
+use Rattle.std.specs.Prelude.{◌≡◌, ◌⊎◌, ℕ, ◌+◌, nat_lt, Bool, true, false, not, ◌&&◌, map}
+use Rattle.std.specs.Prelude.{List, [], ◌∷◌, Option, Some, None, option_map, unwrap_or, if◌then◌else◌}
 use Rattle.std.specs.List.{list_any, flat_map}
 use Rattle.ds_entry.specs.SingleNumbered.{IsSingleNumbered}
 use Rattle.history.specs.History.{Path}
@@ -70,7 +71,8 @@ RsLife = Path (λ s actions t. RsActs s actions t ⊎ IsRenewal s actions t)
 
 -- A law: each start's generation is above those of all earlier starts, across renewals too.
 abbrev pub StartsRiseThroughRenewals : Type 0
-StartsRiseThroughRenewals = (s t : RsRecord) (steps : List (List Action)) → RsLife s steps t → AreRising s.next (flat_map starts steps) t.next
+StartsRiseThroughRenewals =
+    (s t : RsRecord) (steps : List (List Action)) → RsLife s steps t → AreRising s.next (flat_map starts steps) t.next
 
 -- A law: the label changes of a life are single-numbered; no two of them contradict each other.
 abbrev pub LabelsStaySingleNumbered : Type 0

@@ -13,7 +13,8 @@ use Rattle.rs_pass.specs.Record.{BoxedPair, is_pair, pair_record}
 module _ {Z : Type 0} {G : Ghosts (View (BoxedPair Z) RsCommand RsReply)} where
   -- A law: after a take, a look or a learnt note, a pass has seen more.
   abbrev pub PairSeesMoreByLooks : Pass (BoxedPair Z) RsCommand RsReply G → Type 0
-  PairSeesMoreByLooks p = (q : Pass (BoxedPair Z) RsCommand RsReply G) → Sees is_pair RsTurn p q → HasSeenMore (pair_record p) (pair_record q)
+  PairSeesMoreByLooks p =
+      (q : Pass (BoxedPair Z) RsCommand RsReply G) → Sees is_pair RsTurn p q → HasSeenMore (pair_record p) (pair_record q)
 
   -- A law: after an event, a command or a beginning, a pass has seen more.
   abbrev pub PairSeesMoreByCalls : Pass (BoxedPair Z) RsCommand RsReply G → Type 0

@@ -1,5 +1,6 @@
 -- The service that a table of the settings describes, or the table's first fault.
-use Rattle.std.specs.Prelude.{ℕ, Bool, false, not, ◌&&◌, ◌||◌, is_none, List, [], ◌∷◌, ◌++◌, length, codes, Option, Some, None, option_and_then, ok_or, Result, Ok, Err, if◌then◌else◌}
+use Rattle.std.specs.Prelude.{ℕ, Bool, false, not, ◌&&◌, ◌||◌, is_none, List, [], ◌∷◌, ◌++◌}
+use Rattle.std.specs.Prelude.{length, codes, Option, Some, None, option_and_then, ok_or, Result, Ok, Err, if◌then◌else◌}
 use Rattle.toml.specs.Data.{Data, Items, no_items, item, Members, get_member, as_table}
 use Rattle.rs_settings.specs.declared.class.Class.{Class}
 use Rattle.rs_settings.specs.declared.service.Service.{Service}
@@ -35,7 +36,8 @@ lacks_field fields =
 -- The service with these parts, if each of them could be read.
 abbrev pub service_of : Option (List ℕ) → Option Class → Option (Option ℕ) → Option ℕ → Option ℕ → Option (List (List ℕ)) →
     Option (Option (List (List ℕ))) → Option (Option (List (List ℕ))) → Option ℕ → Option ℕ → Option Service
-service_of (Some label) (Some class) (Some unit) (Some period) (Some limit) (Some publishes) (Some complains) (Some connects) (Some forget) (Some startup) =
+service_of (Some label) (Some class) (Some unit) (Some period) (Some limit)
+    (Some publishes) (Some complains) (Some connects) (Some forget) (Some startup) =
     Some (record {
       label = label;
       class = class;

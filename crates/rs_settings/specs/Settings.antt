@@ -1,5 +1,6 @@
 -- The settings of a text, or its first fault, as a function of the document that `toml` reads.
-use Rattle.std.specs.Prelude.{◌≡◌, ◌≢◌, ℕ, ◌≤◌, Bool, true, false, not, ◌&&◌, ◌||◌, nat_le, All, List, [], length, codes, Option, Some, None, IfSome, option_and_then, Result, Ok, Err, if◌then◌else◌}
+use Rattle.std.specs.Prelude.{◌≡◌, ◌≢◌, ℕ, ◌≤◌, Bool, true, false, not, ◌&&◌, ◌||◌, nat_le, All, List, []}
+use Rattle.std.specs.Prelude.{length, codes, Option, Some, None, IfSome, option_and_then, Result, Ok, Err, if◌then◌else◌}
 use Rattle.std.specs.Str.{IsUtf8, is_utf8}
 use Rattle.toml.specs.Data.{Data, Items, no_items, Members, get_member, as_array}
 use Rattle.toml.specs.Text.{are_tables}

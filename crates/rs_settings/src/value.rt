@@ -179,7 +179,8 @@ pub(crate) fn names_field<'a>(table: &'a Table, name: &str) -> Option<&'a [Value
 
 // Returns a field's names, at most 64, in place, or `Some(None)` if there is no such field.
 pub(crate) fn names_if_field<'a>(table: &'a Table, name: &str) -> Option<Option<&'a [Value]>>
-    ensures value { option_map (option_map (λ names. map text_in_value names.now)) result ≡ names_if (get_member name.now (table_view table.now)) }
+    ensures value { option_map (option_map (λ names. map text_in_value names.now)) result ≡
+        names_if (get_member name.now (table_view table.now)) }
     ensures names { IfSome result (λ list. IfSome list (λ names. ArePublished (map text_in_value names.now))) }
 {
     match field(table, name) {
@@ -193,7 +194,8 @@ pub(crate) fn names_if_field<'a>(table: &'a Table, name: &str) -> Option<Option<
 
 // Returns the names of an array of at most 64, as a list that there is.
 fn names_in(items: &Array) -> Option<Option<&[Value]>>
-    ensures value { option_map (option_map (λ names. map text_in_value names.now)) result ≡ option_map Some (names_of (array_view items.now)) }
+    ensures value { option_map (option_map (λ names. map text_in_value names.now)) result ≡
+        option_map Some (names_of (array_view items.now)) }
     ensures names { IfSome result (λ list. IfSome list (λ names. ArePublished (map text_in_value names.now))) }
 {
     match names_of(items) {

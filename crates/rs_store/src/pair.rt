@@ -40,7 +40,12 @@ impl Model for RsStore {
 
     ghost Value = { PairRecord };
 
-    ghost coded = { code_by (Option RsRecord × ContentRecord) (coded× (coded_option rs_row.coded) store_row.coded) (λ p. (p.services, p.store)) (λ p. pair_of p.0 p.1) (λ p i. p) };
+    ghost coded = { code_by
+        (Option RsRecord × ContentRecord)
+        (coded× (coded_option rs_row.coded) store_row.coded)
+        (λ p. (p.services, p.store))
+        (λ p. pair_of p.0 p.1)
+        (λ p i. p) };
 
     ghost view = { λ p. pair_of p.services p.store };
 }

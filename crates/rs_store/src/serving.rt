@@ -7,7 +7,8 @@ ghost use Rattle.rs_core.specs.Judging.{asks, has_actions};
 ghost use Rattle.rs_core.specs.Machine.{asked};
 ghost use Rattle.rs_to_store.specs.Asked.{command_of as command_for};
 ghost use Rattle.ds_store.specs.Turns.{Turn};
-ghost use Rattle.rs_store.specs.Serving.{ClientTurn, BeginTurn, HasRoomFor, RsRefuses, EventTurn, TurnFor, TurnsFor, before_beginning as reply_without};
+ghost use Rattle.rs_store.specs.Serving.{ClientTurn, BeginTurn, HasRoomFor, RsRefuses, EventTurn};
+ghost use Rattle.rs_store.specs.Serving.{TurnFor, TurnsFor, before_beginning as reply_without};
 
 use crate::by_rs::is_by_rs;
 use crate::call::RsReply;

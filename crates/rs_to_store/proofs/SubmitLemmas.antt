@@ -15,7 +15,8 @@ use Rattle.rs_to_store.specs.Submitting.{FollowedAndTaken, all_in}
 use Rattle.rs_to_store.proofs.ListLemmas.{next_taken}
 
 -- a follow that ended early, so that the request isn't taken; and a complete one
-pub ended_before : (held : List Item) (id unit : ℕ) (old new : TableRecord) (before after : List (List Move)) (fault : TableFault) → HasFollowed held old new before after (Some fault) → FollowedAndTaken held id unit old new before after (Err fault)
+pub ended_before : (held : List Item) (id unit : ℕ) (old new : TableRecord) (before after : List (List Move)) (fault : TableFault)
+    → HasFollowed held old new before after (Some fault) → FollowedAndTaken held id unit old new before after (Err fault)
 ended_before held id unit old new before after fault followed t stands =
     let f = followed t stands in (f.0, f.1, f.2, record { mid = f.0; stop = Some fault; follows = f.3; takes = (refl, refl); room = tt }, f.4)
 

@@ -4,12 +4,15 @@ use Rattle.ds_names.specs.declared.kind.Kind.TheVariants.{U32}
 use Rattle.ds_line.specs.Part.{Part, part, texts, Word}
 use Rattle.ds_line.specs.FaultPlace.{IsFaultPlace}
 use Rattle.ds_machine.specs.declared.command.Command.{Command}
-use Rattle.ds_machine.specs.declared.command.Command.TheVariants.{Publish, Delete, Sweep, Retrieve, NameOf, Subscribe, Check, Since, Snapshot, Page, Merge}
+use Rattle.ds_machine.specs.declared.command.Command.TheVariants.{Publish, Delete, Sweep, Retrieve, NameOf, Subscribe}
+use Rattle.ds_machine.specs.declared.command.Command.TheVariants.{Check, Since, Snapshot, Page, Merge}
 use Rattle.line_io.specs.Lines.{with_newline}
 use Rattle.script_commands.specs.declared.fault.CommandFault.{CommandFault}
 use Rattle.script_commands.specs.declared.fault.CommandFault.TheVariants.{BadLine, NoRoom}
 use Rattle.script_commands.specs.declared.command.ScriptCommand.{ScriptCommand}
-use Rattle.script_commands.specs.declared.command.ScriptCommand.TheVariants.{Offer, Show, All, Store, Map, Entries, Ring, Side, Clear, Restart, Deliver, Settings, Service, Death, Beat, Tick, Assign, Follow, Submit, Reply}
+use Rattle.script_commands.specs.declared.command.ScriptCommand.TheVariants.{Offer, Show, All, Store, Map, Entries, Ring, Side}
+use Rattle.script_commands.specs.declared.command.ScriptCommand.TheVariants.{Clear, Restart, Deliver, Settings, Service, Death}
+use Rattle.script_commands.specs.declared.command.ScriptCommand.TheVariants.{Beat, Tick, Assign, Follow, Submit, Reply}
 use Rattle.script_commands.specs.declared.word.Word.{Word as CommandWord}
 use Rattle.script_commands.specs.declared.word.Word.TheVariants as words
 use Rattle.script_commands.specs.Table.{slots_of, line_of, RowTakesMemory}

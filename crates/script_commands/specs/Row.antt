@@ -7,10 +7,13 @@ use Rattle.ds_entry.specs.Item.{IsItemInPlace}
 use Rattle.ds_line.specs.Piece.{Found}
 use Rattle.ds_line.specs.declared.part_fault.PartFault.{PartFault}
 use Rattle.ds_line.specs.declared.part_fault.PartFault.TheVariants.{NoRoom}
-use Rattle.ds_machine.specs.declared.command.Command.TheVariants.{Publish, Delete, Sweep, Retrieve, NameOf, Subscribe, Check, Since, Snapshot, Page}
+use Rattle.ds_machine.specs.declared.command.Command.TheVariants.{Publish, Delete, Sweep, Retrieve, NameOf}
+use Rattle.ds_machine.specs.declared.command.Command.TheVariants.{Subscribe, Check, Since, Snapshot, Page}
 use Rattle.ds_pattern.specs.Under.{query_of}
 use Rattle.script_commands.specs.declared.command.ScriptCommand.{ScriptCommand}
-use Rattle.script_commands.specs.declared.command.ScriptCommand.TheVariants.{Offer, Show, All, Store, Map, Entries, Ring, Side, Clear, Restart, Deliver, Settings, Service, Death, Beat, Tick, Assign, Follow, Submit, Reply}
+use Rattle.script_commands.specs.declared.command.ScriptCommand.TheVariants.{Offer, Show, All, Store, Map, Entries, Ring, Side}
+use Rattle.script_commands.specs.declared.command.ScriptCommand.TheVariants.{Clear, Restart, Deliver, Settings, Service, Death}
+use Rattle.script_commands.specs.declared.command.ScriptCommand.TheVariants.{Beat, Tick, Assign, Follow, Submit, Reply}
 use Rattle.script_commands.specs.declared.slot.Slot.{Slot}
 use Rattle.script_commands.specs.declared.slot.Slot.TheVariants as slots
 use Rattle.script_commands.specs.declared.word.Word.{Word}

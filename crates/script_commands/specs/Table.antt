@@ -13,7 +13,8 @@ use Rattle.script_commands.specs.declared.slot.Slot.TheVariants as slots
 use Rattle.script_commands.specs.declared.word.Word.{Word}
 use Rattle.script_commands.specs.declared.word.Word.TheVariants as words
 use Rattle.script_commands.specs.Page.{a_range}
-use Rattle.script_commands.specs.Pieces.{an_endpoint, a_mode, an_initial, a_name, a_key, a_generation, a_version, a_number, a_place, a_kinds, a_pattern, a_value, an_end}
+use Rattle.script_commands.specs.Pieces.{an_endpoint, a_mode, an_initial, a_name, a_key, a_generation, a_version}
+use Rattle.script_commands.specs.Pieces.{a_number, a_place, a_kinds, a_pattern, a_value, an_end}
 use Rattle.script_commands.specs.Scope.{a_scope, ScopeTakesMemory}
 use Rattle.script_commands.specs.ServicePieces.{a_device, a_request, a_server, a_text, a_unit}
 use Rattle.script_commands.specs.WorldPieces.{a_ring, a_side, a_holder, a_count}

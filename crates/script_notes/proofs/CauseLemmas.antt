@@ -38,7 +38,10 @@ module _ {S R N : Type 0} (inner : S → R) (name : S → N) (reads fails : R �
   told_on (Err Failed) old new mid n same led told = (same, (n, inl (mid, led, told)))
 
   -- likewise at the exit of a `?`
-  pub told_at : (result : Result ℕ Missed) (e : Missed) (old new : S) (mid : R) (n : ℕ) → IsErrAnd result (λ f. f ≡ e) → name new ≡ name old → CallsLead reads n (inner old) mid → TellsRead reads fails (Err e) mid (inner new) → TellsRead LeftReads LeftFails result old new
+  pub told_at : (result : Result ℕ Missed) (e : Missed) (old new : S) (mid : R) (n : ℕ)
+      → IsErrAnd result (λ f. f ≡ e) → name new ≡ name old → CallsLead reads n (inner old) mid
+      → TellsRead reads fails (Err e) mid (inner new)
+      → TellsRead LeftReads LeftFails result old new
   told_at result e old new mid n is same led told =
       let exit = err_from_is_err_and result is in
       subst (λ (r : Result ℕ Missed). TellsRead LeftReads LeftFails r old new) (sym (exit.1 ∙ ap (λ (x : Missed). Err x) exit.2)) (told_on (Err e) old new mid n same led told)

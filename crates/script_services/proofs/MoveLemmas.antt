@@ -21,7 +21,9 @@ lines_next moves i x start now new at before one =
     ∙ ap (λ (l : List ℕ). start ++ l) (sym (lines_more (take i moves) x)) ∙ ap (λ (l : List Move). start ++ move_lines l) (next_taken moves i x at)
 
 -- one more round
-pub rounds_next : (rounds : List (List Move)) (i : ℕ) (round : List Move) (start now new : List ℕ) → slice_get rounds i ≡ Some round → now ≡ start ++ move_lines (all_in (take i rounds)) → new ≡ now ++ move_lines round → new ≡ start ++ move_lines (all_in (take (i + 1) rounds))
+pub rounds_next : (rounds : List (List Move)) (i : ℕ) (round : List Move) (start now new : List ℕ)
+    → slice_get rounds i ≡ Some round → now ≡ start ++ move_lines (all_in (take i rounds)) → new ≡ now ++ move_lines round
+    → new ≡ start ++ move_lines (all_in (take (i + 1) rounds))
 rounds_next rounds i round start now new at before one =
     one ∙ ap (λ (l : List ℕ). l ++ move_lines round) before ∙ append_assoc start (move_lines (all_in (take i rounds))) (move_lines round)
     ∙ ap (λ (l : List ℕ). start ++ l) (sym (flat_map-append move_line (all_in (take i rounds)) round)) ∙ ap (λ (l : List Move). start ++ move_lines l) (sym (all_more rounds i round at))

@@ -76,7 +76,8 @@ ServicesAnswer (Some rs) event tick answer after = (new : RsRecord) × RsAnswers
 -- ---- the commands of its actions
 
 -- Whether the store of a side gets a command, and its reply is written: an event of the world.
-pub record AsksStore (side : Side) (command : Command) (old : WorldRecord) (out : List ℕ) (events : List (Event × Outcome)) (new : WorldRecord) : Type 0 where
+pub record AsksStore (side : Side) (command : Command) (old : WorldRecord) (out : List ℕ)
+    (events : List (Event × Outcome)) (new : WorldRecord) : Type 0 where
   pub reply : Reply
   pub leads : EventLeads (Ask side command) (Replied reply) old new
   pub told : IsTold (Ask side command) (Replied reply) old new
@@ -105,7 +106,8 @@ TellsActions side (Err fault) old out events new = (out ≡ rs_fault_line fault)
 
 -- Whether RS gets an event at a tick, and its label changes and sweeps go to the store of the side; the tables are
 -- unchanged.
-pub record AnswersService (event : services.Event) (tick : ℕ) (side : Side) (old : ServersRecord) (from : WorldRecord) (out : List ℕ) (new : ServersRecord) (to : WorldRecord) : Type 0 where
+pub record AnswersService (event : services.Event) (tick : ℕ) (side : Side) (old : ServersRecord) (from : WorldRecord)
+    (out : List ℕ) (new : ServersRecord) (to : WorldRecord) : Type 0 where
   pub answer : Result (List Action) RsFault
   pub events : List (Event × Outcome)
   pub answers : ServicesAnswer old.services event tick answer new.services

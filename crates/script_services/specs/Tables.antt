@@ -41,7 +41,8 @@ assign_text (Ok moves) = assigned_line
 assign_text (Err fault) = table_fault_line fault
 
 -- Whether a call on a server's table has this text as its answer.
-pub record AnswersCall (server : Server) (call : Call) (text : Result (List Move) TableFault → List ℕ) (s : Servers) (out : List ℕ) (t : Servers) : Type 0 where
+pub record AnswersCall (server : Server) (call : Call) (text : Result (List Move) TableFault → List ℕ)
+    (s : Servers) (out : List ℕ) (t : Servers) : Type 0 where
   pub answer : Result (List Move) TableFault
   pub table : DriverTable
   pub step : TableStep (server_table s server) call answer table
@@ -108,7 +109,8 @@ nomap_line = refusal_line (codes "nomap")
 abbrev pub AnswersFollow : Option (List Item) → Servers → List ℕ → Servers → Type 0
 AnswersFollow None s out t = (t ≡ s) × (out ≡ nomap_line)
 AnswersFollow (Some held) s out t =
-    (rounds : List (List Move)) × (fault : Option TableFault) × BothFollow held s rounds fault t × (out ≡ moves_text (all_in rounds) (ended_by fault))
+    (rounds : List (List Move)) × (fault : Option TableFault) ×
+    BothFollow held s rounds fault t × (out ≡ moves_text (all_in rounds) (ended_by fault))
 
 -- Whether a request is answered so: without a map nothing happens; else the moves of the follow come before the
 -- request's own move, or before its refusal.

@@ -33,10 +33,12 @@ pub record AreServersRefused (text : List ℕ) (old : ServersRecord) (out : List
 -- Whether the answer to a settings text is appended; or `refused noroom`, and nothing changes.
 abbrev pub AppendsLedOrRefuses : List ℕ → (before after : List ℕ) → (old new : ServersRecord) → Type 0
 AppendsLedOrRefuses text before after old new =
-    (out : List ℕ) × (after ≡ before ++ out) × (ServersLead (λ s t. AnswersSettings text s out t) old new ⊎ AreServersRefused text old out new)
+    (out : List ℕ) ×
+    (after ≡ before ++ out) × (ServersLead (λ s t. AnswersSettings text s out t) old new ⊎ AreServersRefused text old out new)
 
 -- Whether RS's answer to an event is appended.
-abbrev pub AppendsService : services.Event → ℕ → Side → (before after : List ℕ) → (old : ServersRecord) → (from : WorldRecord) → (new : ServersRecord) → (to : WorldRecord) → Type 0
+abbrev pub AppendsService : services.Event → ℕ → Side → (before after : List ℕ) → (old : ServersRecord) → (from : WorldRecord) →
+    (new : ServersRecord) → (to : WorldRecord) → Type 0
 AppendsService event tick side before after old from new to =
     (out : List ℕ) × (after ≡ before ++ out) × AnswersService event tick side old from out new to
 
@@ -48,7 +50,8 @@ AppendsTold side answer before after old new =
 -- Whether the commands of the first actions went to the store; none did if RS refused.
 abbrev pub BeginsTelling : Side → Result (List Action) RsFault → (old new : WorldRecord) → Type 0
 BeginsTelling side (Ok actions) old new =
-    (first rest : List Action) × (out : List ℕ) × (events : List (Event × Outcome)) × (actions ≡ first ++ rest) × AnswersActions side first old out events new
+    (first rest : List Action) × (out : List ℕ) × (events : List (Event × Outcome)) ×
+    (actions ≡ first ++ rest) × AnswersActions side first old out events new
 BeginsTelling side (Err fault) old new = new ≡ old
 
 -- Whether the command went to the store, if there is one.
@@ -61,7 +64,8 @@ AppendsAsked side command before after old new =
     (out : List ℕ) × (events : List (Event × Outcome)) × (after ≡ before ++ out) × AsksIfAny side command old out events new
 
 -- Whether RS took the event, though its answer isn't appended, and the commands of its first actions went to the store.
-pub record BeginsService (event : services.Event) (tick : ℕ) (side : Side) (old : ServersRecord) (from : WorldRecord) (new : ServersRecord) (to : WorldRecord) : Type 0 where
+pub record BeginsService (event : services.Event) (tick : ℕ) (side : Side) (old : ServersRecord)
+    (from : WorldRecord) (new : ServersRecord) (to : WorldRecord) : Type 0 where
   pub answer : Result (List Action) RsFault
   pub answers : ServicesAnswer old.services event tick answer new.services
   pub begins : BeginsTelling side answer from to

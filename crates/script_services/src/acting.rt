@@ -5,7 +5,8 @@ ghost use Rattle.std.specs.List.{AllByRecursion};
 ghost use Rattle.rs_core.specs.Action.{IsActionInPlace};
 ghost use Rattle.rs_to_store.specs.Asked.{command_of as command_for};
 ghost use Rattle.script_services.specs.Services.{without_settings as answer_without, ServicesAnswer};
-ghost use Rattle.script_services.specs.Waiting.{AppendsSome, AppendsService, AppendsTold, AppendsAsked, AsksOnly, BeginsService, BeginsTelling};
+ghost use Rattle.script_services.specs.Waiting.{AppendsSome, AppendsService, AppendsTold, AppendsAsked};
+ghost use Rattle.script_services.specs.Waiting.{AsksOnly, BeginsService, BeginsTelling};
 
 use crate::servers::Servers;
 use ds_held::Limits;

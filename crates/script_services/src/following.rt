@@ -57,7 +57,8 @@ impl Servers {
         ensures answered { OnOk result (AppendsLed (AnswersSubmit server id unit (map_items (option_copied map.entry)))
             output.old.items output.new.items self.old self.new) }
         ensures unanswered { OnErr result (output.new.items ≡ output.old.items) }
-        ensures carried { OnErr result (LeadsUnanswered (AnswersSubmit server id unit (map_items (option_copied map.entry))) self.old self.new) }
+        ensures carried { OnErr result
+            (LeadsUnanswered (AnswersSubmit server id unit (map_items (option_copied map.entry))) self.old self.new) }
     {
         let Some(map) = map else {
             return append_nomap(output);

@@ -28,7 +28,12 @@ impl Model for Servers {
 
     ghost Value = { ServersRecord };
 
-    ghost coded = { code_by (Option RsRecord × (TableRecord × TableRecord)) (coded× (coded_option rs_row.coded) (coded× file_row.coded net_row.coded)) (λ s. (s.services, (s.file, s.net))) (λ p. servers_of p.0 p.1.0 p.1.1) (λ s i. s) };
+    ghost coded = { code_by
+        (Option RsRecord × (TableRecord × TableRecord))
+        (coded× (coded_option rs_row.coded) (coded× file_row.coded net_row.coded))
+        (λ s. (s.services, (s.file, s.net)))
+        (λ p. servers_of p.0 p.1.0 p.1.1)
+        (λ s i. s) };
 
     ghost view = { λ s. servers_of s.services s.file s.net };
 }

@@ -15,7 +15,8 @@ use Rattle.ds_held.specs.Limits.{LimitsRecord}
 use Rattle.ds_machine.specs.declared.refusal.Refusal.{Refusal}
 use Rattle.ds_machine.specs.declared.refusal.Refusal.TheVariants as refusals
 use Rattle.ds_machine.specs.declared.reply.Reply.{Reply}
-use Rattle.ds_machine.specs.declared.reply.Reply.TheVariants.{Changed, Known, Swept, Found, Named, Subscribed, Checked, Journaled, Snapped, Paged, Merged, MergeStopped, Refused}
+use Rattle.ds_machine.specs.declared.reply.Reply.TheVariants.{Changed, Known, Swept, Found, Named, Subscribed, Checked}
+use Rattle.ds_machine.specs.declared.reply.Reply.TheVariants.{Journaled, Snapped, Paged, Merged, MergeStopped, Refused}
 use Rattle.ds_machine.specs.Given.{shown_by}
 use Rattle.ds_machine.specs.Owed.{owed_by}
 use Rattle.store_answers.specs.declared.wording.Wording.{Wording}

@@ -7,7 +7,8 @@ ghost use Rattle.ds_line.specs.ItemSpelling.{item_spelling};
 ghost use Rattle.line_io.specs.Lines.{with_newline};
 ghost use Rattle.ds_machine.specs.Given.{shown_by};
 ghost use Rattle.store_answers.specs.declared.wording.Wording.TheVariants.{AsOffer, AsMerge};
-ghost use Rattle.store_answers.specs.Reply.{refusal_word, refusal_words, refused, merged, stopped, reply_words, owed_line, reply_lines, refused_noroom};
+ghost use Rattle.store_answers.specs.Reply.{refusal_word, refusal_words, refused, merged, stopped};
+ghost use Rattle.store_answers.specs.Reply.{reply_words, owed_line, reply_lines, refused_noroom};
 
 use crate::shown::{append_checked, append_journaled, append_paged, append_snapped};
 use crate::wording::Wording;

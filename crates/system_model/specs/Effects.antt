@@ -44,7 +44,8 @@ pub record WorldDoes (s : System) (steps : Steps) (events : WorldEvents) (t : Sy
 
 -- Whether RS made a step: its label changes and sweeps went to the store of the side, in order, and the label changes
 -- were added to `made`.
-pub record Acts (s : System) (event : services.Event) (tick : ℕ) (side : Side) (actions : List Action) (replies : List Reply) (steps : Steps) (t : System) : Type 0 where
+pub record Acts (s : System) (event : services.Event) (tick : ℕ) (side : Side) (actions : List Action)
+    (replies : List Reply) (steps : Steps) (t : System) : Type 0 where
   pub step : RsStep s.rs event tick actions t.rs
   pub one_each : length replies ≡ length (commands actions)
   pub asked : WorldDoes s steps (asks_replied side (commands actions) replies) t
@@ -52,14 +53,19 @@ pub record Acts (s : System) (event : services.Event) (tick : ℕ) (side : Side)
 
 -- Whether the change of the service with the label was accepted: its instance drew a number, and the change was made
 -- and went to the store of the side, from the instance's endpoint.
-pub record WritesEntry (s : System) (label : List ℕ) (key : Key) (content : Body) (side : Side) (reply : Reply) (steps : Steps) (t : System) : Type 0 where
+pub record WritesEntry (s : System) (label : List ℕ) (key : Key) (content : Body)
+    (side : Side) (reply : Reply) (steps : Steps) (t : System) : Type 0 where
   pub instance : Instance
   pub judged_is : judged s.rs s.numberers label key content ≡ Ok instance
   pub number : Version
   pub left : NumbererRecord
   pub drawn : Gives (numbers_left s.numberers instance) left number
   pub asked : WorldDoes s steps ((Ask side (asking_for instance.running.endpoint key number content), Replied reply) ∷ []) t
-  pub system_is : t ≡ record s { numberers = slice_set s.numberers instance.place left; world = t.world; made = s.made ++ change_of key label number content ∷ [] }
+  pub system_is : t ≡ record s {
+    numberers = slice_set s.numberers instance.place left;
+    world = t.world;
+    made = s.made ++ change_of key label number content ∷ [];
+  }
 
 -- Whether a change that was made went to the store of the side again, and nothing new was made.
 pub record Repeats (s : System) (k : ℕ) (side : Side) (reply : Reply) (steps : Steps) (t : System) : Type 0 where
@@ -89,11 +95,14 @@ pub record IsPlain (turn : TableTurn) : Type 0 where
 -- Whether, unless something ended the file server's turn, the network server had one too, with these rounds, this fault
 -- and this table after it.
 abbrev pub LooksToo : System → Option TableFault → Option TableTurn → List (List Move) → Option TableFault → DriverTable → Type 0
-LooksToo s None net rounds fault after = (turn : TableTurn) × (net ≡ Some turn) × LooksAtMap s Net turn × IsPlain turn × (rounds ≡ turn.rounds) × (fault ≡ turn.stop) × (after ≡ turn.after)
+LooksToo s None net rounds fault after =
+    (turn : TableTurn) ×
+    (net ≡ Some turn) × LooksAtMap s Net turn × IsPlain turn × (rounds ≡ turn.rounds) × (fault ≡ turn.stop) × (after ≡ turn.after)
 LooksToo s (Some stop) net rounds fault after = (net ≡ None) × (rounds ≡ []) × (fault ≡ Some stop) × (after ≡ s.net)
 
 -- Whether both servers followed their maps, the file server first.
-pub record FollowsBoth (s : System) (rounds : List (List Move)) (own : Option Move) (fault : Option TableFault) (steps : Steps) (t : System) : Type 0 where
+pub record FollowsBoth (s : System) (rounds : List (List Move)) (own : Option Move)
+    (fault : Option TableFault) (steps : Steps) (t : System) : Type 0 where
   pub file : TableTurn
   pub first : LooksAtMap s File file
   pub plain : IsPlain file
@@ -114,7 +123,8 @@ Submits followed id unit None (Some own) None after = submitting followed id uni
 Submits followed id unit None _ _ after = ⊥
 
 -- Whether a server followed its map, and took a request.
-pub record FollowsAndSubmits (s : System) (table : Table) (id unit : ℕ) (rounds : List (List Move)) (own : Option Move) (fault : Option TableFault) (steps : Steps) (t : System) : Type 0 where
+pub record FollowsAndSubmits (s : System) (table : Table) (id unit : ℕ) (rounds : List (List Move)) (own : Option Move)
+    (fault : Option TableFault) (steps : Steps) (t : System) : Type 0 where
   pub turn : TableTurn
   pub first : LooksAtMap s table turn
   pub submits : Submits turn.followed id unit turn.stop turn.own fault turn.after
@@ -130,7 +140,8 @@ Replies t endpoint id None (Some fault) after = ((replying t endpoint id).0 ≡ 
 Replies t endpoint id _ _ after = ⊥
 
 -- Whether a driver replied.
-pub record TakesReply (s : System) (table : Table) (endpoint : EndpointRecord) (id : ℕ) (rounds : List (List Move)) (own : Option Move) (fault : Option TableFault) (steps : Steps) (t : System) : Type 0 where
+pub record TakesReply (s : System) (table : Table) (endpoint : EndpointRecord) (id : ℕ) (rounds : List (List Move))
+    (own : Option Move) (fault : Option TableFault) (steps : Steps) (t : System) : Type 0 where
   pub none : rounds ≡ []
   pub after : DriverTable
   pub replies : Replies (table_at s table) endpoint id own fault after

@@ -56,11 +56,13 @@ pub record SystemLaws (account : Account) (entries : List SystemEntry) (t : Syst
   -- *agreement*: holders that know the same under a query hold the same under it
   pub agree : (query : Key → Bool) (h i : Holder) → KnowSame query (known_at account h) (known_at account i) → HoldSame t.world query h i
   -- *no stop by clash or owner*
-  pub clashes : (c d : ChangeRecord) → IsAbout t.world (Changed c) → IsAbout t.world (Changed d) → c.key ≡ d.key → (c.owner ≡ d.owner) × (c.version ≡ d.version → c ≡ d)
+  pub clashes : (c d : ChangeRecord) →
+      IsAbout t.world (Changed c) → IsAbout t.world (Changed d) → c.key ≡ d.key → (c.owner ≡ d.owner) × (c.version ≡ d.version → c ≡ d)
   pub stops : NoneIsContradicted (all_events entries)
   -- *catch-up*: a map that has all of a store, and nothing else, holds exactly what the store holds under its query
   pub catch_up : (j : ℕ) (m : MapAccount) (side : Side) → HasAll account j m side → HasNothingElse account m side →
-      (held_by t.world (Map j) ≡ under (is_under m.query) (held_by t.world (Store side))) × (entries_of (held_by t.world (Map j)) ≡ entries_of (under (is_under m.query) (held_by t.world (Store side))))
+      (held_by t.world (Map j) ≡ under (is_under m.query) (held_by t.world (Store side))) ×
+      (entries_of (held_by t.world (Map j)) ≡ entries_of (under (is_under m.query) (held_by t.world (Store side))))
   -- *no older generation*: the labels of such a map name no older generation
   pub newest : MapsNameNewest account t.world
   -- both tables were reached by calls
@@ -69,4 +71,6 @@ pub record SystemLaws (account : Account) (entries : List SystemEntry) (t : Syst
 -- A law: `SystemLaws` holds over every list of events of a new system.
 abbrev pub SystemsKeepLaws : Type 0
 SystemsKeepLaws =
-    (settings : SettingsRecord) (a b : Seed) (next : ℕ) (s t : System) (entries : List SystemEntry) → IsNew settings a b next s → SystemRun s entries t → SystemLaws (account_since a b entries) entries t
+    (settings : SettingsRecord) (a b : Seed) (next : ℕ) (s t : System) (entries : List SystemEntry) →
+    IsNew settings a b next s → SystemRun s entries t →
+    SystemLaws (account_since a b entries) entries t

@@ -93,7 +93,8 @@ pub record GoesToNoOlder (held : List Item) (turn : TableTurn) (earlier : List S
   -- nor is it below that of an earlier Send or Start under the label
   pub of_earlier : (x : Sending) → Contains earlier x → x.label ≡ label → x.endpoint.generation ≤ e.generation
   -- and if the label lives in the map, and isn't passed over, the endpoint is the map's
-  pub own : (c : ChangeRecord) (f : EndpointRecord) → held_at held (label_key label) ≡ Some c → endpoint_in c.body ≡ Some f → is_passed turn.before label c ≡ false → e ≡ f
+  pub own : (c : ChangeRecord) (f : EndpointRecord) →
+      held_at held (label_key label) ≡ Some c → endpoint_in c.body ≡ Some f → is_passed turn.before label c ≡ false → e ≡ f
 
 -- Whether the label's endpoint and newest generation are unchanged.
 pub record IsAsBefore (t u : DriverTable) (label : List ℕ) : Type 0 where
@@ -110,8 +111,10 @@ pub record FollowsRightly (held : List Item) (turn : TableTurn) (earlier : List 
       IsAsBefore turn.before turn.after label × ((m : Move) → Contains (round_moves turn) m → label_of turn.after m ≡ Some label → ⊥)
   -- if the map was followed to its end, each label with a unit is as the map has it, or was passed over and is
   -- unchanged
-  pub knows : turn.stop ≡ None → (label : List ℕ) (c : ChangeRecord) → has_label turn.before.units label ≡ true → held_at held (label_key label) ≡ Some c →
-      (endpoint_now turn.after.states label ≡ endpoint_in c.body) ⊎ ((is_passed turn.before label c ≡ true) × IsAsBefore turn.before turn.after label)
+  pub knows : turn.stop ≡ None → (label : List ℕ) (c : ChangeRecord) → has_label turn.before.units label ≡ true →
+      held_at held (label_key label) ≡ Some c →
+      (endpoint_now turn.after.states label ≡ endpoint_in c.body)
+      ⊎ ((is_passed turn.before label c ≡ true) × IsAsBefore turn.before turn.after label)
 
 -- ---- an event whose turns are right
 
@@ -146,7 +149,8 @@ moves_had (Some turn) = turn_moves turn
 
 -- Whether the turn is the table's between these systems, over its own map, and right, and has no early end if the event
 -- has none.
-pub record IsRightTurn (s : System) (outcome : SystemOutcome) (table : Table) (turn : TableTurn) (earlier : List Sending) (t : System) : Type 0 where
+pub record IsRightTurn (s : System) (outcome : SystemOutcome) (table : Table) (turn : TableTurn)
+    (earlier : List Sending) (t : System) : Type 0 where
   pub before : turn.before ≡ table_at s table
   pub after : turn.after ≡ table_at t table
   pub right : FollowsRightly (followed_items s table) turn earlier
@@ -158,16 +162,19 @@ pub record TurnsAreRight (s : System) (entry : SystemEntry) (earlier : Table →
   pub told : is_look entry.event ≡ true → moves_told entry.outcome ≡ moves_had entry.steps.file ++ moves_had entry.steps.net
   -- every table that has to follow its map has a turn
   pub had : (table : Table) → must_look entry.event entry.outcome table ≡ true → is_some (turn_in entry.steps table) ≡ true
-  pub each : (table : Table) (turn : TableTurn) → turn_in entry.steps table ≡ Some turn → IsRightTurn s entry.outcome table turn (earlier table) t
+  pub each : (table : Table) (turn : TableTurn) →
+      turn_in entry.steps table ≡ Some turn → IsRightTurn s entry.outcome table turn (earlier table) t
 
 -- A law: whatever happened since a system was new, the turns of the next event are right.
 abbrev pub NoSendToOlder : Type 0
 NoSendToOlder =
-    (settings : SettingsRecord) (a b : Seed) (next : ℕ) (s t u : System) (entries : List SystemEntry) (entry : SystemEntry) → IsNew settings a b next s → SystemRun s entries t →
+    (settings : SettingsRecord) (a b : Seed) (next : ℕ) (s t u : System) (entries : List SystemEntry) (entry : SystemEntry) →
+    IsNew settings a b next s → SystemRun s entries t →
     SystemDoes t entry.event entry.outcome entry.steps u → TurnsAreRight t entry (sent_over entries) u
 
 -- A law: no label has units at both servers, so neither sends anything under a label of the other.
 abbrev pub LabelsAreApart : Type 0
 LabelsAreApart =
-    (settings : SettingsRecord) (a b : Seed) (next : ℕ) (s t : System) (entries : List SystemEntry) → IsNew settings a b next s → SystemRun s entries t →
+    (settings : SettingsRecord) (a b : Seed) (next : ℕ) (s t : System) (entries : List SystemEntry) →
+    IsNew settings a b next s → SystemRun s entries t →
     (label : List ℕ) → has_label t.file.units label ≡ true → has_label t.net.units label ≡ true → ⊥

@@ -77,7 +77,8 @@ pub record IsNew (settings : SettingsRecord) (a b : Seed) (next : ℕ) (s : Syst
 
 -- A law: there is such a system for all checked settings, whatever the seeds.
 abbrev pub NewSystemsExist : Type 0
-NewSystemsExist = (settings : SettingsRecord) (a b : Seed) (next : ℕ) → IsSettings settings → 1 ≤ next → (s : System) × IsNew settings a b next s
+NewSystemsExist =
+    (settings : SettingsRecord) (a b : Seed) (next : ℕ) → IsSettings settings → 1 ≤ next → (s : System) × IsNew settings a b next s
 
 -- The account of a system that began with these seeds, after these entries.
 abbrev pub account_since : Seed → Seed → List SystemEntry → Account

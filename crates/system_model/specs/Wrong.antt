@@ -50,7 +50,8 @@ DoesNothing = FollowsRightly (lives_at young) (plain_turn (disk_table []) [] (di
 
 -- Whether a turn is right in which the table sends again to its old endpoint, though its map has a newer one.
 abbrev pub SendsToOld : Type 0
-SendsToOld = FollowsRightly (lives_at young) (plain_turn (disk_table (Some old ∷ [])) ((Send 7 old ∷ []) ∷ []) (disk_table (Some old ∷ []))) []
+SendsToOld =
+    FollowsRightly (lives_at young) (plain_turn (disk_table (Some old ∷ [])) ((Send 7 old ∷ []) ∷ []) (disk_table (Some old ∷ []))) []
 
 -- Whether a turn is right in which the table sends a request there, without following its map.
 abbrev pub SubmitsUnseen : Type 0
@@ -67,13 +68,19 @@ FollowsAnotherMap = FollowsRightly (lives_at young) (plain_turn (disk_table []) 
 
 -- Whether a turn is right in which the table takes an old tombstone for the end of its driver.
 abbrev pub EndsByOldTombstone : Type 0
-EndsByOldTombstone = FollowsRightly (gone_since 1) (plain_turn (disk_table (Some young ∷ [])) ([] ∷ []) (disk_table (Some young ∷ None ∷ []))) []
+EndsByOldTombstone =
+    FollowsRightly (gone_since 1) (plain_turn (disk_table (Some young ∷ [])) ([] ∷ []) (disk_table (Some young ∷ None ∷ []))) []
 
 -- Whether a turn is right in which the table sends to the endpoint of its map, which was cleared and filled anew,
 -- though it sent to a newer one before.
 abbrev pub GoesBack : Type 0
-GoesBack = FollowsRightly (lives_at old) (plain_turn (disk_table (Some young ∷ [])) ((Send 7 old ∷ []) ∷ []) (disk_table (Some young ∷ Some old ∷ []))) (record { label = disk; endpoint = young } ∷ [])
+GoesBack =
+    FollowsRightly
+    (lives_at old)
+    (plain_turn (disk_table (Some young ∷ [])) ((Send 7 old ∷ []) ∷ []) (disk_table (Some young ∷ Some old ∷ [])))
+    (record { label = disk; endpoint = young } ∷ [])
 
 -- A law: none of these turns is right.
 abbrev pub WrongTurns : Type 0
-WrongTurns = (¬ DoesNothing) × (¬ SendsToOld) × (¬ SubmitsUnseen) × (¬ SendsToGone) × (¬ FollowsAnotherMap) × (¬ EndsByOldTombstone) × (¬ GoesBack)
+WrongTurns =
+    (¬ DoesNothing) × (¬ SendsToOld) × (¬ SubmitsUnseen) × (¬ SendsToGone) × (¬ FollowsAnotherMap) × (¬ EndsByOldTombstone) × (¬ GoesBack)

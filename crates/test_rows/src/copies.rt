@@ -1,11 +1,10 @@
 //! Copies of what was parsed, written again.
 
-use crate::lines::{CHANGES, FLOORS, read_items};
+use crate::lines::{CHANGES, FLOORS};
 use crate::telling::tell;
-use ds_entry::{Body, Change, Item, Items};
+use ds_entry::{Body, Change, Item};
 use ds_line::{read_change, read_item, write_change, write_item};
 use std::alloc::Global;
-use test_kit::append_items;
 
 /// Writes each change, remade with a copy of its value. `None` if a line isn't parsed whole, the two differ, or memory
 /// runs out.
@@ -57,20 +56,4 @@ fn tell_item(text: &mut Vec<u8>, alloc: Global, item: &Item) -> Option<()> {
     }
     let line = write_item(alloc, &copy).ok()?;
     tell(text, &[line.as_slice()])
-}
-
-/// Writes a copy of a list of items. `None`: the two differ, or out of memory.
-pub(crate) fn tell_list(text: &mut Vec<u8>, alloc: Global) -> Option<()> {
-    tell(text, &[b"items, copied as a list\n"])?;
-    let mut items = Items::new(alloc);
-    read_items(alloc, &mut items, &CHANGES)?;
-    tell_copy(text, alloc, &items)
-}
-
-fn tell_copy(text: &mut Vec<u8>, alloc: Global, items: &Items) -> Option<()> {
-    let copy = items.copy(alloc).ok()?;
-    if copy != *items {
-        return None;
-    }
-    append_items(text, &copy).ok()
 }

@@ -5,32 +5,31 @@
 //! - a line after a world's events, run at once, had the right outcomes;
 //! - for each reading of a store whose driver keeps publishing, the names of the items, or why the reader gave up;
 //! - the answers of a journal of two items to a cursor;
+//! - the replies to commands that a store runs at once, and what comes of joining holders;
 //! - endpoints, and lines that were parsed, copied and written again;
-//! - the items that cover each other, and the text of replies;
-//! - a line after a trace and a forged one were judged, and one after each read of a trace has failed;
-//! - a line after each read of some scripts has failed, and one after each write has;
-//! - the results of calls that take no memory.
+//! - the items that cover each other;
+//! - a line after a trace and a forged one were judged;
+//! - a line after each read of a script has failed, and one after each write has.
 #![tactic(auto)]
 
 mod copies;
 mod driver;
 mod endpoints;
+mod joins;
 mod journal;
 mod keys;
 mod lines;
 mod readings;
-mod replies;
 mod rival;
+mod runs;
 mod scripts;
 mod telling;
 mod traces;
-mod unaided;
 mod world;
 
 use std::alloc::Global;
 use std::io::{self, Write};
 use std::rt::Runtime;
-use telling::tell;
 use test_kit::Failure;
 
 // The kinds of rows.
@@ -39,37 +38,28 @@ enum Rows {
     World,
     Readings,
     Journal,
+    Runs,
+    Joins,
     Endpoints,
     Changes,
     Items,
-    List,
     Covered,
-    Replies,
     Traces,
-    ReadsOfTraces,
-    Reads,
-    Writes,
-    // From here on nothing is allocated.
-    Title,
-    Unaided,
+    Scripts,
 }
 
-const ALL: [Rows; 15] = [
+const ALL: [Rows; 11] = [
     Rows::World,
     Rows::Readings,
     Rows::Journal,
+    Rows::Runs,
+    Rows::Joins,
     Rows::Endpoints,
     Rows::Changes,
     Rows::Items,
-    Rows::List,
     Rows::Covered,
-    Rows::Replies,
     Rows::Traces,
-    Rows::ReadsOfTraces,
-    Rows::Reads,
-    Rows::Writes,
-    Rows::Title,
-    Rows::Unaided,
+    Rows::Scripts,
 ];
 
 /// Prints all rows. Ends early if a call's answer is wrong, or if memory or writing fails.
@@ -92,17 +82,13 @@ fn tell_rows(text: &mut Vec<u8>, alloc: Global, rows: Rows) -> Option<()> {
         Rows::World => world::tell_rows(text, alloc),
         Rows::Readings => readings::tell_rows(text, alloc),
         Rows::Journal => journal::tell_rows(text, alloc),
+        Rows::Runs => runs::tell_rows(text, alloc),
+        Rows::Joins => joins::tell_rows(text, alloc),
         Rows::Endpoints => endpoints::tell_rows(text, alloc),
         Rows::Changes => copies::tell_changes(text, alloc),
         Rows::Items => copies::tell_items_again(text, alloc),
-        Rows::List => copies::tell_list(text, alloc),
         Rows::Covered => lines::tell_rows(text, alloc),
-        Rows::Replies => replies::tell_rows(text, alloc),
-        Rows::Traces => traces::tell_judged(text, alloc),
-        Rows::ReadsOfTraces => traces::tell_failing(text, alloc),
-        Rows::Reads => scripts::tell_reads(text, alloc),
-        Rows::Writes => scripts::tell_writes(text, alloc),
-        Rows::Title => tell(text, &[b"what takes no memory\n"]),
-        Rows::Unaided => unaided::tell_rows(text, alloc),
+        Rows::Traces => traces::tell_rows(text, alloc),
+        Rows::Scripts => scripts::tell_rows(text, alloc),
     }
 }

@@ -81,7 +81,8 @@ module _ (b : Spot) (h : Header) (output : List ℕ) (count : ℕ) (x : Upgrades
       }
 
   -- one more
-  pub upgrades_on : (w : Walk) (to : Option (List ℕ)) (passed : Passed) (p : HasPassed b h w to passed) (text : List ℕ) (k : ℕ) → IsWrittenAs w passed [] text k → Upgrades (spot_behind b h.limits p.entry p.state) h (output ++ text) (count + k)
+  pub upgrades_on : (w : Walk) (to : Option (List ℕ)) (passed : Passed) (p : HasPassed b h w to passed) (text : List ℕ) (k : ℕ)
+      → IsWrittenAs w passed [] text k → Upgrades (spot_behind b h.limits p.entry p.state) h (output ++ text) (count + k)
   upgrades_on w to passed p text k is =
       let m = written_as b h w to passed p x.one text k is in
       let leads : EntryLeads One b.state p.entry p.state = subst (λ (f : Format). EntryLeads f b.state p.entry p.state) x.one p.leads in
@@ -112,7 +113,9 @@ sets_out b before w from had walks x =
     record { now = b; same = refl; header = refl; walks = walks; more = []; appends = Appends-nil had; upgrades = subst (λ (l : List ℕ). Upgrades b w.header l 0) (sym (append-nil before)) x }
 
 -- the first lines of the input were written, perhaps without the end
-part_of : (bytes : List ℕ) (now : Spot) (l : LinesContent) (from : Option (List ℕ)) → now.bytes ≡ bytes → IsAt now.bytes now.front l from → (output left : List ℕ) (count : ℕ) → IsUpgraded now.front (output ++ left) count → IsUpgradedInPart bytes output
+part_of : (bytes : List ℕ) (now : Spot) (l : LinesContent) (from : Option (List ℕ))
+    → now.bytes ≡ bytes → IsAt now.bytes now.front l from → (output left : List ℕ) (count : ℕ) → IsUpgraded now.front (output ++ left) count
+    → IsUpgradedInPart bytes output
 part_of bytes now l from same at output left count is =
     inr (at.before, at.after, left, count, subst (λ (t : List ℕ). HasLines t (at.before ++ at.after)) same at.lines, subst (λ (t : List ℕ). IsUpgraded t (output ++ left) count) at.front_is is)
 
@@ -200,4 +203,6 @@ module _ (bytes : List ℕ) (w : Walk) (from : Option (List ℕ)) (walks : Walks
 
   pub stops_in_header : w.header.format ≡ One → (sent left : List ℕ) → header_text (upgraded w.header) ≡ sent ++ left → IsUpgradedInPart bytes sent
   stops_in_header one sent left split =
-      part_of bytes (first_spot bytes w.header) w.lines from refl walks.at sent left 0 (subst (λ (l : List ℕ). IsUpgraded (header_text w.header) l 0) split (is_upgraded (first_spot bytes w.header) w.header (header_text (upgraded w.header)) 0 (header_upgrades one)))
+      part_of bytes (first_spot bytes w.header) w.lines from refl walks.at sent left 0
+      (subst (λ (l : List ℕ). IsUpgraded (header_text w.header) l 0) split
+      (is_upgraded (first_spot bytes w.header) w.header (header_text (upgraded w.header)) 0 (header_upgrades one)))

@@ -29,7 +29,8 @@ upgrade_fault walks.NoRoom = NoRoom
 
 -- Whether all of the input was written in format 2, with `count` entries.
 abbrev pub UpgradesAll : List ℕ → (had has : Option (List ℕ)) → ℕ → Type 0
-UpgradesAll bytes had has count = (lines : List (List ℕ)) × (output : List ℕ) × HasLines bytes lines × Appends had has output × IsUpgraded (joined lines) output count
+UpgradesAll bytes had has count =
+    (lines : List (List ℕ)) × (output : List ℕ) × HasLines bytes lines × Appends had has output × IsUpgraded (joined lines) output count
 
 -- Whether the first lines are a header of format 2.
 pub record BeginsWithTwo (bytes : List ℕ) : Type 0 where
@@ -65,7 +66,8 @@ BlamesUpgrade r w _ old new writer = Unit {0}
 
 -- Like `BlamesUpgrade`, whichever reader the reads began with.
 abbrev pub BlamesUpgradeOn : {R W : Type 0} → Reader R → Writer W → ℕ → (old new : R) → W → UpgradeFault → Type 0
-BlamesUpgradeOn {R} r w made old new writer fault = (first : R) → CallsLead r.reads made first old → BlamesUpgrade r w fault first new writer
+BlamesUpgradeOn {R} r w made old new writer fault =
+    (first : R) → CallsLead r.reads made first old → BlamesUpgrade r w fault first new writer
 
 -- ---- on the way
 
@@ -83,7 +85,8 @@ pub record Upgrades (b : Spot) (h : Header) (output : List ℕ) (count : ℕ) : 
 abbrev pub EndsUpgraded : Walk → Option (List ℕ) → (had has : Option (List ℕ)) → ℕ → Type 0
 EndsUpgraded old from had has count =
     (b : Spot) (before : List ℕ) → WalksAt b old from → Upgrades b old.header before 0 →
-    (lines : List (List ℕ)) × (more : List ℕ) × HasLines b.bytes lines × Appends had has more × IsUpgraded (joined lines) (before ++ more) count
+    (lines : List (List ℕ)) × (more : List ℕ) ×
+    HasLines b.bytes lines × Appends had has more × IsUpgraded (joined lines) (before ++ more) count
 
 -- A fault of an upgrade, and what was written of the input.
 abbrev pub StopsUpgrading : Walk → Option (List ℕ) → (had has : Option (List ℕ)) → UpgradeFault → Type 0
@@ -93,7 +96,9 @@ StopsUpgrading old from had has fault =
 
 -- Like `EndsUpgraded`, when only the header was read.
 abbrev pub EndsBehindHeader : Walk → Option (List ℕ) → (had has : Option (List ℕ)) → ℕ → Type 0
-EndsBehindHeader old from had has count = (bytes : List ℕ) → WalksAt (first_spot bytes old.header) old from → UpgradesAll bytes had has count
+EndsBehindHeader old from had has count =
+    (bytes : List ℕ) → WalksAt (first_spot bytes old.header) old from → UpgradesAll bytes had has count
 
 abbrev pub StopsBehindHeader : Walk → Option (List ℕ) → (had has : Option (List ℕ)) → UpgradeFault → Type 0
-StopsBehindHeader old from had has fault = (bytes : List ℕ) → WalksAt (first_spot bytes old.header) old from → UpgradesInPart bytes had has fault
+StopsBehindHeader old from had has fault =
+    (bytes : List ℕ) → WalksAt (first_spot bytes old.header) old from → UpgradesInPart bytes had has fault

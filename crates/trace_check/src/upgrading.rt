@@ -2,7 +2,8 @@
 
 ghost use Rattle.std.specs.Prelude.{◌≡◌, IfOk, IfErr, IfSome};
 ghost use Rattle.trace_model.specs.Upgrade.{upgraded};
-ghost use Rattle.trace_check.specs.Upgrading.{EndsBehindHeader, EndsUpgraded, BlamesUpgrade, BlamesUpgradeOn, StopsBehindHeader, StopsUpgrading, UpgradesAll, UpgradesInPart};
+ghost use Rattle.trace_check.specs.Upgrading.{EndsBehindHeader, EndsUpgraded, BlamesUpgrade, BlamesUpgradeOn};
+ghost use Rattle.trace_check.specs.Upgrading.{StopsBehindHeader, StopsUpgrading, UpgradesAll, UpgradesInPart};
 
 use ds_names::NoRoom;
 use line_io::{Sink, Source, WriteFailed, write_out};

@@ -69,7 +69,9 @@ none_may format c rest (Line d) e short is there refused none may of_d =
     refused (subst (λ (x : ScriptCommand). (store_command x ≢ None) × CarriesLine format x) (sym (same_command c d rest e short is may.0 there of_d)) (may.1, may.2))
 none_may format c rest (Merge count) e short is there refused none may of_d = none count may of_d
 
-pub no_head : (format : Format) (c : ScriptCommand) (line rest : List ℕ) (p : ℕ) → p ≤ 63 → EndsLine line → length line ≤ 4097 → line ≡ pass_text p rest → IsCommand c → rest ≡ texts (command_parts c) → ¬ ((store_command c ≢ None) × CarriesLine format c)
+pub no_head : (format : Format) (c : ScriptCommand) (line rest : List ℕ) (p : ℕ)
+    → p ≤ 63 → EndsLine line → length line ≤ 4097 → line ≡ pass_text p rest → IsCommand c → rest ≡ texts (command_parts c)
+    → ¬ ((store_command c ≢ None) × CarriesLine format c)
     → ((n : ℕ) → n ≤ 256 → rest ≢ merge_text n) → HasNoHead format line
 no_head format c line rest p le ends short at is there refused none pass head h =
     let e : EndsLine rest = pass_ends p rest le (subst EndsLine at ends) in

@@ -48,7 +48,9 @@ line_short : (pass : ℕ) (c : ScriptCommand) → length (line_text pass c) ≤ 
 line_short pass c short = omega (arith, short, length-append (decimal pass) (32 ∷ texts (command_parts c)))
 
 -- a Merge's first line, and what follows it
-pub merge_head : (format : Format) (p q n : ℕ) (js : List Item) (r s : List ℕ) → p ≤ 63 → q ≤ 63 → n ≤ 256 → MayAsk format q (Merge js) → pass_text p (merge_text n) ++ r ≡ asked_text q (Merge js) ++ s → (n ≡ length js) × (r ≡ flat_map plus_text js ++ s)
+pub merge_head : (format : Format) (p q n : ℕ) (js : List Item) (r s : List ℕ)
+    → p ≤ 63 → q ≤ 63 → n ≤ 256 → MayAsk format q (Merge js) → pass_text p (merge_text n) ++ r ≡ asked_text q (Merge js) ++ s
+    → (n ≡ length js) × (r ≡ flat_map plus_text js ++ s)
 merge_head format p q n js r s lp lq few may e =
     let one = lines_one (pass_text p (merge_text n)) (pass_text q (merge_text (length js))) r (flat_map plus_text js ++ s) (merge_ends p n lp few) (head_is format q (Merge js) lq may).1
     (e ∙ append_assoc (pass_text q (merge_text (length js))) (flat_map plus_text js) s) in
@@ -62,7 +64,10 @@ merge_not_line format p q n c r s lp lq few may e =
     no_merge_line c n may.1 (sym (pass_one p q (merge_text n) (texts (command_parts c)) lp lq one.0).1)
 
 -- the lines of items have one reading
-items_one : (format : Format) (items others : List Item) (r s : List ℕ) → length items ≡ length others → All (MayMerge format) items → All (MayMerge format) others → flat_map plus_text items ++ r ≡ flat_map plus_text others ++ s → (items ≡ others) × (r ≡ s)
+items_one : (format : Format) (items others : List Item) (r s : List ℕ)
+    → length items ≡ length others → All (MayMerge format) items → All (MayMerge format) others
+    → flat_map plus_text items ++ r ≡ flat_map plus_text others ++ s
+    → (items ≡ others) × (r ≡ s)
 items_one format [] [] r s same a b e = (refl, e)
 items_one format [] (j ∷ others) r s same a b e = absurd (omega (arith, same))
 items_one format (i ∷ items) [] r s same a b e = absurd (omega (arith, same))
@@ -97,7 +102,10 @@ asked_one format p q (Merge items) (Merge js) r s lp lq may_a may_b e =
 -- ---- where an entry leads
 
 -- two entries from one state with one front lead to one state, and the same text follows them
-pub one_entry : (format : Format) (limits : LimitsRecord) (e f : TraceEntry) (s t u : State) (r q : List ℕ) → IsTraced format s → IsEntry format e → IsEntry format f → EntryLeads format s e t → EntryLeads format s f u → entry_text limits e ++ r ≡ entry_text limits f ++ q → (t ≡ u) × (r ≡ q)
+pub one_entry : (format : Format) (limits : LimitsRecord) (e f : TraceEntry) (s t u : State) (r q : List ℕ)
+    → IsTraced format s → IsEntry format e → IsEntry format f → EntryLeads format s e t → EntryLeads format s f u
+    → entry_text limits e ++ r ≡ entry_text limits f ++ q
+    → (t ≡ u) × (r ≡ q)
 one_entry format limits e f s t u r q traced is_e is_f x y same =
     let asked = asked_one format e.pass f.pass e.asked f.asked (reply_text limits e ++ r) (reply_text limits f ++ q) is_e.pass is_f.pass is_e.asked is_f.asked
     (sym (append_assoc (asked_text e.pass e.asked) (reply_text limits e) r) ∙ same ∙ append_assoc (asked_text f.pass f.asked) (reply_text limits f) q) in
@@ -121,7 +129,9 @@ text_more h entries e =
     ∙ ap (λ (l : List ℕ). header_text h ++ l) (ap (λ (l : List ℕ). flat_map (entry_text h.limits) entries ++ l) (sym (append-nil (entry_text h.limits e))) ∙ sym (flat_map-append (entry_text h.limits) entries (e ∷ [])))
 
 -- a trace with one more entry is a trace
-pub trace_more : (front : List ℕ) (h : Header) (entries : List TraceEntry) (e : TraceEntry) (s t : State) → IsTrace front h entries s → IsEntry h.format e → EntryLeads h.format s e t → IsTrace (front ++ entry_text h.limits e) h (entries ++ e ∷ []) t
+pub trace_more : (front : List ℕ) (h : Header) (entries : List TraceEntry) (e : TraceEntry) (s t : State)
+    → IsTrace front h entries s → IsEntry h.format e → EntryLeads h.format s e t
+    → IsTrace (front ++ entry_text h.limits e) h (entries ++ e ∷ []) t
 trace_more front h entries e s t trace is x =
     record {
       header = trace.header;
@@ -134,7 +144,10 @@ pub asked_some : (pass : ℕ) (asked : Asked) → 0 < length (asked_text pass as
 asked_some pass (Line c) = omega arith
 asked_some pass (Merge items) = omega arith
 
-goes_on : (format : Format) (limits : LimitsRecord) (s t : State) (e : TraceEntry) (more : List ℕ) → IsTraced format s → IsEntry format e → EntryLeads format s e t → (entries : List TraceEntry) (last : State) → All (IsEntry format) entries → AllLead format s entries last → entry_text limits e ++ more ≡ flat_map (entry_text limits) entries → MayComeBehind format limits t more
+goes_on : (format : Format) (limits : LimitsRecord) (s t : State) (e : TraceEntry) (more : List ℕ)
+    → IsTraced format s → IsEntry format e → EntryLeads format s e t → (entries : List TraceEntry) (last : State)
+    → All (IsEntry format) entries → AllLead format s entries last → entry_text limits e ++ more ≡ flat_map (entry_text limits) entries
+    → MayComeBehind format limits t more
 goes_on format limits s t e more traced is x [] last each l text =
     absurd (omega (arith, ap length text, length-append (entry_text limits e) more, length-append (asked_text e.pass e.asked) (reply_text limits e), asked_some e.pass e.asked))
 goes_on format limits s t e more traced is x (f ∷ entries) last each l text =

@@ -47,7 +47,10 @@ no_ring bytes rest more n k few less there then none h same is e =
     none h.ring [] (omega (arith, is.ring.limit)) (behind_both bytes rest more n k h few less is there then e ∙ one_ring h same)
 
 -- the ring is the header's, and nothing follows its newline
-one_end : (bytes rest more last : List ℕ) (n k m : ℕ) (h : Header) → n < 2 ^ 64 → k < 2 ^ 64 → m < 2 ^ 64 → h.format ≡ One → IsHeader h → bytes ≡ decimal n ++ 32 ∷ rest → rest ≡ decimal k ++ 32 ∷ more → more ≡ decimal m ++ 10 ∷ last → bytes ≡ numbers_text h → (m ≡ h.ring) × (last ≡ [])
+one_end : (bytes rest more last : List ℕ) (n k m : ℕ) (h : Header)
+    → n < 2 ^ 64 → k < 2 ^ 64 → m < 2 ^ 64 → h.format ≡ One → IsHeader h → bytes ≡ decimal n ++ 32 ∷ rest → rest ≡ decimal k ++ 32 ∷ more
+    → more ≡ decimal m ++ 10 ∷ last → bytes ≡ numbers_text h
+    → (m ≡ h.ring) × (last ≡ [])
 one_end bytes rest more last n k m h few less lm same is there then ring e =
     number_one m h.ring 10 last [] lm (omega (arith, is.ring.limit)) refl (sym ring ∙ behind_both bytes rest more n k h few less is there then e ∙ one_ring h same)
 
@@ -110,7 +113,10 @@ no_subs bytes last n k m t lm none h same is e =
     none h.limits.subs (decimal h.limits.keys ++ 10 ∷ []) (few_limits h.limits (are_limits h same is)).0 (two_limits bytes last n k m h t lm same is e).1
 
 -- both limits
-behind_subs : (bytes last keys : List ℕ) (n k m s : ℕ) (h : Header) → Three bytes n k m last → m < 2 ^ 64 → s < 2 ^ 64 → last ≡ decimal s ++ 32 ∷ keys → h.format ≡ Two → IsHeader h → bytes ≡ numbers_text h → (s ≡ h.limits.subs) × (keys ≡ decimal h.limits.keys ++ 10 ∷ [])
+behind_subs : (bytes last keys : List ℕ) (n k m s : ℕ) (h : Header)
+    → Three bytes n k m last → m < 2 ^ 64 → s < 2 ^ 64 → last ≡ decimal s ++ 32 ∷ keys → h.format ≡ Two → IsHeader h
+    → bytes ≡ numbers_text h
+    → (s ≡ h.limits.subs) × (keys ≡ decimal h.limits.keys ++ 10 ∷ [])
 behind_subs bytes last keys n k m s h t lm ls at same is e =
     number_one s h.limits.subs 32 keys (decimal h.limits.keys ++ 10 ∷ []) ls (omega (arith, (few_limits h.limits (are_limits h same is)).0)) refl (sym at ∙ (two_limits bytes last n k m h t lm same is e).1)
 
@@ -118,7 +124,10 @@ pub no_keys : (bytes last keys : List ℕ) (n k m s : ℕ) → Three bytes n k m
 no_keys bytes last keys n k m s t lm ls at none h same is e =
     none h.limits.keys [] (few_limits h.limits (are_limits h same is)).1 (behind_subs bytes last keys n k m s h t lm ls at same is e).1
 
-pub two_end : (bytes last keys end : List ℕ) (n k m s y : ℕ) (h : Header) → Three bytes n k m last → m < 2 ^ 64 → s < 2 ^ 64 → y < 2 ^ 64 → last ≡ decimal s ++ 32 ∷ keys → keys ≡ decimal y ++ 10 ∷ end → h.format ≡ Two → IsHeader h → bytes ≡ numbers_text h → (m ≡ h.ring) × (s ≡ h.limits.subs) × (y ≡ h.limits.keys) × (end ≡ [])
+pub two_end : (bytes last keys end : List ℕ) (n k m s y : ℕ) (h : Header)
+    → Three bytes n k m last → m < 2 ^ 64 → s < 2 ^ 64 → y < 2 ^ 64 → last ≡ decimal s ++ 32 ∷ keys → keys ≡ decimal y ++ 10 ∷ end
+    → h.format ≡ Two → IsHeader h → bytes ≡ numbers_text h
+    → (m ≡ h.ring) × (s ≡ h.limits.subs) × (y ≡ h.limits.keys) × (end ≡ [])
 two_end bytes last keys end n k m s y h t lm ls ly at then same is e =
     let subs = behind_subs bytes last keys n k m s h t lm ls at same is e in
     let keys_one = number_one y h.limits.keys 10 end [] ly (omega (arith, (few_limits h.limits (are_limits h same is)).1)) refl (sym then ∙ subs.1) in

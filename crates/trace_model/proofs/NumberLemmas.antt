@@ -25,7 +25,10 @@ number_one m n stop r s lm ln h e =
     (one.0, behind_byte stop r s one.1)
 
 -- if another byte follows a number, no number is followed by this byte
-pub none_behind : (bytes rest : List ℕ) (m stop : ℕ) → m < 2 ^ 64 → is_ascii_digit stop ≡ false → Begins is_ascii_digit bytes (decimal m) rest → ((s : List ℕ) → rest ≢ stop ∷ s) → (n : ℕ) (s : List ℕ) → n < 2 ^ 64 → bytes ≢ decimal n ++ stop ∷ s
+pub none_behind : (bytes rest : List ℕ) (m stop : ℕ)
+    → m < 2 ^ 64 → is_ascii_digit stop ≡ false → Begins is_ascii_digit bytes (decimal m) rest → ((s : List ℕ) → rest ≢ stop ∷ s)
+    → (n : ℕ) (s : List ℕ) → n < 2 ^ 64
+    → bytes ≢ decimal n ++ stop ∷ s
 none_behind bytes rest m stop lm h begins none n s ln e = none s (decimal_one bytes m n rest (stop ∷ s) lm ln begins (number_begins bytes n stop s h e)).1
 
 -- ---- slices

@@ -45,7 +45,15 @@ IsPlain reply = (room_wanted reply ≡ None) × (shown_by reply ≡ []) × (done
 pub older_plain : (s : State) (caller : EndpointRecord) (owner : List ℕ) (generation : ℕ) → IsPlain (older_sweep s caller owner generation).0
 older_plain s caller owner generation = by_tests (is_rs caller) (nat_le (next_position s + length (tombstones (held s) owner generation)) last_place)
   where
-    by_tests : (a b : Bool) → IsPlain (cond {A = Reply × State} a (cond b (Swept (length (tombstones (held s) owner generation)) (owed s (tombstones (held s) owner generation)), takes_effect s (tombstones (held s) owner generation)) (Refused refusals.Worn, s)) (Refused refusals.NotAllowed, s)).0
+    by_tests : (a b : Bool)
+        → IsPlain
+        (cond {A = Reply × State} a
+        (cond b (
+          Swept (length (tombstones (held s) owner generation)) (owed s (tombstones (held s) owner generation)),
+          takes_effect s (tombstones (held s) owner generation),
+        )
+        (Refused refusals.Worn, s))
+        (Refused refusals.NotAllowed, s)).0
     by_tests true true = (refl, refl, refl)
     by_tests true false = (refl, refl, refl)
     by_tests false b = (refl, refl, refl)
@@ -136,14 +144,17 @@ asked_small format pass (askeds.Merge items) command may e = subst IsSmall (same
 
 -- ---- one reply
 
-module _ (format : Format) (limits : LimitsRecord) (command : Command) (s t u : State) (reply other : Reply) (traced : IsTraced format s) (small : IsSmall command) (x : StepOf format s command reply t) (y : StepOf format s command other u) where
+module _ (format : Format) (limits : LimitsRecord) (command : Command) (s t u : State) (reply other : Reply) (traced : IsTraced format s)
+    (small : IsSmall command) (x : StepOf format s command reply t) (y : StepOf format s command other u) where
   merge_one : HaveOneFirst (reply_lines AsMerge reply limits) (reply_lines AsMerge other limits) → (reply_lines AsMerge reply limits ≡ reply_lines AsMerge other limits) × (t ≡ u)
   merge_one h =
       let one = steps_told format s t u command reply other x y (first_lines_tell limits reply other (reply_spelt format s t command reply traced small x) (reply_spelt format s u command other traced small y) h) in
       (ap (λ (r : Reply). reply_lines AsMerge r limits) one.0, one.1)
 
 -- if memory runs out for an offer, however its reply says so, its text is one, and nothing changed
-pub offer_wants : (limits : LimitsRecord) (s t : State) (i : Item) (reply : Reply) → Step s (Merge (i ∷ [])) reply t → is_some (room_wanted reply) ≡ true → (reply_lines AsOffer reply limits ≡ reply_lines AsOffer (Refused refusals.NoRoom) limits) × (t ≡ s)
+pub offer_wants : (limits : LimitsRecord) (s t : State) (i : Item) (reply : Reply)
+    → Step s (Merge (i ∷ [])) reply t → is_some (room_wanted reply) ≡ true
+    → (reply_lines AsOffer reply limits ≡ reply_lines AsOffer (Refused refusals.NoRoom) limits) × (t ≡ s)
 offer_wants limits s t i reply step e = let one = one_item s t i reply step e in (by_reply reply e one.1, one.0)
   where
     noroom_is : (fault : Refusal) → is_noroom fault ≡ true → fault ≡ refusals.NoRoom
@@ -191,5 +202,7 @@ pub reply_is_one : ReplyIsOne
 reply_is_one format limits pass (askeds.Merge items) command s t u reply other traced may e x y h = merge_one format limits command s t u reply other traced (asked_small format pass (askeds.Merge items) command may e) x y h
 reply_is_one format limits pass (askeds.Line (lines.Offer i)) command s t u reply other traced may e x y h =
     let same : command ≡ Merge (i ∷ []) = sym (same_Some (Merge (i ∷ [])) command e) in
-    offer_one format limits s t u i reply other traced (is_merge format s t (i ∷ []) reply (subst (λ (c : Command). StepOf format s c reply t) same x)) (is_merge format s u (i ∷ []) other (subst (λ (c : Command). StepOf format s c other u) same y)) h
+    offer_one format limits s t u i reply other traced
+    (is_merge format s t (i ∷ []) reply (subst (λ (c : Command). StepOf format s c reply t) same x))
+    (is_merge format s u (i ∷ []) other (subst (λ (c : Command). StepOf format s c other u) same y)) h
 reply_is_one format limits pass (askeds.Line c) command s t u reply other traced may e x y h = merge_one format limits command s t u reply other traced (line_small c command may.0 e) x y h

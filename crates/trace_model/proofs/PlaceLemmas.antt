@@ -1,5 +1,6 @@
 -- The places within an entry.
-use Rattle.std.proofs.Common.{◌≡◌, ◌≢◌, ℕ, suc, ◌-◌, ◌<◌, ◌≤◌, true, false, List, [], ◌∷◌, ◌++◌, length, get_or, drop, replicate, nat_lt, Option, None, Some, inl, inr, refl, sym, ap, subst, ◌∙◌, arith, append_assoc, append-nil, length-append}
+use Rattle.std.proofs.Common.{◌≡◌, ◌≢◌, ℕ, suc, ◌-◌, ◌<◌, ◌≤◌, true, false, List, [], ◌∷◌, ◌++◌, length, get_or, drop, replicate, nat_lt, Option, None, Some, inl, inr}
+use Rattle.std.proofs.Common.{refl, sym, ap, subst, ◌∙◌, arith, append_assoc, append-nil, length-append}
 use Rattle.std.specs.List.{All, flat_map}
 use Rattle.std.proofs.lemmas.Grind.{flat_map-append}
 use Rattle.std.proofs.lemmas.Option.{same_Some}
@@ -53,7 +54,10 @@ abbrev Only : List ℕ → (List ℕ → Type 0) → Type 0
 Only front Next = (more : List ℕ) (n : ℕ) → IsLegal (front ++ more) n → Next more
 
 -- a line that is there begins what may come
-wrong_by : (front : List ℕ) (Next May : List ℕ → Type 0) → Only front Next → ((line more : List ℕ) → IsUnbroken line → Next (with_newline line ++ more) → May (with_newline line)) → (line : List ℕ) (rest : List (List ℕ)) → IsUnbroken line → ¬ May (with_newline line) → Fails front (line ∷ rest)
+wrong_by : (front : List ℕ) (Next May : List ℕ → Type 0)
+    → Only front Next → ((line more : List ℕ) → IsUnbroken line → Next (with_newline line ++ more) → May (with_newline line))
+    → (line : List ℕ) (rest : List (List ℕ)) → IsUnbroken line → ¬ May (with_newline line)
+    → Fails front (line ∷ rest)
 wrong_by front Next May only first line rest whole none begins =
     let one : front ++ joined (line ∷ []) ≡ front ++ with_newline line = ap (λ (l : List ℕ). front ++ l) (append-nil (with_newline line)) in
     let legal = subst (λ (t : List ℕ). IsLegal t begins.1) (ap (λ (l : List ℕ). l ++ begins.0) one ∙ append_assoc front (with_newline line) begins.0) begins.2 in
@@ -79,7 +83,10 @@ pub record FirstEntry (format : Format) (limits : LimitsRecord) (s : State) (tex
   pub text_is : text ≡ entry_text limits entry ++ rest
   pub goes : MayComeBehind format limits new rest
 
-first_entry : (format : Format) (limits : LimitsRecord) (s : State) (text : List ℕ) → 0 < length text → (entries : List TraceEntry) (last : State) → All (IsEntry format) entries → AllLead format s entries last → text ≡ flat_map (entry_text limits) entries → FirstEntry format limits s text
+first_entry : (format : Format) (limits : LimitsRecord) (s : State) (text : List ℕ)
+    → 0 < length text → (entries : List TraceEntry) (last : State) → All (IsEntry format) entries → AllLead format s entries last
+    → text ≡ flat_map (entry_text limits) entries
+    → FirstEntry format limits s text
 first_entry format limits s text some [] last each l e = absurd (omega (arith, some, ap length e))
 first_entry format limits s text some (f ∷ entries) last each l e =
     record {
@@ -149,14 +156,19 @@ none_whole format limits s t e part more traced is x whole some (f ∷ entries) 
     (append-nil (entry_text limits e) ∙ whole ∙ ap (λ (l : List ℕ). l ++ more) text ∙ append_assoc (entry_text limits f) rest more) in
     absurd (omega (arith, some, ap length one.1, length-append rest more))
 
-none_within : (front : List ℕ) (h : Header) (s t : State) (count : ℕ) (e : TraceEntry) (part more : List ℕ) → IsBehind front h s count → IsEntry h.format e → EntryLeads h.format s e t → entry_text h.limits e ≡ part ++ more → 0 < length more → NoneEnds front (front ++ part)
+none_within : (front : List ℕ) (h : Header) (s t : State) (count : ℕ) (e : TraceEntry) (part more : List ℕ)
+    → IsBehind front h s count → IsEntry h.format e → EntryLeads h.format s e t → entry_text h.limits e ≡ part ++ more → 0 < length more
+    → NoneEnds front (front ++ part)
 none_within front h s t count e part more b is x whole some p left n same legal =
     let split : part ≡ p ++ left = append_cancel_left front part (p ++ left) (same ∙ append_assoc front p left) in
     let g = b.only p n legal in
     none_whole h.format h.limits s t e p (left ++ more) b.traced is x (whole ∙ ap (λ (l : List ℕ). l ++ more) split ∙ append_assoc p left more) (omega (arith, some, length-append left more)) g.0 g.1 g.2 g.3 g.4
 
 -- if memory may run out for it
-none_wanting : (front : List ℕ) (h : Header) (s : State) (count pass : ℕ) (asked : Asked) (part more : List ℕ) → IsBehind front h s count → pass ≤ 63 → MayAsk h.format pass asked → entry_text h.limits (wanting pass asked) ≡ part ++ more → 0 < length more → NoneEnds front (front ++ part)
+none_wanting : (front : List ℕ) (h : Header) (s : State) (count pass : ℕ) (asked : Asked) (part more : List ℕ)
+    → IsBehind front h s count → pass ≤ 63 → MayAsk h.format pass asked → entry_text h.limits (wanting pass asked) ≡ part ++ more
+    → 0 < length more
+    → NoneEnds front (front ++ part)
 none_wanting front h s count pass asked part more b le may whole some =
     let c = asks_some h.format pass asked may in
     none_within front h s s count (wanting pass asked) part more b (record { pass = le; asked = may }) (c.0, c.1, wants_step h.format s c.0) whole some
@@ -175,7 +187,10 @@ example_may Two = (record { name = rs_is_name; owner = rs_is_name; epoch = omega
 abbrev ItemComes : Format → List ℕ → Type 0
 ItemComes format more = (i : Item) × (rest : List ℕ) × MayMerge format i × (more ≡ plus_text i ++ rest)
 
-plus_next : (format : Format) (items others : List Item) (r s : List ℕ) → length items < length others → All (MayMerge format) items → All (MayMerge format) others → flat_map plus_text items ++ r ≡ flat_map plus_text others ++ s → ItemComes format r
+plus_next : (format : Format) (items others : List Item) (r s : List ℕ)
+    → length items < length others → All (MayMerge format) items → All (MayMerge format) others
+    → flat_map plus_text items ++ r ≡ flat_map plus_text others ++ s
+    → ItemComes format r
 plus_next format items [] r s less a b e = absurd (omega (arith, less))
 plus_next format [] (j ∷ others) r s less a b e = (j, flat_map plus_text others ++ s, b 0 j (omega arith), e ∙ append_assoc (plus_text j) (flat_map plus_text others) s)
 plus_next format (i ∷ items) (j ∷ others) r s less a b e =
@@ -184,7 +199,9 @@ plus_next format (i ∷ items) (j ∷ others) r s less a b e =
     let first = items_apart i j (flat_map plus_text items ++ r) (flat_map plus_text others ++ s) (a 0 i (omega arith)).0 (b 0 j (omega arith)).0 (ap (drop 2) (sym left ∙ e ∙ right)) in
     plus_next format items others r s (omega (arith, less)) (λ k d lt. a (suc k) d (omega (arith, lt))) (λ k d lt. b (suc k) d (omega (arith, lt))) first.1
 
-merge_next : (format : Format) (limits : LimitsRecord) (pass n : ℕ) (items : List Item) (more : List ℕ) (f : TraceEntry) (asked : Asked) (rest : List ℕ) → pass ≤ 63 → f.pass ≤ 63 → n ≤ 256 → length items < n → All (MayMerge format) items → MayAsk format f.pass asked →
+merge_next : (format : Format) (limits : LimitsRecord) (pass n : ℕ) (items : List Item) (more : List ℕ) (f : TraceEntry)
+    (asked : Asked) (rest : List ℕ)
+    → pass ≤ 63 → f.pass ≤ 63 → n ≤ 256 → length items < n → All (MayMerge format) items → MayAsk format f.pass asked →
     (pass_text pass (merge_text n) ++ flat_map plus_text items) ++ more ≡ asked_text f.pass asked ++ rest → ItemComes format more
 merge_next format limits pass n items more f (Line c) rest le lf few less all may e =
     absurd (merge_not_line format pass f.pass n c (flat_map plus_text items ++ more) rest le lf few may (sym (append_assoc (pass_text pass (merge_text n)) (flat_map plus_text items) more) ∙ e))

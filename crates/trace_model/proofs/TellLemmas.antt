@@ -61,7 +61,10 @@ above_space : (word : List ℕ) → list_all (λ (x : ℕ). nat_lt 32 x) word �
 above_space word all = without 32 (λ (x : ℕ). nat_lt 32 x) refl word all
 
 -- a word, a space and a byte that begins no word of a kind begin no item's line
-item_apart : (i : Item) (word : List ℕ) (more behind : List ℕ) → IsItem i → All (λ (x : ℕ). x ≢ 32) word → (97 ≤ get_or (word ++ 32 ∷ behind) 0 0) → (97 ≤ get_or behind 0 0 → get_or behind 0 0 ≡ 110) → item_spelling i ++ more ≡ word ++ 32 ∷ behind → ⊥
+item_apart : (i : Item) (word : List ℕ) (more behind : List ℕ)
+    → IsItem i → All (λ (x : ℕ). x ≢ 32) word → (97 ≤ get_or (word ++ 32 ∷ behind) 0 0) → (97 ≤ get_or behind 0 0 → get_or behind 0 0 ≡ 110)
+    → item_spelling i ++ more ≡ word ++ 32 ∷ behind
+    → ⊥
 item_apart (Floored f) word more behind is none letter other e = omega (arith, letter, ap (λ (l : List ℕ). get_or l 0 0) e)
 item_apart (Changed c) word more behind is none letter other e =
     let b = change_begins c more in
@@ -91,7 +94,10 @@ number_low : (n : ℕ) (r : List ℕ) → n < 2 ^ 64 → get_or (decimal n ++ r)
 number_low n r few = digits_low (decimal n) r (decimal_nonempty n few) (digits_decimal own n few)
 
 -- if they are at the front of a reply, no item is before them
-behind_items : (items : List Item) (word more behind : List ℕ) → AreItems items → All (λ (x : ℕ). x ≢ 32) word → (97 ≤ get_or (word ++ 32 ∷ behind) 0 0) → (97 ≤ get_or behind 0 0 → get_or behind 0 0 ≡ 110) → flat_map item_spelling items ++ more ≡ word ++ 32 ∷ behind → more ≡ word ++ 32 ∷ behind
+behind_items : (items : List Item) (word more behind : List ℕ)
+    → AreItems items → All (λ (x : ℕ). x ≢ 32) word → (97 ≤ get_or (word ++ 32 ∷ behind) 0 0)
+    → (97 ≤ get_or behind 0 0 → get_or behind 0 0 ≡ 110) → flat_map item_spelling items ++ more ≡ word ++ 32 ∷ behind
+    → more ≡ word ++ 32 ∷ behind
 behind_items [] word more behind are none letter other e = e
 behind_items (i ∷ items) word more behind are none letter other e =
     absurd (item_apart i word (flat_map item_spelling items ++ more) behind (are i (Contains-head i items)) none letter other (sym (append_assoc (item_spelling i) (flat_map item_spelling items) more) ∙ e))
@@ -208,7 +214,9 @@ stopped_by limits reply d rest is few e =
     let last : List ℕ = owed_line limits (owed_by reply) in
     let behind : List ℕ = decimal d ++ 32 ∷ (codes "noroom\n" ++ rest) in
     let low : get_or behind 0 0 < 97 = number_low d (32 ∷ (codes "noroom\n" ++ rest)) few in
-    words_stopped d reply last rest few is.few (behind_items (shown_by reply) (codes "stopped") (with_newline (reply_words AsMerge reply) ++ last) behind is.items (above_space (codes "stopped") refl) (omega arith) (λ l. absurd (omega (arith, l, low))) e)
+    words_stopped d reply last rest few is.few
+    (behind_items (shown_by reply) (codes "stopped") (with_newline (reply_words AsMerge reply) ++ last) behind is.items
+    (above_space (codes "stopped") refl) (omega arith) (λ l. absurd (omega (arith, l, low))) e)
 
 -- ---- what is written if memory ran out
 
@@ -280,7 +288,10 @@ refused_both wording limits reply other is h told =
 stopped_nested : (d : ℕ) (rest : List ℕ) → stopped_front d rest ≡ (codes "stopped " ++ (decimal d ++ 32 ∷ codes "noroom\n")) ++ rest
 stopped_nested d rest = ap (λ (l : List ℕ). codes "stopped " ++ l) (sym (append_assoc (decimal d) (32 ∷ codes "noroom\n") rest))
 
-stopped_both : (limits : LimitsRecord) (reply other : Reply) (d : ℕ) → IsSpelt reply → IsSpelt other → HaveOneFirst (reply_lines AsMerge reply limits) (reply_lines AsMerge other limits) → room_wanted reply ≡ Some (Some d) → room_wanted other ≡ Some (Some d)
+stopped_both : (limits : LimitsRecord) (reply other : Reply) (d : ℕ)
+    → IsSpelt reply → IsSpelt other → HaveOneFirst (reply_lines AsMerge reply limits) (reply_lines AsMerge other limits)
+    → room_wanted reply ≡ Some (Some d)
+    → room_wanted other ≡ Some (Some d)
 stopped_both limits reply other d is_r is h e =
     let t = stopped_text limits reply d e in
     let few : d < 2 ^ 64 = subst (λ (n : ℕ). n < 2 ^ 64) (sym t.2) is_r.few in

@@ -116,7 +116,13 @@ free_within s (i ∷ items) w free =
 
 stays_two : (s t : State) (command : Command) (reply : Reply) → IsTraced Two s → IsProper command → Step s command reply t → IsTraced Two t
 stays_two s t command reply traced proper step =
-    record { reached = steps_stay_reached s t command reply traced.reached step; items = step_items s t command reply traced.reached traced.items proper step; floors = tt; within = steps_stay_within s t command reply traced.within step; incarnation = run_stays s t command reply traced.reached traced.incarnation step }
+    record {
+      reached = steps_stay_reached s t command reply traced.reached step;
+      items = step_items s t command reply traced.reached traced.items proper step;
+      floors = tt;
+      within = steps_stay_within s t command reply traced.within step;
+      incarnation = run_stays s t command reply traced.reached traced.incarnation step;
+    }
 
 stays_one : (s t : State) (command : Command) (reply : Reply) → IsTraced One s → IsProper command → ((f : Floor) → Contains (brought_by s command) (Floored f) → ⊥) → Step s command reply t → IsTraced One t
 stays_one s t command reply traced proper none step =
@@ -150,7 +156,12 @@ module _ (s : State) (owner : List ℕ) (generation : ℕ) (traced : IsTraced On
   older_stays : (caller : EndpointRecord) → IsTraced One (older_sweep s caller owner generation).1
   older_stays caller = by_tests (is_rs caller) (nat_le (next_position s + length gone) last_place) refl
     where
-      by_tests : (a b : Bool) → nat_le (next_position s + length gone) last_place ≡ b → IsTraced One (cond {A = Reply × State} a (cond b (Swept (length gone) (owed s gone), takes_effect s gone) (Refused refusals.Worn, s)) (Refused refusals.NotAllowed, s)).1
+      by_tests : (a b : Bool)
+          → nat_le (next_position s + length gone) last_place ≡ b
+          → IsTraced One
+          (cond {A = Reply × State} a
+          (cond b (Swept (length gone) (owed s gone), takes_effect s gone) (Refused refusals.Worn, s))
+          (Refused refusals.NotAllowed, s)).1
       by_tests true true e = swept_stays (leb-true (next_position s + length gone) last_place e)
       by_tests true false e = traced
       by_tests false b e = traced

@@ -53,7 +53,9 @@ pub merge_leads : (s : State) (pass : ℕ) (part : List Item) → IsPart part �
 merge_leads s pass part is free = (commands.Merge part, refl, free_step s part is.few free)
 
 -- Merges in order lead to where all items took effect
-pub merges_lead : (s : State) (pass : ℕ) (parts : List (List Item)) → All IsPart parts → AreFree s (flat_map (λ (part : List Item). part) parts) → AllLead Two s (map (merge_entry s pass) parts) (takes_effect s (flat_map (λ (part : List Item). part) parts))
+pub merges_lead : (s : State) (pass : ℕ) (parts : List (List Item))
+    → All IsPart parts → AreFree s (flat_map (λ (part : List Item). part) parts)
+    → AllLead Two s (map (merge_entry s pass) parts) (takes_effect s (flat_map (λ (part : List Item). part) parts))
 merges_lead s pass [] are free = ap (with_accepted s) (append-nil s.feed.accepted)
 merges_lead s pass (part ∷ parts) are free =
     let rest : List Item = flat_map (λ (p : List Item). p) parts in

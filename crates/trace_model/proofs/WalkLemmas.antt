@@ -76,7 +76,10 @@ pub entry_splits : (limits : LimitsRecord) (e : TraceEntry) (asked : Asked) → 
 entry_splits limits e (askeds.Line c) = refl
 entry_splits limits e (askeds.Merge items) = append_assoc (pass_text e.pass (merge_text (length items))) (flat_map plus_text items) (reply_text limits e)
 
-pub head_is : (format : Format) (pass : ℕ) (asked : Asked) → pass ≤ 63 → MayAsk format pass asked → IsHeadOf format pass (head_of asked) (head_text pass (head_of asked)) × EndsLine (head_text pass (head_of asked)) × (length (head_text pass (head_of asked)) ≤ 4097)
+pub head_is : (format : Format) (pass : ℕ) (asked : Asked)
+    → pass ≤ 63 → MayAsk format pass asked
+    → IsHeadOf format pass (head_of asked) (head_text pass (head_of asked)) ×
+    EndsLine (head_text pass (head_of asked)) × (length (head_text pass (head_of asked)) ≤ 4097)
 head_is format pass (askeds.Line c) le may = ((le, (may.0, may.1, may.2), refl), pass_line pass (texts (command_parts c)) le (command_ends c may.0), may.3)
 head_is format pass (askeds.Merge items) le may = ((le, may.0, refl), pass_line pass (merge_text (length items)) le (merge_line (length items) may.0), merge_short pass (length items) le may.0)
 
@@ -94,7 +97,9 @@ head_first pass (Merge count) r s = refl
 first_by : (limits : LimitsRecord) (entries : List TraceEntry) (b : ℕ) (more : List ℕ) → b ∷ more ≡ flat_map (entry_text limits) entries → b ≡ 62
 first_by limits [] b more text = absurd (omega (arith, ap length text))
 first_by limits (e ∷ entries) b more text =
-    ap (λ (l : List ℕ). get_or l 0 0) (text ∙ ap (λ (l : List ℕ). l ++ flat_map (entry_text limits) entries) (entry_splits limits e e.asked)) ∙ head_first e.pass (head_of e.asked) (behind_head limits e e.asked) (flat_map (entry_text limits) entries)
+    ap (λ (l : List ℕ). get_or l 0 0)
+    (text ∙ ap (λ (l : List ℕ). l ++ flat_map (entry_text limits) entries) (entry_splits limits e e.asked))
+    ∙ head_first e.pass (head_of e.asked) (behind_head limits e e.asked) (flat_map (entry_text limits) entries)
 
 goes_first : (format : Format) (limits : LimitsRecord) (s : State) (b : ℕ) (more : List ℕ) → MayComeBehind format limits s (b ∷ more) → b ≡ 62
 goes_first format limits s b more g = first_by limits g.0 b more g.4
@@ -115,7 +120,8 @@ head_by format limits [] line more each ends text =
 head_by format limits (e ∷ entries) line more each ends text =
     let is : IsEntry format e = each 0 e (omega arith) in
     let h = head_is format e.pass e.asked is.pass is.asked in
-    let split = text ∙ ap (λ (l : List ℕ). l ++ flat_map (entry_text limits) entries) (entry_splits limits e e.asked) ∙ append_assoc (head_text e.pass (head_of e.asked)) (behind_head limits e e.asked) (flat_map (entry_text limits) entries) in
+    let split =
+    text ∙ ap (λ (l : List ℕ). l ++ flat_map (entry_text limits) entries) (entry_splits limits e e.asked) ∙ append_assoc (head_text e.pass (head_of e.asked)) (behind_head limits e e.asked) (flat_map (entry_text limits) entries) in
     let one = lines_one line (head_text e.pass (head_of e.asked)) more (behind_head limits e e.asked ++ flat_map (entry_text limits) entries) ends h.1 split in
     (e.pass, head_of e.asked, subst (IsHeadOf format e.pass (head_of e.asked)) (sym one.0) h.0, subst (λ (l : List ℕ). length l ≤ 4097) (sym one.0) h.2)
 

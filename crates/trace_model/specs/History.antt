@@ -25,7 +25,8 @@ replies_in entries = map (λ (e : TraceEntry). e.reply) entries
 -- A written run is a legal trace, if its machine begins in the state that the header opens.
 abbrev pub RunIsLegal : Type 0
 RunIsLegal =
-    (h : Header) (entries : List TraceEntry) (commands : List Command) (last : State) → h.format ≡ Two → IsHeader h → All (IsEntry Two) entries →
+    (h : Header) (entries : List TraceEntry) (commands : List Command) (last : State) →
+    h.format ≡ Two → IsHeader h → All (IsEntry Two) entries →
     AskEach entries commands → Run (opened_by h) commands (replies_in entries) last → IsTrace (trace_text h entries) h entries last
 
 -- A legal trace is a history: its commands, with its replies, are a run of the machine from the state that its header

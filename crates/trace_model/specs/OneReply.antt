@@ -36,10 +36,16 @@ pub record IsSpelt (reply : Reply) : Type 0 where
 -- The first line of a reply determines whether memory ran out, and after how many items; an offer's, only whether it
 -- did.
 abbrev pub FirstLinesTell : Type 0
-FirstLinesTell = (limits : LimitsRecord) (reply other : Reply) → IsSpelt reply → IsSpelt other → HaveOneFirst (reply_lines AsMerge reply limits) (reply_lines AsMerge other limits) → room_wanted reply ≡ room_wanted other
+FirstLinesTell =
+    (limits : LimitsRecord) (reply other : Reply) →
+    IsSpelt reply → IsSpelt other → HaveOneFirst (reply_lines AsMerge reply limits) (reply_lines AsMerge other limits) →
+    room_wanted reply ≡ room_wanted other
 
 abbrev pub OfferLinesTell : Type 0
-OfferLinesTell = (limits : LimitsRecord) (reply other : Reply) → IsSpelt reply → IsSpelt other → HaveOneFirst (reply_lines AsOffer reply limits) (reply_lines AsOffer other limits) → is_some (room_wanted reply) ≡ is_some (room_wanted other)
+OfferLinesTell =
+    (limits : LimitsRecord) (reply other : Reply) →
+    IsSpelt reply → IsSpelt other → HaveOneFirst (reply_lines AsOffer reply limits) (reply_lines AsOffer other limits) →
+    is_some (room_wanted reply) ≡ is_some (room_wanted other)
 
 -- ---- steps of a trace
 
@@ -62,7 +68,8 @@ pub record IsTraced (format : Format) (s : State) : Type 0 where
 abbrev pub ReplyIsOne : Type 0
 ReplyIsOne =
     (format : Format) (limits : LimitsRecord) (pass : ℕ) (asked : Asked) (command : Command) (s t u : State) (reply other : Reply) →
-    IsTraced format s → MayAsk format pass asked → command_asked asked ≡ Some command → StepOf format s command reply t → StepOf format s command other u →
+    IsTraced format s → MayAsk format pass asked → command_asked asked ≡ Some command → StepOf format s command reply t →
+    StepOf format s command other u →
     HaveOneFirst (reply_lines (worded_as asked) reply limits) (reply_lines (worded_as asked) other limits) →
     (reply_lines (worded_as asked) reply limits ≡ reply_lines (worded_as asked) other limits) × (t ≡ u)
 

@@ -22,7 +22,8 @@ use Rattle.ds_machine.specs.Taken.{HasNoFloor, all_taken}
 
 -- Whether the change is a live entry of the owner, not a label, of at most this generation.
 abbrev pub is_swept : List ℕ → ℕ → ChangeRecord → Bool
-is_swept owner generation c = not (is_label c.key.kind) && is_some (value_of c) && is_same_name c.owner owner && nat_le c.version.epoch generation
+is_swept owner generation c =
+    not (is_label c.key.kind) && is_some (value_of c) && is_same_name c.owner owner && nat_le c.version.epoch generation
 
 -- The tombstone that replaces it: of the swept generation, with the last number, which no put has.
 abbrev pub tombstone : List ℕ → ℕ → ChangeRecord → Item
@@ -44,11 +45,13 @@ older_sweep s caller owner generation =
 -- If no floor is held and positions are left, nothing refuses any of the tombstones, in order.
 abbrev pub TombstonesAreFree : Type 0
 TombstonesAreFree =
-    (s : State) (owner : List ℕ) (generation : ℕ) → IsReached s → AreItems s.feed.accepted → HasNoFloor s → next_position s + length (tombstones (held s) owner generation) ≤ last_place →
+    (s : State) (owner : List ℕ) (generation : ℕ) →
+    IsReached s → AreItems s.feed.accepted → HasNoFloor s → next_position s + length (tombstones (held s) owner generation) ≤ last_place →
     AreFree s (tombstones (held s) owner generation)
 
 -- So a Merge takes all of them.
 abbrev pub TombstonesAreTaken : Type 0
 TombstonesAreTaken =
-    (s : State) (owner : List ℕ) (generation : ℕ) → IsReached s → AreItems s.feed.accepted → HasNoFloor s → next_position s + length (tombstones (held s) owner generation) ≤ last_place →
+    (s : State) (owner : List ℕ) (generation : ℕ) →
+    IsReached s → AreItems s.feed.accepted → HasNoFloor s → next_position s + length (tombstones (held s) owner generation) ≤ last_place →
     course s (tombstones (held s) owner generation) ≡ all_taken s (tombstones (held s) owner generation)

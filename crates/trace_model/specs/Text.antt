@@ -112,7 +112,8 @@ asked_text pass (Merge items) = pass_text pass (merge_text (length items)) ++ fl
 
 -- Whether an entry may have the command: a line for the store of at most 4096 bytes, or a Merge of at most 256 items.
 abbrev pub MayAsk : Format → ℕ → Asked → Type 0
-MayAsk format pass (Line command) = IsCommand command × (store_command command ≢ None) × CarriesLine format command × (length (line_text pass command) ≤ 4097)
+MayAsk format pass (Line command) =
+    IsCommand command × (store_command command ≢ None) × CarriesLine format command × (length (line_text pass command) ≤ 4097)
 MayAsk format pass (Merge items) = (length items ≤ most_items) × All (MayMerge format) items
 
 -- ---- entries

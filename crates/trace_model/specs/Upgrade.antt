@@ -43,7 +43,8 @@ AreFilled parts = (front : List (List Item)) (last : List Item) → parts ≡ fr
 -- each doesn't depend on the entries before it.
 abbrev pub MergeInParts : State → ℕ → List Item → List TraceEntry → Type 0
 MergeInParts s pass gone entries =
-    (parts : List (List Item)) × All IsPart parts × (flat_map (λ (part : List Item). part) parts ≡ gone) × (entries ≡ map (merge_entry s pass) parts) × AreFilled parts
+    (parts : List (List Item)) ×
+    All IsPart parts × (flat_map (λ (part : List Item). part) parts ≡ gone) × (entries ≡ map (merge_entry s pass) parts) × AreFilled parts
 
 -- The entries for a sweep: Merges of its tombstones if it is answered with their count, none if it is refused.
 abbrev pub SweepBecomes : State → ℕ → List ℕ → ℕ → Reply → List TraceEntry → Type 0
@@ -58,12 +59,15 @@ BecomesAs s e _ entries = entries ≡ e ∷ []
 -- The entries for a list of entries that lead from `old` to `last`.
 abbrev pub Become : State → List TraceEntry → State → List TraceEntry → Type 0
 Become old [] last new = (last ≡ old) × (new ≡ [])
-Become old (e ∷ entries) last new = (mid : State) × (first rest : List TraceEntry) × EntryLeads One old e mid × BecomesAs old e e.asked first × Become mid entries last rest × (new ≡ first ++ rest)
+Become old (e ∷ entries) last new =
+    (mid : State) × (first rest : List TraceEntry) ×
+    EntryLeads One old e mid × BecomesAs old e e.asked first × Become mid entries last rest × (new ≡ first ++ rest)
 
 -- The upgrade of a legal trace of format 1 is a legal trace of format 2 that leads to the same state.
 abbrev pub UpgradedIsLegal : Type 0
 UpgradedIsLegal =
-    (h : Header) (old new : List TraceEntry) (last : State) (text : List ℕ) → h.format ≡ One → IsTrace text h old last → Become (opened_by h) old last new →
+    (h : Header) (old new : List TraceEntry) (last : State) (text : List ℕ) →
+    h.format ≡ One → IsTrace text h old last → Become (opened_by h) old last new →
     IsTrace (trace_text (upgraded h) new) (upgraded h) new last
 
 -- Whether the output is the text in format 2, with `count` entries: a legal trace that leads to the same state, so to
@@ -81,7 +85,10 @@ pub record IsUpgraded (text output : List ℕ) (count : ℕ) : Type 0 where
 
 -- The output when the writer failed: nothing, or a front of what the first lines are in format 2.
 abbrev pub IsUpgradedInPart : List ℕ → List ℕ → Type 0
-IsUpgradedInPart bytes output = (output ≡ []) ⊎ ((front rest : List (List ℕ)) × (left : List ℕ) × (count : ℕ) × HasLines bytes (front ++ rest) × IsUpgraded (joined front) (output ++ left) count)
+IsUpgradedInPart bytes output =
+    (output ≡ [])
+    ⊎ ((front rest : List (List ℕ)) × (left : List ℕ) × (count : ℕ) ×
+    HasLines bytes (front ++ rest) × IsUpgraded (joined front) (output ++ left) count)
 
 -- The lines in format 2; no lines are nothing.
 abbrev pub IsUpgradeOf : List (List ℕ) → List ℕ → Type 0

@@ -15,12 +15,15 @@ use Rattle.trace_model.specs.declared.header.Header.{Header}
 use Rattle.trace_model.specs.Head.{HasNoHead}
 use Rattle.trace_model.specs.Legal.{StepOf, EntryLeads, AllLead, IsTrace, opened_by}
 use Rattle.trace_model.specs.OneReply.{IsTraced}
-use Rattle.trace_model.specs.Text.{TraceEntry, IsEntry, IsHeader, HasNoHeader, MayAsk, MayMerge, command_asked, worded_as, marked, header_text, asked_text, pass_text, merge_text, plus_text, entry_text}
+use Rattle.trace_model.specs.Text.{TraceEntry, IsEntry, IsHeader, HasNoHeader, MayAsk, MayMerge, command_asked, worded_as}
+use Rattle.trace_model.specs.Text.{marked, header_text, asked_text, pass_text, merge_text, plus_text, entry_text}
 use Rattle.trace_model.specs.Verdict.{IsLegal, MayBegin, WantsReply, Fails}
 
 -- What may follow a trace that led to the state.
 abbrev pub MayComeBehind : Format → LimitsRecord → State → List ℕ → Type 0
-MayComeBehind format limits s text = (entries : List TraceEntry) × (last : State) × All (IsEntry format) entries × AllLead format s entries last × (text ≡ flat_map (entry_text limits) entries)
+MayComeBehind format limits s text =
+    (entries : List TraceEntry) × (last : State) ×
+    All (IsEntry format) entries × AllLead format s entries last × (text ≡ flat_map (entry_text limits) entries)
 
 -- Whether the walk is after an entry: the text so far is a legal trace that leads to the state, and every legal trace
 -- that begins with it continues from there.
@@ -33,7 +36,10 @@ pub record IsBehind (front : List ℕ) (h : Header) (s : State) (count : ℕ) : 
 
 -- After an entry, a line that is too long, or isn't the first line of an entry, is wrong.
 abbrev pub BadHeadsAreWrong : Type 0
-BadHeadsAreWrong = (front line : List ℕ) (rest : List (List ℕ)) (h : Header) (s : State) (count : ℕ) → IsBehind front h s count → IsUnbroken line → (length (with_newline line) ≤ 4097 → HasNoHead h.format (with_newline line)) → Fails front (line ∷ rest)
+BadHeadsAreWrong =
+    (front line : List ℕ) (rest : List (List ℕ)) (h : Header) (s : State) (count : ℕ) →
+    IsBehind front h s count → IsUnbroken line → (length (with_newline line) ≤ 4097 → HasNoHead h.format (with_newline line)) →
+    Fails front (line ∷ rest)
 
 -- After an entry, no reply line may follow.
 abbrev pub NoReplyBehindEntries : Type 0
@@ -49,7 +55,10 @@ BadHeadersAreWrong = (line : List ℕ) (rest : List (List ℕ)) → IsUnbroken l
 
 -- A step of the store with one more entry leads the walk to the place after that entry.
 abbrev pub EntriesLead : Type 0
-EntriesLead = (front : List ℕ) (h : Header) (s t : State) (count : ℕ) (e : TraceEntry) → IsBehind front h s count → IsEntry h.format e → EntryLeads h.format s e t → IsBehind (front ++ entry_text h.limits e) h t (suc count)
+EntriesLead =
+    (front : List ℕ) (h : Header) (s t : State) (count : ℕ) (e : TraceEntry) →
+    IsBehind front h s count → IsEntry h.format e → EntryLeads h.format s e t →
+    IsBehind (front ++ entry_text h.limits e) h t (suc count)
 
 -- ---- within an entry
 
@@ -78,7 +87,8 @@ IsPlus format line = (i : Item) × MayMerge format i × (line ≡ plus_text i)
 -- After some of a Merge's items, another item must follow.
 abbrev pub PlusPlaces : Type 0
 PlusPlaces =
-    (front : List ℕ) (h : Header) (s : State) (count pass n : ℕ) (items : List Item) → IsBehind front h s count → pass ≤ 63 → n ≤ most_items → length items < n → All (MayMerge h.format) items →
+    (front : List ℕ) (h : Header) (s : State) (count pass n : ℕ) (items : List Item) →
+    IsBehind front h s count → pass ≤ 63 → n ≤ most_items → length items < n → All (MayMerge h.format) items →
     IsPlaceInEntry front (front ++ (pass_text pass (merge_text n) ++ flat_map plus_text items)) false (IsPlus h.format)
 
 -- Whether some reply to the command begins with the line.
@@ -97,12 +107,14 @@ pub record MayReply (format : Format) (limits : LimitsRecord) (s : State) (asked
 -- A law: a reply's first line must follow an entry's command.
 abbrev pub ReplyPlaces : Type 0
 ReplyPlaces =
-    (front : List ℕ) (h : Header) (s : State) (count pass : ℕ) (asked : Asked) → IsBehind front h s count → pass ≤ 63 → MayAsk h.format pass asked →
+    (front : List ℕ) (h : Header) (s : State) (count pass : ℕ) (asked : Asked) →
+    IsBehind front h s count → pass ≤ 63 → MayAsk h.format pass asked →
     IsPlaceInEntry front (front ++ asked_text pass asked) true (MayReply h.format h.limits s asked)
 
 -- After some lines of a reply, its next line must follow, since a reply has one text.
 abbrev pub WithinReplies : Type 0
 WithinReplies =
-    (front : List ℕ) (h : Header) (s t : State) (count : ℕ) (e : TraceEntry) (given next left : List ℕ) → IsBehind front h s count → IsEntry h.format e → EntryLeads h.format s e t →
+    (front : List ℕ) (h : Header) (s t : State) (count : ℕ) (e : TraceEntry) (given next left : List ℕ) →
+    IsBehind front h s count → IsEntry h.format e → EntryLeads h.format s e t →
     reply_lines (worded_as e.asked) e.reply h.limits ≡ (given ++ 10 ∷ []) ++ (next ++ left) → EndsLine next →
     IsPlaceInEntry front (front ++ (asked_text e.pass e.asked ++ marked (given ++ 10 ∷ []))) true (λ (line : List ℕ). line ≡ 60 ∷ 32 ∷ next)

@@ -4,7 +4,8 @@ ghost use Rattle.trace_model.specs.History.{LegalIsHistory, RunIsLegal};
 ghost use Rattle.trace_model.specs.OneReply.{FirstLinesTell, OfferLinesTell, ReplyIsOne, TracedStays};
 ghost use Rattle.trace_model.specs.Sweep.{TombstonesAreFree, TombstonesAreTaken};
 ghost use Rattle.trace_model.specs.Upgrade.{UpgradedIsLegal};
-ghost use Rattle.trace_model.specs.Walk.{HeadersBegin, BadHeadersAreWrong, BadHeadsAreWrong, EntriesLead, NoReplyBehindEntries, PlusPlaces, ReplyPlaces, WithinReplies};
+ghost use Rattle.trace_model.specs.Walk.{HeadersBegin, BadHeadersAreWrong, BadHeadsAreWrong, EntriesLead};
+ghost use Rattle.trace_model.specs.Walk.{NoReplyBehindEntries, PlusPlaces, ReplyPlaces, WithinReplies};
 
 /// A law: a header is a legal trace, which continues from the state that it opens, and a first line that isn't a header
 /// is the first wrong line.

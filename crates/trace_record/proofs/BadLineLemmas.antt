@@ -56,7 +56,8 @@ long_asks_nothing format bytes front number place l limit =
 
 -- ---- a line that must be an item's
 
-pub lacks_line : (format : Format) (bytes front line : List ℕ) (l : LinesContent) (to : Option (List ℕ)) (number : ℕ) → HasLine bytes front line l to → IsNoItem format (with_newline line) → number ≡ l.count → LacksNext format bytes front number
+pub lacks_line : (format : Format) (bytes front line : List ℕ) (l : LinesContent) (to : Option (List ℕ)) (number : ℕ)
+    → HasLine bytes front line l to → IsNoItem format (with_newline line) → number ≡ l.count → LacksNext format bytes front number
 lacks_line format bytes front line l to number h none e = record { before = h.before; rest = line ∷ h.more; lines = h.lines; behind = h.front_is; counted = e ∙ h.counted; lacks = none }
 
 pub lacks_long : (format : Format) (bytes front : List ℕ) (number : ℕ) → IsLong bytes front number → LacksNext format bytes front number
@@ -69,7 +70,10 @@ some_behind : (front line items : List ℕ) → front ++ (with_newline line ++ i
 some_behind front line items none = omega (arith, ap length none, length-append front (with_newline line ++ items), length-append (with_newline line) items, some_line line)
 
 -- after a Merge's first line and some of its items
-pub lacks_item : (format : Format) (bytes front line : List ℕ) (pass count number place : ℕ) → IsFirstLines bytes front → IsHeadOf format pass (heads.Merge count) (asked_by (with_newline line)) → LacksOne format bytes (front ++ with_newline line) count number → AsksNothingAt format bytes front number place
+pub lacks_item : (format : Format) (bytes front line : List ℕ) (pass count number place : ℕ)
+    → IsFirstLines bytes front → IsHeadOf format pass (heads.Merge count) (asked_by (with_newline line))
+    → LacksOne format bytes (front ++ with_newline line) count number
+    → AsksNothingAt format bytes front number place
 lacks_item format bytes front line pass count number place whole head x =
     let items : List ℕ = flat_map plus_text x.items in
     let behind : front ++ (with_newline line ++ items) ≡ joined x.lacks.before = sym (append_assoc front (with_newline line) items) ∙ x.lacks.behind in

@@ -29,7 +29,9 @@ input_cause r w WriteFault old new writer is c = absurd is
 input_cause r w NoRoom old new writer is c = tt
 
 -- after the waiting entries are written, it is still the fault, or a write failed there
-either : {R W : Type 0} (r : Reader R) (w : Writer W) (fault result : RecordFault) (old new : R) (last : W) → IsToBlame r w fault old new last → (result ≡ fault) ⊎ ((result ≡ WriteFault) × HasFailedWrite w.writes w.fails last) → IsToBlame r w result old new last
+either : {R W : Type 0} (r : Reader R) (w : Writer W) (fault result : RecordFault) (old new : R) (last : W)
+    → IsToBlame r w fault old new last → (result ≡ fault) ⊎ ((result ≡ WriteFault) × HasFailedWrite w.writes w.fails last)
+    → IsToBlame r w result old new last
 either r w fault result old new last c (inl same) = subst (λ (f : RecordFault). IsToBlame r w f old new last) (sym same) c
 either r w fault result old new last c (inr failed) = subst (λ (f : RecordFault). IsToBlame r w f old new last) (sym failed.0) failed.1
 

@@ -21,7 +21,9 @@ pub reads_by : (before : ℕ) (text : List ℕ) (r : Result ScriptCommand Comman
 reads_by zero text r first later = first refl
 reads_by (suc before) text r first later = later (λ none. omega (arith, none))
 
-pub read_bad : (before : ℕ) (text : List ℕ) (r : Result ScriptCommand CommandFault) (place : ℕ) → ReadsAs (MayBe before) text r → IfErr r (λ fault. IsPlaceOfFault fault place) → IfOk r (λ command. IsUncarried command place) → IsTextBadAt before text place
+pub read_bad : (before : ℕ) (text : List ℕ) (r : Result ScriptCommand CommandFault) (place : ℕ)
+    → ReadsAs (MayBe before) text r → IfErr r (λ fault. IsPlaceOfFault fault place) → IfOk r (λ command. IsUncarried command place)
+    → IsTextBadAt before text place
 read_bad before text (Ok command) place reads bad good = inr (inr (command, reads.0, reads.1, good))
 read_bad before text (Err (BadLine at expected)) place reads bad good = inr (inl (subst (IsFaultAmong (MayBe before) text) (sym bad) reads))
 read_bad before text (Err NoRoom) place reads bad good = inr (inr (reads.0, reads.1, reads.2, first_byte reads.0 place bad))
@@ -33,7 +35,10 @@ few_by (Offer i) at (inr e) = omega (arith, e)
 few_by _ at e = omega (arith, e)
 
 -- after a pass
-pub behind_pass : (line text : List ℕ) (pass at place : ℕ) → pass ≤ 63 → line ≡ decimal pass ++ 32 ∷ text → length line < 2 ^ 64 → IsTextBadAt 1 text at → place ≡ min ((length line - length text) + at) (2 ^ 64 - 1) → IsBadBehindPass line place
+pub behind_pass : (line text : List ℕ) (pass at place : ℕ)
+    → pass ≤ 63 → line ≡ decimal pass ++ 32 ∷ text → length line < 2 ^ 64 → IsTextBadAt 1 text at
+    → place ≡ min ((length line - length text) + at) (2 ^ 64 - 1)
+    → IsBadBehindPass line place
 behind_pass line text pass at place few is short (inl merge) e =
     let front : length line ≡ length (decimal pass) + (1 + length text) = omega (arith, ap length is, length-append (decimal pass) (32 ∷ text)) in
     let digits : length (decimal pass) ≤ 20 = length-decimal-le 20 pass (omega arith) (omega (arith, few)) (omega (arith, few)) in

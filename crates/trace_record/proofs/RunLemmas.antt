@@ -50,7 +50,10 @@ up_to format bytes front l to NoRoom c = c
 -- ---- why it ends
 
 -- a fault that isn't the writer's
-pub runs_to_fault : (known : Option (List ℕ)) (first : List ℕ) (had : Option (List ℕ)) (h : Header) (waits : List ℕ) (has : Option (List ℕ)) (count : ℕ) (fault : RecordFault) → IsOfInput fault → HasRun known first had h waits has (IsBeforeFault h.format fault) count → RunsTo known first had h waits has (Err fault)
+pub runs_to_fault : (known : Option (List ℕ)) (first : List ℕ) (had : Option (List ℕ)) (h : Header) (waits : List ℕ)
+    (has : Option (List ℕ)) (count : ℕ) (fault : RecordFault)
+    → IsOfInput fault → HasRun known first had h waits has (IsBeforeFault h.format fault) count
+    → RunsTo known first had h waits has (Err fault)
 runs_to_fault known first had h waits has count (BadLine number place) is x = (count, x)
 runs_to_fault known first had h waits has count ReadFault is x = (count, x)
 runs_to_fault known first had h waits has count NoRoom is x = (count, x)
@@ -117,7 +120,8 @@ pub record IsBehind (known : Option (List ℕ)) (first : List ℕ) (had : Option
   pub at : (bytes : List ℕ) → known ≡ Some bytes → IsAt bytes (first ++ asking) w.lines from
   pub some : first ++ asking ≢ []
 
-module _ (known : Option (List ℕ)) (first : List ℕ) (had : Option (List ℕ)) (h : Header) (w new : Recorder) (from to has : Option (List ℕ)) (next : Result Bool RecordFault) (count : ℕ) (r : Runs known first had h w from has next count) (there : next ≡ Ok true) where
+module _ (known : Option (List ℕ)) (first : List ℕ) (had : Option (List ℕ)) (h : Header) (w new : Recorder) (from to has : Option (List ℕ))
+    (next : Result Bool RecordFault) (count : ℕ) (r : Runs known first had h w from has next count) (there : next ≡ Ok true) where
   abbrev at_line : (bytes : List ℕ) → known ≡ Some bytes → IsAtLine bytes (first ++ r.asking) w.lines from
   at_line bytes k = subst (ComesToNext bytes (first ++ r.asking) w.lines from) there (r.comes bytes k)
 
@@ -131,7 +135,8 @@ module _ (known : Option (List ℕ)) (first : List ℕ) (had : Option (List ℕ)
         state = a.new_state;
         header = added.0 ∙ r.header;
         written = r.written;
-        recorded = subst (λ (z : Header). Recorded z (r.sent ++ new.output.items) (r.asking ++ a.more) a.new_state (suc count)) r.header (subst (λ (t : List ℕ). Recorded w.header t (r.asking ++ a.more) a.new_state (suc count)) text a.recorded);
+        recorded =
+            subst (λ (z : Header). Recorded z (r.sent ++ new.output.items) (r.asking ++ a.more) a.new_state (suc count)) r.header (subst (λ (t : List ℕ). Recorded w.header t (r.asking ++ a.more) a.new_state (suc count)) text a.recorded);
         stands = a.stands;
         at = λ bytes k. subst (λ (f : List ℕ). IsAt bytes f new.lines to) (append_assoc first r.asking a.more) (a.over bytes (first ++ r.asking) (at_line bytes k));
         some = some_more first r.asking a.more a.some;
@@ -184,7 +189,10 @@ module _ (known : Option (List ℕ)) (first : List ℕ) (had : Option (List ℕ)
 -- ---- from the beginning to the end
 
 -- before the first entry the header waits
-pub runs_first : (known : Option (List ℕ)) (first : List ℕ) (had : Option (List ℕ)) (form : Form) (ring : ℕ) (lines : LinesContent) (w : Recorder) (from : Option (List ℕ)) (next : Result Bool RecordFault) → OpensAs lines form ring w → ((bytes : List ℕ) → known ≡ Some bytes → ComesToNext bytes first lines from next) → (first ≡ [] → GoesToNoRing lines next) →
+pub runs_first : (known : Option (List ℕ)) (first : List ℕ) (had : Option (List ℕ)) (form : Form) (ring : ℕ) (lines : LinesContent)
+    (w : Recorder) (from : Option (List ℕ)) (next : Result Bool RecordFault)
+    → OpensAs lines form ring w → ((bytes : List ℕ) → known ≡ Some bytes → ComesToNext bytes first lines from next)
+    → (first ≡ [] → GoesToNoRing lines next) →
     Runs known first had (header_of form ring) w from had next 0
 runs_first known first had form ring lines w from next o comes no_ring =
     record {
@@ -220,21 +228,49 @@ module _ (form : Form) (ring : ℕ) (known : Option (List ℕ)) (first : List �
   settled_whole count r a = (first ++ r.asking, r.sent ++ waits, is_record form ring first r.asking (r.sent ++ waits) r.state count opens r.recorded, Appends-trans had mid has r.sent waits r.written a, by_known known _ r.input)
 
   -- the writer fails at last
-  settled_unwritten : (Holds : List ℕ → List ℕ → Type 0) (count : ℕ) → ((bytes input : List ℕ) → Holds bytes input → IsFirstLines bytes input) → HasRun known first had header waits mid Holds count → WritesPart mid has waits → StopsRecording form known had has WriteFault
+  settled_unwritten : (Holds : List ℕ → List ℕ → Type 0) (count : ℕ)
+      → ((bytes input : List ℕ) → Holds bytes input → IsFirstLines bytes input) → HasRun known first had header waits mid Holds count
+      → WritesPart mid has waits
+      → StopsRecording form known had has WriteFault
   settled_unwritten Holds count whole r p =
-      inr (first ++ r.asking, r.sent ++ waits, count, is_record form ring first r.asking (r.sent ++ waits) r.state count opens r.recorded, part_more had mid has r.sent waits r.written p, by_known known _ (λ bytes k. whole bytes (first ++ r.asking) (r.input bytes k)))
+      inr (
+        first ++ r.asking,
+        r.sent ++ waits,
+        count,
+        is_record form ring first r.asking (r.sent ++ waits) r.state count opens r.recorded,
+        part_more had mid has r.sent waits r.written p,
+        by_known known _ (λ bytes k. whole bytes (first ++ r.asking) (r.input bytes k)),
+      )
 
   -- it failed before
   settled_failed : HasFailed known first had header mid → Appends mid has [] → StopsRecording form known had has WriteFault
   settled_failed r a =
       let p = r.written in
-      inr (first ++ r.asking, r.text, r.count, is_record form ring first r.asking r.text r.state r.count opens r.recorded, (p.0, p.1, p.2, subst (Appends had has) (append-nil p.0) (Appends-trans had mid has p.0 [] p.3 a)), by_known known _ r.input)
+      inr (
+        first ++ r.asking,
+        r.text,
+        r.count,
+        is_record form ring first r.asking r.text r.state r.count opens r.recorded,
+        (p.0, p.1, p.2, subst (Appends had has) (append-nil p.0) (Appends-trans had mid has p.0 [] p.3 a)),
+        by_known known _ r.input,
+      )
 
   -- another fault came
-  settled_up_to : (fault : RecordFault) (count : ℕ) → ((text : List ℕ) → Appends had has text → WritesBy fault had has text) → HasRun known first had header waits mid (IsBeforeFault header.format fault) count → Appends mid has waits → StopsRecording form known had has fault
+  settled_up_to : (fault : RecordFault) (count : ℕ)
+      → ((text : List ℕ) → Appends had has text → WritesBy fault had has text)
+      → HasRun known first had header waits mid (IsBeforeFault header.format fault) count → Appends mid has waits
+      → StopsRecording form known had has fault
   settled_up_to fault count other r a =
       let written = other (r.sent ++ waits) (Appends-trans had mid has r.sent waits r.written a) in
-      inr (first ++ r.asking, r.sent ++ waits, count, is_record form ring first r.asking (r.sent ++ waits) r.state count opens r.recorded, written, by_known known _ (λ bytes k. subst (λ (f : Format). IsBeforeFault f fault bytes (first ++ r.asking)) (format_is form ring) (r.input bytes k)))
+      inr (
+        first ++ r.asking,
+        r.sent ++ waits,
+        count,
+        is_record form ring first r.asking (r.sent ++ waits) r.state count opens r.recorded,
+        written,
+        by_known known _
+            (λ bytes k. subst (λ (f : Format). IsBeforeFault f fault bytes (first ++ r.asking)) (format_is form ring) (r.input bytes k)),
+      )
 
   whole_front : (bytes input : List ℕ) → IsAllLines bytes input → IsFirstLines bytes input
   whole_front bytes input w = (w.0, [], subst (HasLines bytes) (sym (append-nil w.0)) w.1, w.2)

@@ -30,7 +30,8 @@ use Rattle.trace_record.specs.declared.recorder.Recorder.{Recorder}
 use Rattle.trace_record.specs.Asking.{IsPlaceOfLine, AsksNothing, IsFirstLines, IsRingLine, asked_by}
 use Rattle.trace_record.specs.Reading.{ComesToNext, IsAtLine}
 use Rattle.trace_record.specs.Record.{IsBeforeFault}
-use Rattle.trace_record.specs.Steps.{AddedEntry, AddedLines, AddsEntry, AddsItem, AddsItems, AddsLines, AnswersAsked, FailsAtHead, MissesItem, FailsInEntry, MissesItems, MissesLines, GoesOver, HeadsFrom, IsLackingNext, IsLackingOne, KeepsOutput, KeepsRun, Recorded, AnswersIn}
+use Rattle.trace_record.specs.Steps.{AddedEntry, AddedLines, AddsEntry, AddsItem, AddsItems, AddsLines, AnswersAsked, FailsAtHead, MissesItem, FailsInEntry}
+use Rattle.trace_record.specs.Steps.{MissesItems, MissesLines, GoesOver, HeadsFrom, IsLackingNext, IsLackingOne, KeepsOutput, KeepsRun, Recorded, AnswersIn}
 use Rattle.trace_record.proofs.AskingLemmas.{asked_behind}
 use Rattle.trace_record.proofs.BadLineLemmas.{asks_nothing, front_there, lacks_item, lacks_long}
 use Rattle.trace_record.proofs.EntryLemmas.{recorded_more}
@@ -83,7 +84,9 @@ module _ (w mid new : Recorder) (from there to : Option (List ℕ)) (count : ℕ
         keeps = keeps_on w mid new x.keeps y.keeps;
       }
 
-  lacking_one : (format : Format) (bytes front : List ℕ) (most : ℕ) (fault : RecordFault) → All (MayMerge format) items → length items < most → IsLackingNext format bytes (front ++ flat_map plus_text items) fault → IsLackingOne format bytes front most fault
+  lacking_one : (format : Format) (bytes front : List ℕ) (most : ℕ) (fault : RecordFault)
+      → All (MayMerge format) items → length items < most → IsLackingNext format bytes (front ++ flat_map plus_text items) fault
+      → IsLackingOne format bytes front most fault
   lacking_one format bytes front most (BadLine number place) may less l = record { items = items; may = may; less = less; lacks = l }
   lacking_one format bytes front most WriteFault may less l = absurd l
   lacking_one format bytes front most ReadFault may less l = tt
@@ -93,7 +96,10 @@ module _ (w mid new : Recorder) (from there to : Option (List ℕ)) (count : ℕ
   items_fail most fault less f = (
     f.0,
     keeps_on w mid new x.keeps f.1,
-    λ bytes front at. lacking_one w.header.format bytes front most fault x.may (omega (arith, x.counted, less)) (subst (λ (h : Header). IsLackingNext h.format bytes (front ++ flat_map plus_text items) fault) x.keeps.0 (f.2 bytes (front ++ flat_map plus_text items) (x.over bytes front at))),
+    λ bytes front at.
+        lacking_one w.header.format bytes front most fault x.may (omega (arith, x.counted, less))
+        (subst (λ (h : Header). IsLackingNext h.format bytes (front ++ flat_map plus_text items) fault) x.keeps.0
+        (f.2 bytes (front ++ flat_map plus_text items) (x.over bytes front at))),
   )
 
 -- an item's line isn't reached
@@ -118,7 +124,8 @@ lines_line w from head asked command e f pass is short =
       keeps = (refl, refl, refl);
     })
 
-pub lines_merge : (w new : Recorder) (from to : Option (List ℕ)) (head : Head) (asked : Asked) (count : ℕ) (items : List Item) → head ≡ heads.Merge count → asked ≡ askeds.Merge items → AddsItems w from count new to items → AddsLines w from head new to asked
+pub lines_merge : (w new : Recorder) (from to : Option (List ℕ)) (head : Head) (asked : Asked) (count : ℕ) (items : List Item)
+    → head ≡ heads.Merge count → asked ≡ askeds.Merge items → AddsItems w from count new to items → AddsLines w from head new to asked
 lines_merge w new from to head asked count items e f x pass is short =
     let k = subst (λ (y : Head). IsHeadOf w.header.format pass y w.entry.items) e is in
     subst (AddedLines w from pass new to) (sym f)
@@ -182,11 +189,16 @@ module _ (w read whole new : Recorder) (from to : Option (List ℕ)) (head : Hea
     λ text asking s count r stands. entry_of an.1 text asking s count r (an.2 s (subst (λ (z : ContentRecord). ContentStands z s) (sym keeps.2) stands) (subst (λ (z : Header). IsTraced z.format s) (sym keeps.0) r.traced)),
   )
 
-pub entry_adds : (w read whole new : Recorder) (from to : Option (List ℕ)) (head : Head) (asked : Asked) → EndsLine w.lines.line → HeadsFrom w read head → AddsLines read from head whole to asked → AnswersAsked whole asked new → AddsEntry w from new to
+pub entry_adds : (w read whole new : Recorder) (from to : Option (List ℕ)) (head : Head) (asked : Asked)
+    → EndsLine w.lines.line → HeadsFrom w read head → AddsLines read from head whole to asked → AnswersAsked whole asked new
+    → AddsEntry w from new to
 entry_adds w read whole new from to head asked ends hf adds an = entry_by w read whole new from to head asked ends hf (lines_of w read whole from to head asked hf adds) an
 
 -- a Merge lacks an item
-lacks_by : (format : Format) (bytes front here : List ℕ) (pass : ℕ) (fault : RecordFault) (count : ℕ) → IsFirstLines bytes front → IsHeadOf format pass (heads.Merge count) (asked_by (with_newline here)) → IsLackingOne format bytes (front ++ with_newline here) count fault → IsBeforeFault format fault bytes front
+lacks_by : (format : Format) (bytes front here : List ℕ) (pass : ℕ) (fault : RecordFault) (count : ℕ)
+    → IsFirstLines bytes front → IsHeadOf format pass (heads.Merge count) (asked_by (with_newline here))
+    → IsLackingOne format bytes (front ++ with_newline here) count fault
+    → IsBeforeFault format fault bytes front
 lacks_by format bytes front here pass (BadLine number place) count whole is x = lacks_item format bytes front here pass count number place whole is x
 lacks_by format bytes front here pass WriteFault count whole is x = absurd x
 lacks_by format bytes front here pass ReadFault count whole is x = whole

@@ -30,7 +30,8 @@ asked_by lines = 62 ∷ 32 ∷ cond (has_pass lines) lines (48 ∷ 32 ∷ lines)
 -- Whether the text is the lines for these entries, in order.
 abbrev pub AskAll : List ℕ → List TraceEntry → Type 0
 AskAll text [] = text ≡ []
-AskAll text (e ∷ entries) = (lines rest : List ℕ) × (text ≡ lines ++ rest) × (asked_by lines ≡ asked_text e.pass e.asked) × AskAll rest entries
+AskAll text (e ∷ entries) =
+    (lines rest : List ℕ) × (text ≡ lines ++ rest) × (asked_by lines ≡ asked_text e.pass e.asked) × AskAll rest entries
 
 -- The line `ring N`, with its newline.
 abbrev pub ring_text : ℕ → List ℕ
@@ -99,7 +100,8 @@ IsAtLimit place = (4092 ≤ place) × (place ≤ 4096)
 
 -- Whether the line of this number, if it isn't too long in the trace, is bad at the place.
 abbrev pub IsPlaceOfLine : ℕ → List ℕ → ℕ → Type 0
-IsPlaceOfLine number line place = (IsShort (asked_by line) → IsLineBadAt (has_pass line) (number - 1) line place) × (¬ IsShort (asked_by line) → IsAtLimit place)
+IsPlaceOfLine number line place =
+    (IsShort (asked_by line) → IsLineBadAt (has_pass line) (number - 1) line place) × (¬ IsShort (asked_by line) → IsAtLimit place)
 
 -- Whether that is the first of the lines.
 abbrev pub BeginsBadAt : ℕ → List (List ℕ) → ℕ → Type 0

@@ -32,7 +32,8 @@ abbrev pub ReadsOn : {R T : Type 0} → Reader R → Result T RecordFault → (o
 ReadsOn {R} r result old new made reads = (first : R) → CallsLead r.reads made first old → ReadsLead r result first new reads
 
 -- Like `ReadsLead` from one result to the next, whichever reader the reads began with.
-abbrev pub LeadsFrom : {R T : Type 0} → Reader R → (before : Result T RecordFault) (old : R) (made : ℕ) (after : Result T RecordFault) (new : R) (reads : ℕ) → Type 0
+abbrev pub LeadsFrom : {R T : Type 0} → Reader R →
+    (before : Result T RecordFault) (old : R) (made : ℕ) (after : Result T RecordFault) (new : R) (reads : ℕ) → Type 0
 LeadsFrom {R} r before old made after new reads = (first : R) → ReadsLead r before first old made → ReadsLead r after first new reads
 
 -- The cause of a fault of a run, however many reads were made before.

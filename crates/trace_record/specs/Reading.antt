@@ -49,7 +49,10 @@ SaysRing next line None = next ≡ Ok true → ¬ IsRingLine line
 
 -- Whether the next line was read, after a first line `ring N`, or after nothing. After nothing, it isn't `ring N`.
 abbrev pub BeginsInput : LinesContent → Option (List ℕ) → LinesContent → Option (List ℕ) → Beginning → Type 0
-BeginsInput old from new to b = (first : List ℕ) × OpensWith first b.ring × (first ≡ [] → GoesToNoRing new b.next) × ((bytes : List ℕ) → IsAt bytes [] old from → ComesToNext bytes first new to b.next)
+BeginsInput old from new to b =
+    (first : List ℕ) ×
+    OpensWith first b.ring × (first ≡ [] → GoesToNoRing new b.next) ×
+    ((bytes : List ℕ) → IsAt bytes [] old from → ComesToNext bytes first new to b.next)
 
 -- Whether the line, in some pass, has this command.
 abbrev pub IsHeadBehind : Format → List ℕ → Head → Type 0

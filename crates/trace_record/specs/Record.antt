@@ -60,4 +60,5 @@ WritesNothing fault had has = (fault ≡ NoRoom) × Appends had has []
 abbrev pub StopsRecording : Form → (known had has : Option (List ℕ)) → RecordFault → Type 0
 StopsRecording form known had has fault =
     WritesNothing fault had has
-    ⊎ ((input text : List ℕ) × (count : ℕ) × IsRecord form input text count × WritesBy fault had has text × IfSome known (λ bytes. IsBeforeFault (format_of form) fault bytes input))
+    ⊎ ((input text : List ℕ) × (count : ℕ) ×
+    IsRecord form input text count × WritesBy fault had has text × IfSome known (λ bytes. IsBeforeFault (format_of form) fault bytes input))

@@ -17,7 +17,8 @@ use Rattle.trace_record.specs.Steps.{Recorded}
 
 -- Whether a front of the entries so far is written, the rest waits, and this is the result of reading the next line.
 -- The input's first line isn't `ring N` then.
-pub record Runs (known : Option (List ℕ)) (first : List ℕ) (had : Option (List ℕ)) (h : Header) (w : Recorder) (from has : Option (List ℕ)) (next : Result Bool RecordFault) (count : ℕ) : Type 0 where
+pub record Runs (known : Option (List ℕ)) (first : List ℕ) (had : Option (List ℕ)) (h : Header) (w : Recorder)
+    (from has : Option (List ℕ)) (next : Result Bool RecordFault) (count : ℕ) : Type 0 where
   pub sent : List ℕ
   pub asking : List ℕ
   pub state : State
@@ -29,7 +30,8 @@ pub record Runs (known : Option (List ℕ)) (first : List ℕ) (had : Option (Li
   pub no_ring : first ++ asking ≡ [] → GoesToNoRing w.lines next
 
 -- Whether a front of the entries of some lines is written, and the rest waits.
-pub record HasRun (known : Option (List ℕ)) (first : List ℕ) (had : Option (List ℕ)) (h : Header) (waits : List ℕ) (has : Option (List ℕ)) (Holds : List ℕ → List ℕ → Type 0) (count : ℕ) : Type 0 where
+pub record HasRun (known : Option (List ℕ)) (first : List ℕ) (had : Option (List ℕ)) (h : Header) (waits : List ℕ)
+    (has : Option (List ℕ)) (Holds : List ℕ → List ℕ → Type 0) (count : ℕ) : Type 0 where
   pub sent : List ℕ
   pub asking : List ℕ
   pub state : State
@@ -54,9 +56,11 @@ RunsTo known first had h waits has (Err WriteFault) = HasFailed known first had 
 RunsTo known first had h waits has (Err fault) = (count : ℕ) × HasRun known first had h waits has (IsBeforeFault h.format fault) count
 
 -- Like `RunsTo`, whatever was recorded before.
-abbrev pub RunsOn : Recorder → Option (List ℕ) → Option (List ℕ) → Result Bool RecordFault → Recorder → Option (List ℕ) → Result ℕ RecordFault → Type 0
+abbrev pub RunsOn : Recorder → Option (List ℕ) → Option (List ℕ) → Result Bool RecordFault → Recorder →
+    Option (List ℕ) → Result ℕ RecordFault → Type 0
 RunsOn old from has next new now ran =
-    (known : Option (List ℕ)) (first : List ℕ) (had : Option (List ℕ)) (h : Header) → Runs known first had h old from has next 0 → RunsTo known first had h new.output.items now ran
+    (known : Option (List ℕ)) (first : List ℕ) (had : Option (List ℕ)) (h : Header) → Runs known first had h old from has next 0 →
+    RunsTo known first had h new.output.items now ran
 
 -- Whether the waiting entries are written after a fault other than the writer's; if they can't be, the writer failed.
 abbrev pub WritesRest : RecordFault → (had has : Option (List ℕ)) → List ℕ → RecordFault → Type 0
@@ -66,11 +70,13 @@ WritesRest fault had has waits result = ((result ≡ fault) × Appends had has w
 -- Whether, after a beginning that leads here, all entries are recorded and written.
 abbrev pub RecordsAll : Recorder → (from had : Option (List ℕ)) → Result Bool RecordFault → Option (List ℕ) → ℕ → Type 0
 RecordsAll old from had next has count =
-    (form : Form) (ring : ℕ) (known : Option (List ℕ)) (first : List ℕ) → OpensWith first ring → Runs known first had (header_of form ring) old from had next 0 →
+    (form : Form) (ring : ℕ) (known : Option (List ℕ)) (first : List ℕ) →
+    OpensWith first ring → Runs known first had (header_of form ring) old from had next 0 →
     Records form known had has count
 
 -- Why they aren't.
 abbrev pub StopsBefore : Recorder → (from had : Option (List ℕ)) → Result Bool RecordFault → Option (List ℕ) → RecordFault → Type 0
 StopsBefore old from had next has fault =
-    (form : Form) (ring : ℕ) (known : Option (List ℕ)) (first : List ℕ) → OpensWith first ring → Runs known first had (header_of form ring) old from had next 0 →
+    (form : Form) (ring : ℕ) (known : Option (List ℕ)) (first : List ℕ) →
+    OpensWith first ring → Runs known first had (header_of form ring) old from had next 0 →
     StopsRecording form known had has fault

@@ -19,7 +19,8 @@ use Rattle.trace_model.specs.declared.header.Header.{Header}
 use Rattle.trace_model.specs.Head.{IsHeadOf}
 use Rattle.trace_model.specs.Legal.{IsTrace, StepOf, opened_by}
 use Rattle.trace_model.specs.OneReply.{IsTraced}
-use Rattle.trace_model.specs.Text.{TraceEntry, IsHeader, MayAsk, MayMerge, asked_text, command_asked, header_text, marked, plus_text, worded_as}
+use Rattle.trace_model.specs.Text.{TraceEntry, IsHeader, MayAsk, MayMerge, asked_text, command_asked}
+use Rattle.trace_model.specs.Text.{header_text, marked, plus_text, worded_as}
 use Rattle.trace_record.specs.declared.fault.RecordFault.{RecordFault}
 use Rattle.trace_record.specs.declared.fault.RecordFault.TheVariants.{BadLine, WriteFault}
 use Rattle.trace_record.specs.declared.form.Form.{Form}
@@ -71,7 +72,8 @@ FailsAtHead old new fault = IsBadHead old.header.format old.lines.line old.lines
 -- ---- items
 
 -- Whether one more item is read, and added to the text.
-pub record AddsItem (old : Recorder) (from : Option (List ℕ)) (before : List Item) (new : Recorder) (to : Option (List ℕ)) (after : List Item) : Type 0 where
+pub record AddsItem (old : Recorder) (from : Option (List ℕ)) (before : List Item)
+    (new : Recorder) (to : Option (List ℕ)) (after : List Item) : Type 0 where
   pub item : Item
   pub after_is : after ≡ before ++ item ∷ []
   pub may : MayMerge old.header.format item
@@ -94,10 +96,13 @@ IsLackingNext format bytes front WriteFault = ⊥
 IsLackingNext format bytes front _ = Unit {0}
 
 abbrev pub MissesItem : Recorder → Option (List ℕ) → Recorder → RecordFault → Type 0
-MissesItem old from new fault = IsOfInput fault × KeepsRun old new × ((bytes front : List ℕ) → IsAt bytes front old.lines from → IsLackingNext old.header.format bytes front fault)
+MissesItem old from new fault =
+    IsOfInput fault × KeepsRun old new ×
+    ((bytes front : List ℕ) → IsAt bytes front old.lines from → IsLackingNext old.header.format bytes front fault)
 
 -- Whether `count` items are read.
-pub record AddsItems (old : Recorder) (from : Option (List ℕ)) (count : ℕ) (new : Recorder) (to : Option (List ℕ)) (items : List Item) : Type 0 where
+pub record AddsItems (old : Recorder) (from : Option (List ℕ)) (count : ℕ) (new : Recorder)
+    (to : Option (List ℕ)) (items : List Item) : Type 0 where
   pub counted : length items ≡ count
   pub may : All (MayMerge old.header.format) items
   pub text : new.entry.items ≡ old.entry.items ++ flat_map plus_text items
@@ -117,12 +122,15 @@ IsLackingOne format bytes front count WriteFault = ⊥
 IsLackingOne format bytes front count _ = Unit {0}
 
 abbrev pub MissesItems : Recorder → Option (List ℕ) → ℕ → Recorder → RecordFault → Type 0
-MissesItems old from count new fault = IsOfInput fault × KeepsRun old new × ((bytes front : List ℕ) → IsAt bytes front old.lines from → IsLackingOne old.header.format bytes front count fault)
+MissesItems old from count new fault =
+    IsOfInput fault × KeepsRun old new ×
+    ((bytes front : List ℕ) → IsAt bytes front old.lines from → IsLackingOne old.header.format bytes front count fault)
 
 -- ---- the whole command
 
 -- Whether the rest of the command, after its first line, is read.
-pub record AddedLines (old : Recorder) (from : Option (List ℕ)) (pass : ℕ) (new : Recorder) (to : Option (List ℕ)) (asked : Asked) : Type 0 where
+pub record AddedLines (old : Recorder) (from : Option (List ℕ)) (pass : ℕ) (new : Recorder)
+    (to : Option (List ℕ)) (asked : Asked) : Type 0 where
   pub more : List ℕ
   pub may : MayAsk old.header.format pass asked
   pub whole : asked_text pass asked ≡ old.entry.items ++ more
@@ -131,7 +139,8 @@ pub record AddedLines (old : Recorder) (from : Option (List ℕ)) (pass : ℕ) (
   pub keeps : KeepsRun old new
 
 abbrev pub AddsLines : Recorder → Option (List ℕ) → Head → Recorder → Option (List ℕ) → Asked → Type 0
-AddsLines old from head new to asked = (pass : ℕ) → IsHeadOf old.header.format pass head old.entry.items → IsShort old.entry.items → AddedLines old from pass new to asked
+AddsLines old from head new to asked =
+    (pass : ℕ) → IsHeadOf old.header.format pass head old.entry.items → IsShort old.entry.items → AddedLines old from pass new to asked
 
 -- Whether the rest of the command isn't read, because an item of a Merge is missing.
 abbrev pub MissesLines : Recorder → Option (List ℕ) → Head → Recorder → RecordFault → Type 0
@@ -157,7 +166,9 @@ pub record AnswersIn (old : Recorder) (asked : Asked) (new : Recorder) (s : Stat
   pub output : new.output.items ≡ old.output.items ++ (old.entry.items ++ marked (reply_lines (worded_as asked) reply old.header.limits))
 
 abbrev pub AnswersAsked : Recorder → Asked → Recorder → Type 0
-AnswersAsked old asked new = (new.header ≡ old.header) × (new.lines ≡ old.lines) × ((s : State) → ContentStands old.store s → IsTraced old.header.format s → AnswersIn old asked new s)
+AnswersAsked old asked new =
+    (new.header ≡ old.header) × (new.lines ≡ old.lines) ×
+    ((s : State) → ContentStands old.store s → IsTraced old.header.format s → AnswersIn old asked new s)
 
 -- ---- entries
 
@@ -170,7 +181,8 @@ pub record Recorded (h : Header) (text asking : List ℕ) (s : State) (count : �
   pub counted : length entries ≡ count
 
 -- Whether one more entry waits: the line that was reached, and those passed since.
-pub record AddedEntry (old : Recorder) (from : Option (List ℕ)) (new : Recorder) (to : Option (List ℕ)) (text asking : List ℕ) (count : ℕ) : Type 0 where
+pub record AddedEntry (old : Recorder) (from : Option (List ℕ)) (new : Recorder)
+    (to : Option (List ℕ)) (text asking : List ℕ) (count : ℕ) : Type 0 where
   pub added : List ℕ
   pub more : List ℕ
   pub new_state : State
@@ -181,9 +193,14 @@ pub record AddedEntry (old : Recorder) (from : Option (List ℕ)) (new : Recorde
   pub over : (bytes front : List ℕ) → IsAtLine bytes front old.lines from → IsAt bytes (front ++ more) new.lines to
 
 abbrev pub AddsEntry : Recorder → Option (List ℕ) → Recorder → Option (List ℕ) → Type 0
-AddsEntry old from new to = (new.header ≡ old.header) × ((text asking : List ℕ) (s : State) (count : ℕ) → Recorded old.header text asking s count → ContentStands old.store s → AddedEntry old from new to text asking count)
+AddsEntry old from new to =
+    (new.header ≡ old.header) ×
+    ((text asking : List ℕ) (s : State) (count : ℕ) →
+    Recorded old.header text asking s count → ContentStands old.store s → AddedEntry old from new to text asking count)
 
 -- Whether none does. An input's first line `ring N` isn't read as an entry's.
 abbrev pub FailsInEntry : Recorder → Option (List ℕ) → Recorder → RecordFault → Type 0
 FailsInEntry old from new fault =
-    IsOfInput fault × KeepsOutput old new × ((bytes front : List ℕ) → IsAtLine bytes front old.lines from → (front ≡ [] → ¬ IsRingLine old.lines.line) → IsBeforeFault old.header.format fault bytes front)
+    IsOfInput fault × KeepsOutput old new ×
+    ((bytes front : List ℕ) → IsAtLine bytes front old.lines from → (front ≡ [] → ¬ IsRingLine old.lines.line) →
+    IsBeforeFault old.header.format fault bytes front)

@@ -5,7 +5,8 @@ ghost use Rattle.line_io.specs.Lines.{EndsLine};
 ghost use Rattle.line_io.specs.Pulling.{LeadsOn};
 ghost use Rattle.trace_model.specs.Text.{command_asked};
 ghost use Rattle.trace_record.specs.Causes.{IsCausedOn};
-ghost use Rattle.trace_record.specs.Steps.{KeepsOutput, OpensAs, HeadsFrom, FailsAtHead, AddsLines, MissesLines, AddsItems, MissesItems, AddsItem, MissesItem, AddsReply, AnswersAsked, AddsEntry, FailsInEntry};
+ghost use Rattle.trace_record.specs.Steps.{KeepsOutput, OpensAs, HeadsFrom, FailsAtHead, AddsLines, MissesLines, AddsItems, MissesItems};
+ghost use Rattle.trace_record.specs.Steps.{AddsItem, MissesItem, AddsReply, AnswersAsked, AddsEntry, FailsInEntry};
 
 use crate::fault::RecordFault;
 use crate::form::Form;

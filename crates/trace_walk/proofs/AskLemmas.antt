@@ -45,12 +45,18 @@ use Rattle.trace_walk.proofs.ToldLemmas.{told, stop_first, stop_told, sweep_step
 -- ---- after a command
 
 -- the first line of a reply must follow
-pub reply_wanted : (b : Spot) (l : LinesContent) (store : ContentRecord) (h : Header) (from : Option (List ℕ)) (pass : ℕ) (asked : Asked) (kept : List ℕ) (x : HasAsked b l store h from pass asked kept) → IsPlaceInEntry b.front (b.front ++ asked_text pass asked) true IsShort
+pub reply_wanted : (b : Spot) (l : LinesContent) (store : ContentRecord) (h : Header) (from : Option (List ℕ)) (pass : ℕ)
+    (asked : Asked) (kept : List ℕ) (x : HasAsked b l store h from pass asked kept)
+    → IsPlaceInEntry b.front (b.front ++ asked_text pass asked) true IsShort
 reply_wanted b l store h from pass asked kept x =
-    place_of b.front _ true (MayReply h.format h.limits b.state asked) IsShort (λ line m. may_short h pass b.state asked line x.behind.trace.header x.behind.traced x.may m) (reply_places b.front h b.state b.count pass asked x.behind x.pass_few x.may)
+    place_of b.front _ true (MayReply h.format h.limits b.state asked) IsShort
+    (λ line m. may_short h pass b.state asked line x.behind.trace.header x.behind.traced x.may m)
+    (reply_places b.front h b.state b.count pass asked x.behind x.pass_few x.may)
 
 -- and does
-pub hears : (b : Spot) (old l : LinesContent) (store : ContentRecord) (h : Header) (from to : Option (List ℕ)) (pass : ℕ) (asked : Asked) (kept : List ℕ) (x : HasAsked b old store h from pass asked kept) (line : List ℕ) → l.line ≡ with_newline line → HasLine b.bytes (b.front ++ asked_text pass asked) line l to → Hears b l store h to pass asked kept
+pub hears : (b : Spot) (old l : LinesContent) (store : ContentRecord) (h : Header) (from to : Option (List ℕ)) (pass : ℕ)
+    (asked : Asked) (kept : List ℕ) (x : HasAsked b old store h from pass asked kept) (line : List ℕ)
+    → l.line ≡ with_newline line → HasLine b.bytes (b.front ++ asked_text pass asked) line l to → Hears b l store h to pass asked kept
 hears b old l store h from to pass asked kept x line is here =
     record { line = line; here = here; line_is = is; stands = x.stands; behind = x.behind; pass_few = x.pass_few; may = x.may; kept_is = x.kept_is }
 
@@ -107,14 +113,18 @@ module _ (b : Spot) (old : LinesContent) (store : ContentRecord) (h : Header) (f
 
     -- a comparison with the text passes it, or finds the wrong line
     pub answered_goes : (said : List ℕ) → said ≡ text → (l : LinesContent) (to : Option (List ℕ)) (new : ContentRecord) →
-        ((bytes base here : List ℕ) → HasLine bytes base here old from → old.line ≡ with_newline here → IsEnded said → 0 < length said → IsAt bytes (base ++ marked said) l to) → ContentStands new t → Walks (spot_behind b h.limits entry t) l new h to
+        ((bytes base here : List ℕ) → HasLine bytes base here old from → old.line ≡ with_newline here → IsEnded said → 0 < length said → IsAt bytes (base ++ marked said) l to) →
+        ContentStands new t →
+        Walks (spot_behind b h.limits entry t) l new h to
     answered_goes said is l to new goes stands =
         let whole : IsEnded said = subst IsEnded (sym is) (reply_ended (worded_as asked) reply h.limits) in
         let some : 0 < length said = subst (λ (f : List ℕ). 0 < length f) (sym is) (reply_some (worded_as asked) reply h.limits) in
         walks_on l to new (subst (λ (f : List ℕ). IsAt b.bytes (base ++ marked f) l to) is (goes b.bytes base x.line x.here x.line_is whole some)) stands
 
     -- and is after one more entry
-    pub passes_said : (before w : Walk) (to : Option (List ℕ)) (passed : Passed) (said : List ℕ) → said ≡ text → HasSaid before from said w to → before.lines ≡ old → before.header ≡ h → before.asked.items ≡ kept → ContentStands before.store t →
+    pub passes_said : (before w : Walk) (to : Option (List ℕ)) (passed : Passed) (said : List ℕ)
+        → said ≡ text → HasSaid before from said w to → before.lines ≡ old → before.header ≡ h → before.asked.items ≡ kept
+        → ContentStands before.store t →
         (h.format ≡ One → BecomesBy b.state h.limits entry passed) → HasPassed b h w to passed
     passes_said before w to passed said is s lines header asked_is stands becomes =
         let goes = subst (λ (l : LinesContent). SaysAll l from w.lines to said) lines s.says in
@@ -146,14 +156,21 @@ module _ (b : Spot) (old : LinesContent) (store : ContentRecord) (h : Header) (f
       passes c.0 c.1 (Refused refusals.NoRoom) b.state step w from passed there header asked_is reply_is becomes
 
   -- the store's own reply
-  pub known_by : (said : Wording) (command : Command) (reply : AReply) (t : State) (f : IsForStore h.format asked said command old.line) → is_some (room_wanted reply) ≡ false → Step b.state command reply t → MayReply h.format h.limits b.state asked (with_newline x.line) →
+  pub known_by : (said : Wording) (command : Command) (reply : AReply) (t : State)
+      (f : IsForStore h.format asked said command old.line)
+      → is_some (room_wanted reply) ≡ false → Step b.state command reply t
+      → MayReply h.format h.limits b.state asked (with_newline x.line) →
       (next left : List ℕ) → reply_lines (worded_as asked) reply h.limits ≡ next ++ left → EndsALine next → with_newline x.line ≡ 60 ∷ 32 ∷ next
   known_by said command reply t f room step m next left is ends =
-      told h.format h.limits pass b.state command (with_newline x.line) asked t reply x.may f.asks (f.steps b.state t reply step) (none_of (room_wanted reply) room) (λ e. f.room (x.line_is ∙ e)) (λ items done e less q. f.stops items done e less (x.line_is ∙ q)) m next left is ends
+      told h.format h.limits pass b.state command (with_newline x.line) asked t reply x.may f.asks (f.steps b.state t reply step)
+      (none_of (room_wanted reply) room) (λ e. f.room (x.line_is ∙ e))
+      (λ items done e less q. f.stops items done e less (x.line_is ∙ q)) m next left is ends
 
 -- ---- a Merge that was stopped
 
-module _ (b : Spot) (old : LinesContent) (store : ContentRecord) (h : Header) (from : Option (List ℕ)) (pass : ℕ) (items : List Item) (kept : List ℕ) (x : Hears b old store h from pass (askeds.Merge items) kept) (done : ℕ) (less : done < length items) (is : old.line ≡ stopped_line done) where
+module _ (b : Spot) (old : LinesContent) (store : ContentRecord) (h : Header) (from : Option (List ℕ)) (pass : ℕ) (items : List Item)
+    (kept : List ℕ) (x : Hears b old store h from pass (askeds.Merge items) kept) (done : ℕ) (less : done < length items)
+    (is : old.line ≡ stopped_line done) where
   pub stop_known : (reply : AReply) (t : State) → StopsForRoom b.state items reply t done → (next left : List ℕ) → reply_lines AsMerge reply h.limits ≡ next ++ left → EndsALine next → with_newline x.line ≡ 60 ∷ 32 ∷ next
   stop_known reply t stops next left text ends =
       sym x.line_is ∙ is ∙ ap (λ (l : List ℕ). 60 ∷ 32 ∷ l) (sym (stop_first done _ h.limits next left (omega (arith, less, x.may.0)) (ap (λ (r : AReply). reply_lines AsMerge r h.limits) (sym stops.reply_is) ∙ text) ends))
@@ -168,8 +185,11 @@ module _ (b : Spot) (old : LinesContent) (store : ContentRecord) (h : Header) (f
 
 -- ---- a sweep of format 1
 
-pub sweep_known : (b : Spot) (old : LinesContent) (store : ContentRecord) (h : Header) (from : Option (List ℕ)) (pass : ℕ) (caller : EndpointRecord) (owner : List ℕ) (generation : ℕ) (kept : List ℕ) (x : Hears b old store h from pass (askeds.Line (commands.Store (machine.Sweep caller owner generation))) kept) →
-    old.line ≢ noroom_line → (reply : AReply) → h.format ≡ One → reply ≡ (older_sweep b.state caller owner generation).0 → MayReply h.format h.limits b.state (askeds.Line (commands.Store (machine.Sweep caller owner generation))) (with_newline x.line) →
+pub sweep_known : (b : Spot) (old : LinesContent) (store : ContentRecord) (h : Header) (from : Option (List ℕ)) (pass : ℕ)
+    (caller : EndpointRecord) (owner : List ℕ) (generation : ℕ) (kept : List ℕ)
+    (x : Hears b old store h from pass (askeds.Line (commands.Store (machine.Sweep caller owner generation))) kept) →
+    old.line ≢ noroom_line → (reply : AReply) → h.format ≡ One → reply ≡ (older_sweep b.state caller owner generation).0 →
+    MayReply h.format h.limits b.state (askeds.Line (commands.Store (machine.Sweep caller owner generation))) (with_newline x.line) →
     (next left : List ℕ) → reply_lines AsMerge reply h.limits ≡ next ++ left → EndsALine next → with_newline x.line ≡ 60 ∷ 32 ∷ next
 sweep_known b old store h from pass caller owner generation kept x room reply one is m next left text ends =
     told h.format h.limits pass b.state (machine.Sweep caller owner generation) (with_newline x.line) (askeds.Line (commands.Store (machine.Sweep caller owner generation))) (older_sweep b.state caller owner generation).1 reply x.may refl

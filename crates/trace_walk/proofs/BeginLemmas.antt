@@ -33,7 +33,9 @@ said_for start bytes faults.ReadFault f = tt
 said_for start bytes faults.NoRoom f = tt
 
 -- if nothing is left, what was passed is legal
-pub legal_at_end : (b : Spot) (l : LinesContent) (store : ContentRecord) (h : Header) (from : Option (List ℕ)) → Walks b l store h from → (count : ℕ) → b.count ≡ count → (lines : List (List ℕ)) × HasLines b.bytes lines × (b.front ≡ joined lines) → IsVerdict b.bytes (verdicts.Legal count)
+pub legal_at_end : (b : Spot) (l : LinesContent) (store : ContentRecord) (h : Header) (from : Option (List ℕ))
+    → Walks b l store h from → (count : ℕ) → b.count ≡ count → (lines : List (List ℕ)) × HasLines b.bytes lines × (b.front ≡ joined lines)
+    → IsVerdict b.bytes (verdicts.Legal count)
 legal_at_end b l store h from w count is ends =
     (ends.0, ends.1, (h, w.behind.entries, b.state, subst (λ (t : List ℕ). IsTrace t h w.behind.entries b.state) ends.2 w.behind.trace, w.behind.counted ∙ is))
 
@@ -72,7 +74,13 @@ rest_short : (f : Format) (l : LimitsRecord) → FormatHas f l → length (limit
 rest_short One l has = omega arith
 rest_short Two l has =
     let few = few_limits l has in
-    omega (arith, length-append (decimal l.subs) (32 ∷ (decimal l.keys ++ 10 ∷ [])), length-append (decimal l.keys) (10 ∷ []), length-decimal-le 20 l.subs (omega arith) (omega (arith, few.0)) (omega (arith, few.0)), length-decimal-le 20 l.keys (omega arith) (omega (arith, few.1)) (omega (arith, few.1)))
+    omega (
+      arith,
+      length-append (decimal l.subs) (32 ∷ (decimal l.keys ++ 10 ∷ [])),
+      length-append (decimal l.keys) (10 ∷ []),
+      length-decimal-le 20 l.subs (omega arith) (omega (arith, few.0)) (omega (arith, few.0)),
+      length-decimal-le 20 l.keys (omega arith) (omega (arith, few.1)) (omega (arith, few.1)),
+    )
 
 format_short : (f : Format) → length (format_text f) ≡ 8
 format_short One = refl
@@ -105,7 +113,10 @@ abbrev pub WantsHeader : List ℕ → WalkFault → Type 0
 WantsHeader bytes fault = IsFault [] bytes fault × IsWanted bytes AHeader fault
 
 -- the first line isn't a header
-pub wrong_first : (bytes line : List ℕ) (number : ℕ) (before more : List (List ℕ)) → HasLines bytes (before ++ line ∷ more) → [] ≡ joined before → number ≡ suc (length before) → IsUnbroken line → HasNoHeader (with_newline line) → WantsHeader bytes (faults.BadLineAt number)
+pub wrong_first : (bytes line : List ℕ) (number : ℕ) (before more : List (List ℕ))
+    → HasLines bytes (before ++ line ∷ more) → [] ≡ joined before → number ≡ suc (length before) → IsUnbroken line
+    → HasNoHeader (with_newline line)
+    → WantsHeader bytes (faults.BadLineAt number)
 wrong_first bytes line number before more lines behind counted whole none =
     let wrong : IsWrongAt bytes number [] = record { before = before; rest = line ∷ more; lines = lines; behind = behind; counted = counted; begins = nothing_begins; fails = bad_header line more whole none } in
     (([], wrong, no_reply_first, none_here []), ([], wrong, refl))

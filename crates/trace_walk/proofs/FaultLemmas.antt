@@ -28,18 +28,27 @@ none_here start part left n e legal = is_nothing part (omega (arith, ap length e
 abbrev pub IsFaultAt : (start bytes front : List ℕ) → WalkFault → Type 0
 IsFaultAt start bytes front fault = IsFault start bytes fault × IsWrongBy bytes front fault
 
-at_place : (place : Place) (start bytes front : List ℕ) (number : ℕ) (May : List ℕ → Type 0) (before rest : List (List ℕ)) → IsPlaceInEntry start front (is_reply place) May → HasLines bytes (before ++ rest) → front ≡ joined before → number ≡ suc (length before) → Fails front rest → IsFaultAt start bytes front (line_fault place number)
+at_place : (place : Place) (start bytes front : List ℕ) (number : ℕ) (May : List ℕ → Type 0) (before rest : List (List ℕ))
+    → IsPlaceInEntry start front (is_reply place) May → HasLines bytes (before ++ rest) → front ≡ joined before
+    → number ≡ suc (length before) → Fails front rest
+    → IsFaultAt start bytes front (line_fault place number)
 at_place Form start bytes front number May before rest p lines behind counted fails =
     let wrong : IsWrongAt bytes number front = record { before = before; rest = rest; lines = lines; behind = behind; counted = counted; begins = p.begins; fails = fails } in
     ((front, wrong, p.wants, p.none), wrong)
-at_place Reply start bytes front number May before rest p lines behind counted fails = ((front, record { before = before; rest = rest; lines = lines; behind = behind; counted = counted; begins = p.begins; fails = fails }, p.wants, p.none), tt)
+at_place Reply start bytes front number May before rest p lines behind counted fails =
+    ((front, record { before = before; rest = rest; lines = lines; behind = behind; counted = counted; begins = p.begins; fails = fails }, p.wants, p.none), tt)
 
 -- no line is there
-pub missing : (place : Place) (start bytes front : List ℕ) (count number : ℕ) (May : List ℕ → Type 0) → IsRead bytes front count → IsPlaceInEntry start front (is_reply place) May → number ≡ suc count → IsFaultAt start bytes front (line_fault place number)
+pub missing : (place : Place) (start bytes front : List ℕ) (count number : ℕ) (May : List ℕ → Type 0)
+    → IsRead bytes front count → IsPlaceInEntry start front (is_reply place) May → number ≡ suc count
+    → IsFaultAt start bytes front (line_fault place number)
 missing place start bytes front count number May r p e = at_place place start bytes front number May r.0 [] p (subst (HasLines bytes) (sym (append-nil r.0)) r.1) r.2 (e ∙ ap suc r.3) p.ends
 
 -- the line that is there is wrong
-pub wrong_there : (place : Place) (start bytes front line : List ℕ) (l : LinesContent) (to : Option (List ℕ)) (number : ℕ) (May : List ℕ → Type 0) → HasLine bytes front line l to → IsPlaceInEntry start front (is_reply place) May → ¬ May (with_newline line) → number ≡ l.count → IsFaultAt start bytes front (line_fault place number)
+pub wrong_there : (place : Place) (start bytes front line : List ℕ) (l : LinesContent) (to : Option (List ℕ)) (number : ℕ)
+    (May : List ℕ → Type 0)
+    → HasLine bytes front line l to → IsPlaceInEntry start front (is_reply place) May → ¬ May (with_newline line) → number ≡ l.count
+    → IsFaultAt start bytes front (line_fault place number)
 wrong_there place start bytes front line l to number May h p none e = at_place place start bytes front number May h.before (line ∷ h.more) p h.lines h.front_is (e ∙ h.counted) (p.wrong line h.more h.whole none)
 
 not_short : (line : List ℕ) → 4096 < length line → ¬ IsShort (with_newline line)
@@ -84,7 +93,10 @@ pub split_on : (bytes base whole rest next : List ℕ) (l : LinesContent) (from 
 split_on bytes base whole rest next l from x e = record { given = x.given; whole_is = x.whole_is ∙ ap (λ (r : List ℕ). (x.given ++ 10 ∷ []) ++ r) e; at = x.at }
 
 -- one more line of it is there
-pub one_more : (bytes base whole line more here : List ℕ) (old l : LinesContent) (from to : Option (List ℕ)) (x : IsSaid bytes base whole (line ++ more) old from) → EndsLine line → HasLine bytes (base ++ marked (x.given ++ 10 ∷ [])) here l to → with_newline here ≡ 60 ∷ 32 ∷ line → IsSaid bytes base whole more l to
+pub one_more : (bytes base whole line more here : List ℕ) (old l : LinesContent) (from to : Option (List ℕ))
+    (x : IsSaid bytes base whole (line ++ more) old from)
+    → EndsLine line → HasLine bytes (base ++ marked (x.given ++ 10 ∷ [])) here l to → with_newline here ≡ 60 ∷ 32 ∷ line
+    → IsSaid bytes base whole more l to
 one_more bytes base whole line more here old l from to x e h same =
     let given : List ℕ = (x.given ++ 10 ∷ []) ++ e.front in
     let line_is : given ++ 10 ∷ [] ≡ (x.given ++ 10 ∷ []) ++ (e.front ++ 10 ∷ []) = append_assoc (x.given ++ 10 ∷ []) e.front (10 ∷ []) in

@@ -1,5 +1,6 @@
 -- The numbers in a reply have 64 bits.
-use Rattle.std.proofs.Common.{◌≡◌, ℕ, suc, zero, ◌+◌, ◌-◌, ◌<◌, ◌≤◌, ◌^◌, ◌==◌, ◌&&◌, ◌||◌, Bool, true, false, not, cond, nat_le, nat_lt, List, [], ◌∷◌, ◌++◌, length, map, take, filter, fold, Option, Some, None, is_some, inl, inr, refl, sym, ap, subst, arith, length-append, length-take, length-drop}
+use Rattle.std.proofs.Common.{◌≡◌, ℕ, suc, zero, ◌+◌, ◌-◌, ◌<◌, ◌≤◌, ◌^◌, ◌==◌, ◌&&◌, ◌||◌, Bool, true, false, not, cond, nat_le, nat_lt, List, [], ◌∷◌, ◌++◌, length, map, take, filter, fold, Option, Some, None, is_some, inl, inr}
+use Rattle.std.proofs.Common.{refl, sym, ap, subst, arith, length-append, length-take, length-drop}
 use Rattle.std.specs.List.{find}
 use Rattle.std.specs.Option.{option_map, option_map_or, option_and_then}
 use Rattle.std.proofs.lemmas.Bool.{false≢true, leb-true, ltb-true, ltb-false, eqb-true}
@@ -218,13 +219,21 @@ course_counts (i ∷ items) k n are x =
     let all = course_counts items (item_merged k i) (n + 1) (λ j m. are j (Contains-tail i items j m)) one in
     record { done = omega (arith, all.done); taken = omega (arith, all.taken); stale = omega (arith, all.stale); stop = all.stop }
 
-merge_few : (s : State) (k : Course) (o : Option Refusal) → k.done ≤ 256 → length k.taken ≤ 256 → k.stale ≤ 256 → IsFewStop o → IsFewReply (option_map_or {U = Reply} (λ fault. MergeStopped k.done fault (owed s k.taken)) o (Merged k.done (length k.taken) k.stale (owed s k.taken)))
+merge_few : (s : State) (k : Course) (o : Option Refusal)
+    → k.done ≤ 256 → length k.taken ≤ 256 → k.stale ≤ 256 → IsFewStop o
+    → IsFewReply
+    (option_map_or {U = Reply}
+    (λ fault. MergeStopped k.done fault (owed s k.taken))
+    o
+    (Merged k.done (length k.taken) k.stale (owed s k.taken)))
 merge_few s k (Some r) a b c e = (omega (arith, a), fault_few r e)
 merge_few s k None a b c e = (omega (arith, a), omega (arith, b), omega (arith, c))
 
 -- ---- all commands
 
-few_or : {X : Type 0} (s : State) (o : Option X) (f : X → Reply) (reply : Reply) (new : State) → ((x : X) → o ≡ Some x → IsFewReply (f x)) → (o ≡ None → IsFewReply reply) → IsFewReply (option_map_or {U = Reply × State} (λ x. (f x, s)) o (reply, new)).0
+few_or : {X : Type 0} (s : State) (o : Option X) (f : X → Reply) (reply : Reply) (new : State)
+    → ((x : X) → o ≡ Some x → IsFewReply (f x)) → (o ≡ None → IsFewReply reply)
+    → IsFewReply (option_map_or {U = Reply × State} (λ x. (f x, s)) o (reply, new)).0
 few_or s (Some x) f reply new each own = each x refl
 few_or s None f reply new each own = own refl
 
@@ -299,7 +308,13 @@ module _ (s : State) (reached : IsReached s) (within : IsWithin s) (are : AreIte
   pub few_outcome : (command : Command) → IsProper command → IsSmall command → IsFewReply (outcome s command).0
   few_outcome (Publish caller key version value overwrite) proper small =
       let a : AskedChange = published caller key version overwrite in
-      few_or s (cause_against s a (Put value)) answer_for _ _ (λ c e. answer_few c (change_cause version (against_asked (standing_of s (asked_in s a (Put value))) (name_of (held s) a.caller) a (Put value)) c (proper.epoch, proper.seq) e)) (λ e. tt)
+      few_or s (cause_against s a (Put value)) answer_for _ _
+      (λ c e.
+      answer_few c
+      (change_cause version
+      (against_asked (standing_of s (asked_in s a (Put value))) (name_of (held s) a.caller) a (Put value)) c
+      (proper.epoch, proper.seq) e))
+      (λ e. tt)
   few_outcome (Delete caller key version) proper small =
       let a : AskedChange = deleted caller key version in
       few_or s (cause_against s a Gone) answer_for _ _ (λ c e. answer_few c (change_cause version (against_asked (standing_of s (asked_in s a Gone)) (name_of (held s) a.caller) a Gone) c (proper.epoch, proper.seq) e)) (λ e. tt)
@@ -337,7 +352,12 @@ module _ (s : State) (owner : List ℕ) (generation : ℕ) where
   few_older : (caller : EndpointRecord) → IsFewReply (older_sweep s caller owner generation).0
   few_older caller = by_tests (is_rs caller) (nat_le (next_position s + length gone) last_place) refl
     where
-      by_tests : (a b : Bool) → nat_le (next_position s + length gone) last_place ≡ b → IsFewReply (cond {A = Reply × State} a (cond b (Swept (length gone) (owed s gone), takes_effect s gone) (Refused refusals.Worn, s)) (Refused refusals.NotAllowed, s)).0
+      by_tests : (a b : Bool)
+          → nat_le (next_position s + length gone) last_place ≡ b
+          → IsFewReply
+          (cond {A = Reply × State} a
+          (cond b (Swept (length gone) (owed s gone), takes_effect s gone) (Refused refusals.Worn, s))
+          (Refused refusals.NotAllowed, s)).0
       by_tests true true e = omega (arith, leb-true (next_position s + length gone) last_place e)
       by_tests true false e = tt
       by_tests false b e = tt
@@ -360,5 +380,6 @@ by_format One s t (Snapshot scope) reply traced proper small x = few_traced One 
 by_format One s t (Page scope after max) reply traced proper small x = few_traced One s t (Page scope after max) reply traced proper small x
 by_format One s t (Merge items) reply traced proper small x = few_traced One s t (Merge items) reply traced proper small x
 
-pub few_reply : (format : Format) (pass : ℕ) (s t : State) (asked : Asked) (command : Command) (reply : Reply) → IsTraced format s → MayAsk format pass asked → command_asked asked ≡ Some command → StepOf format s command reply t → IsFewReply reply
+pub few_reply : (format : Format) (pass : ℕ) (s t : State) (asked : Asked) (command : Command) (reply : Reply)
+    → IsTraced format s → MayAsk format pass asked → command_asked asked ≡ Some command → StepOf format s command reply t → IsFewReply reply
 few_reply format pass s t asked command reply traced may asks step = by_format format s t command reply traced (asked_proper format pass asked command may asks) (asked_small format pass asked command may asks) step

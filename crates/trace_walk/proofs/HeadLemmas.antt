@@ -38,7 +38,9 @@ legal_front b h behind = (h, behind.entries, b.state, behind.trace, behind.count
 
 module _ (b : Spot) (old l : LinesContent) (store : ContentRecord) (h : Header) (from to : Option (List ℕ)) (w : Walks b old store h from) where
   -- it is one
-  pub heads_on : (line : List ℕ) (pass : ℕ) (head : Head) (kept : List ℕ) → l.line ≡ with_newline line → HasLine b.bytes b.front line l to → IsHeadOf h.format pass head l.line → IsShort l.line → kept ≡ l.line → Heads b l store h to pass head kept
+  pub heads_on : (line : List ℕ) (pass : ℕ) (head : Head) (kept : List ℕ)
+      → l.line ≡ with_newline line → HasLine b.bytes b.front line l to → IsHeadOf h.format pass head l.line → IsShort l.line → kept ≡ l.line
+      → Heads b l store h to pass head kept
   heads_on line pass head kept line_is here is short keeps =
       record {
         at = subst (λ (t : List ℕ). IsAt b.bytes (b.front ++ t) l to) (sym line_is ∙ is.2) here.then;
@@ -54,13 +56,28 @@ module _ (b : Spot) (old l : LinesContent) (store : ContentRecord) (h : Header) 
   abbrev pub WantsEntry : WalkFault → Type 0
   WantsEntry fault = IsFault b.front b.bytes fault × IsWanted b.bytes Entry fault
 
-  head_fails : (number : ℕ) (line : List ℕ) (before more : List (List ℕ)) → HasLines b.bytes (before ++ line ∷ more) → b.front ≡ joined before → number ≡ suc (length before) → IsUnbroken line → (IsShort (with_newline line) → HasNoHead h.format (with_newline line)) → WantsEntry (BadLineAt number)
+  head_fails : (number : ℕ) (line : List ℕ) (before more : List (List ℕ))
+      → HasLines b.bytes (before ++ line ∷ more) → b.front ≡ joined before → number ≡ suc (length before) → IsUnbroken line
+      → (IsShort (with_newline line) → HasNoHead h.format (with_newline line))
+      → WantsEntry (BadLineAt number)
   head_fails number line before more lines behind counted whole none =
-      let wrong : IsWrongAt b.bytes number b.front = record { before = before; rest = line ∷ more; lines = lines; behind = behind; counted = counted; begins = behind_begins b.front h b.state b.count w.behind; fails = bad_head b.front line more h b.state b.count w.behind whole none } in
+      let wrong : IsWrongAt b.bytes number b.front =
+      record {
+        before = before;
+        rest = line ∷ more;
+        lines = lines;
+        behind = behind;
+        counted = counted;
+        begins = behind_begins b.front h b.state b.count w.behind;
+        fails = bad_head b.front line more h b.state b.count w.behind whole none;
+      } in
       ((b.front, wrong, no_reply b.front h b.state b.count w.behind, none_here b.front), (b.front, wrong, (b.count, legal_front b h w.behind)))
 
   -- it is none
-  pub head_wrong : (line : List ℕ) (fault : AskedFault) (number : ℕ) → l.line ≡ with_newline line → HasLine b.bytes b.front line l to → (fault ≡ badly.BadLine → HasNoHead h.format l.line) → number ≡ l.count → WantsEntry (of_line fault number)
+  pub head_wrong : (line : List ℕ) (fault : AskedFault) (number : ℕ)
+      → l.line ≡ with_newline line → HasLine b.bytes b.front line l to → (fault ≡ badly.BadLine → HasNoHead h.format l.line)
+      → number ≡ l.count
+      → WantsEntry (of_line fault number)
   head_wrong line badly.NoRoom number line_is here none e = (tt, tt)
   head_wrong line badly.BadLine number line_is here none e =
       head_fails number line here.before here.more here.lines here.front_is (e ∙ here.counted) here.whole (λ short. subst (HasNoHead h.format) line_is (none refl))
@@ -98,10 +115,14 @@ module _ (b : Spot) (old l : LinesContent) (store : ContentRecord) (h : Header) 
       (fault ≡ badly.BadLine → (item : Item) → MayMerge h.format item → l.line ≢ plus_text item) → number ≡ l.count → WantsItem (of_line fault number)
   plus_wrong line badly.NoRoom number less line_is here none e = (tt, tt)
   plus_wrong line badly.BadLine number less line_is here none e =
-      let wrong = wrong_there Form b.front b.bytes (b.front ++ (pass_text pass (merge_text most) ++ flat_map plus_text items)) line l to number (IsPlus h.format) here (plus_place less) (λ plus. none refl plus.0 plus.1 (line_is ∙ plus.2)) e in
+      let wrong =
+      wrong_there Form b.front b.bytes (b.front ++ (pass_text pass (merge_text most) ++ flat_map plus_text items)) line l to number (IsPlus h.format) here (plus_place less) (λ plus. none refl plus.0 plus.1 (line_is ∙ plus.2)) e in
       (wrong.0, plus_wanted less (BadLineAt number) wrong.1)
 
-  pub plus_on : (line : List ℕ) (item : Item) (now : List ℕ) → l.line ≡ with_newline line → HasLine b.bytes (b.front ++ (pass_text pass (merge_text most) ++ flat_map plus_text items)) line l to → MayMerge h.format item → l.line ≡ plus_text item → now ≡ kept ++ l.line → Lists b l store h to pass most (items ++ item ∷ []) now
+  pub plus_on : (line : List ℕ) (item : Item) (now : List ℕ)
+      → l.line ≡ with_newline line → HasLine b.bytes (b.front ++ (pass_text pass (merge_text most) ++ flat_map plus_text items)) line l to
+      → MayMerge h.format item → l.line ≡ plus_text item → now ≡ kept ++ l.line
+      → Lists b l store h to pass most (items ++ item ∷ []) now
   plus_on line item now line_is here may is keeps =
       let head : List ℕ = pass_text pass (merge_text most) in
       let more : (head ++ flat_map plus_text items) ++ l.line ≡ head ++ flat_map plus_text (items ++ item ∷ []) =

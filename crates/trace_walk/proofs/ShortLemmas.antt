@@ -140,7 +140,14 @@ words_few said (Checked items before after) is =
 words_few said (Journaled since) is = omega (arith, few_digits (length since.items) is.0, cursor_few since.cursor is.1, length-append (decimal (length since.items)) (32 ∷ cursor_text since.cursor))
 words_few said (Snapped snapshot) is = omega (arith, few_digits (length snapshot.items) is.0, cursor_few snapshot.cursor is.1, length-append (decimal (length snapshot.items)) (32 ∷ cursor_text snapshot.cursor))
 words_few said (Paged page) is =
-    omega (arith, few_digits (length page.items) is.0, cursor_few page.cursor is.1, mark_few page.last, length-append (decimal (length page.items)) (page_mark page.last ++ cursor_text page.cursor), length-append (page_mark page.last) (cursor_text page.cursor))
+    omega (
+      arith,
+      few_digits (length page.items) is.0,
+      cursor_few page.cursor is.1,
+      mark_few page.last,
+      length-append (decimal (length page.items)) (page_mark page.last ++ cursor_text page.cursor),
+      length-append (page_mark page.last) (cursor_text page.cursor),
+    )
 words_few said (Merged done taken stale owed) is = omega (arith, merged_few said done taken stale is.0 is.1 is.2)
 words_few AsMerge (MergeStopped done fault owed) is = omega (arith, few_digits done is.0, fault_few fault is.1, length-append (decimal done) (32 ∷ refusal_words fault))
 words_few AsOffer (MergeStopped done fault owed) is = omega (arith, fault_few fault is.1)
@@ -197,10 +204,14 @@ text_short said r l items few is =
 
 -- ---- the replies of steps
 
-pub reply_short : (h : Header) (pass : ℕ) (s t : State) (asked : Asked) (command : Command) (reply : Reply) → IsHeader h → IsTraced h.format s → MayAsk h.format pass asked → command_asked asked ≡ Some command → StepOf h.format s command reply t →
+pub reply_short : (h : Header) (pass : ℕ) (s t : State) (asked : Asked) (command : Command) (reply : Reply)
+    → IsHeader h → IsTraced h.format s → MayAsk h.format pass asked → command_asked asked ≡ Some command
+    → StepOf h.format s command reply t →
     (given next left : List ℕ) → reply_lines (worded_as asked) reply h.limits ≡ given ++ (next ++ left) → EndsLine next → length next ≤ 4095
 reply_short h pass s t asked command reply is traced may asks step =
-    text_short (worded_as asked) reply h.limits (reply_spelt h.format s t command reply traced (asked_small h.format pass asked command may asks) step).items (few_reply h.format pass s t asked command reply traced may asks step) (limits_are h.format h.limits is.limits)
+    text_short (worded_as asked) reply h.limits
+    (reply_spelt h.format s t command reply traced (asked_small h.format pass asked command may asks) step).items
+    (few_reply h.format pass s t asked command reply traced may asks step) (limits_are h.format h.limits is.limits)
 
 pub may_short : (h : Header) (pass : ℕ) (s : State) (asked : Asked) (line : List ℕ) → IsHeader h → IsTraced h.format s → MayAsk h.format pass asked → MayReply h.format h.limits s asked line → IsShort line
 may_short h pass s asked line is traced may m =

@@ -1,5 +1,6 @@
 -- The tombstones of a sweep of format 1.
-use Rattle.std.proofs.Common.{◌≡◌, ℕ, ◌+◌, ◌<◌, ◌≤◌, ◌≢◌, ◌==◌, min, not, Bool, true, false, cond, List, [], ◌∷◌, ◌++◌, map, filter, take, length, Option, Some, None, refl, sym, ap, ◌∙◌, subst, arith, inl, inr, append-nil, append_assoc, length-append, nat_le}
+use Rattle.std.proofs.Common.{◌≡◌, ℕ, ◌+◌, ◌<◌, ◌≤◌, ◌≢◌, ◌==◌, min, not, Bool, true, false, cond, List, [], ◌∷◌, ◌++◌, map, filter, take, length, Option, Some, None}
+use Rattle.std.proofs.Common.{refl, sym, ap, ◌∙◌, subst, arith, inl, inr, append-nil, append_assoc, length-append, nat_le}
 use Rattle.std.specs.Int.Bits.{bit_or}
 use Rattle.std.specs.FinMap.{entries}
 use Rattle.std.specs.List.{All, slice_get, flat_map}
@@ -59,14 +60,19 @@ gone_push owner generation [] c = by_test (is_swept owner generation c)
     by_test false = refl
 gone_push owner generation (d ∷ cs) c = by_test (is_swept owner generation d) (gone_push owner generation cs c)
   where
-    by_test : (b : Bool) → gone_of owner generation (cs ++ c ∷ []) ≡ gone_of owner generation cs ++ cond (is_swept owner generation c) (tombstone owner generation c ∷ []) [] → map (tombstone owner generation) (cond b (d ∷ filter (is_swept owner generation) (cs ++ c ∷ [])) (filter (is_swept owner generation) (cs ++ c ∷ [])))
+    by_test : (b : Bool)
+        → gone_of owner generation (cs ++ c ∷ [])
+        ≡ gone_of owner generation cs ++ cond (is_swept owner generation c) (tombstone owner generation c ∷ []) []
+        → map (tombstone owner generation)
+        (cond b (d ∷ filter (is_swept owner generation) (cs ++ c ∷ [])) (filter (is_swept owner generation) (cs ++ c ∷ [])))
         ≡ map (tombstone owner generation) (cond b (d ∷ filter (is_swept owner generation) cs) (filter (is_swept owner generation) cs)) ++ cond (is_swept owner generation c) (tombstone owner generation c ∷ []) []
     by_test true rest = ap (λ (l : List Item). tombstone owner generation d ∷ l) rest
     by_test false rest = rest
 
 module _ (owner : List ℕ) (generation : ℕ) (cs : List ChangeRecord) (i : ℕ) where
   one_more : (c : ChangeRecord) → slice_get cs i ≡ Some c → gone_of owner generation (take (i + 1) cs) ≡ gone_of owner generation (take i cs) ++ cond (is_swept owner generation c) (tombstone owner generation c ∷ []) []
-  one_more c at = ap (λ (l : List ChangeRecord). gone_of owner generation l) (take_more cs i c (slice_get_within cs i c at) ∙ ap (λ (y : ChangeRecord). take i cs ++ y ∷ []) (get_or_from_slice_get cs i c c at)) ∙ gone_push owner generation (take i cs) c
+  one_more c at =
+      ap (λ (l : List ChangeRecord). gone_of owner generation l) (take_more cs i c (slice_get_within cs i c at) ∙ ap (λ (y : ChangeRecord). take i cs ++ y ∷ []) (get_or_from_slice_get cs i c c at)) ∙ gone_push owner generation (take i cs) c
 
   -- the change at the index gets one
   pub gone_added : (t : Item) → Some t ≡ option_and_then (tombstone_over owner generation) (slice_get cs i) → gone_of owner generation (take i cs) ++ t ∷ [] ≡ gone_of owner generation (take (i + 1) cs)
@@ -104,7 +110,9 @@ most_keys l count e is = omega (arith, e, (few_limits l is).1)
 -- ---- the batches of a sweep
 
 -- the items so far with one more batch, and what is owed for them
-pub one_batch : (new : ContentRecord) (s : State) (whole part batch rest : List Item) (mask more : ℕ) → whole ≡ part ++ (batch ++ rest) → mask ≡ owed s part → more ≡ owed (takes_effect s part) batch → ContentStands new (takes_effect (takes_effect s part) batch)
+pub one_batch : (new : ContentRecord) (s : State) (whole part batch rest : List Item) (mask more : ℕ)
+    → whole ≡ part ++ (batch ++ rest) → mask ≡ owed s part → more ≡ owed (takes_effect s part) batch
+    → ContentStands new (takes_effect (takes_effect s part) batch)
     → (whole ≡ (part ++ batch) ++ rest) × ContentStands new (takes_effect s (part ++ batch)) × (bit_or mask more ≡ owed s (part ++ batch))
 one_batch new s whole part batch rest mask more e m n stands = (
   e ∙ sym (append_assoc part batch rest),
@@ -134,7 +142,9 @@ pub none_merged : (s : State) (pass : ℕ) (limits : LimitsRecord) (rest : List 
 none_merged s pass limits rest merges is =
     record { new = []; merge = ([], All-nil IsPart, refl, refl, none_filled); are = record { text = is.text; counted = is.count }; full = λ more. All-nil IsFullPart }
 
-pub one_merged : (s : State) (pass : ℕ) (limits : LimitsRecord) (part batch rest more : List Item) (before after : Merges) (mask : ℕ) → IsPart batch → 0 < length rest → (0 < length more → IsFullPart batch) → mask ≡ owed (takes_effect s part) batch → AreMerged s pass limits part rest before →
+pub one_merged : (s : State) (pass : ℕ) (limits : LimitsRecord) (part batch rest more : List Item) (before after : Merges) (mask : ℕ)
+    → IsPart batch → 0 < length rest → (0 < length more → IsFullPart batch) → mask ≡ owed (takes_effect s part) batch
+    → AreMerged s pass limits part rest before →
     after.text.items ≡ before.text.items ++ entry_text limits (taking_entry pass batch mask) → after.count ≡ before.count + 1 → AreMerged s pass limits (part ++ batch) more after
 one_merged s pass limits part batch rest more before after mask is some fills owes x text count =
     let parts : List (List Item) = x.merge.0 in

@@ -147,10 +147,14 @@ few_stop s t items reply done x = omega (arith, x.few, x.some_left)
 module _ (format : Format) (limits : LimitsRecord) (pass : ℕ) (s : State) (command : Command) (line : List ℕ) where
   -- if a Merge was stopped, an offer is answered as if it were refused, and any other Merge by a line of its own
   stopped_line_is : (asked : Asked) (t : State) (reply : Reply) (done : ℕ) (first rest : List ℕ) → command_asked asked ≡ Some command → StepOf format s command reply t → IsStop s command reply t done → room_wanted reply ≡ Some (Some done) →
-      reply_lines (worded_as asked) reply limits ≡ first ++ rest → EndsLine first → line ≡ 60 ∷ 32 ∷ first → line ≢ noroom_line → ((items : List Item) (done : ℕ) → asked ≡ askeds.Merge items → done < length items → line ≢ stopped_line done) → MayAsk format pass asked → ⊥
+      reply_lines (worded_as asked) reply limits ≡ first ++ rest → EndsLine first → line ≡ 60 ∷ 32 ∷ first → line ≢ noroom_line →
+      ((items : List Item) (done : ℕ) → asked ≡ askeds.Merge items → done < length items → line ≢ stopped_line done) →
+      MayAsk format pass asked →
+      ⊥
   stopped_line_is (askeds.Merge js) t reply done first rest asks step x e text ends is room stops may =
       let same : js ≡ x.items = items_same js x.items (same_Some (commands.Merge js) command asks ∙ x.merge) in
-      let said : first ≡ stop_said done = stop_first done (owed s (course s (take done x.items)).taken) limits first rest (few_stop s t x.items reply done x.stops) (ap (λ (r : Reply). reply_lines AsMerge r limits) (sym x.stops.reply_is) ∙ text) ends in
+      let said : first ≡ stop_said done =
+      stop_first done (owed s (course s (take done x.items)).taken) limits first rest (few_stop s t x.items reply done x.stops) (ap (λ (r : Reply). reply_lines AsMerge r limits) (sym x.stops.reply_is) ∙ text) ends in
       stops js done refl (subst (λ (l : List Item). done < length l) (sym same) x.stops.some_left) (is ∙ ap (λ (l : List ℕ). 60 ∷ 32 ∷ l) said)
     where
       items_same : (a b : List Item) → commands.Merge a ≡ commands.Merge b → a ≡ b
@@ -191,7 +195,10 @@ pub stop_step : (format : Format) (s t : State) (items : List Item) (reply : Rep
 stop_step format s t items reply done x = merge_step format s t items reply (inr (done, x))
 
 -- if the line says so, some step of the store is such a stop
-pub stop_told : (format : Format) (limits : LimitsRecord) (pass : ℕ) (s : State) (items : List Item) (done : ℕ) (line : List ℕ) → IsTraced format s → MayAsk format pass (askeds.Merge items) → done < length items → line ≡ stopped_line done → MayReply format limits s (askeds.Merge items) line → (course s (take done items)).stop ≡ None
+pub stop_told : (format : Format) (limits : LimitsRecord) (pass : ℕ) (s : State) (items : List Item) (done : ℕ) (line : List ℕ)
+    → IsTraced format s → MayAsk format pass (askeds.Merge items) → done < length items → line ≡ stopped_line done
+    → MayReply format limits s (askeds.Merge items) line
+    → (course s (take done items)).stop ≡ None
 stop_told format limits pass s items done line traced may less is m =
     let few : done < 2 ^ 64 = omega (arith, less, may.0) in
     let command : m.command ≡ commands.Merge items = same_Some m.command (commands.Merge items) (sym m.asks) in
@@ -200,7 +207,11 @@ stop_told format limits pass s items done line traced may less is m =
     let none : IsSpelt (MergeStopped done refusals.NoRoom 0) = record { items = λ i h. absurd (Contains-nil i h); few = few } in
     let both : HaveOneFirst (reply_lines AsMerge m.reply limits) (reply_lines AsMerge (MergeStopped done refusals.NoRoom 0) limits) =
     record { line = m.first; ends = m.ends; left = m.rest; right = owed_line limits 0; a_is = m.text; b_is = stop_text done 0 limits ∙ ap (λ (l : List ℕ). l ++ owed_line limits 0) (sym said) } in
-    let wants : room_wanted m.reply ≡ Some (Some done) = first_lines_tell limits m.reply (MergeStopped done refusals.NoRoom 0) (reply_spelt format s m.new (commands.Merge items) m.reply traced (asked_small format pass (askeds.Merge items) (commands.Merge items) may refl) step) none both in
+    let wants : room_wanted m.reply ≡ Some (Some done) =
+    first_lines_tell limits m.reply (MergeStopped done refusals.NoRoom 0)
+    (reply_spelt format s m.new (commands.Merge items) m.reply traced
+    (asked_small format pass (askeds.Merge items) (commands.Merge items) may refl) step)
+    none both in
     let x = stop_is format s m.new (commands.Merge items) m.reply done step wants in
     subst (λ (l : List Item). (course s (take done l)).stop ≡ None) (items_same x.items items (sym x.merge)) x.stops.not_refused
   where
@@ -212,7 +223,9 @@ stop_told format limits pass s items done line traced may less is m =
 pub merge_steps : (format : Format) (items : List Item) (s t : State) (reply : Reply) → Step s (commands.Merge items) reply t → StepOf format s (commands.Merge items) reply t
 merge_steps format items s t reply x = merge_step format s t items reply x
 
-pub sweep_step : (format : Format) (s : State) (caller : EndpointRecord) (owner : List ℕ) (generation : ℕ) (reply : Reply) → format ≡ One → reply ≡ (older_sweep s caller owner generation).0 → StepOf format s (commands.Sweep caller owner generation) reply (older_sweep s caller owner generation).1
+pub sweep_step : (format : Format) (s : State) (caller : EndpointRecord) (owner : List ℕ) (generation : ℕ) (reply : Reply)
+    → format ≡ One → reply ≡ (older_sweep s caller owner generation).0
+    → StepOf format s (commands.Sweep caller owner generation) reply (older_sweep s caller owner generation).1
 sweep_step format s caller owner generation reply e is =
     subst (λ (f : Format). StepOf f s (commands.Sweep caller owner generation) reply (older_sweep s caller owner generation).1) (sym e) (inl (record { reply_is = is; state_is = refl }))
 
@@ -258,14 +271,19 @@ merge_refused format items one s limits pass = refl
 no_merge : (c : ScriptCommand) (items : List Item) → askeds.Line c ≡ askeds.Merge items → ⊥
 no_merge c items e = cc
 
-pub line_for_store : (format : Format) (c : ScriptCommand) (command : Command) (said : Wording) (line : List ℕ) → older_of format c ≡ None → store_command c ≡ Some command → said ≡ worded_as (askeds.Line c) → line ≢ noroom_line → IsForStore format (askeds.Line c) said command line
+pub line_for_store : (format : Format) (c : ScriptCommand) (command : Command) (said : Wording) (line : List ℕ)
+    → older_of format c ≡ None → store_command c ≡ Some command → said ≡ worded_as (askeds.Line c) → line ≢ noroom_line
+    → IsForStore format (askeds.Line c) said command line
 line_for_store format c command said line older asks words room =
     record { asks = asks; words = words; steps = plain_steps format c command older asks; stays = line_stays format c older; room = room; stops = λ items done e less. absurd (no_merge c items e) }
 
 merge_same : (a b : List Item) → askeds.Merge a ≡ askeds.Merge b → a ≡ b
 merge_same a b e = cc
 
-pub merge_for_store : (format : Format) (items : List Item) (line here : List ℕ) (count : ℕ) → count ≡ length items → here ≡ line → ((done : ℕ) → done < count → count ≤ most_items → here ≢ stopped_line done) → length items ≤ most_items → line ≢ noroom_line →
+pub merge_for_store : (format : Format) (items : List Item) (line here : List ℕ) (count : ℕ)
+    → count ≡ length items → here ≡ line → ((done : ℕ) → done < count → count ≤ most_items → here ≢ stopped_line done)
+    → length items ≤ most_items
+    → line ≢ noroom_line →
     IsForStore format (askeds.Merge items) AsMerge (commands.Merge items) line
 merge_for_store format items line here count is same none few room =
     record {

@@ -23,7 +23,10 @@ tail_of : (y : List ℕ) (ys : List (List ℕ)) → All IsUnbroken (y ∷ ys) �
 tail_of y ys all k d lt = all (suc k) d (omega (arith, lt))
 
 -- a text that begins with a line has it as its first line
-by_front : (line rest last : List ℕ) (front after : List (List ℕ)) → IsUnbroken line → All IsUnbroken front → IsUnbroken last → with_newline line ++ rest ≡ joined front ++ last → after ≡ front ++ unended last → (more : List (List ℕ)) × (after ≡ line ∷ more) × HasLines rest more
+by_front : (line rest last : List ℕ) (front after : List (List ℕ))
+    → IsUnbroken line → All IsUnbroken front → IsUnbroken last → with_newline line ++ rest ≡ joined front ++ last
+    → after ≡ front ++ unended last
+    → (more : List (List ℕ)) × (after ≡ line ∷ more) × HasLines rest more
 by_front line rest last [] after whole all all_last e f = absurd (unbroken_has_none line rest (subst IsUnbroken (sym e ∙ append_assoc line (10 ∷ []) rest) all_last))
 by_front line rest last (y ∷ ys) after whole all all_last e f =
     let right : joined (y ∷ ys) ++ last ≡ y ++ 10 ∷ (joined ys ++ last) = append_assoc (with_newline y) (joined ys) last ∙ append_assoc y (10 ∷ []) (joined ys ++ last) in
@@ -64,7 +67,10 @@ joined_more before line = flat_map-append with_newline before (line ∷ []) ∙ 
 count_more : (before : List (List ℕ)) (line : List ℕ) → length (before ++ line ∷ []) ≡ suc (length before)
 count_more before line = omega (arith, length-append before (line ∷ []))
 
-gone_to : (bytes front line : List ℕ) (old new : LinesContent) (from to : Option (List ℕ)) (at : IsAt bytes front old from) (behind : List ℕ) (more : List (List ℕ)) → IsUnbroken line → at.after ≡ line ∷ more → HasLines behind more → left new to ≡ Some behind → new.count ≡ suc old.count → HasLine bytes front line new to
+gone_to : (bytes front line : List ℕ) (old new : LinesContent) (from to : Option (List ℕ)) (at : IsAt bytes front old from)
+    (behind : List ℕ) (more : List (List ℕ))
+    → IsUnbroken line → at.after ≡ line ∷ more → HasLines behind more → left new to ≡ Some behind → new.count ≡ suc old.count
+    → HasLine bytes front line new to
 gone_to bytes front line old new from to at behind more whole is lines left_is count =
     let same : at.before ++ at.after ≡ (at.before ++ line ∷ []) ++ more = ap (λ (l : List (List ℕ)). at.before ++ l) is ∙ sym (append_assoc at.before (line ∷ []) more) in
     record {
@@ -91,7 +97,9 @@ at_end_is None rest last c e = absurd c
 at_end_is (Some behind) rest last c e = (ap (λ (l : List ℕ). Some l) e, c ∙ ap (λ (l : List ℕ). last ++ l) e ∙ append-nil last)
 
 -- the line that comes is the first of those that are left
-pub line_comes : (bytes front : List ℕ) (old new : LinesContent) (from to : Option (List ℕ)) → IsAt bytes front old from → EndsLine new.line → ComesNext new.line (left old from) (left new to) → new.count ≡ suc old.count → (line : List ℕ) × (new.line ≡ with_newline line) × HasLine bytes front line new to
+pub line_comes : (bytes front : List ℕ) (old new : LinesContent) (from to : Option (List ℕ))
+    → IsAt bytes front old from → EndsLine new.line → ComesNext new.line (left old from) (left new to) → new.count ≡ suc old.count
+    → (line : List ℕ) × (new.line ≡ with_newline line) × HasLine bytes front line new to
 line_comes bytes front old new from to at ends (inl c) count =
     let k = known_after at.rest new.line (left new to) (subst (λ (o : Option (List ℕ)). Consumes o (left new to) new.line) at.left_is c) in
     let split : at.rest ≡ with_newline ends.front ++ k.0 = k.2 ∙ ap (λ (l : List ℕ). l ++ k.0) ends.parts in
@@ -140,7 +148,9 @@ stands_first : (rest f : List ℕ) (behind : Option (List ℕ)) → Consumes (So
 stands_first rest f None c = absurd c
 stands_first rest f (Some r) c = (r, c)
 
-pub long_comes : (bytes front : List ℕ) (old : LinesContent) (from : Option (List ℕ)) (f : List ℕ) (number : ℕ) → IsAt bytes front old from → StandsFirst f (left old from) → IsUnbroken f → 4096 < length f → number ≡ suc old.count → IsLong bytes front number
+pub long_comes : (bytes front : List ℕ) (old : LinesContent) (from : Option (List ℕ)) (f : List ℕ) (number : ℕ)
+    → IsAt bytes front old from → StandsFirst f (left old from) → IsUnbroken f → 4096 < length f → number ≡ suc old.count
+    → IsLong bytes front number
 long_comes bytes front old from f number at first whole long count =
     let r = stands_first at.rest f first.0 (subst (λ (o : Option (List ℕ)). Consumes o first.0 f) at.left_is first.1) in
     let h = at.behind in

@@ -24,4 +24,5 @@ StepsBy old format asked reply new =
 -- Whether the store takes the step of the line's command.
 abbrev pub StepsAsSaid : ContentRecord → ScriptCommand → Reply → ContentRecord → Type 0
 StepsAsSaid old said reply new =
-    (s : State) → ContentStands old s → (command : Command) × (t : State) × (store_command said ≡ Some command) × Step s command reply t × ContentStands new t
+    (s : State) → ContentStands old s →
+    (command : Command) × (t : State) × (store_command said ≡ Some command) × Step s command reply t × ContentStands new t

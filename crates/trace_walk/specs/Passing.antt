@@ -26,7 +26,8 @@ BecomesBy s limits e (Swept merges) = (entries : List TraceEntry) × BecomesAs s
 -- Whether an entry of format 1 that was refused for lack of memory becomes this in format 2.
 abbrev pub IsRefusedAs : Format → Asked → Passed → Type 0
 IsRefusedAs format asked passed =
-    format ≡ One → (s : State) (limits : LimitsRecord) (pass : ℕ) → BecomesBy s limits (record { pass = pass; asked = asked; reply = Refused NoRoom }) passed
+    format ≡ One → (s : State) (limits : LimitsRecord) (pass : ℕ) →
+    BecomesBy s limits (record { pass = pass; asked = asked; reply = Refused NoRoom }) passed
 
 -- Whether the walk passed one more entry, which is a step of the store. It keeps the lines of the command, and those of
 -- the reply without their marks.

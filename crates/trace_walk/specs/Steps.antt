@@ -31,13 +31,15 @@ use Rattle.trace_walk.specs.declared.place.Place.{Place}
 use Rattle.trace_walk.specs.declared.sweep.Sweep.{Sweep}
 use Rattle.trace_walk.specs.declared.walk.Walk.{Walk}
 use Rattle.trace_walk.specs.Passing.{HasPassed, IsRefusedAs}
-use Rattle.trace_walk.specs.Walking.{Spot, IsAt, HasLine, IsRead, IsLongFault, IsShort, IsWrongBy, Walks, IsFault, Heads, Lists, HasAsked, Hears, IsEnded, IsThere, GoesOnSaying, IsToBeSaid, IsStopFault, IsForStore}
+use Rattle.trace_walk.specs.Walking.{Spot, IsAt, HasLine, IsRead, IsLongFault, IsShort, IsWrongBy, Walks, IsFault, Heads, Lists}
+use Rattle.trace_walk.specs.Walking.{HasAsked, Hears, IsEnded, IsThere, GoesOnSaying, IsToBeSaid, IsStopFault, IsForStore}
 
 -- ---- lines
 
 -- Whether the walk reached the next line.
 abbrev pub ComesToLine : LinesContent → Option (List ℕ) → LinesContent → Option (List ℕ) → Type 0
-ComesToLine old from new to = (bytes front : List ℕ) → IsAt bytes front old from → (line : List ℕ) × (new.line ≡ with_newline line) × HasLine bytes front line new to
+ComesToLine old from new to =
+    (bytes front : List ℕ) → IsAt bytes front old from → (line : List ℕ) × (new.line ≡ with_newline line) × HasLine bytes front line new to
 
 -- Whether the next line is too long, or can't be read.
 abbrev pub ComesToLong : Place → LinesContent → Option (List ℕ) → WalkFault → Type 0
@@ -64,24 +66,28 @@ SaysAll old from new to text =
 -- Whether the fault is the verdict on the input if some line of the text isn't there.
 abbrev pub MissesReply : LinesContent → Option (List ℕ) → List ℕ → WalkFault → Type 0
 MissesReply old from text fault =
-    (start bytes base here : List ℕ) → HasLine bytes base here old from → old.line ≡ with_newline here → IsToBeSaid start base here text → IsFault start bytes fault
+    (start bytes base here : List ℕ) → HasLine bytes base here old from → old.line ≡ with_newline here → IsToBeSaid start base here text →
+    IsFault start bytes fault
 
 -- Whether the rest of the text follows the lines that were compared.
 abbrev pub SaysRest : LinesContent → Option (List ℕ) → LinesContent → Option (List ℕ) → List ℕ → Type 0
 SaysRest old from new to text =
-    (bytes base whole given : List ℕ) → whole ≡ (given ++ 10 ∷ []) ++ text → IsEnded whole → IsAt bytes (base ++ marked (given ++ 10 ∷ [])) old from →
+    (bytes base whole given : List ℕ) →
+    whole ≡ (given ++ 10 ∷ []) ++ text → IsEnded whole → IsAt bytes (base ++ marked (given ++ 10 ∷ [])) old from →
     IsAt bytes (base ++ marked whole) new to
 
 -- Whether the fault is the verdict on the input if the rest of the text doesn't follow.
 abbrev pub MissesRest : LinesContent → Option (List ℕ) → List ℕ → WalkFault → Type 0
 MissesRest old from text fault =
-    (start bytes base whole given : List ℕ) → whole ≡ (given ++ 10 ∷ []) ++ text → GoesOnSaying start base whole → IsAt bytes (base ++ marked (given ++ 10 ∷ [])) old from →
+    (start bytes base whole given : List ℕ) →
+    whole ≡ (given ++ 10 ∷ []) ++ text → GoesOnSaying start base whole → IsAt bytes (base ++ marked (given ++ 10 ∷ [])) old from →
     IsFault start bytes fault
 
 -- Whether the fault is the verdict on the input if the reply line `line` must be here, and another line is.
 abbrev pub MissesSaid : LinesContent → List ℕ → WalkFault → Type 0
 MissesSaid lines line fault =
-    (start bytes base here : List ℕ) (remaining : Option (List ℕ)) → HasLine bytes base here lines remaining → lines.line ≡ with_newline here →
+    (start bytes base here : List ℕ) (remaining : Option (List ℕ)) →
+    HasLine bytes base here lines remaining → lines.line ≡ with_newline here →
     IsPlaceInEntry start base true (IsThere here line) → IsFault start bytes fault
 
 -- ---- entries
@@ -138,7 +144,8 @@ ReadsHead old from new to r = (new.header ≡ old.header) × ((b : Spot) → Wal
 
 -- Whether the rest of the command is read.
 abbrev pub ReadsAsked : Walk → Option (List ℕ) → Head → Walk → Option (List ℕ) → Asked → Type 0
-ReadsAsked old from head new to asked = (new.header ≡ old.header) × ((b : Spot) (pass : ℕ) → HeadsAt b old from pass head → AsksAt b new to pass asked)
+ReadsAsked old from head new to asked =
+    (new.header ≡ old.header) × ((b : Spot) (pass : ℕ) → HeadsAt b old from pass head → AsksAt b new to pass asked)
 
 abbrev pub FailsBehindHead : Walk → Option (List ℕ) → Head → WalkFault → Type 0
 FailsBehindHead old from head fault = (b : Spot) (pass : ℕ) → HeadsAt b old from pass head → IsFault b.front b.bytes fault
@@ -146,7 +153,8 @@ FailsBehindHead old from head fault = (b : Spot) (pass : ℕ) → HeadsAt b old 
 -- Whether all items of a Merge are read.
 abbrev pub ReadsItems : Walk → Option (List ℕ) → ℕ → Walk → Option (List ℕ) → List Item → Type 0
 ReadsItems old from most new to items =
-    (new.header ≡ old.header) × ((b : Spot) (pass : ℕ) → ListsAt b old from pass most [] → (length items ≡ most) × ListsAt b new to pass most items)
+    (new.header ≡ old.header) ×
+    ((b : Spot) (pass : ℕ) → ListsAt b old from pass most [] → (length items ≡ most) × ListsAt b new to pass most items)
 
 abbrev pub FailsInItems : Walk → Option (List ℕ) → ℕ → WalkFault → Type 0
 FailsInItems old from most fault = (b : Spot) (pass : ℕ) → ListsAt b old from pass most [] → IsFault b.front b.bytes fault
@@ -155,10 +163,12 @@ FailsInItems old from most fault = (b : Spot) (pass : ℕ) → ListsAt b old fro
 abbrev pub AddsOne : Walk → Option (List ℕ) → List Item → Walk → Option (List ℕ) → List Item → Type 0
 AddsOne old from before new to after =
     (new.header ≡ old.header) ×
-    ((b : Spot) (pass most : ℕ) → length before < most → ListsAt b old from pass most before → (length after ≡ suc (length before)) × ListsAt b new to pass most after)
+    ((b : Spot) (pass most : ℕ) → length before < most → ListsAt b old from pass most before →
+    (length after ≡ suc (length before)) × ListsAt b new to pass most after)
 
 abbrev pub FailsAtItem : Walk → Option (List ℕ) → List Item → WalkFault → Type 0
-FailsAtItem old from before fault = (b : Spot) (pass most : ℕ) → length before < most → ListsAt b old from pass most before → IsFault b.front b.bytes fault
+FailsAtItem old from before fault =
+    (b : Spot) (pass most : ℕ) → length before < most → ListsAt b old from pass most before → IsFault b.front b.bytes fault
 
 -- ---- the reply
 
@@ -211,7 +221,8 @@ PassesLine old from pass command new to passed = GoesPastReply old from pass (as
 
 -- Like `PassesLine`, whatever the entry's pass.
 abbrev pub PassesPlain : Walk → Option (List ℕ) → ScriptCommand → Walk → Option (List ℕ) → Passed → Type 0
-PassesPlain old from command new to passed = (b : Spot) (pass : ℕ) → HearsAt b old from pass (askeds.Line command) → HasPassed b old.header new to passed
+PassesPlain old from command new to passed =
+    (b : Spot) (pass : ℕ) → HearsAt b old from pass (askeds.Line command) → HasPassed b old.header new to passed
 
 abbrev pub FailsAtPlain : Walk → Option (List ℕ) → ScriptCommand → WalkFault → Type 0
 FailsAtPlain old from command fault = (b : Spot) (pass : ℕ) → HearsAt b old from pass (askeds.Line command) → IsFault b.front b.bytes fault
@@ -222,7 +233,8 @@ PassesSweep old from pass swept new to passed = GoesPastReply old from pass (swe
 
 -- Like `GoesPastReply`, for a Merge, whatever the entry's pass.
 abbrev pub PassesMerge : Walk → Option (List ℕ) → List Item → Walk → Option (List ℕ) → Passed → Type 0
-PassesMerge old from items new to passed = (b : Spot) (pass : ℕ) → HearsAt b old from pass (askeds.Merge items) → HasPassed b old.header new to passed
+PassesMerge old from items new to passed =
+    (b : Spot) (pass : ℕ) → HearsAt b old from pass (askeds.Merge items) → HasPassed b old.header new to passed
 
 abbrev pub FailsAtMerge : Walk → Option (List ℕ) → List Item → WalkFault → Type 0
 FailsAtMerge old from items fault = (b : Spot) (pass : ℕ) → HearsAt b old from pass (askeds.Merge items) → IsFault b.front b.bytes fault
@@ -230,11 +242,15 @@ FailsAtMerge old from items fault = (b : Spot) (pass : ℕ) → HearsAt b old fr
 -- Like `GoesPastReply`, for any entry that has this command of the store.
 abbrev pub PassesFor : Wording → Command → Walk → Option (List ℕ) → Walk → Option (List ℕ) → Passed → Type 0
 PassesFor wording command old from new to passed =
-    (b : Spot) (pass : ℕ) (asked : Asked) → IsForStore old.header.format asked wording command old.lines.line → HearsAt b old from pass asked → HasPassed b old.header new to passed
+    (b : Spot) (pass : ℕ) (asked : Asked) →
+    IsForStore old.header.format asked wording command old.lines.line → HearsAt b old from pass asked →
+    HasPassed b old.header new to passed
 
 abbrev pub FailsFor : Wording → Command → Walk → Option (List ℕ) → WalkFault → Type 0
 FailsFor wording command old from fault =
-    (b : Spot) (pass : ℕ) (asked : Asked) → IsForStore old.header.format asked wording command old.lines.line → HearsAt b old from pass asked → IsFault b.front b.bytes fault
+    (b : Spot) (pass : ℕ) (asked : Asked) →
+    IsForStore old.header.format asked wording command old.lines.line → HearsAt b old from pass asked →
+    IsFault b.front b.bytes fault
 
 -- ---- a Merge that is stopped
 
@@ -250,7 +266,9 @@ StopsMidway old items done reply new =
 -- Whether the reply is to a Merge of those items alone that took them all, and `stopped` is the one for a Merge that
 -- memory stopped after them.
 abbrev pub EndsMidway : Reply → ℕ → Reply → Type 0
-EndsMidway reply done stopped = (count taken stale owed : ℕ) × (reply ≡ replies.Merged count taken stale owed) × (stopped ≡ replies.MergeStopped done refusals.NoRoom owed)
+EndsMidway reply done stopped =
+    (count taken stale owed : ℕ) ×
+    (reply ≡ replies.Merged count taken stale owed) × (stopped ≡ replies.MergeStopped done refusals.NoRoom owed)
 
 -- Whether the reply isn't `Merged`.
 abbrev pub IsUnmerged : Reply → Type 0
@@ -258,4 +276,5 @@ IsUnmerged reply = (count taken stale owed : ℕ) → reply ≢ replies.Merged c
 
 -- Why the Merge can't have stopped there: a refusal stops it earlier, or memory ran out.
 abbrev pub FailsToStop : ContentRecord → List Item → (done number : ℕ) → WalkFault → Type 0
-FailsToStop old items done number fault = (s : State) → ContentStands old s → length items ≤ most_items → IsStopFault s items done number fault
+FailsToStop old items done number fault =
+    (s : State) → ContentStands old s → length items ≤ most_items → IsStopFault s items done number fault

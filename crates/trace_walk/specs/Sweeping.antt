@@ -23,7 +23,8 @@ use Rattle.trace_walk.specs.Merging.{AreEntries}
 
 -- The sweep of format 1 that the command is, if it is one.
 abbrev pub older_of : Format → ScriptCommand → Option Sweep
-older_of One (commands.Store (machine.Sweep caller owner generation)) = Some (record { caller = caller; owner = owner; generation = generation })
+older_of One (commands.Store (machine.Sweep caller owner generation)) =
+    Some (record { caller = caller; owner = owner; generation = generation })
 older_of format command = None
 
 -- The tombstone for a change, if the sweep ends it.
@@ -39,11 +40,13 @@ MergesPart old part mask new =
 abbrev pub SweepsAs : ContentRecord → Sweep → Reply → ContentRecord → Type 0
 SweepsAs old sweep reply new =
     (s : State) → ContentStands old s → IsTraced One s →
-    (reply ≡ (older_sweep s sweep.caller sweep.owner sweep.generation).0) × ContentStands new (older_sweep s sweep.caller sweep.owner sweep.generation).1
+    (reply ≡ (older_sweep s sweep.caller sweep.owner sweep.generation).0) ×
+    ContentStands new (older_sweep s sweep.caller sweep.owner sweep.generation).1
 
 -- Whether the entries are the sweep in format 2, by its reply.
 abbrev pub IsSweptInMerges : State → ℕ → LimitsRecord → Sweep → Reply → Merges → Type 0
-IsSweptInMerges s pass limits sweep reply merges = (entries : List TraceEntry) × SweepBecomes s pass sweep.owner sweep.generation reply entries × AreEntries limits merges entries
+IsSweptInMerges s pass limits sweep reply merges =
+    (entries : List TraceEntry) × SweepBecomes s pass sweep.owner sweep.generation reply entries × AreEntries limits merges entries
 
 -- Whether the store swept as in format 1, and these Merges are that sweep in format 2.
 abbrev pub SweepsInMerges : ContentRecord → ℕ → LimitsRecord → Sweep → Reply × Merges → ContentRecord → Type 0

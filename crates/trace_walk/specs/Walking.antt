@@ -28,7 +28,8 @@ use Rattle.trace_model.specs.declared.verdict.Verdict.TheVariants as verdicts
 use Rattle.trace_model.specs.Head.{MayHead, head_text}
 use Rattle.trace_model.specs.Legal.{StepOf}
 use Rattle.trace_model.specs.Noroom.{noroom_line, stopped_line}
-use Rattle.trace_model.specs.Text.{TraceEntry, MayAsk, MayMerge, asked_text, command_asked, entry_text, marked, merge_text, pass_text, plus_text, worded_as}
+use Rattle.trace_model.specs.Text.{TraceEntry, MayAsk, MayMerge, asked_text, command_asked, entry_text}
+use Rattle.trace_model.specs.Text.{marked, merge_text, pass_text, plus_text, worded_as}
 use Rattle.trace_model.specs.Upgrade.{BecomesAs}
 use Rattle.trace_model.specs.Verdict.{IsWrongAt, WantsReply}
 use Rattle.trace_model.specs.Walk.{IsBehind, IsPlaceInEntry, NoneEnds}
@@ -140,7 +141,8 @@ IsShort line = length line ≤ 4097
 -- ---- within an entry that begins at a spot. `kept` is the lines of its command so far.
 
 -- Whether the walk is after the first line of an entry.
-pub record Heads (b : Spot) (l : LinesContent) (store : ContentRecord) (h : Header) (remaining : Option (List ℕ)) (pass : ℕ) (head : Head) (kept : List ℕ) : Type 0 where
+pub record Heads (b : Spot) (l : LinesContent) (store : ContentRecord) (h : Header) (remaining : Option (List ℕ))
+    (pass : ℕ) (head : Head) (kept : List ℕ) : Type 0 where
   pub at : IsAt b.bytes (b.front ++ head_text pass head) l remaining
   pub stands : ContentStands store b.state
   pub behind : IsBehind b.front h b.state b.count
@@ -150,7 +152,8 @@ pub record Heads (b : Spot) (l : LinesContent) (store : ContentRecord) (h : Head
   pub kept_is : kept ≡ head_text pass head
 
 -- Whether the walk is after some of the items of a Merge.
-pub record Lists (b : Spot) (l : LinesContent) (store : ContentRecord) (h : Header) (remaining : Option (List ℕ)) (pass most : ℕ) (items : List Item) (kept : List ℕ) : Type 0 where
+pub record Lists (b : Spot) (l : LinesContent) (store : ContentRecord) (h : Header) (remaining : Option (List ℕ))
+    (pass most : ℕ) (items : List Item) (kept : List ℕ) : Type 0 where
   pub at : IsAt b.bytes (b.front ++ (pass_text pass (merge_text most) ++ flat_map plus_text items)) l remaining
   pub stands : ContentStands store b.state
   pub behind : IsBehind b.front h b.state b.count
@@ -160,7 +163,8 @@ pub record Lists (b : Spot) (l : LinesContent) (store : ContentRecord) (h : Head
   pub kept_is : kept ≡ pass_text pass (merge_text most) ++ flat_map plus_text items
 
 -- Whether the walk is after an entry's command.
-pub record HasAsked (b : Spot) (l : LinesContent) (store : ContentRecord) (h : Header) (remaining : Option (List ℕ)) (pass : ℕ) (asked : Asked) (kept : List ℕ) : Type 0 where
+pub record HasAsked (b : Spot) (l : LinesContent) (store : ContentRecord) (h : Header) (remaining : Option (List ℕ))
+    (pass : ℕ) (asked : Asked) (kept : List ℕ) : Type 0 where
   pub at : IsAt b.bytes (b.front ++ asked_text pass asked) l remaining
   pub stands : ContentStands store b.state
   pub behind : IsBehind b.front h b.state b.count
@@ -169,7 +173,8 @@ pub record HasAsked (b : Spot) (l : LinesContent) (store : ContentRecord) (h : H
   pub kept_is : kept ≡ asked_text pass asked
 
 -- Whether the walk is at the first line of the reply.
-pub record Hears (b : Spot) (l : LinesContent) (store : ContentRecord) (h : Header) (remaining : Option (List ℕ)) (pass : ℕ) (asked : Asked) (kept : List ℕ) : Type 0 where
+pub record Hears (b : Spot) (l : LinesContent) (store : ContentRecord) (h : Header) (remaining : Option (List ℕ))
+    (pass : ℕ) (asked : Asked) (kept : List ℕ) : Type 0 where
   pub line : List ℕ
   pub here : HasLine b.bytes (b.front ++ asked_text pass asked) line l remaining
   pub line_is : l.line ≡ with_newline line

@@ -56,14 +56,17 @@ abbrev pub WantsFrom : Walk → Option (List ℕ) → Walk → WalkFault → Typ
 WantsFrom old from new fault = (b : Spot) → WalksAt b old from → IsWanted b.bytes (wanted_in new.in_items) fault
 
 abbrev pub WantsBehindHead : Walk → Option (List ℕ) → Head → Walk → WalkFault → Type 0
-WantsBehindHead old from head new fault = (b : Spot) (pass : ℕ) → HeadsAt b old from pass head → IsWanted b.bytes (wanted_in new.in_items) fault
+WantsBehindHead old from head new fault =
+    (b : Spot) (pass : ℕ) → HeadsAt b old from pass head → IsWanted b.bytes (wanted_in new.in_items) fault
 
 abbrev pub WantsInItems : Walk → Option (List ℕ) → ℕ → Walk → WalkFault → Type 0
-WantsInItems old from most new fault = (b : Spot) (pass : ℕ) → ListsAt b old from pass most [] → IsWanted b.bytes (wanted_in new.in_items) fault
+WantsInItems old from most new fault =
+    (b : Spot) (pass : ℕ) → ListsAt b old from pass most [] → IsWanted b.bytes (wanted_in new.in_items) fault
 
 abbrev pub WantsAtItem : Walk → Option (List ℕ) → List Item → Walk → WalkFault → Type 0
 WantsAtItem old from before new fault =
-    (b : Spot) (pass most : ℕ) → length before < most → ListsAt b old from pass most before → IsWanted b.bytes (wanted_in new.in_items) fault
+    (b : Spot) (pass most : ℕ) → length before < most → ListsAt b old from pass most before →
+    IsWanted b.bytes (wanted_in new.in_items) fault
 
 -- Whether the fault may come where a line of this sort must follow: no bad line comes in place of a reply line.
 abbrev pub IsOfPlace : Place → WalkFault → Type 0

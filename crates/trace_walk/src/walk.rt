@@ -2,7 +2,8 @@
 
 ghost use Rattle.std.specs.Prelude.{◌≡◌, ◌++◌, ◌∷◌, [], IfOk, IfErr, IfSome, IfNone, OnOk};
 ghost use Rattle.trace_walk.specs.Reads.{Advances, BeginsReading, CountsOn};
-ghost use Rattle.trace_walk.specs.Steps.{BeginsKnown, IsFaultOfKnown, GoesPast, EndsThere, FailsFrom, ReadsHead, ReadsAsked, FailsBehindHead, ReadsItems, FailsInItems, AddsOne, FailsAtItem};
+ghost use Rattle.trace_walk.specs.Steps.{BeginsKnown, IsFaultOfKnown, GoesPast, EndsThere, FailsFrom, ReadsHead, ReadsAsked};
+ghost use Rattle.trace_walk.specs.Steps.{FailsBehindHead, ReadsItems, FailsInItems, AddsOne, FailsAtItem};
 ghost use Rattle.trace_walk.specs.Wanting.{IsWantedOfKnown, WantsFrom, WantsBehindHead, WantsInItems, WantsAtItem};
 ghost use Rattle.trace_walk.specs.declared.wrong_line.Wanted.TheVariants as wanteds;
 

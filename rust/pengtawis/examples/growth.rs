@@ -1,14 +1,15 @@
-//! Asks a store and a map, and prints what they answer; tests/programs/rust refuses each growth of its memory in turn.
+//! Asks a store, RS and a map, and prints what they answer; tests/programs/rust refuses each growth of its memory in turn.
 //!
 //! A call that is refused memory is made again, and then all answers are as ever: a refused call changed nothing, and no item was lost. It
 //! prints by no call of std that takes memory, and begins by a line, after which growths count.
 
-use pengtawis::{Endpoint, Error, Items, Kind, Kinds, Map, Refusal, Scope, Store, Version, RS};
+use pengtawis::{Cause, Endpoint, Error, Items, Kind, Kinds, Map, Refusal, Rs, Scope, Store, Version, RS};
 use std::fs::File;
 use std::io::Write;
 use std::os::unix::io::FromRawFd;
 
 const ETH: Endpoint = Endpoint::new(3, 16);
+const SETTINGS: &str = "service = [{label = 'eth0', class = 'network', unit = 0, limit = 1}]";
 const LARGE: u32 = 40; // values of 1024 bytes: more than one buffer of text
 
 /// Makes a call again until it isn't refused memory.
@@ -82,9 +83,23 @@ fn show(store: &mut Store, to: &mut File) -> Result<Items, Error> {
     }
 }
 
+/// Starts a service, which dies and starts again.
+fn restart(to: &mut File) -> Result<(), Error> {
+    let mut rs = insist_on(|| Rs::open(3, SETTINGS).map_err(|it| it.refusal))?;
+    insist_on(|| rs.renew(SETTINGS).map_err(|it| it.refusal))?;
+    let started = insist(|| rs.up("eth0", 0))?;
+    let died = insist(|| rs.death(Endpoint::new(1, 16), Cause::Exit, 1))?;
+    let again = insist(|| rs.tick(2))?;
+    for it in started.iter().chain(died.iter()).chain(again.iter()) {
+        writeln!(to, "{:?}", it).ok();
+    }
+    Ok(())
+}
+
 fn answer(to: &mut File) -> Result<(), Error> {
     let mut store = insist_on(|| Store::open_with(1, 0, 4096))?;
     publish(&mut store)?;
+    restart(to)?;
     let items = show(&mut store, to)?;
     let mut other = insist_on(|| Store::open(2))?;
     insist(|| match other.merge(&items) {

@@ -6,7 +6,8 @@ use std::fmt;
 
 macro_rules! refusals {
     ($($name:ident $word:literal $number:literal $said:literal;)*) => {
-        /// Why a store, a map or a table refused a call, in the order in which a store judges, and after them those of a table.
+        /// Why a call was refused: first by a store or a map, in the order in which a store judges; then by RS, of an event and of settings;
+        /// then by a table.
         #[derive(Clone, Copy, Debug, PartialEq, Eq)]
         #[non_exhaustive]
         pub enum Refusal {
@@ -64,11 +65,25 @@ refusals! {
     Ahead "ahead" 16 "the cursor is past everything that the store accepted";
     Behind "behind" 17 "the journal doesn't reach back to the cursor: continue from a snapshot";
     Full "full" 18 "4096 keys are held, or floors of 64 owners";
-    Worn "worn" 19 "the store's positions are used up";
+    Worn "worn" 19 "the store's positions are used up, or the tick is above 2^62";
     NoRoom "noroom" 20 "out of memory, or the pattern compiles to too much";
     BadRing "badring" 21 "a journal keeps 1 to 4096 items";
-    BadFirst "badfirst" 22 "the first position is at most 2^62";
-    OldEndpoint "oldendpoint" 30 "the request was last sent to another endpoint";
+    BadFirst "badfirst" 22 "the first position is at most 2^62, RS's first generation 1 to 2097152, and its slots 16 to 1023";
+    TickBack "tickback" 25 "no event has a tick below that of the last event";
+    UnknownLabel "unknownlabel" 26 "the settings have no service of this label";
+    BadCause "badcause" 27 "a death's cause is 1 to 6";
+    AlreadyUp "alreadyup" 28 "the service is up or waits";
+    NotUp "notup" 29 "the service isn't up, or doesn't wait";
+    OldEndpoint "oldendpoint" 30 "no running instance has this endpoint, or the request was last sent to another one";
+    GenerationsSpent "generationsspent" 31 "2097151 generations were started";
+    NoSlot "noslot" 32 "each process slot has an instance, or there were more slots";
+    Toml "toml" 33 "the settings aren't TOML, or a value is of another type";
+    UnknownField "unknownfield" 34 "the settings have an unknown field";
+    Missing "missing" 35 "a service of the settings lacks a field";
+    OutOfRange "outofrange" 36 "a value of the settings is out of range";
+    TwoLabels "twolabels" 37 "two services have one label";
+    TwoUnits "twounits" 38 "two services have one unit";
+    SharedName "sharedname" 39 "two services may publish one name";
     Assigned "assigned" 40 "the unit has a driver already";
     TwoIds "twoids" 41 "the request's number isn't above all that were accepted";
     NoDevice "nodevice" 42 "the unit has no driver";

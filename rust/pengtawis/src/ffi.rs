@@ -72,6 +72,60 @@ pub struct Move {
     pub unit: u8,
 }
 
+/// `struct ds_settings_fault`.
+#[repr(C)]
+#[derive(Clone, Copy, Default)]
+pub struct SettingsFault {
+    pub line: u64,
+    pub cause: u32,
+    pub service: u32,
+}
+
+/// `struct ds_rs_event`.
+#[repr(C)]
+#[derive(Clone, Copy)]
+pub struct Event {
+    pub tick: u64,
+    pub kind: u32,
+    pub cause: u32,
+    pub generation: u32,
+    pub slot: u16,
+    pub label_length: u8,
+    pub label: [u8; 64],
+}
+
+/// `struct ds_rs_action`.
+#[repr(C)]
+#[derive(Clone, Copy)]
+pub struct Action {
+    pub kind: u32,
+    pub generation: u32,
+    pub word: u32,
+    pub refusal: u32,
+    pub slot: u16,
+    pub gone: u8,
+    pub label_length: u8,
+    pub label: [u8; 64],
+}
+
+/// `struct ds_rs_service`.
+#[repr(C)]
+#[derive(Clone, Copy)]
+pub struct Service {
+    pub until: u64,
+    pub state: u32,
+    pub generation: u32,
+    pub failures: u32,
+    pub period: u32,
+    pub limit: u32,
+    pub slot: u16,
+    pub service_class: u8,
+    pub has_unit: u8,
+    pub unit: u8,
+    pub label_length: u8,
+    pub label: [u8; 64],
+}
+
 /// `enum ds_command`.
 pub mod command {
     pub const PUBLISH: u32 = 0;
@@ -91,8 +145,36 @@ pub mod command {
 pub mod word {
     pub const CHANGED: u32 = 0;
     pub const STOPPED: u32 = 11;
+    pub const REFUSED: u32 = 12;
     pub const NOREQUEST: u32 = 13;
     pub const BADLINE: u32 = 15;
+}
+
+/// `enum ds_rs_event_kind`.
+pub mod event {
+    pub const UP: u32 = 0;
+    pub const DOWN: u32 = 1;
+    pub const REFRESH: u32 = 2;
+    pub const RESTART: u32 = 3;
+    pub const DEATH: u32 = 4;
+    pub const BEAT: u32 = 5;
+    pub const TICK: u32 = 6;
+}
+
+/// `enum ds_rs_action_kind`, but for the last one, DS_RS_GIVEUP.
+pub mod action {
+    pub const KILL: u32 = 0;
+    pub const START: u32 = 1;
+    pub const PING: u32 = 2;
+    pub const OFFER: u32 = 3;
+    pub const SWEEP: u32 = 4;
+}
+
+/// `enum ds_rs_state`, but for the last one, DS_RS_ISGIVENUP.
+pub mod state {
+    pub const DOWN: u32 = 0;
+    pub const UP: u32 = 1;
+    pub const WAITING: u32 = 2;
 }
 
 /// `enum ds_stop`.
@@ -111,6 +193,16 @@ extern "C" {
     pub fn ds_call_line(handle: *mut Handle, line: *const u8, length: usize, answer: *mut Answer) -> u32;
     pub fn ds_text(handle: *mut Handle, first: usize, room: *mut u8, length: usize, given: *mut Given) -> u32;
     pub fn ds_close(handle: *mut Handle) -> u32;
+    pub fn ds_rs_open(handle: *mut Handle, settings: *const u8, length: usize, next: u32, slot: u16, fault: *mut SettingsFault) -> u32;
+    pub fn ds_rs_renew(handle: *mut Handle, settings: *const u8, length: usize, fault: *mut SettingsFault) -> u32;
+    pub fn ds_rs_event(handle: *mut Handle, event: *const Event, answer: *mut Answer) -> u32;
+    pub fn ds_rs_action(handle: *mut Handle, index: usize, action: *mut Action) -> u32;
+    pub fn ds_rs_service(handle: *mut Handle, index: usize, service: *mut Service) -> u32;
+    pub fn ds_rs_due(handle: *mut Handle, tick: *mut u64) -> u32;
+    pub fn ds_rs_next(handle: *mut Handle, generation: *mut u32) -> u32;
+    pub fn ds_rs_may_publish(handle: *mut Handle, generation: u32, slot: u16, kind: u8, name: *const u8, length: usize) -> u32;
+    pub fn ds_rs_may_complain(handle: *mut Handle, generation: u32, slot: u16, label: *const u8, length: usize) -> u32;
+    pub fn ds_rs_may_connect(handle: *mut Handle, generation: u32, slot: u16, label: *const u8, length: usize) -> u32;
     pub fn ds_map_new(map: *mut Handle, kinds: u8, pattern: *const u8, length: usize) -> u32;
     pub fn ds_map_take(map: *mut Handle, lines: *const u8, length: usize, answer: *mut Answer) -> u32;
     pub fn ds_map_label(map: *mut Handle, name: *const u8, length: usize, answer: *mut Answer) -> u32;
@@ -135,11 +227,30 @@ impl Request {
     }
 }
 
+impl Event {
+    /// Returns an event of this kind, whose other parts are zero.
+    pub const fn new(kind: u32, tick: u64) -> Event {
+        Event { tick, kind, cause: 0, generation: 0, slot: 0, label_length: 0, label: [0; 64] }
+    }
+}
+
+impl Action {
+    pub const NONE: Action =
+        Action { kind: 0, generation: 0, word: 0, refusal: 0, slot: 0, gone: 0, label_length: 0, label: [0; 64] };
+}
+
+impl Service {
+    pub const NONE: Service = Service {
+        until: 0, state: 0, generation: 0, failures: 0, period: 0, limit: 0, slot: 0, service_class: 0, has_unit: 0, unit: 0,
+        label_length: 0, label: [0; 64],
+    };
+}
+
 #[cfg(test)]
 mod tests {
     use super::*;
 
-    /// A call on a closed handle is refused, and so is opening an open one. A `Store`, a `Map` and a `Table` make no such call.
+    /// A call on a closed handle is refused, and so is opening an open one. A `Store`, an `Rs`, a `Map` and a `Table` make no such call.
     #[test]
     fn closed_and_open() {
         let (mut store, mut map, mut answer) = (std::ptr::null_mut(), std::ptr::null_mut(), Answer::default());
@@ -147,7 +258,12 @@ mod tests {
         unsafe {
             assert_eq!(ds_call(&mut store, &Request::new(command::CHECK), std::ptr::null(), 0, &mut answer), 23);
             assert_eq!(ds_map_take(&mut map, std::ptr::null(), 0, &mut answer), 23);
+            assert_eq!(ds_rs_event(&mut store, &Event::new(event::TICK, 0), &mut answer), 23);
             assert_eq!((ds_open(&mut store, 1, 0, 1), ds_open(&mut store, 1, 0, 1)), (0, 24));
+            let mut fault = SettingsFault::default();
+            assert_eq!(ds_rs_renew(&mut store, std::ptr::null(), 0, &mut fault), 14);
+            assert_eq!(ds_rs_open(&mut store, b"slots = 1".as_ptr(), 9, 1, 16, &mut fault), 0);
+            assert_eq!(ds_rs_open(&mut store, b"slots = 1".as_ptr(), 9, 1, 16, &mut fault), 13);
             assert_eq!((ds_map_new(&mut map, 1, b".".as_ptr(), 1), ds_map_new(&mut map, 1, b".".as_ptr(), 1)), (0, 24));
             let mut table = std::ptr::null_mut();
             assert_eq!(ds_table_follow(&mut table, &mut map, &mut answer), 23);

@@ -1,6 +1,6 @@
 //! Checks that the structs of ffi.rs have the layout that tests/programs/c_abi.txt records for `c/ds.h`.
 
-use crate::ffi;
+use crate::{ffi, Cause, Class};
 use std::mem::{align_of, size_of};
 
 /// A struct's lines, each with the place and the size of a member.
@@ -20,6 +20,13 @@ fn size_of_val<T>(_: &T) -> usize {
     size_of::<T>()
 }
 
+const NUMBERS: [(&str, u32); 11] = [
+    ("DS_PUBLISH", ffi::command::PUBLISH), ("DS_MERGE", ffi::command::MERGE), ("DS_STOPPED", ffi::word::STOPPED),
+    ("DS_REFUSED", ffi::word::REFUSED), ("DS_BADLINE", ffi::word::BADLINE), ("DS_RS_UP", ffi::event::UP), ("DS_RS_TICK", ffi::event::TICK),
+    ("DS_RS_SWEEP", ffi::action::SWEEP), ("DS_RS_ISWAITING", ffi::state::WAITING), ("DS_RS_UPDATE", Cause::Update as u32),
+    ("DS_RS_SERVER", Class::Server as u32),
+];
+
 #[test]
 fn as_the_header() {
     let recorded = include_str!("../../../tests/programs/c_abi.txt");
@@ -32,15 +39,20 @@ fn as_the_header() {
     }));
     lines.extend(layout!("ds_given" ffi::Given { count, length, stop }));
     lines.extend(layout!("ds_move" ffi::Move { id, kind, generation, slot, unit }));
+    lines.extend(layout!("ds_settings_fault" ffi::SettingsFault { line, cause, service }));
+    lines.extend(layout!("ds_rs_event" ffi::Event { tick, kind, cause, generation, slot, label_length, label }));
+    lines.extend(layout!("ds_rs_action" ffi::Action { kind, generation, word, refusal, slot, gone, label_length, label }));
+    lines.extend(layout!("ds_rs_service" ffi::Service {
+        until, state, generation, failures, period, limit, slot, service_class, has_unit, unit, label_length, label
+    }));
     lines.push(format!("struct ds_handle {}", size_of::<ffi::Handle>()));
     lines.push(format!("number DS_MAX_PIECE {}", ffi::MAX_PIECE));
-    for it in [("DS_PUBLISH", ffi::command::PUBLISH), ("DS_MERGE", ffi::command::MERGE), ("DS_STOPPED", ffi::word::STOPPED), ("DS_BADLINE", ffi::word::BADLINE)] {
-        lines.push(format!("number {} {}", it.0, it.1));
-    }
+    lines.extend(NUMBERS.iter().map(|it| format!("number {} {}", it.0, it.1)));
     let is_recorded = |it: &str| recorded.lines().any(|line| line == it);
     assert_eq!(lines.iter().filter(|it| !is_recorded(it)).collect::<Vec<_>>(), Vec::<&String>::new());
     let members = |of: &str| recorded.lines().filter(|it| it.starts_with(&format!("member {of}."))).count();
-    let of_all: usize = ["ds_request", "ds_answer", "ds_given", "ds_move"].iter().map(|it| members(it)).sum();
+    let structs = ["ds_request", "ds_answer", "ds_given", "ds_move", "ds_settings_fault", "ds_rs_event", "ds_rs_action", "ds_rs_service"];
+    let of_all: usize = structs.iter().map(|it| members(it)).sum();
     assert_eq!(of_all, lines.iter().filter(|it| it.starts_with("member")).count());
     assert_eq!(align_of::<ffi::Request>(), 8);
 }

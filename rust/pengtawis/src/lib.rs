@@ -1,7 +1,8 @@
 //! Pengtawis: where drivers are that crash and restart. `docs/guide/rust.md` is its page.
 //!
-//! A [`Store`], a [`Map`] and a [`Table`] are in this process, over the library for C, which is proved; this crate around it is tested. Every
-//! refusal is a variant of [`Refusal`]. No call panics. If memory runs out, a call is refused as [`Refusal::NoRoom`], and nothing is lost.
+//! A [`Store`], an [`Rs`] beside one, a [`Map`] and a [`Table`] are in this process, over the library for C, which is proved; this crate
+//! around it is tested. Every refusal is a variant of [`Refusal`]. No call panics. If memory runs out, a call is refused as
+//! [`Refusal::NoRoom`], and nothing is lost.
 
 mod error;
 mod ffi;
@@ -9,6 +10,7 @@ mod items;
 #[cfg(test)]
 mod layout;
 mod map;
+mod rs;
 mod shown;
 mod store;
 mod table;
@@ -17,6 +19,7 @@ mod values;
 pub use error::{Error, Refusal, Stopped};
 pub use items::{Body, Change, Item, Items};
 pub use map::Map;
+pub use rs::{Acted, Action, Cause, Rs, Service, SettingsFault, State};
 pub use shown::Shown;
 pub use store::{Found, Store};
 pub use table::{Class, Move, Moves, Server, Table};

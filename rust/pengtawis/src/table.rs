@@ -15,7 +15,7 @@ pub enum Server {
     Network = 1,
 }
 
-/// The class of a unit's driver.
+/// The class of a service, which is that of a unit's driver.
 #[derive(Clone, Copy, Debug, PartialEq, Eq)]
 pub enum Class {
     /// Of a file server: a request is sent again to the next instance.
@@ -24,6 +24,8 @@ pub enum Class {
     Character = 1,
     /// Of a network server.
     Network = 2,
+    /// It drives no unit.
+    Server = 3,
 }
 
 /// What a server carries out.
@@ -77,7 +79,7 @@ impl Table {
         }
     }
 
-    /// Assigns a unit to the driver with a label. A class of another server is [`Error::NoRequest`].
+    /// Assigns a unit to the driver with a label. A class that isn't of this server is [`Error::NoRequest`].
     pub fn assign(&mut self, unit: u8, class: Class, label: &str) -> Result<(), Error> {
         let mut answer = Answer::default();
         // SAFETY: the handle is open, and the length is the label's.

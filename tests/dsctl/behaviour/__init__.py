@@ -70,6 +70,7 @@ ALL = [
     words.explains_each_refusal,
     words.says_what_is_wrong_with_its_words,
     words.shows_help_by_a_word,
+    words.explains_words_of_lines,
     words.tells_its_version,
     second_opinion.every_front_of_a_line,
     second_opinion.every_byte_changed,

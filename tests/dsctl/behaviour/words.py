@@ -134,6 +134,7 @@ def says_what_is_wrong_with_its_words(program):
     """Who names two files, gives `live` one, or gives an option of `replay` without it, is told so; others aren't."""
     tips = [(["a.ds", "b.ds"], b"dsctl: one file is read"), (["verify", "a.trace", "b.trace"], b"dsctl: one file is read")]
     tips += [(["live", "script.ds"], b"dsctl: live reads nothing")]
+    tips += [([near, "a.trace"], b"dsctl: the nearest command is `verify`") for near in ("verfy", "Verify")]
     tips += [(["live", "--publishers", it], b"dsctl: a number in the option's range was expected") for it in ("x", "9", "")]
     tips += [([it], b"dsctl replay --ends") for it in ("--keep-going", "--stop", "--ends")]
     for words, tip in tips:
@@ -153,6 +154,15 @@ def shows_help_by_a_word(program):
     for words in (["script.ds"], ["replya"], ["replay", "more"]):
         ran = harness.run([program, "help", *words], b"")
         assert (ran.status, ran.output) == (2, b"") and ran.error, f"{words}: {ran}"
+
+
+def explains_words_of_lines(program):
+    """`dsctl help` explains the first word of a line, also of a whole line, and words within lines and answers."""
+    line = harness.run([program, "help", "publish", "0/2", "new"], b"")
+    assert line == harness.run([program, "help", "publish"], b"") and line.status == 0 and b"publish CALLER new" in line.output, f"{line}"
+    for word in ("new", "over", "first", "later", "more", "last", "done", "fault"):
+        ran = harness.run([program, "help", word], b"")
+        assert (ran.status, ran.error) == (0, b"") and ran.output.startswith(f"  {word} ".encode()), f"{word}: {ran}"
 
 
 def tells_its_version(program):

@@ -57,6 +57,7 @@ impl Content {
         self.held
             .put_at(place, again(change, held), Masks::fresh(owed))?;
         self.journal.push(Item::Change(again(change, listed)));
+        self.pending.add(owed);
         Ok(())
     }
 }

@@ -47,6 +47,7 @@ impl Content {
         let _held = self.held.held();
         let count = self.held.raise_at(place, floor, Masks::fresh(owed))?;
         self.journal.push(item);
+        self.pending.add(owed);
         Ok(count)
     }
 }

@@ -37,6 +37,7 @@ impl Content {
         let some = has_any(&flags);
         self.stamp += 1;
         make_all(&mut self.held, sub as usize, &flags, initial);
+        self.pending = self.pending.put(sub as usize, initial);
         self.subscriptions
             .put(sub as usize, Subscription::new(filter, self.stamp));
         Ok(some)

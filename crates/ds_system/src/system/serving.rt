@@ -87,7 +87,8 @@ fn room_for(
     event: &Event,
     tick: u64,
 ) -> Option<Vec<Reply>>
-    ensures room { IfSome result (λ replies. HasRoomToAct rs.now event.now tick replies.items (vec_capacity replies) (vec_len made.new) (vec_capacity made.new)) }
+    ensures room { IfSome result (λ replies.
+        HasRoomToAct rs.now event.now tick replies.items (vec_capacity replies) (vec_len made.new) (vec_capacity made.new)) }
     ensures wanted { IfNone result (asks has_actions (asked rs.now event.now tick) ≡ true) }
     ensures made { made.new.items ≡ made.old.items }
 {

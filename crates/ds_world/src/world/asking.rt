@@ -15,7 +15,7 @@ ghost use Rattle.ds_world.specs.Run.{EventLeads};
 ghost use Rattle.ds_world.specs.Steps.{StoreSteps, LastOf};
 ghost use Rattle.ds_world.specs.Told.{IsAskTold, IsTold};
 
-use crate::parts::{read_item, read_parts};
+use crate::parts::{command_proof, item_proof};
 use crate::replies::{gives_items, has_items, keep};
 use crate::world::World;
 use ds_entry::Item;
@@ -68,7 +68,7 @@ impl World {
         ensures told { IsTold (Ask side command) result self.old self.new }
     {
         if gives_items(&command) {
-            read_parts(&command);
+            command_proof(&command);
             return self.ask_for_items(side, command);
         }
         Outcome::Replied(self.reply(side, command))
@@ -81,7 +81,7 @@ impl World {
         ensures leads { EventLeads (Ask side command) (Replied result) self.old self.new }
         ensures told { IsTold (Ask side command) (Replied result) self.old self.new }
     {
-        read_parts(&command);
+        command_proof(&command);
         apply(&mut self.a, &mut self.b, side, command)
     }
 
@@ -91,7 +91,7 @@ impl World {
         ensures leads { EventLeads (Ask side (Merge (item.now ∷ []))) (Replied result) self.old self.new }
         ensures told { IsTold (Ask side (Merge (item.now ∷ []))) (Replied result) self.old self.new }
     {
-        read_item(item);
+        item_proof(item);
         merge_one(&mut self.a, &mut self.b, side, item)
     }
 

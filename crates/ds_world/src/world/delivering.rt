@@ -14,6 +14,7 @@ ghost use Rattle.ds_world.specs.Told.{IsMapTold, IsTold};
 ghost use Rattle.ds_world.specs.Steps.{ItemsAreTaken};
 ghost use Rattle.ds_world.specs.Run.{EventLeads};
 
+use crate::parts::map_proof;
 use crate::replies::items_at;
 use crate::tally::Tally;
 use crate::world::World;
@@ -112,7 +113,7 @@ fn take_all(alloc: Global, map: &mut SubMap, items: Lent<'_>) -> Tally
     ensures map { IsMap map.new }
 {
     let taken = take(alloc, map, items);
-    let _held = map.held();
+    map_proof(map);
     match taken {
         Ok(count) => Tally {
             count,

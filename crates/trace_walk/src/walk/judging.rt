@@ -4,7 +4,9 @@ ghost use Rattle.std.specs.Prelude.{◌≡◌, ◌≢◌, ◌<◌, length, None,
 ghost use Rattle.trace_model.specs.declared.asked.Asked.TheVariants as askeds;
 ghost use Rattle.trace_model.specs.Noroom.{noroom_line, stopped_line};
 ghost use Rattle.trace_walk.specs.Reads.{Advances};
-ghost use Rattle.trace_walk.specs.Steps.{GoesBehind, FailsBehind, GoesPastReply, FailsAtReply, HasRefused, PassesLine, PassesSweep, PassesMerge, FailsAtMerge, PassesPlain, FailsAtPlain, PassesFor, FailsFor, SaysReply, FailsToSay, swept_line};
+ghost use Rattle.trace_walk.specs.Steps.{GoesBehind, FailsBehind, GoesPastReply, FailsAtReply, HasRefused, PassesLine};
+ghost use Rattle.trace_walk.specs.Steps.{PassesSweep, PassesMerge, FailsAtMerge, PassesPlain, FailsAtPlain};
+ghost use Rattle.trace_walk.specs.Steps.{PassesFor, FailsFor, SaysReply, FailsToSay, swept_line};
 ghost use Rattle.trace_walk.specs.Sweeping.{older_of};
 ghost use Rattle.trace_walk.specs.Passing.{IsRefusedAs};
 ghost use Rattle.trace_walk.specs.Wanting.{IsOfReply};

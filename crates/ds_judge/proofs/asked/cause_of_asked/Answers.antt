@@ -9,6 +9,6 @@ returns-clause-free c = free_asked c.first_cause_of.result (machine_standing c.a
 
 pub returns-clause-made : goal.returns-clause-made
 returns-clause-made c =
-    let ranges = c.parts_are_in_range.ensures in
+    let ranges = c.ranges_proof.ensures in
     made_asked c.args.caller (request_of c.args.asked.now) c.args.body.now ranges.name ranges.owner ranges.epoch ranges.seq c.first_cause_of.ensures.valid
     c.first_cause_of.result (machine_standing c.args.standing.now) c.first_cause_of.ensures.first

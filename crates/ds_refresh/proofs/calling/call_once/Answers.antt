@@ -49,7 +49,8 @@ unreachable-requires g c =
     let parts : c.args.follower.now ≡ follower_of f.sub f.stamp f.map = sym c.follower.view_is in
     let stamped : c.args.follower.now.stamp ≡ Some c.in-Some.stamp = ap (λ (x : FollowerRecord). x.stamp) parts ∙ c.in-Some.is in
     c.in_default-fault.not-NoRoom
-    (map_never_stops (g.S.StoreSeat.seat c.args.seat.now).pass (g.S.StoreSeat.seat c.check.new.self).pass c.args.follower.now f.sub f.stamp f.map c.take.new.self c.in-Some.stamp at.before at.after at.place at.items (Checked at.items at.before at.after)
+    (map_never_stops (g.S.StoreSeat.seat c.args.seat.now).pass (g.S.StoreSeat.seat c.check.new.self).pass c.args.follower.now f.sub f.stamp
+    f.map c.take.new.self c.in-Some.stamp at.before at.after at.place at.items (Checked at.items at.before at.after)
     parts stamped c.requires c.in_ok-items.ensures.told refl c.if-before-stamp.false c.in-Err.stop c.held-is_map.ensures.map c.in-Err.ensures.joined c.in-Err.ensures.stopped)
 
 pub returns-then-len-lt-MOST_ITEMS-clause-called : goal.returns-then-len-lt-MOST_ITEMS-clause-called
@@ -59,7 +60,8 @@ returns-then-len-lt-MOST_ITEMS-clause-called g c =
     let few : length at.items < 256 = omega (arith, c.len.ensures, c.if-len-lt-MOST_ITEMS.true) in
     let parts : c.args.follower.now ≡ follower_of f.sub f.stamp f.map = sym c.follower.view_is in
     let stamped : c.args.follower.now.stamp ≡ Some c.in-Some.stamp = ap (λ (x : FollowerRecord). x.stamp) parts ∙ c.in-Some.is in
-    map_ends (g.S.StoreSeat.seat c.args.seat.now).pass (g.S.StoreSeat.seat c.check.new.self).pass c.args.follower.now f.sub f.stamp f.map c.take.new.self c.in-Some.stamp at.before at.after at.place at.items (Checked at.items at.before at.after)
+    map_ends (g.S.StoreSeat.seat c.args.seat.now).pass (g.S.StoreSeat.seat c.check.new.self).pass c.args.follower.now f.sub f.stamp f.map
+    c.take.new.self c.in-Some.stamp at.before at.after at.place at.items (Checked at.items at.before at.after)
     parts stamped c.requires c.in_ok-items.ensures.told refl c.if-before-stamp.false c.in_default-take.ensures.query c.in_default-take.ensures.joined few
 
 pub returns-then-len-lt-MOST_ITEMS-clause-keeps : goal.returns-then-len-lt-MOST_ITEMS-clause-keeps
@@ -68,7 +70,8 @@ returns-then-len-lt-MOST_ITEMS-clause-keeps g c =
     let at = c.in_ok-items.field-0 in
     let parts : c.args.follower.now ≡ follower_of f.sub f.stamp f.map = sym c.follower.view_is in
     let stamped : c.args.follower.now.stamp ≡ Some c.in-Some.stamp = ap (λ (x : FollowerRecord). x.stamp) parts ∙ c.in-Some.is in
-    map_stands (g.S.StoreSeat.seat c.args.seat.now).pass (g.S.StoreSeat.seat c.check.new.self).pass c.args.follower.now f.sub f.stamp f.map c.take.new.self c.in-Some.stamp at.before at.after at.place at.items (Checked at.items at.before at.after)
+    map_stands (g.S.StoreSeat.seat c.args.seat.now).pass (g.S.StoreSeat.seat c.check.new.self).pass c.args.follower.now f.sub f.stamp f.map
+    c.take.new.self c.in-Some.stamp at.before at.after at.place at.items (Checked at.items at.before at.after)
     parts stamped c.requires c.in_ok-items.ensures.told refl c.if-before-stamp.false c.in_default-take.ensures.query c.in_default-take.ensures.joined
 
 pub returns-clause-keeps : goal.returns-clause-keeps
@@ -77,5 +80,6 @@ returns-clause-keeps g c =
     let at = c.in_ok-items.field-0 in
     let parts : c.args.follower.now ≡ follower_of f.sub f.stamp f.map = sym c.follower.view_is in
     let stamped : c.args.follower.now.stamp ≡ Some c.in-Some.stamp = ap (λ (x : FollowerRecord). x.stamp) parts ∙ c.in-Some.is in
-    map_stands (g.S.StoreSeat.seat c.args.seat.now).pass (g.S.StoreSeat.seat c.check.new.self).pass c.args.follower.now f.sub f.stamp f.map c.take.new.self c.in-Some.stamp at.before at.after at.place at.items (Checked at.items at.before at.after)
+    map_stands (g.S.StoreSeat.seat c.args.seat.now).pass (g.S.StoreSeat.seat c.check.new.self).pass c.args.follower.now f.sub f.stamp f.map
+    c.take.new.self c.in-Some.stamp at.before at.after at.place at.items (Checked at.items at.before at.after)
     parts stamped c.requires c.in_ok-items.ensures.told refl c.if-before-stamp.false c.in_default-take.ensures.query c.in_default-take.ensures.joined

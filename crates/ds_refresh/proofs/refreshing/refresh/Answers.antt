@@ -26,7 +26,8 @@ pub returns-in-Ok-Some-clause-fresh : goal.returns-in-Ok-Some-clause-fresh
 returns-in-Ok-Some-clause-fresh g c =
     let l = c.loop-made in
     let some : c.in-Ok-Some.field-0 ≡ Some c.in-Ok-Some.place = cc in
-    gone_ends (g.S.StoreSeat.seat c.args.seat.now).pass (g.S.StoreSeat.seat l.seat).pass (g.S.StoreSeat.seat c.call_once.new.seat).pass c.args.follower.now l.follower c.call_once.new.follower l._made l.invariant.1 c.args.limit c.in-Ok-Some.place c.loop-made-test.true
+    gone_ends (g.S.StoreSeat.seat c.args.seat.now).pass (g.S.StoreSeat.seat l.seat).pass (g.S.StoreSeat.seat c.call_once.new.seat).pass
+    c.args.follower.now l.follower c.call_once.new.follower l._made l.invariant.1 c.args.limit c.in-Ok-Some.place c.loop-made-test.true
     (subst (λ (o : Option ℕ). TakesOneCall (g.S.StoreSeat.seat l.seat).pass (g.S.StoreSeat.seat c.call_once.new.seat).pass l.follower c.call_once.new.follower o) some c.in-Ok-Some.ensures.called)
 
 pub returns-in-Err-clause-only : goal.returns-in-Err-clause-only
@@ -42,7 +43,8 @@ returns-in-Err-clause-kept g c =
     let l = c.loop-made in
     let e = c.in-Err.ensures in
     subst (λ (m : SubMapRecord). (m ≡ c.args.follower.now.map) ⊎ HadAccepted (g.S.StoreSeat.seat c.args.seat.now).pass (g.S.StoreSeat.seat c.call_once.new.seat).pass) (sym (ap (λ (x : FollowerRecord). x.map) c.lose-in-Err.ensures))
-    (map_kept (g.S.StoreSeat.seat c.args.seat.now).pass (g.S.StoreSeat.seat l.seat).pass (g.S.StoreSeat.seat c.call_once.new.seat).pass c.args.follower.now l.follower c.call_once.new.follower l._made 1 l.invariant.1 l.invariant.2 e.only.1 e.kept)
+    (map_kept (g.S.StoreSeat.seat c.args.seat.now).pass (g.S.StoreSeat.seat l.seat).pass (g.S.StoreSeat.seat c.call_once.new.seat).pass
+    c.args.follower.now l.follower c.call_once.new.follower l._made 1 l.invariant.1 l.invariant.2 e.only.1 e.kept)
 
 pub returns-in-Err-clause-fault : goal.returns-in-Err-clause-fault
 returns-in-Err-clause-fault g c =

@@ -13,6 +13,9 @@ returns-clause-answered c =
     (λ same. (
       out,
       same,
-      inl (as_event c.args.command c.wording-wording.result c.side.result c.in-Ok-Some.event outcome c.args.session.now new c.wording-wording.ensures c.side.ensures (sym c.in-Ok-Some.field-0-is ∙ c.in-Ok-Some.ensures.event) c.happen-outcome.ensures),
+      inl
+          (as_event c.args.command c.wording-wording.result c.side.result c.in-Ok-Some.event outcome c.args.session.now new
+          c.wording-wording.ensures c.side.ensures (sym c.in-Ok-Some.field-0-is ∙ c.in-Ok-Some.ensures.event)
+          c.happen-outcome.ensures),
     ))
     c.append_told.ensures.written

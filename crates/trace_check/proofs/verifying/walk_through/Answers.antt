@@ -55,7 +55,9 @@ returns-in-Err-clause-ends g c b w none =
 
 pub returns-in-Err-clause-cause : goal.returns-in-Err-clause-cause
 returns-in-Err-clause-cause g c first led =
-    subst (λ (v : Verdict). IsVerdictCause g.R.Source v first c.next.new.reader) (sym c.verdict.ensures) (cause_told g.R.Source c.in-Err.fault first c.next.new.reader (c.in-Err.ensures.reads first (c.loop-length.invariant.reads.0 first led)))
+    subst (λ (v : Verdict). IsVerdictCause g.R.Source v first c.next.new.reader) (sym c.verdict.ensures)
+    (cause_told g.R.Source c.in-Err.fault first c.next.new.reader
+    (c.in-Err.ensures.reads first (c.loop-length.invariant.reads.0 first led)))
 
 pub returns-clause-cause : goal.returns-clause-cause
 returns-clause-cause g c = absurd (omega (arith, c.loop-length-test.false, c.loop-length.invariant.few))

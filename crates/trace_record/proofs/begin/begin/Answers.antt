@@ -26,7 +26,11 @@ returns-clause-begins g c =
       λ bytes at.
           let mid = g.R.Source.remaining c.next_line-next.new.reader in
           let a = subst (λ (r : Result Bool RecordFault). ComesToNext bytes [] c.next_line-next.new.lines mid r) ring.0 (c.next_line-next.ensures.comes bytes [] at) in
-          subst (λ (f : List ℕ). ComesToNext bytes f c.next_line-next-2.new.lines (g.R.Source.remaining c.next_line-next-2.new.reader) c.next_line-next-2.result) (sym a.1) (c.next_line-next-2.ensures.comes bytes (with_newline a.0) a.2.then),
+          subst
+          (λ (f : List ℕ).
+          ComesToNext bytes f c.next_line-next-2.new.lines (g.R.Source.remaining c.next_line-next-2.new.reader)
+          c.next_line-next-2.result)
+          (sym a.1) (c.next_line-next-2.ensures.comes bytes (with_newline a.0) a.2.then),
     )
 
 pub returns-in_default-clause-reads : goal.returns-in_default-clause-reads

@@ -33,7 +33,10 @@ returns-clause-written g c =
     let form = c.args.form in
     let ring = c.in_ok-beginning.beginning.ring in
     let b = c.in_ok-beginning.ensures.begins in
-    let runs = runs_first known b.0 had form ring c.begin.new.lines c.in_ok-recorder.recorder (g.R.Source.remaining c.begin.new.reader) c.in_ok-beginning.beginning.next c.in_ok-recorder.ensures.opens (λ bytes k. b.3 bytes (at_start bytes c.in_ok-lines.lines known c.in_ok-lines.ensures k)) b.2 in
+    let runs =
+    runs_first known b.0 had form ring c.begin.new.lines c.in_ok-recorder.recorder (g.R.Source.remaining c.begin.new.reader)
+    c.in_ok-beginning.beginning.next c.in_ok-recorder.ensures.opens
+    (λ bytes k. b.3 bytes (at_start bytes c.in_ok-lines.lines known c.in_ok-lines.ensures k)) b.2 in
     IfOk-weaker c.record_all.result _ _ (λ count all. all form ring known b.0 b.1 runs) c.record_all.ensures.whole
 
 pub returns-clause-stopped : goal.returns-clause-stopped
@@ -43,7 +46,10 @@ returns-clause-stopped g c =
     let form = c.args.form in
     let ring = c.in_ok-beginning.beginning.ring in
     let b = c.in_ok-beginning.ensures.begins in
-    let runs = runs_first known b.0 had form ring c.begin.new.lines c.in_ok-recorder.recorder (g.R.Source.remaining c.begin.new.reader) c.in_ok-beginning.beginning.next c.in_ok-recorder.ensures.opens (λ bytes k. b.3 bytes (at_start bytes c.in_ok-lines.lines known c.in_ok-lines.ensures k)) b.2 in
+    let runs =
+    runs_first known b.0 had form ring c.begin.new.lines c.in_ok-recorder.recorder (g.R.Source.remaining c.begin.new.reader)
+    c.in_ok-beginning.beginning.next c.in_ok-recorder.ensures.opens
+    (λ bytes k. b.3 bytes (at_start bytes c.in_ok-lines.lines known c.in_ok-lines.ensures k)) b.2 in
     IfErr-weaker c.record_all.result _ _ (λ fault stops. stops form ring known b.0 b.1 runs) c.record_all.ensures.stops
 
 pub returns-clause-cause : goal.returns-clause-cause

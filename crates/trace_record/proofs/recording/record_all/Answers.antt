@@ -15,7 +15,9 @@ returns-in_ok-write_out-in-Ok-clause-whole g c form ring known first opens runs 
     let mid = g.W.Sink.contents c.run.new.writer in
     let has = g.W.Sink.contents c.write_out.new.writer in
     let waits = c.run.new.recorder.output.items in
-    settled_whole form ring known first had mid has waits opens c.in-Ok.count (c.in-Ok.ensures.runs known first had (header_of form ring) runs) (subst (λ (l : List ℕ). Appends mid has l) c.as_slice.ensures.value c.in_ok-write_out-in-Ok.ensures.ok)
+    settled_whole form ring known first had mid has waits opens c.in-Ok.count
+    (c.in-Ok.ensures.runs known first had (header_of form ring) runs)
+    (subst (λ (l : List ℕ). Appends mid has l) c.as_slice.ensures.value c.in_ok-write_out-in-Ok.ensures.ok)
 
 pub returns-in_err-write_out-in-Ok-clause-stops : goal.returns-in_err-write_out-in-Ok-clause-stops
 returns-in_err-write_out-in-Ok-clause-stops g c =
@@ -24,7 +26,10 @@ returns-in_err-write_out-in-Ok-clause-stops g c =
     let has = g.W.Sink.contents c.write_out.new.writer in
     let waits = c.run.new.recorder.output.items in
     handed_on c.from_residual.result WriteFault _ c.from_residual.ensures.1
-    (λ form ring known first opens runs. whole_unwritten form ring known first had mid has waits opens c.in-Ok.count (c.in-Ok.ensures.runs known first had (header_of form ring) runs) (subst (λ (l : List ℕ). WritesPart mid has l) c.as_slice.ensures.value c.in_err-write_out-in-Ok.ensures.err))
+    (λ form ring known first opens runs.
+    whole_unwritten form ring known first had mid has waits opens c.in-Ok.count
+    (c.in-Ok.ensures.runs known first had (header_of form ring) runs)
+    (subst (λ (l : List ℕ). WritesPart mid has l) c.as_slice.ensures.value c.in_err-write_out-in-Ok.ensures.err))
 
 pub returns-in-Err-clause-stops : goal.returns-in-Err-clause-stops
 returns-in-Err-clause-stops g c form ring known first opens runs =

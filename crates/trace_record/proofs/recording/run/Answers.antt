@@ -40,7 +40,9 @@ returns-in_err-entry-clause-runs g c =
     (λ (ran : Result ℕ RecordFault). (known : Option (List ℕ)) (first : List ℕ) (had : Option (List ℕ)) (h : Header) → Runs known first had h c.args.recorder.now from has c.args.first 0 → RunsTo known first had h w.output.items now ran)
     c.from_residual.ensures.1
     (λ known first had h r.
-    entry_fails known first had h l.recorder w (g.R.Source.remaining l.reader) (g.R.Source.remaining c.entry.new.reader) now l.next l.count (l.invariant.1 known first had h r) (c.in-Ok-true.is ∙ ap (λ (b : Bool). Ok b) c.in-Ok-true.field-0-test) c.in_err-entry.field-0.0 c.in_err-entry.ensures.fails)
+    entry_fails known first had h l.recorder w (g.R.Source.remaining l.reader) (g.R.Source.remaining c.entry.new.reader) now l.next l.count
+    (l.invariant.1 known first had h r) (c.in-Ok-true.is ∙ ap (λ (b : Bool). Ok b) c.in-Ok-true.field-0-test) c.in_err-entry.field-0.0
+    c.in_err-entry.ensures.fails)
 
 pub returns-in_err-send_waiting-clause-runs : goal.returns-in_err-send_waiting-clause-runs
 returns-in_err-send_waiting-clause-runs g c =
@@ -54,7 +56,10 @@ returns-in_err-send_waiting-clause-runs g c =
     (λ (ran : Result ℕ RecordFault). (known : Option (List ℕ)) (first : List ℕ) (had : Option (List ℕ)) (h : Header) → Runs known first had h c.args.recorder.now from has c.args.first 0 → RunsTo known first had h waits now ran)
     c.from_residual-in_err-send_waiting.ensures.1
     (λ known first had h r.
-    let b = entry_added known first had h l.recorder w (g.R.Source.remaining l.reader) (g.R.Source.remaining c.entry.new.reader) (g.W.Sink.contents l.writer) l.next l.count (l.invariant.1 known first had h r) (c.in-Ok-true.is ∙ ap (λ (b : Bool). Ok b) c.in-Ok-true.field-0-test) c.in_ok-entry.ensures.goes in
+    let b =
+    entry_added known first had h l.recorder w (g.R.Source.remaining l.reader) (g.R.Source.remaining c.entry.new.reader)
+    (g.W.Sink.contents l.writer) l.next l.count (l.invariant.1 known first had h r)
+    (c.in-Ok-true.is ∙ ap (λ (b : Bool). Ok b) c.in-Ok-true.field-0-test) c.in_ok-entry.ensures.goes in
     subst (λ (f : RecordFault). RunsTo known first had h waits now (Err f)) (sym c.in_err-send_waiting.ensures.fault)
     (entry_unwritten known first had h w (g.R.Source.remaining c.entry.new.reader) (g.W.Sink.contents l.writer) now (suc l.count) b waits c.in_err-send_waiting.ensures.err))
 
@@ -67,13 +72,22 @@ loop-count-preserved g c = (
       let new : Recorder = record w { lines = c.next_line-next.new.lines; output = c.send_waiting.new.output } in
       let to = g.R.Source.remaining c.next_line-next.new.reader in
       let now = g.W.Sink.contents c.send_waiting.new.writer in
-      let b = entry_added known first had h l.recorder w (g.R.Source.remaining l.reader) (g.R.Source.remaining c.entry.new.reader) (g.W.Sink.contents l.writer) l.next l.count (l.invariant.1 known first had h r) (c.in-Ok-true.is ∙ ap (λ (b : Bool). Ok b) c.in-Ok-true.field-0-test) c.in_ok-entry.ensures.goes in
+      let b =
+      entry_added known first had h l.recorder w (g.R.Source.remaining l.reader) (g.R.Source.remaining c.entry.new.reader)
+      (g.W.Sink.contents l.writer) l.next l.count (l.invariant.1 known first had h r)
+      (c.in-Ok-true.is ∙ ap (λ (b : Bool). Ok b) c.in-Ok-true.field-0-test) c.in_ok-entry.ensures.goes in
       let more : suc l.count ≡ l.count + 1 = omega arith in
       subst (λ (n : ℕ). Runs known first had h new to now c.next_line-next.result n) more
-      (entry_written known first had h w (g.R.Source.remaining c.entry.new.reader) (g.W.Sink.contents l.writer) now (suc l.count) b new c.send_waiting.new.output.items c.next_line-next.new.lines to c.next_line-next.result refl refl refl refl c.in_ok-send_waiting.ensures.ok c.next_line-next.ensures.comes),
+      (entry_written known first had h w (g.R.Source.remaining c.entry.new.reader) (g.W.Sink.contents l.writer) now (suc l.count) b new
+      c.send_waiting.new.output.items c.next_line-next.new.lines to c.next_line-next.result refl refl refl refl
+      c.in_ok-send_waiting.ensures.ok c.next_line-next.ensures.comes),
   λ first led.
       let l = c.loop-count in
-      c.next_line-next.ensures.reads first (c.in_ok-entry.ensures.led first (subst (λ (r : Result Bool RecordFault). ReadsLead g.R.Source r first l.reader l.recorder.lines.reads) (c.in-Ok-true.is ∙ ap (λ (b : Bool). Ok b) c.in-Ok-true.field-0-test) (l.invariant.2 first led))),
+      c.next_line-next.ensures.reads first
+      (c.in_ok-entry.ensures.led first
+      (subst
+      (λ (r : Result Bool RecordFault). ReadsLead g.R.Source r first l.reader l.recorder.lines.reads)
+      (c.in-Ok-true.is ∙ ap (λ (b : Bool). Ok b) c.in-Ok-true.field-0-test) (l.invariant.2 first led))),
 )
 
 pub returns-clause-runs : goal.returns-clause-runs
@@ -84,7 +98,10 @@ returns-clause-runs g c known first had h r =
 pub returns-in-Err-clause-cause : goal.returns-in-Err-clause-cause
 returns-in-Err-clause-cause g c first led =
     let l = c.loop-count in
-    input_cause g.R.Source g.W.Sink c.in-Err.fault first l.reader l.writer (subst (IsReady l.recorder.lines) c.in-Err.is l.invariant.0) (subst (λ (r : Result Bool RecordFault). ReadsLead g.R.Source r first l.reader l.recorder.lines.reads) c.in-Err.is (l.invariant.2 first led))
+    input_cause g.R.Source g.W.Sink c.in-Err.fault first l.reader l.writer (subst (IsReady l.recorder.lines) c.in-Err.is l.invariant.0)
+    (subst
+    (λ (r : Result Bool RecordFault). ReadsLead g.R.Source r first l.reader l.recorder.lines.reads) c.in-Err.is
+    (l.invariant.2 first led))
 
 pub returns-in_err-entry-clause-cause : goal.returns-in_err-entry-clause-cause
 returns-in_err-entry-clause-cause g c =
@@ -92,7 +109,10 @@ returns-in_err-entry-clause-cause g c =
     (λ first led.
     let l = c.loop-count in
     input_cause g.R.Source g.W.Sink c.in_err-entry.field-0.0 first c.entry.new.reader l.writer c.in_err-entry.ensures.fails.0
-    (c.in_err-entry.ensures.cause first (subst (λ (r : Result Bool RecordFault). ReadsLead g.R.Source r first l.reader l.recorder.lines.reads) (c.in-Ok-true.is ∙ ap (λ (b : Bool). Ok b) c.in-Ok-true.field-0-test) (l.invariant.2 first led))))
+    (c.in_err-entry.ensures.cause first
+    (subst
+    (λ (r : Result Bool RecordFault). ReadsLead g.R.Source r first l.reader l.recorder.lines.reads)
+    (c.in-Ok-true.is ∙ ap (λ (b : Bool). Ok b) c.in-Ok-true.field-0-test) (l.invariant.2 first led))))
 
 pub returns-in_err-send_waiting-clause-cause : goal.returns-in_err-send_waiting-clause-cause
 returns-in_err-send_waiting-clause-cause g c =

@@ -25,7 +25,14 @@ pub loop-rest-init : goal.loop-rest-init
 loop-rest-init c = record {
   some = λ more. omega (arith, c.new-merges.ensures.count, ap length c.as_slice-rest.ensures, c.in_ok-gone.ensures.few);
   few = omega (arith, c.new-merges.ensures.count, ap length c.as_slice-rest.ensures, c.in_ok-gone.ensures.few);
-  taken = λ s stands free. ([], refl, subst (λ (l : List Item). ContentStands c.args.store.now (with_accepted s l)) (sym (append-nil s.feed.accepted)) stands, sym (nothing_owed s), none_merged s c.args.pass c.args.limits c.as_slice-rest.result.now c.new-merges.result c.new-merges.ensures);
+  taken =
+      λ s stands free. (
+        [],
+        refl,
+        subst (λ (l : List Item). ContentStands c.args.store.now (with_accepted s l)) (sym (append-nil s.feed.accepted)) stands,
+        sym (nothing_owed s),
+        none_merged s c.args.pass c.args.limits c.as_slice-rest.result.now c.new-merges.result c.new-merges.ensures,
+      );
 }
 
 pub loop-rest-preserved : goal.loop-rest-preserved
@@ -45,8 +52,14 @@ loop-rest-preserved c =
           let merged = c.in_ok-mask.ensures (takes_effect s before.0) before.2 (batch_free s whole before.0 batch more split free) in
           let on = one_batch c.merge_part.new.store s whole before.0 batch more c.loop-rest.owed c.in_ok-mask.mask split before.3 merged.0 merged.1 in
           let is : IsPart batch = record { some = omega (arith, first, c.split_at.ensures.front_len); few = omega (arith, c.split_at.ensures.front_len, least_most (length rest) c.min.result c.min.ensures) } in
-          let fills : 0 < length more → IsFullPart batch = λ left. omega (arith, left, c.split_at.ensures.front_len, c.split_at.ensures.back_len, c.min.ensures) in
-          (before.0 ++ batch, on.0, on.1, on.2, one_merged s c.args.pass c.args.limits before.0 batch rest more c.loop-rest.merges c.add.new.self c.in_ok-mask.mask is (omega (arith, some)) fills merged.0 before.4 c.in_ok-add.ensures.text c.in_ok-add.ensures.count);
+          let fills : 0 < length more → IsFullPart batch = λ left. omega (arith, left, c.split_at.ensures.front_len, c.split_at.ensures.back_len, c.min.ensures) in (
+            before.0 ++ batch,
+            on.0,
+            on.1,
+            on.2,
+            one_merged s c.args.pass c.args.limits before.0 batch rest more c.loop-rest.merges c.add.new.self c.in_ok-mask.mask is
+                (omega (arith, some)) fills merged.0 before.4 c.in_ok-add.ensures.text c.in_ok-add.ensures.count,
+          );
     }
 
 pub returns : goal.returns

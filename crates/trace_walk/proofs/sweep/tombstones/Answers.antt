@@ -29,7 +29,9 @@ pub returns-clause-all : goal.returns-clause-all
 returns-clause-all c =
     let all = held_changes c.args.held.now in
     let many : length all ≤ c.loop-index.index = omega (arith, c.loop-index-test.false, c.len-index-end.ensures.count, count_is c.args.held.now) in
-    c.loop-index.invariant.all ∙ ap (λ (l : List ChangeRecord). gone_of c.args.sweep.now.owner c.args.sweep.now.generation l) (take_all c.loop-index.index all many) ∙ held_gone c.args.sweep.now.owner c.args.sweep.now.generation c.args.held.now
+    c.loop-index.invariant.all
+    ∙ ap (λ (l : List ChangeRecord). gone_of c.args.sweep.now.owner c.args.sweep.now.generation l) (take_all c.loop-index.index all many)
+    ∙ held_gone c.args.sweep.now.owner c.args.sweep.now.generation c.args.held.now
 
 -- as many as there are keys, of the smaller or of the larger limits
 pub returns-clause-few : goal.returns-clause-few

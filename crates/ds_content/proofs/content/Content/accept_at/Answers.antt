@@ -19,9 +19,9 @@ use Rattle.ds_watch.specs.Masks.{fresh}
 use Rattle.ds_watch.specs.declared.masks.Masks.{Masks}
 use Rattle.ds_content.specs.Content.{ContentRecord}
 use Rattle.ds_content.specs.Followed.{watches_item}
-use Rattle.ds_content.specs.Kept.{content_of}
+use Rattle.ds_content.specs.Kept.{ArePending, content_of}
 use Rattle.ds_content.specs.Stands.{ContentStands}
-use Rattle.ds_content.proofs.EnterLemmas.{effect, marked_then, places_then, change_view}
+use Rattle.ds_content.proofs.EnterLemmas.{effect, marked_then, pending_then, places_then, change_view}
 use Rattle.ds_content.proofs.HoldingLemmas.{changes_are, change_taken, held_at-is}
 use Rattle.ds_content.proofs.KeptLemmas.{change_here, change_kept}
 use Rattle.ds_content.proofs.OpenLemmas.{on_err}
@@ -106,6 +106,8 @@ invariant_of-self-2 c =
       places = places_then old new c.self.inside.journal c.push.new.self c.self.inside.stamp c.self.inside.subscriptions (Changed c.args.change.now) c.args.owed (joined b) bounds here kept (owes b) (pushed d) enters c.self.invariant.places;
       marked = marked_then old new c.self.inside.journal c.push.new.self c.self.inside.stamp c.self.inside.subscriptions (Changed c.args.change.now) c.args.owed (joined b) bounds
           here kept (owes b) (pushed d) enters stood.0 stood.1 c.self.invariant.places c.self.invariant.marked;
+      pending = subst (λ fs. ArePending new fs) (sym c.add.ensures) (pending_then old new c.self.inside.journal c.push.new.self c.self.inside.stamp c.self.inside.subscriptions (Changed c.args.change.now) c.args.owed (joined b) bounds
+          here kept (owes b) (pushed d) enters stood.0 stood.1 c.self.invariant.places c.self.invariant.marked c.self.inside.pending c.self.invariant.pending);
       stood = (
         takes_effect stood.0 (Changed c.args.change.now ∷ []),
         effect old new c.self.inside.journal c.push.new.self c.self.inside.stamp c.self.inside.subscriptions (Changed c.args.change.now) c.args.owed (joined b) bounds here kept (owes b) (pushed d) enters stood.0 stood.1,

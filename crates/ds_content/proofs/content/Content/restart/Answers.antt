@@ -10,7 +10,7 @@ use Rattle.ds_content.specs.Content.{ContentRecord}
 use Rattle.ds_content.specs.Followed.{followed_from}
 use Rattle.ds_content.specs.Kept.{content_of, unseen_at}
 use Rattle.ds_content.specs.Stands.{ContentStands}
-use Rattle.ds_content.proofs.OpenLemmas.{places_here, none_marked, stands_opening}
+use Rattle.ds_content.proofs.OpenLemmas.{places_here, none_marked, none_pending, stands_opening}
 use Rattle.ds_content.proofs.content.Content.restart.Goals as goal
 use Rattle.ds_content.proofs.content.Content.restart.Goals.{After-new}
 use Rattle.ds_names.specs.Limits.{last_place}
@@ -59,6 +59,7 @@ invariant_of-self c =
     record {
       places = places_here c.bounded.result c.new.result l (nothing d) (none d);
       marked = none_marked c.bounded.result c.new.result l (nothing d) (none d);
+      pending = none_pending c.bounded.result c.new.result l (nothing d) (none d) c.none-self-inside.result c.none-self-inside.ensures;
       stood = (opening c.args.incarnation stood.0.feed.first stood.0.feed.ring stood.0.limits, stands_after d stood.0 stood.1);
     }
 

@@ -7,12 +7,12 @@ use Rattle.ds_watch.specs.Watching.{Watching, watching, stamped}
 use Rattle.ds_machine.specs.State.{State, subscribes, subscription_at}
 use Rattle.ds_machine.specs.Subscription.{Subscription}
 use Rattle.ds_content.specs.Content.{ContentRecord}
-use Rattle.ds_content.specs.Kept.{AreMarked, content_of}
-use Rattle.ds_content.specs.Shown.{AreUnseen, is_to_show}
+use Rattle.ds_content.specs.Kept.{AreMarked, ArePending, content_of}
+use Rattle.ds_content.specs.Shown.{AreUnseen, IsRest, IsRestOf, is_to_show}
 use Rattle.ds_content.specs.Stands.{ContentStands}
 use Rattle.ds_content.proofs.EnterLemmas.{value_of}
-use Rattle.ds_content.proofs.RemarkLemmas.{checked_marked}
-use Rattle.ds_content.proofs.ServeLemmas.{shown_stands, made_place, unseen_items, within_places, twin_of, few_seats}
+use Rattle.ds_content.proofs.RemarkLemmas.{checked_marked, check_pending}
+use Rattle.ds_content.proofs.ServeLemmas.{shown_stands, made_place, unseen_items, rest_items, within_places, twin_of, few_seats}
 use Rattle.ds_content.proofs.content.Content.show.Goals as goal
 use Rattle.ds_content.proofs.content.Content.show.Goals.{After-set_stamp}
 use Rattle.ds_names.specs.Limits.{last_place}
@@ -36,6 +36,15 @@ set_stamp-requires c =
 
 seat : (c : After-set_stamp) → (w : Watching) × (get_or c.self.inside.subscriptions c.args.sub None ≡ Some w)
 seat c = made_place c.self.inside.held c.self.inside.subscriptions c.args.sub (subst (λ (v : ContentRecord). is_some (get_or v.subscriptions c.args.sub None) ≡ true) (sym c.self.view_is) c.requires.made)
+
+place : (c : After-set_stamp) → c.args.sub < 128
+place c = few_seats c.self.inside.held c.self.inside.journal c.self.inside.stamp c.self.inside.subscriptions c.self.invariant.stood.0 c.self.invariant.stood.1 c.self.invariant.places c.args.sub (seat c).0 (seat c).1
+
+-- what the masks say of the rest
+rest : (c : After-set_stamp) → IsRestOf c.self.inside.held c.args.sub c.args.shown.now.passed c.args.shown.now.more
+rest c =
+    rest_items c.self.inside.held c.self.inside.subscriptions c.args.sub (seat c).0 (seat c).1 c.self.inside.journal c.self.inside.stamp c.args.shown.now.passed c.args.shown.now.more
+    (subst (λ (v : ContentRecord). IsRest v c.args.sub c.args.shown.now.passed c.args.shown.now.more) (sym c.self.view_is) c.requires.rest)
 
 room : (c : After-set_stamp) → c.self.inside.stamp < last_place
 room c = subst (λ (v : ContentRecord). v.stamp < last_place) (sym c.self.view_is) c.requires.room
@@ -68,6 +77,8 @@ invariant_of-self c =
       places = ap (λ (l : List (Option Watching)). length l) (places d) ∙ length-set c.self.inside.subscriptions c.args.sub (Some w) ∙ c.self.invariant.places ∙ ap (λ (h : Holding). h.limits.subs) (sym c.show_first.ensures.held);
       marked = subst (λ ws. AreMarked c.show_first.new.held ws) (sym (places d))
           (checked_marked c.self.inside.held c.show_first.new.held c.args.shown.now.passed c.args.sub c.show_first.ensures c.self.inside.subscriptions (seat d).0 (c.self.inside.stamp + 1) (seat d).1 c.self.invariant.marked);
+      pending = subst (λ fs. ArePending c.show_first.new.held fs) (sym c.put-self-inside.ensures.value)
+          (check_pending c.self.inside.held c.show_first.new.held c.args.shown.now.passed c.args.sub c.show_first.ensures c.self.inside.pending c.args.shown.now.more (place d) (rest d) c.self.invariant.pending);
       stood = (subscribes stood.0 c.args.sub t.0.query (t.0.shown ++ c.args.shown.now.items), stands_after d stood.0 t.0 stood.1 t.1);
     }
 

@@ -7,10 +7,10 @@ use Rattle.ds_watch.specs.Watching.{Watching, watching}
 use Rattle.ds_machine.specs.State.{State, subscribes}
 use Rattle.ds_machine.specs.Watching.{shown_at_first}
 use Rattle.ds_content.specs.Content.{ContentRecord}
-use Rattle.ds_content.specs.Kept.{AreMarked, content_of}
+use Rattle.ds_content.specs.Kept.{AreMarked, ArePending, content_of}
 use Rattle.ds_content.specs.Stands.{ContentStands}
 use Rattle.ds_content.proofs.EnterLemmas.{value_of}
-use Rattle.ds_content.proofs.RemarkLemmas.{made_marked}
+use Rattle.ds_content.proofs.RemarkLemmas.{made_marked, made_pending}
 use Rattle.ds_content.proofs.ServeLemmas.{made_stands, seat_here, any_flags}
 use Rattle.ds_content.proofs.content.Content.subscribe.Goals as goal
 use Rattle.ds_content.proofs.content.Content.subscribe.Goals.{After-put}
@@ -59,6 +59,9 @@ invariant_of-self c =
       places = ap (λ (l : List (Option Watching)). length l) (places d) ∙ length-set c.self.inside.subscriptions c.args.sub (Some w) ∙ c.self.invariant.places ∙ ap (λ (h : Holding). h.limits.subs) (sym c.make_all.ensures.held);
       marked = subst (λ ws. AreMarked c.make_all.new.held ws) (sym (places d))
           (made_marked c.self.inside.held c.make_all.new.held c.args.sub (within d).1 c.args.filter c.args.initial c.deref-2.result.now (flags d) c.make_all.ensures c.self.inside.subscriptions w (within d).0 refl c.self.invariant.marked);
+      pending = subst (λ fs. ArePending c.make_all.new.held fs) (sym c.put-self-inside.ensures.value)
+          (made_pending c.self.inside.held c.make_all.new.held c.args.sub (within d).1 c.args.filter c.args.initial c.deref-2.result.now (flags d) c.make_all.ensures
+          c.self.inside.pending c.self.invariant.marked.long c.self.invariant.pending);
       stood = (subscribes stood.0 c.args.sub c.args.filter (shown_at_first (held_items c.self.inside.held.held) c.args.initial), stands_after d stood.0 stood.1);
     }
 

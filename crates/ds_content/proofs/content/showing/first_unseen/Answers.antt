@@ -1,16 +1,28 @@
-use Rattle.std.proofs.Common.{◌≡◌, ◌<◌, ◌≤◌, ◌+◌, ◌++◌, ◌∷◌, [], Some, true, cond, List, length, length-append, take, filter, inl, inr, ap, sym, ◌∙◌, arith}
+use Rattle.std.proofs.Common.{◌≡◌, ◌<◌, false, get_or, subst, ◌≤◌, ◌+◌, ◌++◌, ◌∷◌, [], Some, true, cond, List, length, length-append, take, filter, inl, inr, ap, sym, ◌∙◌, arith}
 use Rattle.std.specs.List.{list_any, slice_get}
 use Rattle.std.proofs.lemmas.Option.{slice_get_within}
 use Rattle.ds_entry.specs.declared.item.Item.{Item}
 use Rattle.ds_entry.proofs.Members.{list_any-from_Contains}
 use Rattle.ds_held.specs.Held.{Holding, held_items, held_count, floor_count}
-use Rattle.ds_content.specs.Shown.{is_to_show}
+use Rattle.ds_watch.specs.declared.masks.Masks.{Masks}
+use Rattle.ds_content.specs.Shown.{is_to_show, AreFirst}
 use Rattle.ds_content.proofs.FlagLemmas.{index_among, filter_more, few_taken}
 use Rattle.ds_content.proofs.IndexLemmas.{few_items}
-use Rattle.ds_content.proofs.NextLemmas.{filter_past}
+use Rattle.ds_content.proofs.NextLemmas.{filter_past, not_pending, nothing_first}
 use Rattle.ds_content.proofs.OpenLemmas.{on_err}
 use Rattle.ds_content.proofs.content.showing.first_unseen.Goals as goal
 use Rattle.ds_content.proofs.content.showing.first_unseen.Goals.{After-len-changes}
+
+-- to a subscription that isn't pending, nothing is to be shown
+pub returns-then-not-is_unseen-clause-first : goal.returns-then-not-is_unseen-clause-first
+returns-then-not-is_unseen-clause-first c =
+    let none : get_or c.args.pending c.args.sub false ≡ false = ap (λ (m : Masks). get_or m.unseen c.args.sub false) (sym c.fresh.ensures) ∙ sym c.is_unseen.ensures ∙ c.if-not-is_unseen.true in
+    subst (λ (l : List Item). AreFirst c.args.held.now c.args.sub c.args.max l 0) (sym c.new.ensures) (nothing_first c.args.held.now c.args.pending c.args.sub c.requires.pending none c.args.max)
+
+pub returns-then-not-is_unseen-clause-rest : goal.returns-then-not-is_unseen-clause-rest
+returns-then-not-is_unseen-clause-rest c =
+    let none : get_or c.args.pending c.args.sub false ≡ false = ap (λ (m : Masks). get_or m.unseen c.args.sub false) (sym c.fresh.ensures) ∙ sym c.is_unseen.ensures ∙ c.if-not-is_unseen.true in
+    λ e k i at l. not_pending c.args.held.now c.args.pending c.args.sub c.requires.pending none k i at
 
 -- an item that ran out of memory is one to show
 pub returns-in_err-add_copy-clause-refused : goal.returns-in_err-add_copy-clause-refused

@@ -14,5 +14,12 @@ returns-clause-answered c =
     let before = c.args.output.now.items in
     let after = c.follow.new.output.items in
     on_ok c.follow.result
-    (λ a. subst (λ (old : SessionContent). AppendsByServers (AnswersFollow (items_of_map old c.args.map)) before after old (session_of s.world s.side c.follow.new.self)) c.self.view_is (led s.world s.side s.servers c.follow.new.self before after (AnswersFollow (items_of_map (session_of s.world s.side s.servers) c.args.map)) a))
+    (λ a.
+    subst
+    (λ (old : SessionContent).
+    AppendsByServers (AnswersFollow (items_of_map old c.args.map)) before after old
+    (session_of s.world s.side c.follow.new.self))
+    c.self.view_is
+    (led s.world s.side s.servers c.follow.new.self before after
+    (AnswersFollow (items_of_map (session_of s.world s.side s.servers) c.args.map)) a))
     (subst (λ (o : Option SubMapRecord). OnOk c.follow.result (AppendsLed (AnswersFollow (map_items o)) before after s.servers c.follow.new.self)) c.map.ensures.is c.follow.ensures.answered)

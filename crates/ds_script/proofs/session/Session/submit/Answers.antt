@@ -14,5 +14,12 @@ returns-clause-answered c =
     let before = c.args.output.now.items in
     let after = c.submit.new.output.items in
     on_ok c.submit.result
-    (λ a. subst (λ (old : SessionContent). AppendsByServers (AnswersSubmit c.args.server c.args.id c.args.unit (items_of_map old c.args.map)) before after old (session_of s.world s.side c.submit.new.self)) c.self.view_is (led s.world s.side s.servers c.submit.new.self before after (AnswersSubmit c.args.server c.args.id c.args.unit (items_of_map (session_of s.world s.side s.servers) c.args.map)) a))
+    (λ a.
+    subst
+    (λ (old : SessionContent).
+    AppendsByServers (AnswersSubmit c.args.server c.args.id c.args.unit (items_of_map old c.args.map)) before after old
+    (session_of s.world s.side c.submit.new.self))
+    c.self.view_is
+    (led s.world s.side s.servers c.submit.new.self before after
+    (AnswersSubmit c.args.server c.args.id c.args.unit (items_of_map (session_of s.world s.side s.servers) c.args.map)) a))
     (subst (λ (o : Option SubMapRecord). OnOk c.submit.result (AppendsLed (AnswersSubmit c.args.server c.args.id c.args.unit (map_items o)) before after s.servers c.submit.new.self)) c.map.ensures.is c.submit.ensures.answered)

@@ -42,7 +42,9 @@ loop-self-preserved g c =
     let b = written g.W.Sink c.loop-self.self in
     let d = written g.W.Sink c.take_line.new.self in
     record {
-      text = text_more a b d (reached c.args.self.now) (reached c.loop-self.self) (reached c.take_line.new.self) c.args.lines.now.rest c.loop-self.lines.rest c.next.new.self.line c.next.new.self.rest n.ends.front i.text n.split n.ends.parts n.ends.none one;
+      text =
+          text_more a b d (reached c.args.self.now) (reached c.loop-self.self) (reached c.take_line.new.self) c.args.lines.now.rest
+          c.loop-self.lines.rest c.next.new.self.line c.next.new.self.rest n.ends.front i.text n.split n.ends.parts n.ends.none one;
       count = omega (arith, one.counted, i.count, n.count);
       reads = n.reads ∙ i.reads;
       same = (c.in_ok-take_line.ensures).same ∙ i.same;
@@ -59,7 +61,8 @@ returns-in_err-take_line-clause-takes g c =
     rw (exit.1, exit.2) (
       e.0,
       λ to.
-          line_stops c.in_err-take_line.field-0.0 to a b d (reached c.args.self.now) (reached c.loop-self.self) c.args.lines.now.rest c.loop-self.lines.rest c.next.new.self.line c.next.new.self.rest n.ends.front c.take_line.new.self.output.items
+          line_stops c.in_err-take_line.field-0.0 to a b d (reached c.args.self.now) (reached c.loop-self.self) c.args.lines.now.rest
+          c.loop-self.lines.rest c.next.new.self.line c.next.new.self.rest n.ends.front c.take_line.new.self.output.items
           c.loop-self.invariant.text n.split n.ends.parts n.ends.none (e.1 n.ends.front (c.line.ensures ∙ n.ends.parts)),
     )
 

@@ -28,7 +28,8 @@ pub returns : goal.returns
 returns c =
     let i = c.self.inside in
     let x = c.in-Some.made.now in
-    let at : slice_get i.made.items c.args.change ≡ Some x = subst (λ (v : SystemRecord). slice_get v.made c.args.change ≡ Some x) (sym c.self.view_is) (sym (subst (λ o. option_copied o ≡ slice_get c.args.self.now.made c.args.change) c.in-Some.is c.made_at.ensures)) in
+    let at : slice_get i.made.items c.args.change ≡ Some x =
+    subst (λ (v : SystemRecord). slice_get v.made c.args.change ≡ Some x) (sym c.self.view_is) (sym (subst (λ o. option_copied o ≡ slice_get c.args.self.now.made c.args.change) c.in-Some.is c.made_at.ensures)) in
     let went = c.fast_offer-reply in
     let leads : EventLeads (Ask c.args.side (Merge (Changed x ∷ []))) (results.Replied went.result) i.world went.new.self =
     subst (λ (y : Item). EventLeads (Ask c.args.side (Merge (y ∷ []))) (results.Replied went.result) i.world went.new.self) c.in-Ok.ensures.item went.ensures.leads in

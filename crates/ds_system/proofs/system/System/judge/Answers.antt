@@ -23,7 +23,9 @@ returns-clause-drawn c =
     let up : state_at v.rs i ≡ Up r = subst (λ (x : RsRecord). state_at x i ≡ Up r) rs (up_from own c.args.label.now i c.state.result c.in-Some-Up.field-0 r c.state.ensures here c.in-Some-Up.is c.in-Some-Up.field-0-is) in
     let numbers : c.numbers_of-numbers.result ≡ numbers_left v.numberers (instance_at i r) =
     c.numbers_of-numbers.ensures ∙ (ap (λ (g : ℕ). numbers_of c.numbers_at.result.now g) c.generation.ensures.value ∙ ap (λ (n : NumbererRecord). numbers_of n r.endpoint.generation) c.numbers_at.ensures.value) in
-    drawn_so v.rs v.numberers c.args.label.now c.args.key.now c.args.content.now i place declared r up (sym c.is_of_kind.ensures.value ∙ c.if-not-is_of_kind.false) c.numbers_of-numbers.result numbers (sym c.is_spent.ensures ∙ c.if-is_spent.false)
+    drawn_so v.rs v.numberers c.args.label.now c.args.key.now c.args.content.now i place declared r up
+    (sym c.is_of_kind.ensures.value ∙ c.if-not-is_of_kind.false) c.numbers_of-numbers.result numbers
+    (sym c.is_spent.ensures ∙ c.if-is_spent.false)
 
 pub returns-clause-numbers : goal.returns-clause-numbers
 returns-clause-numbers c =
@@ -43,4 +45,6 @@ returns-then-is_spent-clause-refused c =
     let up : state_at v.rs i ≡ Up r = subst (λ (x : RsRecord). state_at x i ≡ Up r) rs (up_from own c.args.label.now i c.state.result c.in-Some-Up.field-0 r c.state.ensures here c.in-Some-Up.is c.in-Some-Up.field-0-is) in
     let numbers : c.numbers_of-numbers.result ≡ numbers_left v.numberers (instance_at i r) =
     c.numbers_of-numbers.ensures ∙ (ap (λ (g : ℕ). numbers_of c.numbers_at.result.now g) c.generation.ensures.value ∙ ap (λ (n : NumbererRecord). numbers_of n r.endpoint.generation) c.numbers_at.ensures.value) in
-    spent v.rs v.numberers c.args.label.now c.args.key.now c.args.content.now i place declared r up (sym c.is_of_kind.ensures.value ∙ c.if-not-is_of_kind.false) c.numbers_of-numbers.result numbers (sym c.is_spent.ensures ∙ c.if-is_spent.true)
+    spent v.rs v.numberers c.args.label.now c.args.key.now c.args.content.now i place declared r up
+    (sym c.is_of_kind.ensures.value ∙ c.if-not-is_of_kind.false) c.numbers_of-numbers.result numbers
+    (sym c.is_spent.ensures ∙ c.if-is_spent.true)

@@ -35,15 +35,32 @@ returns-in-Err c =
     let i = c.self.inside in
     let none : refusal i.rs c.args.event c.args.tick ≡ None = sym c.refusal.ensures ∙ c.in_default.is in
     let fault = late_fault i.rs c.args.event c.args.tick c.in-Err.fault c.in-Err.ensures.refused none c.in-Err.ensures.room in
-    subst (λ (v : SystemRecord). SystemEventLeads (events.Service c.args.event c.args.tick c.args.side) (Refused (refusals.Service c.in-Err.fault)) v (system_of c.event.new.self i.numberers.items i.world i.file i.net c.room_for-room.new.made.items)) c.self.view_is
-    (rs_kept (system_of i.rs i.numberers.items i.world i.file i.net i.made.items) c.args.event c.args.tick c.args.side c.in-Err.fault c.event.new.self c.room_for-room.new.made.items c.in-Err.ensures.unchanged c.room_for-room.ensures.made fault)
+    subst
+    (λ (v : SystemRecord).
+    SystemEventLeads (events.Service c.args.event c.args.tick c.args.side) (Refused (refusals.Service c.in-Err.fault)) v
+    (system_of c.event.new.self i.numberers.items i.world i.file i.net c.room_for-room.new.made.items))
+    c.self.view_is
+    (rs_kept (system_of i.rs i.numberers.items i.world i.file i.net i.made.items) c.args.event c.args.tick c.args.side c.in-Err.fault
+    c.event.new.self c.room_for-room.new.made.items c.in-Err.ensures.unchanged c.room_for-room.ensures.made fault)
 
 pub returns-in-Ok : goal.returns-in-Ok
 returns-in-Ok c =
     let i = c.self.inside in
     let acts = c.in-Ok.actions in
     let made : c.pass_on.new.made.items ≡ i.made.items ++ offers acts = c.pass_on.ensures.made ∙ ap (λ (l : List ChangeRecord). l ++ offers acts) c.room_for-room.ensures.made in
-    subst (λ (r : List Reply). SystemEventLeads (events.Service c.args.event c.args.tick c.args.side) (Acted acts r) c.args.self.now (system_of c.event.new.self i.numberers.items c.pass_on.new.world i.file i.net c.pass_on.new.made.items)) (sym c.of.ensures)
-    (subst (λ (l : List ChangeRecord). SystemEventLeads (events.Service c.args.event c.args.tick c.args.side) (Acted acts c.pass_on.new.replies.items) c.args.self.now (system_of c.event.new.self i.numberers.items c.pass_on.new.world i.file i.net l)) (sym made)
-    (subst (λ (v : SystemRecord). SystemEventLeads (events.Service c.args.event c.args.tick c.args.side) (Acted acts c.pass_on.new.replies.items) v (system_of c.event.new.self i.numberers.items c.pass_on.new.world i.file i.net (i.made.items ++ offers acts))) c.self.view_is
+    subst
+    (λ (r : List Reply).
+    SystemEventLeads (events.Service c.args.event c.args.tick c.args.side) (Acted acts r) c.args.self.now
+    (system_of c.event.new.self i.numberers.items c.pass_on.new.world i.file i.net c.pass_on.new.made.items))
+    (sym c.of.ensures)
+    (subst
+    (λ (l : List ChangeRecord).
+    SystemEventLeads (events.Service c.args.event c.args.tick c.args.side) (Acted acts c.pass_on.new.replies.items) c.args.self.now
+    (system_of c.event.new.self i.numberers.items c.pass_on.new.world i.file i.net l))
+    (sym made)
+    (subst
+    (λ (v : SystemRecord).
+    SystemEventLeads (events.Service c.args.event c.args.tick c.args.side) (Acted acts c.pass_on.new.replies.items) v
+    (system_of c.event.new.self i.numberers.items c.pass_on.new.world i.file i.net (i.made.items ++ offers acts)))
+    c.self.view_is
     (acted (system_of i.rs i.numberers.items i.world i.file i.net i.made.items) c.args.event c.args.tick c.args.side c.event.new.self c.pass_on.new.world acts c.pass_on.new.replies.items c.in-Ok.ensures.step c.pass_on.ensures.asked)))

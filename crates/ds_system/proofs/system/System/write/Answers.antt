@@ -26,7 +26,8 @@ pub returns-in_default : goal.returns-in_default
 returns-in_default c =
     let i = c.self.inside in
     let v = c.args.self.now in
-    let same : system_of i.rs i.numberers.items i.world i.file i.net c.copy_with_room.new.made.items ≡ v = ap (λ (l : List ChangeRecord). system_of i.rs i.numberers.items i.world i.file i.net l) c.copy_with_room.ensures.items ∙ c.self.view_is in
+    let same : system_of i.rs i.numberers.items i.world i.file i.net c.copy_with_room.new.made.items ≡ v =
+    ap (λ (l : List ChangeRecord). system_of i.rs i.numberers.items i.world i.file i.net l) c.copy_with_room.ensures.items ∙ c.self.view_is in
     subst (λ (w : SystemRecord). SystemEventLeads (write_event c.args.label c.args.key.now c.args.content c.args.side) (Refused refusals.NoRoom) v w) (sym same)
     (write_wanting v c.args.label c.args.key.now c.args.side c.args.content (instance_at c.in-Ok.draw.place c.in-Ok.draw.running) c.in-Ok.ensures.drawn)
 
@@ -55,6 +56,11 @@ returns c =
     subst (λ (x : Command). EventLeads (Ask side x) (results.Replied c.reply-reply.result) i.world c.reply-reply.new.self) c.asking-command.ensures c.reply-reply.ensures.leads in
     let told : IsTold (Ask side (asking_for it.running.endpoint key number content)) (results.Replied c.reply-reply.result) i.world c.reply-reply.new.self =
     subst (λ (x : Command). IsTold (Ask side x) (results.Replied c.reply-reply.result) i.world c.reply-reply.new.self) c.asking-command.ensures c.reply-reply.ensures.told in
-    subst (λ (v : SystemRecord). SystemEventLeads (write_event label key content side) (Replied c.reply-reply.result) v (system_of i.rs (slice_set i.numberers.items it.place left) c.reply-reply.new.self i.file i.net c.push_reserved.new.self.items)) c.self.view_is
+    subst
+    (λ (v : SystemRecord).
+    SystemEventLeads (write_event label key content side) (Replied c.reply-reply.result) v
+    (system_of i.rs (slice_set i.numberers.items it.place left) c.reply-reply.new.self i.file i.net
+    c.push_reserved.new.self.items))
+    c.self.view_is
     (subst (λ (l : List ChangeRecord). SystemEventLeads (write_event label key content side) (Replied c.reply-reply.result) v (system_of i.rs (slice_set i.numberers.items it.place left) c.reply-reply.new.self i.file i.net l)) (sym made)
     (wrote v label key side content it number left c.reply-reply.result c.reply-reply.new.self is drawn change leads told))

@@ -29,6 +29,6 @@ returns-clause-told c =
     let free : gives_items command && nat_le most_messages (length messages) ≡ false = refl in
     let none = none_given command c.merge_one.result refl c.merge_one.ensures.fits in
     subst (λ (v : WorldRecord). IsTold (Ask c.args.side command) (Replied c.merge_one.result) v (world_of c.merge_one.new.a c.merge_one.new.b maps messages)) c.self.view_is (
-      (λ i k. subst IsItem (sym (Contains-single c.args.item.now i k)) c.read_item.ensures),
+      (λ i k. subst IsItem (sym (Contains-single c.args.item.now i k)) c.item_proof.ensures),
       (replied_so c.self.inside.a c.self.inside.b c.merge_one.new.a c.merge_one.new.b maps messages c.args.side command c.merge_one.result c.merge_one.ensures.step free none c.merge_one.ensures.last, refl),
     )

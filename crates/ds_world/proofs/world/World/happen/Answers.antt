@@ -1,6 +1,4 @@
-use Rattle.std.proofs.Common.{[], ◌∷◌, subst, All}
-use Rattle.ds_submap.specs.Map.{IsMap}
-use Rattle.ds_world.specs.World.{WorldRecord}
+use Rattle.std.proofs.Common.{[], ◌∷◌}
 use Rattle.ds_world.proofs.HeadlineLemmas.{turns}
 use Rattle.ds_world.proofs.LawLemmas.{laws_hold}
 use Rattle.ds_world.proofs.ReplyLemmas.{over_one, told_alone}
@@ -15,8 +13,7 @@ returns-clause-laws c =
     let says = c.answers_say.ensures in
     let went = c.carry_out-outcome in
     let told = told_alone c.args.event went.result c.args.self.now went.new.self went.ensures.leads went.ensures.told in
-    let maps = subst (λ (v : WorldRecord). All IsMap v.maps) c.self.view_is c.self.invariant.0 in
-    laws_hold says.snapped says.paged says.journaled c.args.self.now went.new.self ((c.args.event, went.result) ∷ []) told maps
+    laws_hold says.snapped says.paged says.journaled c.args.self.now went.new.self ((c.args.event, went.result) ∷ []) told c.maps_proof.ensures
 
 pub returns-clause-turns : goal.returns-clause-turns
 returns-clause-turns c =

@@ -25,4 +25,4 @@ returns-clause-told c =
     let free : gives_items c.args.command && nat_le most_messages (length messages) ≡ false = ap (λ x. x && nat_le most_messages (length messages)) gives in
     let none = none_given c.args.command c.apply.result gives c.apply.ensures.fits in
     subst (λ (v : WorldRecord). IsTold (Ask c.args.side c.args.command) (Replied c.apply.result) v (world_of c.apply.new.a c.apply.new.b maps messages)) c.self.view_is
-    (c.read_parts.ensures, (replied_so c.self.inside.a c.self.inside.b c.apply.new.a c.apply.new.b maps messages c.args.side c.args.command c.apply.result c.apply.ensures.step free none c.apply.ensures.last, refl))
+    (c.command_proof.ensures, (replied_so c.self.inside.a c.self.inside.b c.apply.new.a c.apply.new.b maps messages c.args.side c.args.command c.apply.result c.apply.ensures.step free none c.apply.ensures.last, refl))

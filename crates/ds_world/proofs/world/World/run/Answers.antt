@@ -1,6 +1,4 @@
-use Rattle.std.proofs.Common.{◌<◌, ◌≤◌, vec_capacity, subst, All}
-use Rattle.ds_submap.specs.Map.{IsMap}
-use Rattle.ds_world.specs.World.{WorldRecord}
+use Rattle.std.proofs.Common.{◌<◌, ◌≤◌, vec_capacity, subst}
 use Rattle.ds_world.specs.Run.{paired}
 use Rattle.ds_world.proofs.HeadlineLemmas.{turns}
 use Rattle.ds_world.proofs.LawLemmas.{laws_hold}
@@ -19,8 +17,7 @@ pub returns-clause-laws : goal.returns-clause-laws
 returns-clause-laws c =
     let says = c.answers_say.ensures in
     let ran = c.happen_all-outcomes in
-    let maps = subst (λ (v : WorldRecord). All IsMap v.maps) c.self-2.view_is c.self-2.invariant.0 in
-    laws_hold says.snapped says.paged says.journaled c.args.self.now ran.new.self (paired c.args.events ran.result) ran.ensures.told maps
+    laws_hold says.snapped says.paged says.journaled c.args.self.now ran.new.self (paired c.args.events ran.result) ran.ensures.told c.maps_proof.ensures
 
 pub returns-clause-turns : goal.returns-clause-turns
 returns-clause-turns c =

@@ -17,7 +17,7 @@ pub returns-in-Err-clause-takes : goal.returns-in-Err-clause-takes
 returns-in-Err-clause-takes c =
     let old = map_state c.args.map.now in
     let new = map_state c.take-taken.new.map in
-    let taken = stopped c.args.map.now c.take-taken.new.map (items_lent c.args.items) c.take-taken.ensures.query c.held-held.ensures.map.sound c.in-Err.stop c.in-Err.ensures.joined c.in-Err.ensures.stopped in
+    let taken = stopped c.args.map.now c.take-taken.new.map (items_lent c.args.items) c.take-taken.ensures.query c.map_proof.ensures.sound c.in-Err.stop c.in-Err.ensures.joined c.in-Err.ensures.stopped in
     let is : tally_of c.ended.result ≡ ended c.in-Err.stop.done 0 (Some (refusal_of_join c.in-Err.stop.fault)) = c.ended.ensures ∙ ap (λ (r : Refusal). ended c.in-Err.stop.done 0 (Some r)) c.of_join.ensures in
     subst (λ (t : Tally). MapTakes old (items_lent c.args.items) t new) (sym is) taken
 

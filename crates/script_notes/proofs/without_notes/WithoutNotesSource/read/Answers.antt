@@ -35,4 +35,6 @@ loop-again-preserved g c =
 pub returns-in_err-count-clause-told : goal.returns-in_err-count-clause-told
 returns-in_err-count-clause-told g c =
     let r = g.R.Source in
-    told_at (λ s. s.reader.now) (λ s. s.reader.ghost_name) r.reads r.fails c.from_residual.result c.in_err-count.field-0.0 c.args.self.now _ c.loop-again.self.reader.now c.loop-again._again c.from_residual.ensures.1 c.loop-again.invariant.same_reader c.loop-again.invariant.led c.in_err-count.ensures.told
+    told_at (λ s. s.reader.now) (λ s. s.reader.ghost_name) r.reads r.fails c.from_residual.result c.in_err-count.field-0.0 c.args.self.now _
+    c.loop-again.self.reader.now c.loop-again._again c.from_residual.ensures.1 c.loop-again.invariant.same_reader
+    c.loop-again.invariant.led c.in_err-count.ensures.told

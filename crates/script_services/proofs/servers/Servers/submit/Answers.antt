@@ -100,4 +100,12 @@ returns-clause-carried c =
 -- without a map nothing happens
 pub returns-in_default-clause-carried : goal.returns-in_default-clause-carried
 returns-in_default-clause-carried c =
-    on_each c.append_nomap.result (nomap_line, subst (λ o. ServersLead (λ a b. AnswersSubmit c.args.server c.args.id c.args.unit (map_items (option_copied o)) a nomap_line b) c.args.self.now c.args.self.now) (sym c.in_default.is) (λ s stands. (s, (refl, refl), stands)))
+    on_each c.append_nomap.result (
+      nomap_line,
+      subst
+          (λ o.
+          ServersLead
+          (λ a b. AnswersSubmit c.args.server c.args.id c.args.unit (map_items (option_copied o)) a nomap_line b) c.args.self.now
+          c.args.self.now)
+          (sym c.in_default.is) (λ s stands. (s, (refl, refl), stands)),
+    )

@@ -7,7 +7,8 @@ returns-in-Line-clause-goes g c = lines_line c.args.self.now (g.R.Source.remaini
 
 pub returns-in_ok-items-in-Merge-clause-goes : goal.returns-in_ok-items-in-Merge-clause-goes
 returns-in_ok-items-in-Merge-clause-goes g c =
-    lines_merge c.args.self.now c.items.new.self (g.R.Source.remaining c.args.reader.now) (g.R.Source.remaining c.items.new.reader) c.args.head _ c.in-Merge.count c.in_ok-items-in-Merge.field-0 c.in-Merge.is refl c.in_ok-items-in-Merge.ensures.goes
+    lines_merge c.args.self.now c.items.new.self (g.R.Source.remaining c.args.reader.now) (g.R.Source.remaining c.items.new.reader)
+    c.args.head _ c.in-Merge.count c.in_ok-items-in-Merge.field-0 c.in-Merge.is refl c.in_ok-items-in-Merge.ensures.goes
 
 pub returns-in_err-items-in-Merge-clause-fails : goal.returns-in_err-items-in-Merge-clause-fails
 returns-in_err-items-in-Merge-clause-fails g c =

@@ -19,7 +19,9 @@ returns-in_err-asked-clause-fails g c =
 pub returns-clause-goes : goal.returns-clause-goes
 returns-clause-goes g c =
     on_ok_weaker c.answer.result
-    (entry_adds c.args.self.now c.head.new.self c.asked.new.self c.answer.new.self (g.R.Source.remaining c.args.reader.now) (g.R.Source.remaining c.asked.new.reader) c.in_ok-head.head c.in_ok-asked.asked c.requires c.in_ok-head.ensures.goes c.in_ok-asked.ensures.goes)
+    (entry_adds c.args.self.now c.head.new.self c.asked.new.self c.answer.new.self (g.R.Source.remaining c.args.reader.now)
+    (g.R.Source.remaining c.asked.new.reader) c.in_ok-head.head c.in_ok-asked.asked c.requires c.in_ok-head.ensures.goes
+    c.in_ok-asked.ensures.goes)
     c.answer.ensures.goes
 
 pub returns-clause-fails : goal.returns-clause-fails
@@ -27,7 +29,11 @@ returns-clause-fails g c =
     let old = c.args.self.now in
     let from = g.R.Source.remaining c.args.reader.now in
     let l = lines_of old c.head.new.self c.asked.new.self from (g.R.Source.remaining c.asked.new.reader) c.in_ok-head.head c.in_ok-asked.asked c.in_ok-head.ensures.goes c.in_ok-asked.ensures.goes in
-    both_of c.answer.result _ _ _ (λ fault e kept. entry_unanswered old c.asked.new.self c.answer.new.self from fault e (keeps_on old c.head.new.self c.asked.new.self c.in_ok-head.ensures.goes.keeps l.keeps) kept) c.answer.ensures.fault c.answer.ensures.kept
+    both_of c.answer.result _ _ _
+    (λ fault e kept.
+    entry_unanswered old c.asked.new.self c.answer.new.self from fault e
+    (keeps_on old c.head.new.self c.asked.new.self c.in_ok-head.ensures.goes.keeps l.keeps) kept)
+    c.answer.ensures.fault c.answer.ensures.kept
 
 pub returns-in_err-head-clause-cause : goal.returns-in_err-head-clause-cause
 returns-in_err-head-clause-cause g c =

@@ -30,7 +30,9 @@ returns-in-Err-BadLine-clause-fails g c = (
       let new = c.next_line.new.lines in
       let to = g.R.Source.remaining c.next_line.new.reader in
       let a = subst (λ (b : Bool). ComesToNext bytes front new to (Ok b)) c.if-not-branch.false (c.in_ok-next_line.ensures.comes bytes front at) in
-      lacks_line c.args.self.now.header.format bytes front a.0 new to c.count-in-Err-BadLine.result a.2 (λ i may short is. c.in-Err-BadLine.ensures.none c.in-Err-BadLine.field-0-is i may (c.line-line.ensures ∙ a.1 ∙ is)) c.count-in-Err-BadLine.ensures.value,
+      lacks_line c.args.self.now.header.format bytes front a.0 new to c.count-in-Err-BadLine.result a.2
+      (λ i may short is. c.in-Err-BadLine.ensures.none c.in-Err-BadLine.field-0-is i may (c.line-line.ensures ∙ a.1 ∙ is))
+      c.count-in-Err-BadLine.ensures.value,
 )
 
 pub returns-in_err-next_line-clause-cause : goal.returns-in_err-next_line-clause-cause

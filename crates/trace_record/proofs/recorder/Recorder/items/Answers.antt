@@ -8,14 +8,19 @@ loop-index-init g c = (items_none c.args.self.now (g.R.Source.remaining c.args.r
 
 pub loop-index-preserved : goal.loop-index-preserved
 loop-index-preserved g c =
-    let l = c.loop-index in
-    (items_more c.args.self.now l.self c.item.new.self (g.R.Source.remaining c.args.reader.now) (g.R.Source.remaining l.reader) (g.R.Source.remaining c.item.new.reader) l._index l.items l.invariant.0 _ (l._index + 1) refl c.in_ok-item.ensures.goes, λ first led. c.in_ok-item.ensures.led first (l.invariant.1 first led))
+    let l = c.loop-index in (
+      items_more c.args.self.now l.self c.item.new.self (g.R.Source.remaining c.args.reader.now) (g.R.Source.remaining l.reader)
+          (g.R.Source.remaining c.item.new.reader) l._index l.items l.invariant.0 _ (l._index + 1) refl c.in_ok-item.ensures.goes,
+      λ first led. c.in_ok-item.ensures.led first (l.invariant.1 first led),
+    )
 
 pub returns-in_err-item-clause-fails : goal.returns-in_err-item-clause-fails
 returns-in_err-item-clause-fails g c =
     let l = c.loop-index in
     handed_on c.from_residual.result c.in_err-item.field-0.0 _ c.from_residual.ensures.1
-    (items_fail c.args.self.now l.self c.item.new.self (g.R.Source.remaining c.args.reader.now) (g.R.Source.remaining l.reader) (g.R.Source.remaining c.item.new.reader) l._index l.items l.invariant.0 c.args.count c.in_err-item.field-0.0 c.loop-index-test.true c.in_err-item.ensures.fails)
+    (items_fail c.args.self.now l.self c.item.new.self (g.R.Source.remaining c.args.reader.now) (g.R.Source.remaining l.reader)
+    (g.R.Source.remaining c.item.new.reader) l._index l.items l.invariant.0 c.args.count c.in_err-item.field-0.0 c.loop-index-test.true
+    c.in_err-item.ensures.fails)
 
 pub returns-clause-goes : goal.returns-clause-goes
 returns-clause-goes g c =

@@ -30,7 +30,10 @@ returns-in_ok-extend_from_slice-in-Ok-clause-goes g c = (
       let new = c.wanted_line.new.lines in
       let kept = c.extend_from_slice.new.self.items in
       let there = c.in_ok-wanted_line.ensures.there b.bytes (b.front ++ (pass_text pass (merge_text most) ++ flat_map plus_text items)) x.at in
-      let on = plus_on b old.lines new old.store old.header (g.R.Source.remaining c.args.reader.now) (g.R.Source.remaining c.wanted_line.new.reader) pass most items old.asked.items x there.0 c.in-Ok.item kept there.1 there.2 c.in-Ok.ensures.found.0 (sym c.line.ensures ∙ c.in-Ok.ensures.found.1)
+      let on =
+      plus_on b old.lines new old.store old.header (g.R.Source.remaining c.args.reader.now)
+      (g.R.Source.remaining c.wanted_line.new.reader) pass most items old.asked.items x there.0 c.in-Ok.item kept there.1 there.2
+      c.in-Ok.ensures.found.0 (sym c.line.ensures ∙ c.in-Ok.ensures.found.1)
       (c.in_ok-extend_from_slice-in-Ok.ensures.items ∙ ap (λ (l : List ℕ). old.asked.items ++ l) c.line-in-Ok.ensures) in
       let is = c.in_ok-push-in-Ok.ensures in
       (omega (arith, ap length is, length-append items (c.in-Ok.item ∷ [])), subst (λ (l : List Item). Lists b new old.store old.header (g.R.Source.remaining c.wanted_line.new.reader) pass most l kept) (sym is) on),
@@ -55,11 +58,15 @@ returns-in_err-wanted_line-clause-reads g c =
 
 pub returns-in_err-push-in-Ok-clause-reads : goal.returns-in_err-push-in-Ok-clause-reads
 returns-in_err-push-in-Ok-clause-reads g c =
-    carried_as c.from_residual-in_err-push-in-Ok.result NoRoom (λ r. Advances g.R.Source r c.args.self.now.lines c.args.reader.now c.wanted_line.new.lines c.wanted_line.new.reader) c.from_residual-in_err-push-in-Ok.ensures.1 (λ first led. tt)
+    carried_as c.from_residual-in_err-push-in-Ok.result NoRoom
+    (λ r. Advances g.R.Source r c.args.self.now.lines c.args.reader.now c.wanted_line.new.lines c.wanted_line.new.reader)
+    c.from_residual-in_err-push-in-Ok.ensures.1 (λ first led. tt)
 
 pub returns-in_err-extend_from_slice-in-Ok-clause-reads : goal.returns-in_err-extend_from_slice-in-Ok-clause-reads
 returns-in_err-extend_from_slice-in-Ok-clause-reads g c =
-    carried_as c.from_residual-in_err-extend_from_slice-in-Ok.result NoRoom (λ r. Advances g.R.Source r c.args.self.now.lines c.args.reader.now c.wanted_line.new.lines c.wanted_line.new.reader) c.from_residual-in_err-extend_from_slice-in-Ok.ensures.1 (λ first led. tt)
+    carried_as c.from_residual-in_err-extend_from_slice-in-Ok.result NoRoom
+    (λ r. Advances g.R.Source r c.args.self.now.lines c.args.reader.now c.wanted_line.new.lines c.wanted_line.new.reader)
+    c.from_residual-in_err-extend_from_slice-in-Ok.ensures.1 (λ first led. tt)
 
 pub returns-in-Err-clause-reads : goal.returns-in-Err-clause-reads
 returns-in-Err-clause-reads g c = λ first led. no_cause g.R.Source c.of_line.result first c.wanted_line.new.reader (asked_blames c.in-Err.fault c.count.result c.of_line.result c.of_line.ensures)

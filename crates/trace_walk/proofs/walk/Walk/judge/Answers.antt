@@ -35,4 +35,5 @@ pub returns-in-Err-clause-reads : goal.returns-in-Err-clause-reads
 returns-in-Err-clause-reads g c = λ first led. c.in-Err.ensures.reads first led
 
 pub returns-in-Ok-clause-reads : goal.returns-in-Ok-clause-reads
-returns-in-Ok-clause-reads g c = on_then g.R.Source c.answered.result c.args.self.now.lines c.wanted_line.new.lines c.answered.new.self.lines c.args.reader.now c.wanted_line.new.reader c.answered.new.reader c.in-Ok.ensures.reads c.answered.ensures.reads
+returns-in-Ok-clause-reads g c =
+    on_then g.R.Source c.answered.result c.args.self.now.lines c.wanted_line.new.lines c.answered.new.self.lines c.args.reader.now c.wanted_line.new.reader c.answered.new.reader c.in-Ok.ensures.reads c.answered.ensures.reads

@@ -11,18 +11,21 @@ use Rattle.trace_walk.proofs.walk.Walk.next.Goals as goal
 
 pub returns-in_err-asked-clause-fails : goal.returns-in_err-asked-clause-fails
 returns-in_err-asked-clause-fails g c =
-    let heads = some_at c.in_ok-pass.field-0 (c.in-Some.pass, c.in-Some.head) (ReadsHead c.args.self.now (g.R.Source.remaining c.args.reader.now) c.head.new.self (g.R.Source.remaining c.head.new.reader)) c.in-Some.is c.in_ok-pass.ensures.some in
+    let heads =
+    some_at c.in_ok-pass.field-0 (c.in-Some.pass, c.in-Some.head) (ReadsHead c.args.self.now (g.R.Source.remaining c.args.reader.now) c.head.new.self (g.R.Source.remaining c.head.new.reader)) c.in-Some.is c.in_ok-pass.ensures.some in
     carried c.from_residual-in_err-asked.result c.in_err-asked.field-0.0 _ c.from_residual-in_err-asked.ensures.1
     (λ b w. c.in_err-asked.ensures.fails b c.in-Some.pass (heads.1 b w))
 
 pub returns-in-Err-clause-fails : goal.returns-in-Err-clause-fails
 returns-in-Err-clause-fails g c b w =
-    let heads = some_at c.in_ok-pass.field-0 (c.in-Some.pass, c.in-Some.head) (ReadsHead c.args.self.now (g.R.Source.remaining c.args.reader.now) c.head.new.self (g.R.Source.remaining c.head.new.reader)) c.in-Some.is c.in_ok-pass.ensures.some in
+    let heads =
+    some_at c.in_ok-pass.field-0 (c.in-Some.pass, c.in-Some.head) (ReadsHead c.args.self.now (g.R.Source.remaining c.args.reader.now) c.head.new.self (g.R.Source.remaining c.head.new.reader)) c.in-Some.is c.in_ok-pass.ensures.some in
     c.in-Err.ensures.fails b (c.in_ok-asked.ensures.goes.1 b c.in-Some.pass (heads.1 b w))
 
 pub returns-in-Ok-clause-goes : goal.returns-in-Ok-clause-goes
 returns-in-Ok-clause-goes g c b w =
-    let heads = some_at c.in_ok-pass.field-0 (c.in-Some.pass, c.in-Some.head) (ReadsHead c.args.self.now (g.R.Source.remaining c.args.reader.now) c.head.new.self (g.R.Source.remaining c.head.new.reader)) c.in-Some.is c.in_ok-pass.ensures.some in
+    let heads =
+    some_at c.in_ok-pass.field-0 (c.in-Some.pass, c.in-Some.head) (ReadsHead c.args.self.now (g.R.Source.remaining c.args.reader.now) c.head.new.self (g.R.Source.remaining c.head.new.reader)) c.in-Some.is c.in_ok-pass.ensures.some in
     let same = c.in_ok-asked.ensures.goes.0 ∙ heads.0 in
     let passed = c.in-Ok.ensures.goes b (c.in_ok-asked.ensures.goes.1 b c.in-Some.pass (heads.1 b w)) in
     subst (λ (h : Header). HasPassed b h c.judge.new.self (g.R.Source.remaining c.judge.new.reader) c.in-Ok.passed) same passed
@@ -62,7 +65,8 @@ returns-in_err-pass-clause-wanted g c = carried c.from_residual.result c.in_err-
 
 pub returns-in_err-asked-clause-wanted : goal.returns-in_err-asked-clause-wanted
 returns-in_err-asked-clause-wanted g c =
-    let heads = some_at c.in_ok-pass.field-0 (c.in-Some.pass, c.in-Some.head) (ReadsHead c.args.self.now (g.R.Source.remaining c.args.reader.now) c.head.new.self (g.R.Source.remaining c.head.new.reader)) c.in-Some.is c.in_ok-pass.ensures.some in
+    let heads =
+    some_at c.in_ok-pass.field-0 (c.in-Some.pass, c.in-Some.head) (ReadsHead c.args.self.now (g.R.Source.remaining c.args.reader.now) c.head.new.self (g.R.Source.remaining c.head.new.reader)) c.in-Some.is c.in_ok-pass.ensures.some in
     carried c.from_residual-in_err-asked.result c.in_err-asked.field-0.0 _ c.from_residual-in_err-asked.ensures.1
     (λ b w. c.in_err-asked.ensures.wanted b c.in-Some.pass (heads.1 b w))
 

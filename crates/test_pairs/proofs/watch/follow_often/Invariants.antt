@@ -1,0 +1,8 @@
+use Rattle.std.proofs.Common.{◌≡◌}
+use Rattle.desk.specs.Pass.{desk_of}
+use Rattle.ds_refresh.specs.KeepsUp.{KeepsUpWith}
+use Rattle.rs_pass.specs.Record.{pair_record}
+use Rattle.test_pairs.proofs.watch.follow_often.Given as goal
+
+abbrev pub invariant-loop-turn : goal.invariant-loop-turn
+invariant-loop-turn g l = (desk_of l.worker.pass ≡ desk_of l.fn.worker.pass) × KeepsUpWith (pair_record l.worker.pass) l.follower

@@ -1,0 +1,50 @@
+/* The lines of a client: how their words are read, and how the store alone carries them out and answers them, as dsctl does. */
+#ifndef SERVE_LINES_H
+#define SERVE_LINES_H
+
+#include "ds.h"
+#include "wire.h"
+
+/* A line without its newline, and what of it comes after its first word and a space. */
+struct request { const char *line, *rest; size_t length, left; };
+
+struct request request_of(const char *line, size_t length);
+/* Whether its first word is this one, or one of these, of which NULL is the end. */
+bool request_is(const struct request *it, const char *word);
+bool request_is_any(const struct request *it, const char *const words[]);
+/* Takes the next part, up to a space, off the rest. Returns its length. */
+size_t request_take(struct request *it, const char **part);
+/* Reads a number without leading zeros, which is all of the bytes, or returns -1. */
+long read_plain(const char *bytes, size_t length, long most);
+/* Takes a subscription off the rest, or returns -1. */
+long request_sub(struct request *it);
+/* Reads `GENERATION/SLOT`. */
+bool read_endpoint(const char *bytes, size_t length, uint32_t *generation, uint16_t *slot);
+
+/* LINES_BAD: no command's line, place says from which byte on; LINES_NOREQUEST: a script's line that asks nothing of
+ * one store; nothing changed. LINES_NOROOM: out of memory for the answer's text; the command was carried out, or
+ * refused for the same reason. */
+enum lines_word { LINES_ANSWERED, LINES_BAD, LINES_NOREQUEST, LINES_NOROOM };
+
+/* What else is known of a line that was answered: from which byte on a bad one can't be read; whether the answer says
+ * that a change is held, which has to be in the stream first; and the bits of the subscriptions that are owed a notice. */
+struct lines_said { uint64_t place; bool holds; uint8_t owed[16]; };
+
+/* Carries out the command of a line, given without its newline, and puts the lines of its answer after the text,
+ * which is unchanged where it isn't LINES_ANSWERED. Where text is NULL, the answer is left out. */
+enum lines_word lines_answer(struct ds_handle *store, const char *line, size_t length, struct text *text,
+                             struct lines_said *said);
+/* Puts the lines of the last answer after the text. Returns LINES_ANSWERED, or LINES_NOROOM, and then the text is
+ * unchanged. */
+enum lines_word lines_fetch(struct ds_handle *store, struct text *text);
+/* Whether a line's answer has no more than a few lines, as that of each change has. */
+bool lines_is_short(const char *line, size_t length);
+
+/* These put an answer, and return false where memory runs out. */
+
+/* As lines_answer, and `badline` or `norequest` for a line that isn't carried out; a line of NULL is one that was too long to be kept. */
+bool lines_put(struct ds_handle *store, const struct wire *wire, const char *line, size_t length, struct text *to, struct lines_said *said);
+bool lines_put_bad(const struct wire *wire, uint64_t place, struct text *to);
+bool lines_put_refused(const char *word, struct text *to);
+
+#endif

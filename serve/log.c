@@ -1,0 +1,127 @@
+/* The lines that dsfleet and dsrs write to standard error. See log.h. */
+#include "log.h"
+#include "clock.h"
+#include <fcntl.h>
+#include <poll.h>
+#include <stdarg.h>
+#include <stdio.h>
+#include <string.h>
+#include <sys/socket.h>
+#include <sys/stat.h>
+#include <unistd.h>
+
+enum {
+    COUNTED_EACH = 10 * SECOND,
+    LOG_WHOLE = 6 * LOG_PASSED + 200, /* bytes of the longest line: in JSON a byte may take six */
+    LOG_NAME = 100
+};
+
+bool log_read_format(void *as_json, char *word) {
+    bool is_json = !strcmp(word, "json");
+    *(bool *)as_json = is_json;
+    return is_json || !strcmp(word, "text");
+}
+
+/* A pipe or a terminal is opened anew, not to wait: that standard error itself doesn't wait would be seen by all who
+ * share it. A file is not, since it would have a place of its own to write at. */
+void log_open(struct log *log, bool as_json) {
+    struct stat it;
+    for (int standard = 0; standard <= STDERR_FILENO; standard++) {
+        if (fcntl(standard, F_GETFD) < 0 && open("/dev/null", O_RDWR) < 0) break;
+    }
+    *log = (struct log){.descriptor = STDERR_FILENO, .as_json = as_json};
+    if (fstat(STDERR_FILENO, &it)) return;
+    log->is_socket = S_ISSOCK(it.st_mode);
+    if (!S_ISFIFO(it.st_mode) && !S_ISCHR(it.st_mode)) return;
+    int own = open("/proc/self/fd/2", O_WRONLY | O_NONBLOCK | O_NOCTTY | O_CLOEXEC);
+    if (own >= 0) log->descriptor = own;
+}
+
+static bool written(const struct log *log, const char *line, size_t length) {
+    struct pollfd it = {.fd = log->descriptor, .events = POLLOUT};
+    if (log->is_socket) return send(log->descriptor, line, length, MSG_DONTWAIT | MSG_NOSIGNAL) > 0;
+    return poll(&it, 1, 0) > 0 && (it.revents & POLLOUT) && write(log->descriptor, line, length) > 0;
+}
+
+/* Whether an event may have one more line. */
+static bool is_due(struct log *log, const char *event, size_t length) {
+    uint64_t now = clock_now(), hash = 0;
+    for (size_t i = 0; i < length; i++) hash = hash * 31 + (unsigned char)event[i];
+    uint64_t *due = &log->due[hash % LOG_WORDS];
+    if (*due < now) *due = now;
+    if (*due >= now + LOG_AT_ONCE * SECOND) return false;
+    *due += SECOND;
+    return true;
+}
+
+/* Appends a text in quotes. JSON allows no byte that isn't printable ASCII, so each of these is `\u00XX` there. Returns the line's length. */
+static size_t quote(const struct log *log, char *line, size_t length, const char *text, size_t count) {
+    line[length++] = '"';
+    for (size_t i = 0; i < count; i++) {
+        unsigned char byte = (unsigned char)text[i];
+        if (log->as_json && (byte < ' ' || byte > '~')) {
+            length += (size_t)sprintf(line + length, "\\u%04x", byte);
+            continue;
+        }
+        if (byte == '"' || byte == '\\') line[length++] = '\\';
+        line[length++] = (char)byte;
+    }
+    line[length++] = '"';
+    return length;
+}
+
+void log_say(struct log *log, const char *level, const char *format, ...) {
+    char text[LOG_LINE], line[LOG_WHOLE];
+    va_list given;
+    va_start(given, format);
+    vsnprintf(text, sizeof text, format, given);
+    va_end(given);
+    size_t event = strcspn(text, ":"), rest = event + strspn(text + event, ": ");
+    const char *head = log->as_json ? "{\"level\":\"%s\",\"event\":\"%.*s\",\"text\":" : "%s event=%.*s text=";
+    size_t length = (size_t)snprintf(line, sizeof line, head, level, (int)event, text);
+    length = quote(log, line, length, text + rest, strlen(text + rest));
+    length += (size_t)sprintf(line + length, log->as_json ? "}\n" : "\n");
+    if (!is_due(log, text, event) || !written(log, line, length)) log->left_out++;
+}
+
+void log_tell(void *log, const char *line) {
+    bool is_fine = !strncmp(line, "met:", 4) || !strncmp(line, "compacted:", 10);
+    log_say(log, is_fine ? LOG_INFO : LOG_WARN, "%s", line);
+}
+
+/* Writes a line of another program as JSON. */
+static bool pass_json(const struct log *log, const char *name, const char *line, size_t length) {
+    char whole[LOG_WHOLE];
+    if (length > LOG_PASSED || strlen(name) > LOG_NAME) return false;
+    size_t put = (size_t)sprintf(whole, "{\"level\":\"" LOG_INFO "\",\"event\":\"output\",\"service\":\"%s\",\"text\":", name);
+    put = quote(log, whole, put, line, length);
+    put += (size_t)sprintf(whole + put, "}\n");
+    return written(log, whole, put);
+}
+
+static bool pass_text(const struct log *log, const char *name, const char *line, size_t length) {
+    char whole[LOG_PASSED + LOG_NAME];
+    int put = snprintf(whole, sizeof whole, "%s: %.*s\n", name, (int)length, line);
+    return put > 0 && put < (int)sizeof whole && written(log, whole, (size_t)put);
+}
+
+void log_pass(struct log *log, const char *name, const char *line, size_t length) {
+    if (!(log->as_json ? pass_json : pass_text)(log, name, line, length)) log->left_out++;
+}
+
+void log_count(struct log *log) {
+    char line[LOG_LINE];
+    if (!log->left_out || clock_now() < log->count_at) return;
+    const char *format = LOG_WARN " event=left_out lines=%llu\n";
+    if (log->as_json) format = "{\"level\":\"" LOG_WARN "\",\"event\":\"left_out\",\"lines\":%llu}\n";
+    int length = snprintf(line, sizeof line, format, (unsigned long long)log->left_out);
+    if (!written(log, line, (size_t)length)) return;
+    log->left_out = 0;
+    log->count_at = clock_now() + COUNTED_EACH;
+}
+
+void log_close(struct log *log) {
+    log->count_at = 0;
+    log_count(log);
+    if (log->descriptor != STDERR_FILENO) close(log->descriptor);
+}

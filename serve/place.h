@@ -1,0 +1,42 @@
+/* The place of a program's socket: its path, and the lock beside it. Only a socket that this user owns and that nobody
+ * serves is taken over, and only the one that was made here is removed; what else is at the path is left alone. */
+#ifndef SERVE_PLACE_H
+#define SERVE_PLACE_H
+
+#include "log.h"
+#include "rights.h"
+#include <stdbool.h>
+#include <sys/types.h>
+#include <sys/un.h>
+
+enum { PLACE_PATH = sizeof((struct sockaddr_un *)0)->sun_path /* bytes of a path, with its zero */ };
+
+/* Who may connect. A mode of 0: the umask says it; NO_GROUP: the group is this process's. */
+struct place_access { mode_t mode; gid_t group; };
+
+struct place {
+    const char *path;
+    struct place_access access;
+    struct log *log;
+    int lock, listener; /* -1: there is none */
+    dev_t device;       /* with inode: the socket that was made */
+    ino_t inode;
+};
+
+/* These return false after saying to the log why not. */
+
+/* Takes the lock beside the path, by which no other process serves it. It is let go when its holder ends, however
+ * that is. */
+bool place_lock(struct place *place);
+/* Makes the socket, and listens. */
+bool place_serve(struct place *place);
+
+/* Takes in a client. Returns its socket, or -1 with errno. */
+int place_accept(const struct place *place);
+
+/* Makes the lock anew where somebody removed it, as those do who clean /tmp. */
+void place_keep(struct place *place);
+/* Removes the socket and the lock, where they are the ones made here. */
+void place_leave(struct place *place);
+
+#endif

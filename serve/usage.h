@@ -1,0 +1,36 @@
+/* The command line of a program: its options are rows of a table. */
+#ifndef SERVE_USAGE_H
+#define SERVE_USAGE_H
+
+#include <stdbool.h>
+#include <stddef.h>
+
+enum { GO_ON = -1, DONE = 0, USAGE = 2, FAILED = 3 }; /* statuses; GO_ON: the program isn't to end yet */
+
+/* One option, `--NAME`. The first of flag, text, number and read that isn't NULL takes its value. */
+struct option_row {
+    const char *name;
+    bool *flag;                               /* is set: the option has no value */
+    const char **text;
+    size_t *number, least, most;              /* a number in decimal digits */
+    bool (*read)(void *context, char *value); /* returns whether it can be read */
+    void *context;
+    const char *fault;                        /* what is said of a value that can't be read */
+};
+
+/* A program, and its options up to a row without a name. It also has --help, -h and --version. */
+struct usage {
+    const char *name, *help, *version;
+    const struct option_row *rows;
+    bool options_first; /* words after the first that isn't an option are none */
+};
+
+/* Reads the options, and sets `*first` to the first word that isn't one. Returns GO_ON, or the status to end with after it printed what is to be
+ * known. */
+int usage_read(const struct usage *it, int count, char **words, int *first);
+/* Says why the words can't be used. Returns USAGE. */
+int usage_refuse(const struct usage *it, const char *why);
+/* Reads a number that is all of the text. */
+bool usage_number(const char *text, int base, size_t least, size_t most, size_t *number);
+
+#endif
