@@ -100,8 +100,8 @@ class Refusals(unittest.TestCase):
 
 
 def is_called(it):
-    """Leaves out stores with other limits, a value of another kind, which has no type, and a merge of too many items at once."""
-    return "mismatch" not in it.command and "4096" in it.before[0] and it.name != "store: merge: toomany"
+    """Leaves out a merge of too many items at once."""
+    return it.name != "store: merge: toomany"
 
 
 def answers_of(typed, it):
@@ -130,7 +130,7 @@ def blocks(lines):
 
 class Drawn(unittest.TestCase):
     def compare(self, typed, seed, compared):
-        script = stores.Script(seed, COMMANDS, True, fewer=False)
+        script = stores.Script(seed, COMMANDS, True)
         for line, wanted in zip(script.lines, script.answers):
             self.assertEqual(typed.answer(line.encode()), compared(wanted), line)
         typed.close()

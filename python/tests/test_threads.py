@@ -32,7 +32,7 @@ def at_once(work):
 class Threads(unittest.TestCase):
     def test_a_store_per_thread(self):
         """Compares the answers to each thread's drawn script with the model's."""
-        scripts = [stores.Script(100 + at, TURNS, True, fewer=False) for at in range(THREADS)]
+        scripts = [stores.Script(100 + at, TURNS, True) for at in range(THREADS)]
 
         def work(at):
             typed = support.Typed()

@@ -17,7 +17,7 @@ class Store:
 
     def __init__(self, ring):
         self.session = stores.Session()
-        self.session.answer(b"store 1 0 %d 128 4096" % ring)
+        self.session.answer(b"store 1 0 %d" % ring)
 
     def ask(self, line):
         """The lines of items, the words of the answer, and whether a notice is owed."""

@@ -277,7 +277,7 @@ HELD_KEY = [
     case("of a text", ALL_KINDS, 'offer id str eth0 2.2 = "down"', "taken", NOROOM),
     case("of a tombstone", ALL_KINDS, "offer id str eth0 2.2 -", "taken"),
     case("where all keys are used", full(), "offer tty0 u32 tty 3.0 = 9", "taken"),
-    case("of the last key", full(MOST_KEYS - 1), "offer mtu u32 eth0 2.2 = 7", "taken", NOROOM),
+    case("of the last key", full(MOST_KEYS - 1), "offer mtu u32 eth0 2.2 = 7", "taken", NOROOM, "taken"),
 ]
 
 FLOORS = [
