@@ -1,6 +1,6 @@
 use Rattle.std.proofs.Common.{◌≡◌}
 use Rattle.desk.specs.Pass.{desk_of}
-use Rattle.test_pairs.proofs.watch.WatchTask.work.Given as goal
+use Rattle.test_pairs.proofs.watch.WatchTaskBoxRsStore.work.Given as goal
 
 abbrev pub invariant-loop-turn : goal.invariant-loop-turn
 invariant-loop-turn g l = l.worker.pass.seat.table_id ≡ l.initial.worker.pass.seat.table_id
