@@ -124,7 +124,7 @@ TEXTS = [
     ((b"[[service]]\n", b"slots = 3\n", b"# one\n\n  # two\nslots = 3\n"), ["replay", "verify", "record"], b"these are settings: `dsctl settings` shows them\n"),
     ((b"trace 2 1 0 256 64 1024\n", b"# one\ntrace 1 1 0 256\n"), ["replay", "settings", "record"], b"this is a trace: `dsctl verify` judges it\n"),
     ((b"7 nameof 3/17\n", b"# one\n7 nameof 3/17\n"), ["replay", "verify", "settings"], b"these are commands: `dsctl record` writes the trace of their run\n"),
-    ((b"taken\nshown 0\n", b"# one\nrefused nocaller\n"), ["replay", "verify", "settings", "record"], b"these are answers: a script has the lines that they answer\n"),
+    ((b"taken\nshown 0\n", b"# one\nrefused nocaller\n"), ["replay", "verify", "settings"], b"these are answers: a script has the lines that they answer\n"),
 ]
 
 
