@@ -6,6 +6,8 @@ import subprocess
 
 from fleets import ROOT, Fleet, Sentinel, free_port, until
 from scenes import number, numbers, offer, shows
+from storm import Publisher
+
 
 def addresses_in_order(fleet, draw):
     """Of several addresses a closed one and a replica are passed over. When the master dies, the one that took its place is found."""
@@ -95,6 +97,52 @@ def replicas_that_have_it(fleet, draw):
             replica.start_server()
             replica.follow(fleet)
             assert client.answer() == ["taken"]
+
+
+def a_change_that_comes_back(fleet, draw):
+    """A failover loses a change that nobody was answered. A bridge that read it sends it again, once the publisher's own bridge was restarted
+    and serves without it. A publisher that numbers on from what its store holds is refused then; one that begins above all that it ever sent
+    isn't, as those of the storms."""
+
+    def plain(generation):
+        """A label of a publisher that numbers on from what its store holds."""
+        at = f"{generation}/17"
+        return f"publish 0/2 over plain.drv label {generation}.0 = {at}", f"plain.drv label rs {generation}.0 = {at}"
+
+    with Fleet([]) as replica:
+        replica.follow(fleet)
+        url = f"redis://127.0.0.1:{fleet.port},127.0.0.1:{replica.port}"
+        own, other = fleet.start("--replicas", "1", "--within", "200", url=url), fleet.start(url=url)
+        replica.ask("REPLICAOF", "NO", "ONE")
+        publisher = Publisher(own, 0, draw.randrange(100))
+        with own.client() as client:
+            publisher.begin(client)
+            publisher.tell(client, [*publisher.drawn(), *publisher.reborn(), plain(2)])
+            until(lambda: set(publisher.sent[-3:]) <= set(other.all()), "the other one has read it", 10)
+            assert not client.has_answer(0.3), "it was answered, and no replica has it"
+        own.kill()
+        other.pause()
+        fleet.kill_server()
+        fleet.start_server()
+        fleet.follow(replica)
+        own.start()
+        own.serves()
+        assert own.all() == ["shown 0"], "the failover lost nothing"
+        with own.client() as client:
+            publisher.begin(client)
+            publisher.tell(client, publisher.drawn())
+            publisher.hear(client)
+            assert client.ask(plain(1)[0]) == ["taken"]
+            other.resume()
+            until(lambda: own.holds(plain(2)[1]), "what was lost comes back", 10)
+            assert client.ask("publish 1/17 over plain.n u32 1.1 = 1") == ["refused nocaller"]
+            for _ in range(9):
+                publisher.tell(client, publisher.drawn())
+            publisher.hear(client)
+        until(lambda: own.all() == other.all(), "both hold the same", 10)
+        for bridge in fleet.bridges:
+            assert bridge.end() == 0
+        fleet.bridges.clear()
 
 
 def a_server_that_may_evict(fleet, draw):

@@ -97,8 +97,9 @@ class Lost(AssertionError):
 class Publisher(threading.Thread):
     """Puts and ends entries of its own at its bridge; now and then its driver dies, is swept, and comes back in the next generation.
 
-    Those of odd numbers offer items; those of even ones are RS and a driver with a label, whose commands the store judges. What they
-    number a change by is what the store says: so one that is served by a store that hasn't caught up would number anew.
+    Those of odd numbers offer items; those of even ones are RS and a driver with a label, whose commands the store judges. Each connection
+    begins a generation above all that the store holds, and above all that this publisher ever sent: a change without an answer may still
+    take effect, after a failover too, and the store of a bridge that was restarted need not hold it. So a refusal is always a fault.
     """
 
     def __init__(self, bridge, number, seed):
@@ -106,7 +107,7 @@ class Publisher(threading.Thread):
         self.bridge, self.number, self.draw = bridge, number, random.Random(seed)
         self.owner, self.endpoint = f"host{number}.drv", f"/{16 + number}"
         self.sent, self.answered, self.ended, self.rests, self.wrong = [], [], False, False, None
-        self.events, self.run_of_bridge = [], 0
+        self.events, self.run_of_bridge, self.generation = [], 0, 0
 
     def run(self):
         try:
@@ -128,18 +129,22 @@ class Publisher(threading.Thread):
                         time.sleep(0.01)
                         continue
                     for _ in range(self.draw.choice((1, 1, 1, 8))):
-                        for line, item in self.drawn():
-                            self.sent.append(item)
-                            self.events.append(change_event(self.bridge, self.run_of_bridge, item))
-                            client.send(line)
-                            self.waits.append(self.events[-1])
+                        self.tell(client, self.drawn())
                     self.hear(client)
                     time.sleep(REST)
         except (OSError, Gone):
             time.sleep(0.01)
 
+    def tell(self, client, drawn):
+        """Sends lines at once, each with the item that it makes."""
+        events = [change_event(self.bridge, self.run_of_bridge, item) for _, item in drawn]
+        self.sent += [item for _, item in drawn]
+        self.events += events
+        self.waits += events
+        client.send(*(line for line, _ in drawn))
+
     def begin(self, client):
-        """Goes on from what the store says, which has all that was answered, and with a generation that nobody had."""
+        """Checks that the store holds all that was answered, and begins a new generation."""
         self.waits = []
         said = client.ask("all")
         held = {key_of(line): line for line in said[:-1]}
@@ -150,7 +155,7 @@ class Publisher(threading.Thread):
         for key, line in newest.items():
             if not covered(line, held.get(key), floor):
                 raise Lost(f"{self.bridge.socket} says {held.get(key)}, floor {floor}, to who was answered {line}")
-        self.generation = max([floor, *(generation_of(line) for key, line in held.items() if key.startswith(f"host{self.number}."))])
+        self.generation = max([self.generation, floor, *(generation_of(line) for key, line in held.items() if key.startswith(f"host{self.number}."))])
         self.seqs, self.waiting = {}, self.reborn()
 
     def reborn(self):
