@@ -27,14 +27,14 @@ static const char *const commands[] = {
 static const char fault[] = "fault", warning[] = "warning";
 
 /* Prints a line; `todo` says what is wrong, or what to do. */
-static bool judged(bool is_good, const char *bad, const char *what, const char *todo) {
+static bool report(bool is_good, const char *bad, const char *what, const char *todo) {
     if (is_good) printf("good %s\n", what);
     else printf("%s %s: %s\n", bad, what, todo);
     return is_good;
 }
 
 /* Waits for a master, and for its answers. Returns why there are none, or NULL. */
-static const char *asked(struct master *master, struct link *link, const char *stream) {
+static const char *ask_server(struct master *master, struct link *link, const char *stream) {
     uint64_t end = clock_now() + LIMIT;
     enum host_found found = HOST_SOUGHT;
     while ((found = master_find(master, clock_now())) == HOST_SOUGHT) {
@@ -63,34 +63,34 @@ static const char *asked(struct master *master, struct link *link, const char *s
 static bool judge_rights(const struct link *link) {
     bool is_good = true;
     for (size_t i = 0; i < link->came; i++) {
-        if (is_error(link->answers[i])) is_good = judged(false, fault, "rights", link->answers[i]->str);
+        if (is_error(link->answers[i])) is_good = report(false, fault, "rights", link->answers[i]->str);
     }
-    return is_good && judged(true, fault, "rights", "");
+    return is_good && report(true, fault, "rights", "");
 }
 
-static bool judge(const struct link *link, const char *stream) {
+static bool judge_server(const struct link *link, const char *stream) {
     const redisReply *info = link->answers[0];
     const char *version = is_text(info) ? strstr(info->str, version_name) : NULL;
     bool is_new = version && atoi(version + strlen(version_name)) >= LEAST_VERSION;
-    bool is_good = judged(is_new, fault, "version", "redis 7 or newer is needed");
-    is_good &= judged(info_says(info, "role:master"), fault, "role", "it is a replica");
-    is_good &= judged(!info_splits(info, stream), fault, "cluster", "give the stream a name in braces, as {ds}");
+    bool is_good = report(is_new, fault, "version", "redis 7 or newer is needed");
+    is_good &= report(info_says(info, "role:master"), fault, "role", "it is a replica");
+    is_good &= report(!info_splits(info, stream), fault, "cluster", "give the stream a name in braces, as {ds}");
     is_good &= judge_rights(link);
-    judged(info_says(info, "aof_enabled:1"), warning, "append-only file", "without one a crash loses everything, once no store lives");
-    judged(!info_may_evict(info), warning, "eviction", "the server may delete the stream: set maxmemory-policy to noeviction");
+    report(info_says(info, "aof_enabled:1"), warning, "append-only file", "without one a crash loses everything, once no store lives");
+    report(!info_may_evict(info), warning, "eviction", "the server may delete the stream: set maxmemory-policy to noeviction");
     return is_good;
 }
 
 /* Asks each address until one answers. Returns whether that server will do. */
 static bool check_master(struct master *master, const char *stream) {
     struct link link = {0};
-    const char *why = asked(master, &link, stream);
+    const char *why = ask_server(master, &link, stream);
     for (size_t tries = 1; why && tries < master->count; tries++) {
-        judged(false, warning, "server", why);
+        report(false, warning, "server", why);
         master_failed(master);
-        why = asked(master, &link, stream);
+        why = ask_server(master, &link, stream);
     }
-    bool is_good = judged(!why, fault, "server", why) && judge(&link, stream);
+    bool is_good = report(!why, fault, "server", why) && judge_server(&link, stream);
     link_close(&link);
     return is_good;
 }
@@ -100,7 +100,7 @@ bool check_server(const struct ds_fleet_options *options) {
     enum ds_fleet_word word = master_open(&master, options->url, options->password);
     bool is_good = word == DS_FLEET_INSTEP;
     if (is_good) is_good = check_master(&master, options->stream ? options->stream : "ds");
-    else judged(false, fault, "address", options_explained(word));
+    else report(false, fault, "address", options_explained(word));
     master_close(&master);
     return is_good;
 }

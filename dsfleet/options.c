@@ -94,7 +94,7 @@ static bool take_url(char *word, struct options *options) {
 }
 
 /* Reads what goes by other words, and puts what depends on several options. */
-static int finish(const struct usage *usage, int count, char **words, struct options *options) {
+static int finish_options(const struct usage *usage, int count, char **words, struct options *options) {
     int wanted = options->checks ? 1 : 2;
     if (count != wanted) return usage_refuse(usage, options->checks ? "an address of redis is wanted" : "a socket and an address of redis are wanted");
     options->socket = options->checks ? "-" : words[0];
@@ -139,7 +139,7 @@ int options_read(int count, char **words, struct options *it) {
     it->access.group = it->rights.readers = NO_GROUP;
     it->limits = (struct clients_limits){.clients = CLIENTS, .output = WIRE_WAITS, .all_output = CLIENTS_WAIT};
     status = usage_read(&usage, count, words, &first);
-    return status == GO_ON ? finish(&usage, count - first, words + first, it) : status;
+    return status == GO_ON ? finish_options(&usage, count - first, words + first, it) : status;
 }
 
 const char *options_explained(enum ds_fleet_word word) {

@@ -20,13 +20,13 @@ enum { WRITING_MULTI, WRITING_SNAPSHOT, WRITING_TRIM, WRITING_EXEC, WRITING_QUES
 enum { WATCHED_AT, WATCHED_SCOPE, WATCHED_TRIMMED, WATCHED_FIELDS };
 enum { REST = 250 /* milliseconds between two compactings */ };
 
-static bool is_due(const struct ds_fleet *fleet) {
+static bool is_compacting_due(const struct ds_fleet *fleet) {
     const struct compacting *compacting = &fleet->compacting;
     bool is_long = compacting->length > compacting->keep && !fleet->items.lost;
     return is_long && bridge_is_at_end(fleet) && clock_now() >= compacting->due_at;
 }
 
-static enum ds_fleet_word watch_snapshot(struct ds_fleet *fleet) {
+static enum ds_fleet_word ask_to_watch(struct ds_fleet *fleet) {
     struct link *teller = &fleet->server.teller;
     fleet->compacting.state = COMPACTING_WATCHES;
     fleet->compacting.due_at = clock_now() + REST;
@@ -107,8 +107,8 @@ static enum ds_fleet_word snapshot_written(struct ds_fleet *fleet) {
 }
 
 /* What was watched leads to the next round, which is sent at once. */
-static enum ds_fleet_word compacted(struct ds_fleet *fleet) {
+static enum ds_fleet_word compacting_answered(struct ds_fleet *fleet) {
     return fleet->compacting.state == COMPACTING_WATCHES ? snapshot_watched(fleet) : snapshot_written(fleet);
 }
 
-const struct round compacting_round = {is_due, watch_snapshot, compacted};
+const struct round compacting_round = {is_compacting_due, ask_to_watch, compacting_answered};

@@ -68,9 +68,9 @@ static void ask_for_witnesses(struct ds_fleet *fleet) {
     trail_ask(read);
 }
 
-static bool is_due(const struct ds_fleet *fleet) { return bridge_is_at_end(fleet) && clock_now() >= fleet->comparing.due_at; }
+static bool is_comparing_due(const struct ds_fleet *fleet) { return bridge_is_at_end(fleet) && clock_now() >= fleet->comparing.due_at; }
 
-static enum ds_fleet_word compare(struct ds_fleet *fleet) {
+static enum ds_fleet_word ask_to_compare(struct ds_fleet *fleet) {
     struct comparing *comparing = &fleet->comparing;
     struct link *teller = &fleet->server.teller;
     char digest[DIGEST_TEXT];
@@ -167,7 +167,7 @@ static void judge_peers(struct ds_fleet *fleet, const redisReply *digests) {
     }
 }
 
-static enum ds_fleet_word compared(struct ds_fleet *fleet) {
+static enum ds_fleet_word comparing_answered(struct ds_fleet *fleet) {
     struct link *teller = &fleet->server.teller;
     struct redisReply **answers = teller->answers, *looked = answers[ASKED_EXEC], *digests = answers[ASKED_DIGESTS];
     const redisReply *error = error_of(answers, ASKED_DIGESTS);
@@ -185,7 +185,7 @@ static enum ds_fleet_word compared(struct ds_fleet *fleet) {
     return DS_FLEET_INSTEP;
 }
 
-const struct round comparing_round = {is_due, compare, compared};
+const struct round comparing_round = {is_comparing_due, ask_to_compare, comparing_answered};
 
 void comparing_begin_anew(struct comparing *comparing, const struct stock *stock) {
     comparing->asked = NO_ENTRY;

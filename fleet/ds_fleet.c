@@ -200,7 +200,7 @@ static bool ends_step(enum ds_fleet_word word) {
 }
 
 /* Whether there is news that can be sent at once. */
-static bool has_news(const struct ds_fleet *fleet) {
+static bool has_unsent_news(const struct ds_fleet *fleet) {
     return fleet->items.untold.length && fleet->server.state == SERVER_MET && !fleet->server.round;
 }
 
@@ -208,7 +208,7 @@ static bool has_news(const struct ds_fleet *fleet) {
 enum ds_fleet_word ds_fleet_step(struct ds_fleet *fleet, unsigned patience) {
     uint64_t end = clock_now() + patience;
     enum ds_fleet_word gathered = items_gather(&fleet->items);
-    bool has_heard = !has_news(fleet);
+    bool has_heard = !has_unsent_news(fleet);
     if (has_heard) hear_bell(fleet, 0);
     for (;;) {
         if (gathered != DS_FLEET_INSTEP) gathered = items_gather(&fleet->items);

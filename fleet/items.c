@@ -34,7 +34,7 @@ void items_say(struct items *items, const char *format, ...) {
 /* ---- asking the stores ---- */
 
 /* A request for what is under the scope, of the whole journal or of all that is held. */
-static struct ds_request scoped(const struct items *items, uint32_t command) {
+static struct ds_request scoped_request(const struct items *items, uint32_t command) {
     struct ds_request request = {.command = command, .max = ITEMS_MOST};
     request.incarnation = items->incarnation;
     request.position = items->position;
@@ -46,7 +46,7 @@ static struct ds_request scoped(const struct items *items, uint32_t command) {
 }
 
 static enum ds_fleet_word ask_store(struct items *items, struct ds_handle *store, uint32_t command, struct ds_answer *answer) {
-    struct ds_request request = store == items->store ? scoped(items, command) : (struct ds_request){.command = command};
+    struct ds_request request = store == items->store ? scoped_request(items, command) : (struct ds_request){.command = command};
     if (ds_call(store, &request, items->scope.bytes, items->scope.length, answer)) return DS_FLEET_CLOSED;
     return answer->word == DS_REFUSED && answer->refusal == DS_NOROOM ? DS_FLEET_NOROOM : DS_FLEET_INSTEP;
 }

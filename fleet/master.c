@@ -155,7 +155,7 @@ enum ds_fleet_word master_open(struct master *master, const char *url, const cha
 
 /* ---- finding it ---- */
 
-static enum host_found unknown(struct master *master, const char *why) {
+static enum host_found master_unknown(struct master *master, const char *why) {
     master->state = MASTER_LISTED;
     master->said = why;
     return HOST_UNKNOWN;
@@ -164,7 +164,7 @@ static enum host_found unknown(struct master *master, const char *why) {
 /* Finds how to call an address. */
 static enum host_found find_address(struct master *master, struct address *address, uint64_t now) {
     enum host_found found = host_find(&address->host, now);
-    if (found == HOST_UNKNOWN) return unknown(master, address->host.said);
+    if (found == HOST_UNKNOWN) return master_unknown(master, address->host.said);
     master->call.host = address->host.address;
     master->call.port = address->port;
     return found;
@@ -182,7 +182,7 @@ static void name_master(struct master *master, const char *host, int port) {
 
 static enum host_found ask_sentinel(struct master *master, uint64_t now) {
     struct link_call call = {.host = master->call.host, .port = master->call.port};
-    if (!link_open(&master->sentinel, &call, now)) return unknown(master, master->sentinel.said);
+    if (!link_open(&master->sentinel, &call, now)) return master_unknown(master, master->sentinel.said);
     link_ask(&master->sentinel, "SENTINEL get-master-addr-by-name %s", master->known_as);
     master->state = MASTER_ASKED;
     return HOST_SOUGHT;
@@ -191,7 +191,7 @@ static enum host_found ask_sentinel(struct master *master, uint64_t now) {
 static enum host_found hear_sentinel(struct master *master, uint64_t now) {
     switch (link_turn(&master->sentinel, now)) {
     case LINK_IDLE:
-    case LINK_LOST: return unknown(master, master->sentinel.said);
+    case LINK_LOST: return master_unknown(master, master->sentinel.said);
     case LINK_WAITS: return HOST_SOUGHT;
     case LINK_ANSWERED: break;
     }
@@ -200,7 +200,7 @@ static enum host_found hear_sentinel(struct master *master, uint64_t now) {
     long long port = is_named ? count_of(answer->element[NAMED_PORT]) : 0;
     if (port > 0) name_master(master, answer->element[NAMED_HOST]->str, (int)port);
     link_close(&master->sentinel);
-    if (port <= 0) return unknown(master, "the Sentinel knows no such master");
+    if (port <= 0) return master_unknown(master, "the Sentinel knows no such master");
     return find_address(master, &master->named, now);
 }
 

@@ -83,16 +83,16 @@ enum ds_fleet_word reading_answered(struct ds_fleet *fleet) {
     return DS_FLEET_INSTEP;
 }
 
-static bool has_gap(const struct ds_fleet *fleet) { return fleet->reading.state == READING_GAP; }
+static bool is_fetching_due(const struct ds_fleet *fleet) { return fleet->reading.state == READING_GAP; }
 
-static enum ds_fleet_word fetch(struct ds_fleet *fleet) {
+static enum ds_fleet_word ask_for_snapshot(struct ds_fleet *fleet) {
     link_ask(&fleet->server.teller, "XINFO STREAM %s:items", fleet->stream);
     link_ask(&fleet->server.teller, "HMGET %s:snapshot at items", fleet->stream);
     return DS_FLEET_INSTEP;
 }
 
 /* Merges the snapshot, whatever entry it says that it is of. If there was such an entry, everything up to it is read then. */
-static enum ds_fleet_word fetched(struct ds_fleet *fleet) {
+static enum ds_fleet_word snapshot_fetched(struct ds_fleet *fleet) {
     struct reading *reading = &fleet->reading;
     struct entry_id generated = id_of(field_of(fleet->server.teller.answers[FETCHING_STREAM], "last-generated-id"));
     const redisReply *snapshot = fleet->server.teller.answers[FETCHING_SNAPSHOT];
@@ -115,7 +115,7 @@ static enum ds_fleet_word fetched(struct ds_fleet *fleet) {
     return DS_FLEET_INSTEP;
 }
 
-const struct round fetching_round = {has_gap, fetch, fetched};
+const struct round fetching_round = {is_fetching_due, ask_for_snapshot, snapshot_fetched};
 
 void reading_cut(struct reading *reading) {
     if (reading->state == READING_END) reading->state = READING_BEHIND;

@@ -29,7 +29,7 @@ bool server_is_connected(const struct server *server) { return server->teller.re
 
 /* ---- it goes, or denies ---- */
 
-static void keep_words(struct ds_fleet *fleet, const char *words) {
+static void keep_said(struct ds_fleet *fleet, const char *words) {
     if (words != fleet->state.said) snprintf(fleet->state.said, sizeof fleet->state.said, "%s", words);
 }
 
@@ -49,7 +49,7 @@ enum ds_fleet_word server_hang_up(struct ds_fleet *fleet, enum ds_fleet_word wor
         items_say(&fleet->items, "%s: %s", ds_fleet_word(word), why);
         server->logs_meeting = true;
     }
-    keep_words(fleet, why);
+    keep_said(fleet, why);
     link_close(&server->teller);
     link_close(&server->listener);
     master_failed(&server->master);
@@ -67,7 +67,7 @@ enum ds_fleet_word server_went(struct ds_fleet *fleet, const char *why) { return
 
 enum ds_fleet_word server_puzzles(struct ds_fleet *fleet, const char *why) {
     if (strcmp(fleet->state.said, why)) items_say(&fleet->items, "denied: %s", why);
-    keep_words(fleet, why);
+    keep_said(fleet, why);
     fleet->server.ask_at = clock_now() + PATIENCE;
     return DS_FLEET_DENIED;
 }
@@ -126,7 +126,7 @@ void server_reopen_listener(struct server *server) { link_open(&server->listener
 /* The questions of a meeting, in their order. */
 enum { MEETING_INFO, MEETING_CLAIM, MEETING_MULTI, MEETING_LOOK, MEETING_EXEC = MEETING_LOOK + LOOK_QUESTIONS, MEETING_QUESTIONS };
 
-static bool is_unmet(const struct ds_fleet *fleet) { return fleet->server.state != SERVER_MET; }
+static bool is_meeting_due(const struct ds_fleet *fleet) { return fleet->server.state != SERVER_MET; }
 
 static enum ds_fleet_word ask_to_meet(struct ds_fleet *fleet) {
     struct link *teller = &fleet->server.teller;
@@ -181,7 +181,7 @@ static void log_meeting(struct ds_fleet *fleet, bool may_evict) {
 }
 
 /* A replica takes no scope. If it has the right one, and no other server is known, it is met: a bridge sees what becomes of the stream. */
-static enum ds_fleet_word met(struct ds_fleet *fleet) {
+static enum ds_fleet_word meeting_answered(struct ds_fleet *fleet) {
     struct server *server = &fleet->server;
     struct redisReply **answers = server->teller.answers, *info = answers[MEETING_INFO], *looked = answers[MEETING_EXEC];
     if (is_error(info)) return server_denied(fleet, info);
@@ -208,7 +208,7 @@ static enum ds_fleet_word met(struct ds_fleet *fleet) {
     return DS_FLEET_INSTEP;
 }
 
-const struct round meeting_round = {is_unmet, ask_to_meet, met};
+const struct round meeting_round = {is_meeting_due, ask_to_meet, meeting_answered};
 
 /* ---- opening and closing ---- */
 

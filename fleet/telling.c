@@ -43,11 +43,11 @@ static void ask_to_add(struct ds_fleet *fleet) {
 }
 
 /* If everything held has yet to be gathered, news waits for that. */
-static bool has_news(const struct ds_fleet *fleet) {
+static bool is_telling_due(const struct ds_fleet *fleet) {
     return fleet->items.untold.length && !(fleet->telling.owes_all && bridge_is_at_end(fleet));
 }
 
-static enum ds_fleet_word tell(struct ds_fleet *fleet) {
+static enum ds_fleet_word ask_to_tell(struct ds_fleet *fleet) {
     struct telling *telling = &fleet->telling;
     telling->parts = 0;
     if (telling->state == TELLING_NEWS) ask_to_add(fleet);
@@ -79,7 +79,7 @@ static enum ds_fleet_word lacks_replicas(struct ds_fleet *fleet, const redisRepl
     return server_puzzles(fleet, why);
 }
 
-static enum ds_fleet_word told(struct ds_fleet *fleet) {
+static enum ds_fleet_word telling_answered(struct ds_fleet *fleet) {
     struct telling *telling = &fleet->telling;
     const struct link *teller = &fleet->server.teller;
     enum ds_fleet_word word = telling->state == TELLING_NEWS ? note_added(fleet) : DS_FLEET_INSTEP;
@@ -93,7 +93,7 @@ static enum ds_fleet_word told(struct ds_fleet *fleet) {
     return DS_FLEET_INSTEP;
 }
 
-const struct round telling_round = {has_news, tell, told};
+const struct round telling_round = {is_telling_due, ask_to_tell, telling_answered};
 
 void telling_cut(struct telling *telling) {
     telling->state = TELLING_NEWS;

@@ -37,7 +37,7 @@ void log_open(struct log *log, bool as_json) {
     if (own >= 0) log->descriptor = own;
 }
 
-static bool written(const struct log *log, const char *line, size_t length) {
+static bool write_line(const struct log *log, const char *line, size_t length) {
     struct pollfd it = {.fd = log->descriptor, .events = POLLOUT};
     if (log->is_socket) return send(log->descriptor, line, length, MSG_DONTWAIT | MSG_NOSIGNAL) > 0;
     return poll(&it, 1, 0) > 0 && (it.revents & POLLOUT) && write(log->descriptor, line, length) > 0;
@@ -55,7 +55,7 @@ static bool is_due(struct log *log, const char *event, size_t length) {
 }
 
 /* Appends a text in quotes. JSON allows no byte that isn't printable ASCII, so each of these is `\u00XX` there. Returns the line's length. */
-static size_t quote(const struct log *log, char *line, size_t length, const char *text, size_t count) {
+static size_t append_quoted(const struct log *log, char *line, size_t length, const char *text, size_t count) {
     line[length++] = '"';
     for (size_t i = 0; i < count; i++) {
         unsigned char byte = (unsigned char)text[i];
@@ -79,9 +79,9 @@ void log_say(struct log *log, const char *level, const char *format, ...) {
     size_t event = strcspn(text, ":"), rest = event + strspn(text + event, ": ");
     const char *head = log->as_json ? "{\"level\":\"%s\",\"event\":\"%.*s\",\"text\":" : "%s event=%.*s text=";
     size_t length = (size_t)snprintf(line, sizeof line, head, level, (int)event, text);
-    length = quote(log, line, length, text + rest, strlen(text + rest));
+    length = append_quoted(log, line, length, text + rest, strlen(text + rest));
     length += (size_t)sprintf(line + length, log->as_json ? "}\n" : "\n");
-    if (!is_due(log, text, event) || !written(log, line, length)) log->left_out++;
+    if (!is_due(log, text, event) || !write_line(log, line, length)) log->left_out++;
 }
 
 void log_tell(void *log, const char *line) {
@@ -94,15 +94,15 @@ static bool pass_json(const struct log *log, const char *name, const char *line,
     char whole[LOG_WHOLE];
     if (length > LOG_PASSED || strlen(name) > LOG_NAME) return false;
     size_t put = (size_t)sprintf(whole, "{\"level\":\"" LOG_INFO "\",\"event\":\"output\",\"service\":\"%s\",\"text\":", name);
-    put = quote(log, whole, put, line, length);
+    put = append_quoted(log, whole, put, line, length);
     put += (size_t)sprintf(whole + put, "}\n");
-    return written(log, whole, put);
+    return write_line(log, whole, put);
 }
 
 static bool pass_text(const struct log *log, const char *name, const char *line, size_t length) {
     char whole[LOG_PASSED + LOG_NAME];
     int put = snprintf(whole, sizeof whole, "%s: %.*s\n", name, (int)length, line);
-    return put > 0 && put < (int)sizeof whole && written(log, whole, (size_t)put);
+    return put > 0 && put < (int)sizeof whole && write_line(log, whole, (size_t)put);
 }
 
 void log_pass(struct log *log, const char *name, const char *line, size_t length) {
@@ -115,7 +115,7 @@ void log_count(struct log *log) {
     const char *format = LOG_WARN " event=left_out lines=%llu\n";
     if (log->as_json) format = "{\"level\":\"" LOG_WARN "\",\"event\":\"left_out\",\"lines\":%llu}\n";
     int length = snprintf(line, sizeof line, format, (unsigned long long)log->left_out);
-    if (!written(log, line, (size_t)length)) return;
+    if (!write_line(log, line, (size_t)length)) return;
     log->left_out = 0;
     log->count_at = clock_now() + COUNTED_EACH;
 }

@@ -11,7 +11,7 @@ int usage_refuse(const struct usage *it, const char *why) {
     return USAGE;
 }
 
-static int shown(const char *text) {
+static int print_help(const char *text) {
     fputs(text, stdout);
     return DONE;
 }
@@ -39,8 +39,8 @@ int usage_read(const struct usage *it, int count, char **words, int *first) {
     }
     opterr = 0;
     for (int option; (option = getopt_long(count, words, it->options_first ? "+h" : "h", known, NULL)) != -1;) {
-        if (option == 'h') return shown(it->help);
-        if (option == 'v') return shown(it->version);
+        if (option == 'h') return print_help(it->help);
+        if (option == 'v') return print_help(it->version);
         if (option < FIRST_ROW) return usage_refuse(it, "no such option, or no value after it");
         int status = take_value(it, &it->rows[option - FIRST_ROW], optarg);
         if (status != GO_ON) return status;

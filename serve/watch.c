@@ -5,7 +5,7 @@
 
 enum { EVENTS = 64 /* of one turn */ };
 
-static bool control(struct watch *watch, int epoll, int operation, uint32_t wanted) {
+static bool watch_control(struct watch *watch, int epoll, int operation, uint32_t wanted) {
     struct epoll_event event = {.events = wanted, .data.ptr = watch};
     watch->wanted = wanted;
     return !epoll_ctl(epoll, operation, watch->file, &event);
@@ -13,12 +13,12 @@ static bool control(struct watch *watch, int epoll, int operation, uint32_t want
 
 bool watch_open(struct watch *watch, int epoll, int file, uint32_t wanted) {
     *watch = (struct watch){.file = file};
-    return file >= 0 && control(watch, epoll, EPOLL_CTL_ADD, wanted);
+    return file >= 0 && watch_control(watch, epoll, EPOLL_CTL_ADD, wanted);
 }
 
 void watch_for(struct watch *watch, int epoll, uint32_t wanted) {
     if (wanted == watch->wanted) return;
-    control(watch, epoll, !wanted ? EPOLL_CTL_DEL : watch->wanted ? EPOLL_CTL_MOD : EPOLL_CTL_ADD, wanted);
+    watch_control(watch, epoll, !wanted ? EPOLL_CTL_DEL : watch->wanted ? EPOLL_CTL_MOD : EPOLL_CTL_ADD, wanted);
 }
 
 void watch_close(struct watch *watch, int epoll) {
