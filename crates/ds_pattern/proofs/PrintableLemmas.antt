@@ -9,7 +9,7 @@ use Rattle.ds_names.specs.Name.{is_name_byte, IsName}
 use Rattle.ds_pattern.specs.Under.{anchored, is_printable, is_printable_byte}
 use Rattle.std.proofs.lemmas.Bool.{and_parts}
 
-ascii_byte : (b : ℕ) → is_printable_byte b ≡ true → b < 128
+pub ascii_byte : (b : ℕ) → is_printable_byte b ≡ true → b < 128
 ascii_byte b h = grind (arith, nat_tests)
 
 printable_byte : (b : ℕ) → is_name_byte b ≡ true → is_printable_byte b ≡ true

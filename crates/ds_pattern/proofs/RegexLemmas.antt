@@ -64,7 +64,7 @@ first_alike f g alike (suc n) i = front (f i) (g i) (alike i) _ _ _ _ (first_ali
   front (Some s) None same at there q r rest = absurd cc
 
 -- No byte of a text of ASCII continues a character.
-boundary_of_ascii : (text : List ℕ) (i : ℕ) → IsAscii text → is_boundary text i ≡ true
+pub boundary_of_ascii : (text : List ℕ) (i : ℕ) → IsAscii text → is_boundary text i ≡ true
 unfolding is_boundary
 boundary_of_ascii text i ascii = at (slice_get_cases text i).1 where
   small : (b : ℕ) → b < 128 → not (is_in_range 0x80 0xBF b) ≡ true

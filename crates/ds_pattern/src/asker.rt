@@ -55,6 +55,8 @@ impl<'f> Asker<'f> {
         ensures under { result ≡ is_under self.old key.now }
         ensures same { self.new ≡ self.old }
     {
-        self.kinds.has(key.kind) && finds(self.whole, &mut self.machine, &key.name)
+        let name = key.name.bytes();
+        self.kinds.has(key.kind)
+            && (self.pattern.is_dot_star() || finds(self.whole, &mut self.machine, name))
     }
 }

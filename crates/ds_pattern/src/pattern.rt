@@ -1,8 +1,7 @@
 //! Compiled patterns, and what they match.
 
-ghost use Rattle.std.specs.Prelude.{◌≡◌, ◌≤◌, IsTrue, IfOk, OnOk, IfErr, is_some, length, string_bytes, vec_len};
+ghost use Rattle.std.specs.Prelude.{◌≡◌, ◌≤◌, ◌↔◌, IsTrue, IfOk, OnOk, IfErr, is_some, codes, length, string_bytes, vec_len};
 ghost use Rattle.regex_vm.specs.Found.{first_match};
-ghost use Rattle.ds_names.specs.Name.{IsName};
 ghost use Rattle.regex_hir.specs.declared.hir.Hir.{Hir};
 ghost use Rattle.regex_nfa.specs.Sizes.{table_bytes};
 ghost use Rattle.ds_pattern.specs.Under.{anchored, is_printable, is_regex, matches_whole, FindsWhole};
@@ -84,10 +83,12 @@ pub const SIZE_LIMIT: usize = 12 << 10;
 pub struct Pattern {
     text: String,
     whole: Nfa,
+    // Whether the text is `.*`. It matches each name, so its automaton needn't run.
+    is_dot_star: bool,
 }
 
 impl Model for Pattern {
-    ghost use Rattle.std.specs.Prelude.{◌≤◌, ℕ, List, string_bytes};
+    ghost use Rattle.std.specs.Prelude.{◌≡◌, ◌≤◌, ◌↔◌, ℕ, List, IsTrue, codes, string_bytes};
     ghost use Rattle.regex_nfa.specs.Sizes.{table_bytes};
     ghost use Rattle.ds_pattern.specs.Under.{FindsWhole};
     ghost use Rattle.ds_pattern.specs.Patterns.{IsPattern};
@@ -96,7 +97,8 @@ impl Model for Pattern {
 
     ghost view = { λ p. string_bytes p.text };
 
-    ghost invariant = { λ p. IsPattern (string_bytes p.text) × FindsWhole p.whole (string_bytes p.text) × (table_bytes p.whole ≤ 0x3018) };
+    ghost invariant = { λ p. IsPattern (string_bytes p.text) × FindsWhole p.whole (string_bytes p.text) × (table_bytes p.whole ≤ 0x3018)
+        × (IsTrue p.is_dot_star ↔ (string_bytes p.text ≡ codes ".*")) };
 }
 
 impl Pattern {
@@ -120,16 +122,22 @@ impl Pattern {
         Ok(Pattern {
             text: String::from_str(alloc, text)?,
             whole,
+            is_dot_star: is_dot_star(text),
         })
     }
 
     /// Returns whether the pattern matches the name whole, as `regex` matches `^(?:P)$` with its default options. Fails only
     /// if memory runs out.
+    #[tactic(auto, using(crate::proofs::StarLemmas::dot_star_matches))]
     pub fn matches(&self, alloc: Global, name: &Name) -> Result<bool, NoRoom>
         ensures { IfOk result (λ yes. yes ≡ matches_whole self.now name.now) }
     {
+        let bytes = name.bytes();
+        if self.is_dot_star {
+            return Ok(true);
+        }
         let mut machine = PikeVm::new(alloc, &self.whole)?;
-        Ok(finds(&self.whole, &mut machine, name))
+        Ok(finds(&self.whole, &mut machine, bytes))
     }
 
     // Returns the automaton, which finds a match in exactly the names that the pattern matches whole.
@@ -137,6 +145,13 @@ impl Pattern {
         ensures { FindsWhole result.now self.now }
     {
         &self.whole
+    }
+
+    // Returns whether the pattern is `.*`, which matches each name.
+    pub(crate) fn is_dot_star(&self) -> bool
+        ensures { IsTrue result ↔ (self.now ≡ codes ".*") }
+    {
+        self.is_dot_star
     }
 }
 
@@ -146,14 +161,12 @@ impl fmt::Debug for Pattern {
     }
 }
 
-// Returns whether the automaton finds a match in the name. The machine's buffers suffice, so the call takes no memory.
-pub(crate) fn finds(whole: &Nfa, machine: &mut PikeVm, name: &Name) -> bool
+// Returns whether the automaton finds a match in a name. The machine's buffers suffice, so the call takes no memory.
+pub(crate) fn finds(whole: &Nfa, machine: &mut PikeVm, bytes: &[u8]) -> bool
     requires { machine.old.states ≡ vec_len whole.now.states }
-    ensures found { result ≡ is_some (first_match whole.now name.now (length name.now) 0 (length name.now)) }
-    ensures named { IsName name.now }
+    ensures found { result ≡ is_some (first_match whole.now bytes.now (length bytes.now) 0 (length bytes.now)) }
     ensures room { machine.new ≡ machine.old }
 {
-    let bytes = name.bytes();
     machine.is_match(whole, bytes, 0, bytes.len(), bytes.len())
 }
 
@@ -162,6 +175,13 @@ fn is_printable(bytes: &[u8]) -> bool
     ensures { result ≡ is_printable bytes.now }
 {
     bytes.iter().all(|b| 0x20 <= *b && *b <= 0x7e)
+}
+
+// Returns whether the text is `.*`.
+fn is_dot_star(text: &str) -> bool
+    ensures { IsTrue result ↔ (text.now ≡ codes ".*") }
+{
+    text == ".*"
 }
 
 // Returns bytes of printable ASCII as a `str`.
