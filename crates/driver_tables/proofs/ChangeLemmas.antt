@@ -292,6 +292,41 @@ now_still t label state same other = now_after t.states s other ∙ by (is_same_
     by true q = sym (same_state (endpoint_now t.states label) state same) ∙ ap (endpoint_now t.states) (same_name label other q)
     by false q = refl
 
+newest_still : (t : DriverTable) (label : List ℕ) (state : Option EndpointRecord) → IsTableReached t → is_same_state (endpoint_now t.states label) state ≡ true → (other : List ℕ) →
+    newest (notes t label state).states other ≡ newest t.states other
+newest_still t label state h same other = newest_after t.states s other ∙ by (is_same_name label other) refl
+  where
+    s : LabelState
+    s = record { label = label; endpoint = state }
+
+    again : (now : Option EndpointRecord) → endpoint_now t.states other ≡ now → newer (newest t.states other) now ≡ newest t.states other
+    again None e = refl
+    again (Some e) q =
+        let g = h.current other e q in
+        ap (λ (g : Option ℕ). newer g (Some e)) g ∙ (if_same (nat_lt e.generation e.generation) ∙ sym g)
+      where
+        if_same : (b : Bool) → Some (cond b e.generation e.generation) ≡ Some e.generation
+        if_same true = refl
+        if_same false = refl
+
+    by : (b : Bool) → is_same_name label other ≡ b → cond b (newer (newest t.states other) state) (newest t.states other) ≡ newest t.states other
+    by true q =
+        let is : state ≡ endpoint_now t.states other = sym (same_state (endpoint_now t.states label) state same) ∙ ap (endpoint_now t.states) (same_name label other q) in
+        ap (newer (newest t.states other)) is ∙ again (endpoint_now t.states other) refl
+    by false q = refl
+
+units_still : (t : DriverTable) (label : List ℕ) (state : Option EndpointRecord) → IsTableReached t → is_same_state (endpoint_now t.states label) state ≡ true → (units : List (ℕ × Driver)) →
+    map (unit_of (notes t label state).states) units ≡ map (unit_of t.states) units
+units_still t label state h same [] = refl
+units_still t label state h same (u ∷ units) = cc (one, units_still t label state h same units)
+  where
+    made : Option EndpointRecord → Option ℕ → ℕ × Device
+    made now newest = (u.0, record { class = u.1.class; label = u.1.label; endpoint = now; newest = newest })
+
+    one : unit_of (notes t label state).states u ≡ unit_of t.states u
+    one = ap (λ (e : Option EndpointRecord). made e (newest (notes t label state).states u.1.label)) (now_still t label state same u.1.label)
+        ∙ ap (made (endpoint_now t.states u.1.label)) (newest_still t label state h same u.1.label)
+
 served_noted : (t : DriverTable) (label : List ℕ) (state : Option EndpointRecord) → is_same_state (endpoint_now t.states label) state ≡ true → (requests : List Request) →
     AllByRecursion (IsRequestServed t) requests → AllByRecursion (IsRequestServed (notes t label state)) requests
 served_noted t label state same [] h = tt
@@ -338,11 +373,10 @@ stands_moved v t label state devices left s has old d e = subst (TableStands (re
     kept : List (ℕ × Device)
     kept = map (unit_of t.states) t.units
 
-pub stands_noted : (v : TableRecord) (t : DriverTable) (label : List ℕ) (state : Option EndpointRecord) (devices : List (ℕ × Device)) → TableStands v t →
-    has_label t.units label ≡ true → is_old (newest t.states label) (endpoint_now t.states label) state ≡ false →
-    is_same_state (endpoint_now t.states label) state ≡ true → devices ≡ map (noted label state) v.devices → TableStands (record { devices = devices; pending = v.pending; last = v.last }) (does (notes t label state) [])
-stands_noted v t label state devices s has old same d = subst (TableStands (record { devices = devices; pending = v.pending; last = v.last })) (sym (notes_is t label state)) (record {
-  devices = d ∙ (ap (map (noted label state)) s.devices ∙ noted_all t.states t.units label state);
+pub stands_noted : (v : TableRecord) (t : DriverTable) (label : List ℕ) (state : Option EndpointRecord) → TableStands v t → has_label t.units label ≡ true → is_old (newest t.states label) (endpoint_now t.states label) state ≡ false →
+    is_same_state (endpoint_now t.states label) state ≡ true → TableStands v (does (notes t label state) [])
+stands_noted v t label state s has old same = subst (TableStands v) (sym (notes_is t label state)) (record {
+  devices = s.devices ∙ sym (units_still t label state s.reached same t.units);
   pending = s.pending;
   last = s.last;
   reached = reached_noted t label state s.reached has old same;

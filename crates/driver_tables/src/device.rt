@@ -3,7 +3,7 @@
 ghost use Rattle.std.specs.Prelude.{◌≡◌, ◌≢◌, ◌==◌, ◌++◌, ◌<◌, [], Some, length, map, slice_get, OnOk, OnErr};
 ghost use Rattle.std.specs.List.{find, filter_map};
 ghost use Rattle.std.specs.Map.{lookup};
-ghost use Rattle.std.specs.Option.{option_map};
+ghost use Rattle.std.specs.Option.{option_copied, option_map};
 ghost use Rattle.driver_tables.specs.Devices.{is_of_label, status_of, device_with, noted, start_move};
 
 use crate::moves::{Move, Moves};
@@ -33,25 +33,25 @@ pub struct Device {
     pub newest: Option<Generation>,
 }
 
-pub(crate) fn device_at(devices: &IndexMap<u8, Device>, unit: u8) -> Option<Device>
-    ensures { result ≡ lookup (λ u. unit == u) devices.now.entries }
+pub(crate) fn device_at(devices: &IndexMap<u8, Device>, unit: u8) -> Option<&Device>
+    ensures { option_copied result ≡ lookup (λ u. unit == u) devices.now.entries }
 {
-    devices.get(&unit).copied()
+    devices.get(&unit)
 }
 
-fn unit_at(devices: &IndexMap<u8, Device>, i: usize) -> (u8, Device)
+fn unit_at(devices: &IndexMap<u8, Device>, i: usize) -> (u8, &Device)
     requires { i < length devices.now.entries }
-    ensures { slice_get devices.now.entries i ≡ Some result }
+    ensures { slice_get devices.now.entries i ≡ Some (result.0, result.1.now) }
 {
     let Some((unit, device)) = devices.get_index(i) else {
         unreachable!()
     };
-    (*unit, *device)
+    (*unit, device)
 }
 
 // Returns the first device of the label.
-pub(crate) fn first_of(devices: &IndexMap<u8, Device>, label: &Name) -> Option<Device>
-    ensures { result ≡ option_map (λ u. u.1) (find (is_of_label label.now) devices.now.entries) }
+pub(crate) fn first_of<'a>(devices: &'a IndexMap<u8, Device>, label: &Name) -> Option<&'a Device>
+    ensures { option_copied result ≡ option_map (λ u. u.1) (find (is_of_label label.now) devices.now.entries) }
 {
     for i in 0..devices.len() {
         let (_, device) = unit_at(devices, i);
@@ -82,7 +82,7 @@ pub(crate) fn note(devices: &mut IndexMap<u8, Device>, label: &Name, state: &Opt
     for i in 0..devices.len() {
         let (_, device) = unit_at(devices, i);
         if *label == device.label {
-            devices[i] = with_state(&device, state);
+            devices[i] = with_state(device, state);
         }
     }
 }
@@ -110,7 +110,7 @@ pub(crate) fn add_starts(
 {
     for i in 0..devices.len() {
         let (unit, device) = unit_at(devices, i);
-        moves.add(started_at(unit, &device, label, state))?;
+        moves.add(started_at(unit, device, label, state))?;
     }
     Ok(())
 }

@@ -130,7 +130,7 @@ fn settled(
 {
     let device = device_at(devices, p.unit)?;
     let _newest = device.newest;
-    settled_by(label, state, p, &device)
+    settled_by(label, state, p, device)
 }
 
 fn settled_by(label: &Name, state: &Option<Endpoint>, p: &Pending, device: &Device) -> Option<Move>

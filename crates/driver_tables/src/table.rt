@@ -87,7 +87,6 @@ impl Table {
             return Err(TableFault::OldEndpoint);
         }
         if is_same_state(&device.endpoint, state) {
-            note(&mut self.devices, label, state);
             return Ok(Moves::new(self.alloc));
         }
         let Ok(moves) = moves_of(self.alloc, &self.devices, &self.pending, label, state) else {

@@ -7,8 +7,8 @@ use Rattle.driver_tables.proofs.ListLemmas.{half, half_get, half_set, half_next,
 use Rattle.driver_tables.proofs.device.note.Goals as goal
 use Rattle.driver_tables.proofs.device.note.Goals.{then-eq, else-eq}
 
-pub unit_at-device-requires : goal.unit_at-device-requires
-unit_at-device-requires c =
+pub unit_at-requires : goal.unit_at-requires
+unit_at-requires c =
     let same : length c.loop-i.devices.entries ≡ length c.args.devices.now.entries = ap length c.loop-i.invariant ∙ length-half (noted c.args.label.now c.args.state.now) c.loop-i.i c.args.devices.now.entries in
     let end = c.len-i-end.ensures.len in
     omega arith
@@ -24,8 +24,8 @@ loop-i-preserved c =
     let f = noted c.args.label.now c.args.state.now in
     let all = c.args.devices.now.entries in
     let i = c.loop-i.i in
-    let u = c.unit_at-device.result in
-    let there : slice_get all i ≡ Some u = sym (half_get f i all) ∙ (ap (λ (l : List (ℕ × Device)). slice_get l i) (sym c.loop-i.invariant) ∙ c.unit_at-device.ensures) in
+    let u : ℕ × Device = (c.unit_at.result.0, c.unit_at.result.1.now) in
+    let there : slice_get all i ≡ Some u = sym (half_get f i all) ∙ (ap (λ (l : List (ℕ × Device)). slice_get l i) (sym c.loop-i.invariant) ∙ c.unit_at.ensures) in
     elim c.if-eq.branch [
       | then-eq w ↦
           (let same : f u ≡ (u.0, w.with_state.result) = ap (λ (b : Bool). (u.0, cond b (device_with c.args.state.now u.1) u.1)) (sym c.eq.ensures ∙ w.if-eq.true) ∙ ap (λ (d : Device). (u.0, d)) (sym w.with_state.ensures) in
