@@ -1,11 +1,11 @@
 -- How a driver table follows a map, label by label.
 use Rattle.std.proofs.Common.{◌≡◌, ◌≢◌, ℕ, zero, suc, ◌+◌, ◌≤◌, ◌||◌, Bool, true, false, List, [], ◌∷◌, ◌++◌, length, take, drop, Option, Some, None, Result, Ok, Err, refl, ap, sym, ◌∙◌, subst, inl, inr, arith, append_assoc, append-nil}
+use Rattle.std.proofs.Common.{cond}
 use Rattle.std.specs.List.{slice_get, AllByRecursion}
 use Rattle.std.specs.Option.{option_map}
 use Rattle.std.proofs.lemmas.List.{take-append-drop, take_more, take_all, length-map}
 use Rattle.std.proofs.lemmas.Option.{slice_get-map, slice_get_within, get_or_from_slice_get}
 use Rattle.ds_names.specs.Endpoint.{EndpointRecord}
-use Rattle.ds_names.specs.Key.{label_key}
 use Rattle.ds_names.specs.Name.{is_same_name}
 use Rattle.ds_names.specs.declared.key.Key.{Key}
 use Rattle.ds_entry.specs.Change.{ChangeRecord}
@@ -31,7 +31,10 @@ use Rattle.driver_tables.specs.Stands.{TableRecord, TableStands}
 use Rattle.driver_tables.proofs.TestLemmas.{name_itself}
 use Rattle.driver_tables.proofs.ListLemmas.{drop_at_get}
 use Rattle.driver_tables.proofs.RunLemmas.{changed_so}
-use Rattle.rs_to_store.specs.News.{told}
+use Rattle.ds_entry.specs.Left.{endpoint_in}
+use Rattle.ds_entry.specs.declared.body.Body.{Body}
+use Rattle.ds_entry.specs.declared.body.Body.TheVariants.{Put, Gone}
+use Rattle.rs_to_store.specs.News.{is_old_tombstone, newest_for, told_by}
 use Rattle.rs_to_store.specs.Following.{labels_of, news_of, as_round, taking, Follows}
 use Rattle.rs_to_store.specs.Laws.{IsOfLabels, IsRunOf, FollowsAreRuns, FollowsKeepUnits, FollowsEndForRoom}
 
@@ -178,10 +181,13 @@ follows_end_for_room held (label ∷ labels) t u rounds fault (inr ends) = (
   },
 )
 
--- the news by the newest generation that the code read
-pub news_read : (held : List Item) (t : DriverTable) (label : List ℕ) (newest_now : Option ℕ) (r : Option (Option EndpointRecord)) → r ≡ told newest_now (held_at held (label_key label))
-    → newest_now ≡ newest t.states label → r ≡ news_of held t label
-news_read held t label newest_now r e n = e ∙ ap (λ (m : Option ℕ). told m (held_at held (label_key label))) n
+-- a put tells the same whatever the newest generation is
+pub told_so : (c : ChangeRecord) (newest : Option ℕ) → told_by (newest_for c.body newest) c ≡ told_by newest c
+told_so c newest = ap (λ (b : Bool). cond b None (Some (endpoint_in c.body))) (by c.body)
+  where
+    by : (body : Body) → is_old_tombstone (newest_for body newest) c.version.epoch body ≡ is_old_tombstone newest c.version.epoch body
+    by (Put value) = refl
+    by Gone = refl
 
 -- ---- the walk
 -- the labels before the index were followed, with their rounds appended, to a table that the value stands for now

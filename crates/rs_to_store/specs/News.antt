@@ -16,6 +16,11 @@ abbrev pub is_old_tombstone : Option ℕ → ℕ → Body → Bool
 is_old_tombstone newest epoch (Put value) = false
 is_old_tombstone newest epoch Gone = is_below_newest newest epoch
 
+-- The newest generation, for a tombstone, which is compared with it; nothing for a put.
+abbrev pub newest_for : Body → Option ℕ → Option ℕ
+newest_for (Put value) newest = None
+newest_for Gone newest = newest
+
 -- What a change tells of its label: the driver's endpoint, or that there is no driver; nothing, if it is an old
 -- tombstone.
 abbrev pub told_by : Option ℕ → ChangeRecord → Option (Option EndpointRecord)

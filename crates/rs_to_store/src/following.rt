@@ -24,7 +24,7 @@ pub fn follow<T: Drivers>(
         let Some(label) = table.label_at(index) else {
             return None;
         };
-        let Some(state) = told(map, &label, table.newest(&label)) else {
+        let Some(state) = told(table, map, &label) else {
             continue;
         };
         if table.is_old(&label, &state) {

@@ -4,20 +4,21 @@ ghost use Rattle.std.specs.Prelude.{◌≡◌};
 ghost use Rattle.ds_names.specs.Key.{label_key};
 ghost use Rattle.ds_held.specs.Held.{held_items};
 ghost use Rattle.ds_machine.specs.Parts.{held_at};
-ghost use Rattle.rs_to_store.specs.News.{is_below_newest, told, told_by};
+ghost use Rattle.driver_tables.specs.Label.{newest};
+ghost use Rattle.driver_tables.specs.DriverTable.{DriverTable};
+ghost use Rattle.driver_tables.specs.Stands.{TableStands};
+ghost use Rattle.rs_to_store.specs.News.{is_below_newest, newest_for, told, told_by};
 
+use driver_tables::Drivers;
 use ds_entry::{Body, Change, Value};
 use ds_names::{Endpoint, Generation, Key, Kind, Name};
 use ds_submap::SubMap;
 
-// Returns the state that a map tells of a label whose newest generation is `newest`: its driver's endpoint now, or that
-// it has no driver. `None` if the map holds no change of the label, or an old tombstone. It takes no memory.
-pub(crate) fn told(
-    map: &SubMap,
-    label: &Name,
-    newest: Option<Generation>,
-) -> Option<Option<Endpoint>>
-    ensures { result ≡ told newest (held_at (held_items map.now.held) (label_key label.now)) }
+// Returns the state that a map tells a table of a label: its driver's endpoint now, or that it has no driver. `None` if the
+// map holds no change of the label, or an old tombstone. It takes no memory.
+pub(crate) fn told<T: Drivers>(table: &T, map: &SubMap, label: &Name) -> Option<Option<Endpoint>>
+    ensures { (t : DriverTable) → TableStands (T.kept table.now) t →
+        result ≡ told (newest t.states label.now) (held_at (held_items map.now.held) (label_key label.now)) }
 {
     let _held = map.held();
     let key = Key {
@@ -25,8 +26,18 @@ pub(crate) fn told(
         kind: Kind::Label,
     };
     match map.get(&key) {
-        Some(change) => told_by(change, newest),
+        Some(change) => told_by(change, newest_for(change.body(), table, label)),
         None => None,
+    }
+}
+
+// Returns the newest generation that the table knows of a label, if the body is a tombstone, which is compared with it. `None` for a put.
+fn newest_for<T: Drivers>(body: &Body, table: &T, label: &Name) -> Option<Generation>
+    ensures { (t : DriverTable) → TableStands (T.kept table.now) t → result ≡ newest_for body.now (newest t.states label.now) }
+{
+    match body {
+        Body::Put(_) => None,
+        Body::Gone => table.newest(label),
     }
 }
 

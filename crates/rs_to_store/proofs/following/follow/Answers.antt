@@ -2,7 +2,7 @@ use Rattle.std.proofs.Common.{◌≡◌, ◌≤◌, ◌++◌, ◌∷◌, List, [
 use Rattle.ds_held.specs.Held.{held_items}
 use Rattle.driver_tables.specs.declared.fault.TableFault.TheVariants.{NoRoom}
 use Rattle.driver_tables.specs.declared.moves.Move.{Move}
-use Rattle.rs_to_store.proofs.FollowLemmas.{news_read, walk_begins, walk_ends, none_there, nothing_told, old_told, state_taken, wants_room, refused}
+use Rattle.rs_to_store.proofs.FollowLemmas.{walk_begins, walk_ends, none_there, nothing_told, old_told, state_taken, wants_room, refused}
 use Rattle.rs_to_store.proofs.following.follow.Goals as goal
 
 pub loop-index-init : goal.loop-index-init
@@ -30,7 +30,7 @@ loop-index-preserved-in_default-told g c = record {
       let held = held_items c.args.map.now.held in
       let w = c.loop-index.invariant.walked t st in
       nothing_told held t c.args.rounds.now.items c.loop-index.index (g.T.Drivers.kept c.loop-index.table) c.loop-index.rounds.items w c.in-Some.label (sym c.in-Some.is ∙ c.label_at.ensures w.at w.stands)
-      c.told.result (news_read held w.at c.in-Some.label c.newest.result c.told.result c.told.ensures (c.newest.ensures w.at w.stands)) c.in_default-told.is;
+      c.told.result (c.told.ensures w.at w.stands) c.in_default-told.is;
   count = c.loop-index.invariant.count;
 }
 
@@ -40,7 +40,7 @@ loop-index-preserved-then-is_old g c = record {
       let held = held_items c.args.map.now.held in
       let w = c.loop-index.invariant.walked t st in
       old_told held t c.args.rounds.now.items c.loop-index.index (g.T.Drivers.kept c.loop-index.table) c.loop-index.rounds.items w c.in-Some.label (sym c.in-Some.is ∙ c.label_at.ensures w.at w.stands)
-      c.told.result (news_read held w.at c.in-Some.label c.newest.result c.told.result c.told.ensures (c.newest.ensures w.at w.stands)) c.in-Some-told.state c.in-Some-told.is
+      c.told.result (c.told.ensures w.at w.stands) c.in-Some-told.state c.in-Some-told.is
       (sym c.if-is_old.true ∙ c.is_old.ensures w.at w.stands);
   count = c.loop-index.invariant.count;
 }
@@ -51,7 +51,7 @@ returns-then-is_err g c t st =
     let now = g.T.Drivers.kept c.loop-index.table in
     let w = c.loop-index.invariant.walked t st in
     wants_room held t c.args.rounds.now.items c.loop-index.index now c.loop-index.rounds.items w c.in-Some.label (sym c.in-Some.is ∙ c.label_at.ensures w.at w.stands)
-    c.told.result (news_read held w.at c.in-Some.label c.newest.result c.told.result c.told.ensures (c.newest.ensures w.at w.stands)) c.in-Some-told.state c.in-Some-told.is
+    c.told.result (c.told.ensures w.at w.stands) c.in-Some-told.state c.in-Some-told.is
     (sym c.if-is_old.false ∙ c.is_old.ensures w.at w.stands) now c.reserve.new.self.items NoRoom refl c.reserve.ensures.items refl
 
 pub returns-in-Err : goal.returns-in-Err
@@ -60,7 +60,7 @@ returns-in-Err g c t st =
     let now = g.T.Drivers.kept c.loop-index.table in
     let w = c.loop-index.invariant.walked t st in
     refused held t c.args.rounds.now.items c.loop-index.index now c.loop-index.rounds.items w c.in-Some.label (sym c.in-Some.is ∙ c.label_at.ensures w.at w.stands)
-    c.told.result (news_read held w.at c.in-Some.label c.newest.result c.told.result c.told.ensures (c.newest.ensures w.at w.stands)) c.in-Some-told.state c.in-Some-told.is
+    c.told.result (c.told.ensures w.at w.stands) c.in-Some-told.state c.in-Some-told.is
     (sym c.if-is_old.false ∙ c.is_old.ensures w.at w.stands) (g.T.Drivers.kept c.changed.new.self) c.reserve.new.self.items c.in-Err.fault c.in-Err.ensures.unchanged c.reserve.ensures.items
     (c.in-Err.ensures.answer w.at w.stands)
 
@@ -70,7 +70,7 @@ loop-index-preserved g c = record {
       let held = held_items c.args.map.now.held in
       let w = c.loop-index.invariant.walked t st in
       state_taken held t c.args.rounds.now.items c.loop-index.index (g.T.Drivers.kept c.loop-index.table) c.loop-index.rounds.items w c.in-Some.label (sym c.in-Some.is ∙ c.label_at.ensures w.at w.stands)
-      c.told.result (news_read held w.at c.in-Some.label c.newest.result c.told.result c.told.ensures (c.newest.ensures w.at w.stands)) c.in-Some-told.state c.in-Some-told.is
+      c.told.result (c.told.ensures w.at w.stands) c.in-Some-told.state c.in-Some-told.is
       c.in-Ok.moves (g.T.Drivers.kept c.changed.new.self) c.push_reserved.new.self.items (c.in-Ok.ensures.answer w.at w.stands) (c.in-Ok.ensures.after w.at w.stands)
       (c.push_reserved.ensures.items ∙ ap (λ (l : List (List Move)). l ++ c.in-Ok.moves ∷ []) c.reserve.ensures.items);
   count = c.loop-index.invariant.count;
