@@ -324,7 +324,11 @@ enum ds_rs_action_kind {
     DS_RS_GIVEUP /* label: the service failed too often. It is down until an event starts it */
 };
 
-/* An action. The supervisor carries out the first three; of an offer and a sweep, word and refusal say what the store answered. */
+/* An action. The supervisor carries out the first three; of an offer and a sweep, word and refusal say what the store answered.
+ *
+ * The store may refuse a label by DS_FULL, and an offer or a sweep by DS_NOROOM. RS continues as if it had been made, and no later event
+ * makes it again. To make it, send ds_call_line `offer eth0 label rs 3.0 = 3/16` for generation 3 in slot 16; `offer eth0 label rs 3.1 -`
+ * if the label was taken back; or `offer ! eth0 3` for a sweep. */
 struct ds_rs_action {
     uint32_t kind;          /* of enum ds_rs_action_kind */
     uint32_t generation;

@@ -35,8 +35,15 @@ Ping.__doc__ = "Asks an instance for a heartbeat, which `Rs.beat` reports."
 # What RS changed in the store.
 Offer = NamedTuple("Offer", [("label", str), ("endpoint", Optional[Endpoint]), ("refused", Optional[Refused])])
 Sweep = NamedTuple("Sweep", [("label", str), ("generation", int), ("refused", Optional[Refused])])
-Offer.__doc__ = "Reports that RS published a label, or deleted it (None). `refused` is why the store refused it, or None."
-Sweep.__doc__ = "Reports that RS swept a service up to a generation. `refused` is why the store refused it, or None."
+Offer.__doc__ = """Reports that RS published a label, or deleted it (None). `refused` is why the store refused it, or None.
+
+RS never repeats one that was refused, as for want of memory. `line("offer eth0 label rs 3.0 = 3/16")` of the Rs makes it: the version is
+the instance's generation, and 0, or 1 for a deletion, which ends in ` -`.
+"""
+Sweep.__doc__ = """Reports that RS swept a service up to a generation. `refused` is why the store refused it, or None.
+
+RS never repeats one that was refused. `line("offer ! eth0 3")` of the Rs makes it, up to generation 3.
+"""
 GiveUp = NamedTuple("GiveUp", [("label", str)])
 GiveUp.__doc__ = "Reports that a service failed too often. It is down until an `up` or a `restart`."
 Action = Union[Kill, Start, Ping, Offer, Sweep, GiveUp]

@@ -207,9 +207,12 @@ pub enum Action<'a> {
     Start { label: &'a str, endpoint: Endpoint },
     /// Asks an instance for a heartbeat, which [`Rs::beat`] reports.
     Ping { endpoint: Endpoint },
-    /// RS published the label with this endpoint, or deleted it (`None`), unless the store refused it.
+    /// RS published the label with this endpoint, or deleted it (`None`), unless the store refused it. RS never repeats one that was
+    /// refused, as for want of memory. [`Store::line`] makes it: `offer eth0 label rs 3.0 = 3/16` for generation 3, and
+    /// `offer eth0 label rs 3.1 -` if it was deleted.
     Offer { label: &'a str, endpoint: Option<Endpoint>, refused: Option<Refusal> },
-    /// RS swept what the service published up to this generation, unless the store refused it.
+    /// RS swept what the service published up to this generation, unless the store refused it. RS never repeats one that was refused; the
+    /// line `offer ! eth0 3` makes it, up to generation 3.
     Sweep { label: &'a str, generation: u32, refused: Option<Refusal> },
     /// The service failed too often. It is down until [`Rs::up`] or [`Rs::restart`].
     GiveUp { label: &'a str },
