@@ -17,7 +17,7 @@ use Rattle.ds_submap.specs.Map.{SubMapRecord, empty_map, endpoint_of_label}
 use Rattle.ds_submap.specs.Take.{AreCounted, IsTakeStopped, JoinsUnder, done_items}
 use Rattle.ds_submap.specs.Floors.{EachFloorStands}
 use Rattle.c_values.specs.Answer.{answer_of, no_request, told_no_room}
-use Rattle.c_values.specs.Lines.{AreLines}
+use Rattle.c_values.specs.Lines.{AreLines, BeginsWithItem}
 use Rattle.c_values.specs.Request.{is_name}
 use Rattle.c_values.specs.declared.answer.Answer.{Answer}
 
@@ -66,11 +66,13 @@ pub record StaysMap (old : SubMapRecord) (told answer : Answer) (new : SubMapRec
   pub told_is : answer ≡ told
   pub map_is : new ≡ old
 
--- Whether the items of the text are merged. If the text isn't the lines of items, or memory runs out for them, the map is unchanged.
+-- Whether the items of the text are merged. If the text isn't the lines of items, or begins with an item's line and memory runs out for the
+-- items, the map is unchanged.
 abbrev pub GivesItems : SubMapRecord → List ℕ → Answer → SubMapRecord → Type 0
 GivesItems old text answer new =
     GivesItemsOf old text answer new
-    ⊎ ((((items : List Item) → ¬ AreLines items text) × StaysMap old no_request answer new) ⊎ StaysMap old told_no_room answer new)
+    ⊎ ((((items : List Item) → ¬ AreLines items text) × StaysMap old no_request answer new)
+    ⊎ (BeginsWithItem text × StaysMap old told_no_room answer new))
 
 -- The reply of a Retrieve of a label with this endpoint, or NotFound without one.
 abbrev pub reply_of_label : Option EndpointRecord → Reply

@@ -1,6 +1,6 @@
 -- How a request is answered, and what some requests stand for.
 use Rattle.std.proofs.Common.{◌≡◌, ℕ, Bool, true, false, cond, List, inl, refl, sym, ap, ◌∙◌, subst, arith}
-use Rattle.std.specs.Prelude.{◌||◌, Option, Some, None, IsTrue, Result, Ok, Err, IfOk, IsOk}
+use Rattle.std.specs.Prelude.{Option, Some, None, Result, Ok, Err, IfOk, IsOk}
 use Rattle.std.specs.Option.{option_map}
 use Rattle.ds_names.specs.Endpoint.{EndpointRecord, is_rs}
 use Rattle.ds_names.specs.declared.key.Key.{Key}
@@ -25,9 +25,9 @@ use Rattle.c_values.specs.declared.answer.Answer.{Answer}
 use Rattle.c_values.specs.declared.texts.Publication.{Publication}
 use Rattle.c_values.specs.Answer.{answer_of}
 use Rattle.store_answers.specs.declared.wording.Wording.TheVariants.{AsMerge}
-use Rattle.c_values.specs.Asked.{StandsFor, StandsForNone, is_long, has_text}
-use Rattle.c_values.specs.Request.{command_of, publish_of, publish_command, key_of, kind_at, caller_of}
-use Rattle.c_values.proofs.AskedLemmas.{none_of_parts}
+use Rattle.c_values.specs.Asked.{StandsFor, StandsForNone}
+use Rattle.c_values.specs.Request.{command_of, publish_of, publish_command, key_of, caller_of}
+use Rattle.c_values.proofs.AskedLemmas.{none_of_parts, publishes}
 use Rattle.c_session.specs.declared.session.Session.{Session}
 use Rattle.c_session.specs.Called.{CalledWith, Called, Rests, Tells}
 use Rattle.c_session.specs.declared.last.Last.TheVariants.{Reply as Replied}
@@ -52,10 +52,6 @@ answered old new r text answer command stands tells = inl (record { command = co
 
 -- ---- what a Publish, a Retrieve and a NameOf stand for
 
-publishes : (r : Request) (text : List ℕ) → r.command ≡ 0 → command_of r text ≡ publish_of r text
-unfolding command_of
-publishes r text zero = rw zero refl
-
 retrieves : (r : Request) (text : List ℕ) → r.command ≡ 3 → command_of r text ≡ option_map Retrieve (key_of r)
 unfolding command_of
 retrieves r text three = rw three refl
@@ -69,13 +65,6 @@ stands_for_publish r text asked zero e = inl (publishes r text zero ∙ sym e)
 
 pub stands_for_no_publish : (r : Request) (text : List ℕ) → r.command ≡ 0 → option_map publish_command None ≡ publish_of r text → StandsForNone r text
 stands_for_no_publish r text zero e = none_of_parts r text (λ ten. omega (arith, zero, ten)) (publishes r text zero ∙ sym e)
-
-or_left : (b c : Bool) → IsTrue b → IsTrue (b || c)
-or_left true c is = refl
-or_left false c is = absurd (cc)
-
-pub publish_has_text : (r : Request) → r.command ≡ 0 → IsTrue (is_long (kind_at r.kinds)) → IsTrue (has_text r)
-publish_has_text r zero is = rw zero (or_left (is_long (kind_at r.kinds)) _ is)
 
 pub stands_for_retrieve : (r : Request) (text : List ℕ) (key : Key) → r.command ≡ 3 → Some key ≡ key_of r → StandsFor r text (Retrieve key)
 stands_for_retrieve r text key three e = inl (retrieves r text three ∙ ap (option_map Retrieve) (sym e))

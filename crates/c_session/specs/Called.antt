@@ -1,5 +1,5 @@
 -- The effects of a request, of a command and of a show on a session.
-use Rattle.std.specs.Prelude.{◌≡◌, ◌⊎◌, ℕ, IsTrue, Bool, true, false, List, [], length, map, Option, None, Some}
+use Rattle.std.specs.Prelude.{◌≡◌, ◌⊎◌, ℕ, Bool, true, false, List, [], length, map, Option, None, Some}
 use Rattle.ds_entry.specs.Under.{entries_of}
 use Rattle.ds_entry.specs.declared.item.Item.{Item}
 use Rattle.ds_line.specs.ItemSpelling.{item_spelling}
@@ -13,7 +13,7 @@ use Rattle.store_answers.specs.declared.wording.Wording.TheVariants.{AsMerge}
 use Rattle.c_values.specs.declared.request.Request.{Request}
 use Rattle.c_values.specs.declared.answer.Answer.{Answer}
 use Rattle.c_values.specs.Answer.{answer_of, no_request, told_no_room, told_shown}
-use Rattle.c_values.specs.Asked.{StandsFor, StandsForNone, has_text}
+use Rattle.c_values.specs.Asked.{StandsFor, StandsForNone, TakesRoom}
 use Rattle.c_values.specs.Pieces.{pieces_of}
 use Rattle.c_session.specs.declared.last.Last.{Last}
 use Rattle.c_session.specs.declared.last.Last.TheVariants.{Nothing, Reply as Replied, Shown}
@@ -48,12 +48,12 @@ pub record AnswersRequest (old : Session) (r : Request) (text : List ℕ) (answe
   pub stands : StandsFor r text command
   pub answered : Tells old AsMerge command answer new
 
--- The effect of a request with this text. The store answers its command. If the request isn't a command, the answer says so. If its
--- command has a text, a blob, a pattern or items, memory may run out for these.
+-- The effect of a request with this text. The store answers its command. If the request isn't a command, the answer says so. If it is a
+-- command with a text, a blob or a pattern, or begins as a Merge, memory may run out for these.
 abbrev pub CalledWith : Session → Request → List ℕ → Answer → Session → Type 0
 CalledWith old r text answer new =
     AnswersRequest old r text answer new
-    ⊎ ((StandsForNone r text × RestsForNone old answer new) ⊎ (IsTrue (has_text r) × RestsForRoom old answer new))
+    ⊎ ((StandsForNone r text × RestsForNone old answer new) ⊎ (TakesRoom r text × RestsForRoom old answer new))
 
 -- The effect of a request whose text is in the texts. If its text isn't within them, it isn't a command.
 abbrev pub Called : Session → Request → Option (List ℕ) → Answer → Session → Type 0

@@ -10,7 +10,7 @@ use Rattle.ds_line.specs.ItemFault.{HasNoItem}
 use Rattle.ds_line.specs.ItemSpelling.{item_spelling}
 use Rattle.line_io.specs.Lines.{EndsLine}
 use Rattle.ds_line.proofs.ItemLemmas.{items_apart, item_ends}
-use Rattle.c_values.specs.Lines.{AreLines}
+use Rattle.c_values.specs.Lines.{AreLines, BeginsWithItem}
 
 -- an item's line is some bytes
 pub item_some : (i : Item) → IsItem i → 0 < length (item_spelling i)
@@ -23,6 +23,17 @@ lines_with text rest items i n e t =
     e ∙ ap (λ l. flat_map item_spelling items ++ l) (sym (take-append-drop n rest) ∙ ap (λ l. l ++ drop n rest) t)
     ∙ sym (append_assoc (flat_map item_spelling items) (item_spelling i) (drop n rest))
     ∙ ap (λ l. l ++ drop n rest) (sym (flat_map-append item_spelling items (i ∷ []) ∙ ap (λ l. flat_map item_spelling items ++ l) (append-nil (item_spelling i))))
+
+-- a text that has the lines of some items, and then of one more, begins with the first of them
+pub begins_with : (text : List ℕ) (items : List Item) (i : Item) (after : List ℕ) → All IsItem items → IsItem i
+    → text ≡ flat_map item_spelling items ++ (item_spelling i ++ after) → BeginsWithItem text
+begins_with text [] i after each is e = record { item = i; rest = after; is = is; front = e }
+begins_with text (x ∷ xs) i after each is e = record {
+  item = x;
+  rest = flat_map item_spelling xs ++ (item_spelling i ++ after);
+  is = All-head IsItem x xs each;
+  front = e ∙ append_assoc (item_spelling x) (flat_map item_spelling xs) (item_spelling i ++ after);
+}
 
 -- the rest of some items' lines, after the lines of the first of them, has the lines of the others
 left_of : (xs ys : List Item) (r : List ℕ) → All IsItem xs → All IsItem ys → flat_map item_spelling xs ++ r ≡ flat_map item_spelling ys

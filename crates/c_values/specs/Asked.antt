@@ -1,5 +1,5 @@
 -- The commands of requests.
-use Rattle.std.specs.Prelude.{◌≡◌, ℕ, ◌+◌, ◌==◌, ◌||◌, ◌&&◌, ◌⊎◌, nat_le, not, true, false, cond, IsTrue, Bool, List}
+use Rattle.std.specs.Prelude.{◌≡◌, ◌≢◌, ℕ, ◌+◌, ◌==◌, ◌||◌, ◌&&◌, ◌⊎◌, nat_le, not, true, false, cond, IsTrue, Bool, List}
 use Rattle.std.specs.Prelude.{length, take, drop, Option, Some, None, Result, Ok, Err}
 use Rattle.ds_entry.specs.declared.item.Item.{Item}
 use Rattle.ds_machine.specs.declared.command.Command.{Command}
@@ -9,7 +9,7 @@ use Rattle.ds_names.specs.declared.kind.Kind.TheVariants as kinds
 use Rattle.ds_names.specs.declared.room.NoRoom.{NoRoom}
 use Rattle.c_values.specs.declared.request.Request.{Request}
 use Rattle.c_values.specs.Request.{command_of, kind_at}
-use Rattle.c_values.specs.Lines.{AreLines}
+use Rattle.c_values.specs.Lines.{AreLines, BeginsWithItem}
 
 -- The `count` bytes of the texts from `at` on, if the texts have them.
 unfoldable pub text_in : List ℕ → ℕ → ℕ → Option (List ℕ)
@@ -40,15 +40,20 @@ is_long (Some kinds.Str) = true
 is_long (Some kinds.Mem) = true
 is_long _ = false
 
--- Whether reading the request's command takes memory: for a Publish of a text or a blob, for the pattern of a Subscribe or of the scope of
--- a Since, a Snapshot or a Page, and for the items of a Merge.
+-- Whether the request's command has a text, a blob or a pattern: a Publish of the first two, a Subscribe, or a Since, a Snapshot or a Page
+-- whose scope is a pattern.
 abbrev pub has_text : Request → Bool
 has_text r =
     (r.command == 0 && is_long (kind_at r.kinds))
-    || (r.command == 5 || (r.command == 10 || (not (r.under == 0) && (r.command == 7 || (r.command == 8 || r.command == 9)))))
+    || (r.command == 5 || (not (r.under == 0) && (r.command == 7 || (r.command == 8 || r.command == 9))))
+
+-- Whether reading the request with this text takes memory: it is a command with a text, a blob or a pattern, or a Merge whose text begins
+-- with an item's line.
+abbrev pub TakesRoom : Request → List ℕ → Type 0
+TakesRoom r text = (IsTrue (has_text r) × (command_of r text ≢ None)) ⊎ ((r.command ≡ 10) × BeginsWithItem text)
 
 -- The result of reading a request: its command, `None` if it isn't one, or NoRoom if memory runs out for its text.
 abbrev pub ReadsRequest : Request → List ℕ → Result (Option Command) NoRoom → Type 0
 ReadsRequest r text (Ok None) = StandsForNone r text
 ReadsRequest r text (Ok (Some command)) = StandsFor r text command
-ReadsRequest r text (Err wanting) = IsTrue (has_text r)
+ReadsRequest r text (Err wanting) = TakesRoom r text

@@ -1,8 +1,6 @@
 //! The items of a Merge, one line each.
 
-ghost use Rattle.std.specs.Prelude.{List, MatchOption, IfOk};
-ghost use Rattle.ds_entry.specs.declared.item.Item.{Item};
-ghost use Rattle.c_values.specs.Lines.{AreLines};
+ghost use Rattle.c_values.specs.Lines.{ReadsLines};
 
 use ds_entry::Items;
 use ds_line::{LineFault, read_item};
@@ -11,7 +9,7 @@ use std::alloc::Global;
 
 /// Reads a text of items, one line each. Returns `None` if the text isn't such lines, and fails only if memory runs out for the items.
 pub fn read_items(alloc: Global, text: &[u8]) -> Result<Option<Items>, NoRoom>
-    ensures { IfOk result (λ items. MatchOption items ((is : List Item) → ¬ AreLines is text.now) (λ is. AreLines is text.now)) }
+    ensures { ReadsLines text.now result }
 {
     let mut items = Items::new(alloc);
     let mut rest = text;

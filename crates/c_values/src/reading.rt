@@ -1,6 +1,6 @@
 //! Reading the command of a request.
 
-ghost use Rattle.std.specs.Prelude.{◌≡◌, IfOk, OnErr, IsTrue};
+ghost use Rattle.std.specs.Prelude.{◌≡◌, ◌≢◌, IfOk, OnErr, IsTrue};
 ghost use Rattle.std.specs.Option.{option_map};
 ghost use Rattle.ds_machine.specs.declared.command.Command.TheVariants.{Retrieve, NameOf, Check};
 ghost use Rattle.c_values.specs.Request.{command_of, key_of, caller_of};
@@ -33,6 +33,7 @@ fn name_of(request: &Request) -> Option<Command>
 fn command(alloc: Global, request: &Request, text: &[u8]) -> Result<Option<Command>, NoRoom>
     ensures read { IfOk result (λ command. command ≡ command_of request.now text.now) }
     ensures room { OnErr result (IsTrue (has_text request.now)) }
+    ensures fits { OnErr result (command_of request.now text.now ≢ None) }
 {
     match request.command {
         0 => publish(alloc, request, text),
@@ -64,8 +65,8 @@ fn merge(alloc: Global, request: &Request, text: &[u8]) -> Result<Option<Command
     }
 }
 
-/// Reads the command of a request with this text. Returns `None` if no command has such parts, and fails only if memory runs out for its
-/// text.
+/// Reads the command of a request with this text. Returns `None` if no command has such parts, and fails only if it is a command, or begins
+/// as a Merge, and memory runs out for its text.
 pub fn read_request(
     alloc: Global,
     request: &Request,

@@ -1,6 +1,6 @@
 //! The parts of a request that take memory, and the commands that have them.
 
-ghost use Rattle.std.specs.Prelude.{◌≡◌, ◌==◌, [], not, MatchOption, IfOk, OnErr, IsTrue};
+ghost use Rattle.std.specs.Prelude.{◌≡◌, ◌≢◌, ◌==◌, [], not, MatchOption, IfOk, OnErr, IsTrue};
 ghost use Rattle.std.specs.Option.{option_map};
 ghost use Rattle.std.specs.declared.option.Option.TheVariants.{Some};
 ghost use Rattle.ds_machine.specs.declared.command.Command.TheVariants.{Snapshot};
@@ -29,7 +29,8 @@ pub fn text_of<'a>(texts: &'a [u8], request: &Request) -> Option<&'a [u8]>
 #[inline(never)]
 #[tactic(auto, unfolding(crate::specs::Request::string_at))]
 fn string(alloc: Global, text: &[u8]) -> Result<Option<Value>, NoRoom>
-    ensures { IfOk result (λ value. value ≡ string_at text.now) }
+    ensures read { IfOk result (λ value. value ≡ string_at text.now) }
+    ensures fits { OnErr result (string_at text.now ≢ None) }
 {
     match Text::read(alloc, text) {
         Ok(text) => Ok(Some(Value::Str(text))),
@@ -41,7 +42,8 @@ fn string(alloc: Global, text: &[u8]) -> Result<Option<Value>, NoRoom>
 #[inline(never)]
 #[tactic(auto, unfolding(crate::specs::Request::memory_at))]
 fn memory(alloc: Global, bytes: &[u8]) -> Result<Option<Value>, NoRoom>
-    ensures { IfOk result (λ value. value ≡ memory_at bytes.now) }
+    ensures read { IfOk result (λ value. value ≡ memory_at bytes.now) }
+    ensures fits { OnErr result (memory_at bytes.now ≢ None) }
 {
     match Blob::read(alloc, bytes) {
         Ok(blob) => Ok(Some(Value::Mem(blob))),
@@ -54,6 +56,7 @@ fn memory(alloc: Global, bytes: &[u8]) -> Result<Option<Value>, NoRoom>
 fn value(alloc: Global, request: &Request, text: &[u8], kind: Kind) -> Result<Option<Value>, NoRoom>
     ensures read { IfOk result (λ value. value ≡ valued request.now text.now kind) }
     ensures room { OnErr result (IsTrue (is_long (Some kind))) }
+    ensures fits { OnErr result (valued request.now text.now kind ≢ None) }
 {
     match kind {
         Kind::Label => Ok(label(request)),
@@ -114,6 +117,7 @@ pub fn read_publication(
 ) -> Result<Option<Publication>, NoRoom>
     ensures read { IfOk result (λ asked. option_map publish_command asked ≡ publish_of request.now text.now) }
     ensures room { OnErr result (IsTrue (is_long (kind_at request.now.kinds))) }
+    ensures fits { OnErr result (publish_of request.now text.now ≢ None) }
 {
     let Some(key) = key_of(request) else {
         return Ok(None);
@@ -143,6 +147,7 @@ pub(crate) fn publish(
 ) -> Result<Option<Command>, NoRoom>
     ensures read { IfOk result (λ command. command ≡ publish_of request.now text.now) }
     ensures room { OnErr result (IsTrue (is_long (kind_at request.now.kinds))) }
+    ensures fits { OnErr result (publish_of request.now text.now ≢ None) }
 {
     match read_publication(alloc, request, text)? {
         Some(asked) => Ok(Some(asked.command())),
@@ -152,7 +157,8 @@ pub(crate) fn publish(
 
 #[tactic(auto, unfolding(crate::specs::Request::query_at))]
 fn query(alloc: Global, bits: u8, text: &[u8]) -> Result<Option<Query>, NoRoom>
-    ensures { IfOk result (λ query. query ≡ query_at bits text.now) }
+    ensures read { IfOk result (λ query. query ≡ query_at bits text.now) }
+    ensures fits { OnErr result (query_at bits text.now ≢ None) }
 {
     let Some(kinds) = Kinds::of(bits) else {
         return Ok(None);
@@ -165,6 +171,7 @@ fn query(alloc: Global, bits: u8, text: &[u8]) -> Result<Option<Query>, NoRoom>
 fn scope(alloc: Global, request: &Request, text: &[u8]) -> Result<Option<Scope>, NoRoom>
     ensures read { IfOk result (λ scope. scope ≡ scope_of request.now text.now) }
     ensures room { OnErr result (IsTrue (not (request.now.under == 0))) }
+    ensures fits { OnErr result (scope_of request.now text.now ≢ None) }
 {
     if request.under == 0 {
         return Ok(Some(Scope::All));
@@ -181,7 +188,8 @@ pub(crate) fn subscribe(
     request: &Request,
     text: &[u8],
 ) -> Result<Option<Command>, NoRoom>
-    ensures { IfOk result (λ command. command ≡ subscribe_of request.now text.now) }
+    ensures read { IfOk result (λ command. command ≡ subscribe_of request.now text.now) }
+    ensures fits { OnErr result (subscribe_of request.now text.now ≢ None) }
 {
     let Some(query) = query(alloc, request.kinds, text)? else {
         return Ok(None);
@@ -202,6 +210,7 @@ pub(crate) fn since(
 ) -> Result<Option<Command>, NoRoom>
     ensures read { IfOk result (λ command. command ≡ since_of_request request.now text.now) }
     ensures room { OnErr result (IsTrue (not (request.now.under == 0))) }
+    ensures fits { OnErr result (since_of_request request.now text.now ≢ None) }
 {
     let Some(scope) = scope(alloc, request, text)? else {
         return Ok(None);
@@ -223,6 +232,7 @@ pub(crate) fn snapshot(
 ) -> Result<Option<Command>, NoRoom>
     ensures read { IfOk result (λ command. command ≡ option_map Snapshot (scope_of request.now text.now)) }
     ensures room { OnErr result (IsTrue (not (request.now.under == 0))) }
+    ensures fits { OnErr result (option_map Snapshot (scope_of request.now text.now) ≢ None) }
 {
     let Some(scope) = scope(alloc, request, text)? else {
         return Ok(None);
@@ -234,6 +244,7 @@ pub(crate) fn snapshot(
 pub(crate) fn page(alloc: Global, request: &Request, text: &[u8]) -> Result<Option<Command>, NoRoom>
     ensures read { IfOk result (λ command. command ≡ page_of_request request.now text.now) }
     ensures room { OnErr result (IsTrue (not (request.now.under == 0))) }
+    ensures fits { OnErr result (page_of_request request.now text.now ≢ None) }
 {
     let Some(after) = behind(request) else {
         return Ok(None);
