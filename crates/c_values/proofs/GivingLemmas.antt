@@ -43,6 +43,7 @@ all_given items old room count taken all is e = record {
   stop = inl refl;
   whole = λ h. sym (length-map items item_spelling);
   full = λ (h : 0 ≡ 1). absurd (omega arith);
+  wants = λ (h : 0 ≡ 20). absurd (omega arith);
 }
 
 -- the copies of the pieces after the first ones
