@@ -9,7 +9,7 @@ use Rattle.ds_names.specs.Endpoint.{EndpointRecord}
 use Rattle.ds_names.specs.declared.key.Key.{Key}
 use Rattle.ds_machine.specs.declared.command.Command.TheVariants.{Retrieve, NameOf}
 use Rattle.script_commands.specs.declared.command.ScriptCommand.TheVariants.{Store}
-use Rattle.c_line.specs.Line.{IsCommandIn}
+use Rattle.c_store.specs.Line.{IsCommandIn}
 use Rattle.c_rs.specs.Lines.{CallsRsLine, CarriesOutCommand, CarriesOutIf, CarriesOutWithRs, PassesOn}
 
 some_stands : (none : Bool) → false ≡ not none → none ≡ false → ⊥

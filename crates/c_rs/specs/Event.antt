@@ -6,7 +6,7 @@ use Rattle.rs_core.specs.declared.event.Event.{Event}
 use Rattle.rs_core.specs.declared.event.Event.TheVariants.{Up, Stop, Refresh, Restart, Death, Beat, Tick}
 use Rattle.c_values.specs.declared.answer.Answer.{Answer}
 use Rattle.c_values.specs.Request.{endpoint_at, name_at}
-use Rattle.c_session.specs.Called.{RestsForNone}
+use Rattle.c_store.specs.Called.{RestsForNone}
 use Rattle.c_rs.specs.declared.event.RsEvent.{RsEvent}
 use Rattle.c_rs.specs.declared.session.RsSession.{RsSession}
 use Rattle.c_rs.specs.Serving.{SessionDoes, ServesBy}

@@ -10,10 +10,10 @@ use Rattle.script_commands.specs.Command.{CommandTakesMemory}
 use Rattle.script_commands.specs.ServiceEvent.{service_event_of}
 use Rattle.c_values.specs.declared.answer.Answer.{Answer}
 use Rattle.c_values.specs.Answer.{told_bad_line}
-use Rattle.c_session.specs.declared.last.Last.TheVariants.{Nothing}
-use Rattle.c_session.specs.Called.{Rests, RestsForRoom}
-use Rattle.c_line.specs.Calling as lines
-use Rattle.c_line.specs.Line.{IsCommandIn, IsBadIn}
+use Rattle.c_store.specs.declared.last.Last.TheVariants.{Nothing}
+use Rattle.c_store.specs.Called.{Rests, RestsForRoom}
+use Rattle.c_store.specs.Calling as lines
+use Rattle.c_store.specs.Line.{IsCommandIn, IsBadIn}
 use Rattle.c_rs.specs.declared.session.RsSession.{RsSession}
 use Rattle.c_rs.specs.Serving.{SessionDoes, RefusesCommand, ServesBy}
 

@@ -6,7 +6,7 @@ use Rattle.rs_core.specs.State.{RsRecord}
 use Rattle.rs_core.specs.declared.fault.RenewFault.{RenewFault}
 use Rattle.rs_core.specs.declared.fault.RenewFault.TheVariants as faults
 use Rattle.rs_store.specs.Renewing.{TakesSettings}
-use Rattle.c_session.specs.declared.last.Last.TheVariants.{Nothing}
+use Rattle.c_store.specs.declared.last.Last.TheVariants.{Nothing}
 use Rattle.c_rs.specs.declared.fault.SettingsRefusal.{SettingsRefusal}
 use Rattle.c_rs.specs.declared.session.RsSession.{RsSession}
 use Rattle.c_rs.specs.Opening.{IsWhy, TellsFault, service_number}

@@ -6,8 +6,8 @@ use Rattle.rs_store.specs.declared.call.RsReply.{RsReply}
 use Rattle.c_values.specs.declared.request.Request.{Request}
 use Rattle.c_values.specs.declared.answer.Answer.{Answer}
 use Rattle.c_values.specs.Asked.{request_text}
-use Rattle.c_session.specs.declared.session.Session.{Session}
-use Rattle.c_session.specs.Called.{Called, pieces_in as session_pieces}
+use Rattle.c_store.specs.declared.session.Session.{Session}
+use Rattle.c_store.specs.Called.{Called, pieces_in as session_pieces}
 use Rattle.c_rs.specs.declared.session.RsSession.{RsSession}
 use Rattle.c_rs.specs.Serving.{SessionDoes, RefusesCommand}
 

@@ -5,12 +5,12 @@ use Rattle.ds_machine.specs.declared.reply.Reply.TheVariants.{Refused}
 use Rattle.rs_core.specs.declared.event.Event.{Event}
 use Rattle.rs_store.specs.Serving.{EventTurn}
 use Rattle.rs_store.specs.declared.call.RsReply.{RsReply}
-use Rattle.store_answers.specs.declared.wording.Wording.TheVariants.{AsMerge}
+use Rattle.script_answers.specs.declared.wording.Wording.TheVariants.{AsMerge}
 use Rattle.c_values.specs.declared.answer.Answer.{Answer}
 use Rattle.c_values.specs.Answer.{answer_of}
-use Rattle.c_session.specs.declared.last.Last.TheVariants.{Reply}
-use Rattle.c_session.specs.declared.session.Session.{Session}
-use Rattle.c_session.specs.Called.{Rests}
+use Rattle.c_store.specs.declared.last.Last.TheVariants.{Reply}
+use Rattle.c_store.specs.declared.session.Session.{Session}
+use Rattle.c_store.specs.Called.{Rests}
 use Rattle.c_rs.specs.declared.session.RsSession.{RsSession}
 use Rattle.c_rs.specs.Telling.{told_answer}
 

@@ -1,10 +1,10 @@
 -- The text of the last answer.
 use Rattle.std.specs.Prelude.{ℕ, List, Option, None, Some}
-use Rattle.store_answers.specs.declared.wording.Wording.TheVariants.{AsMerge}
+use Rattle.script_answers.specs.declared.wording.Wording.TheVariants.{AsMerge}
 use Rattle.rs_answers.specs.Served.{served_lines}
 use Rattle.rs_store.specs.declared.call.RsReply.{RsReply}
-use Rattle.c_session.specs.declared.session.Session.{Session}
-use Rattle.c_line.specs.Text.{given_text}
+use Rattle.c_store.specs.declared.session.Session.{Session}
+use Rattle.c_store.specs.Text.{given_text}
 use Rattle.c_rs.specs.declared.session.RsSession.{RsSession}
 
 -- The text of the last answer, which is RS's or the session's.

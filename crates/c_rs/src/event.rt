@@ -1,7 +1,7 @@
 //! Events of RS by structs.
 
 ghost use Rattle.std.specs.Prelude.{◌≡◌};
-ghost use Rattle.c_session.specs.Called.{RestsForNone};
+ghost use Rattle.c_store.specs.Called.{RestsForNone};
 ghost use Rattle.c_rs.specs.Serving.{SessionDoes};
 ghost use Rattle.c_rs.specs.Event.{ServesEvent, event_of, of_instance, of_label};
 

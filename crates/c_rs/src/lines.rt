@@ -4,7 +4,7 @@ ghost use Rattle.std.specs.Prelude.{◌≡◌};
 ghost use Rattle.c_rs.specs.Lines.{CallsRsLine, CarriesOutBesideRs, CarriesOutCommand, CarriesOutWithRs, PassesOn, refusal_beside_rs};
 
 use crate::session::{RsSession, let_go};
-use c_line::{carry_out, fast_name_of, fast_retrieve, read_bytes};
+use c_store::{carry_out, fast_name_of, fast_retrieve, read_bytes};
 use c_values::Answer;
 use ds_machine::Refusal;
 use rs_store::is_by_rs;

@@ -7,17 +7,17 @@ ghost use Rattle.ds_machine.specs.State.{opening};
 ghost use Rattle.ds_names.specs.Limits.{last_place};
 ghost use Rattle.ds_content.specs.Stands.{ContentStands};
 ghost use Rattle.ds_store.specs.Opening.{IsOpenRefusal};
-ghost use Rattle.c_session.specs.declared.last.Last.TheVariants.{Nothing};
+ghost use Rattle.c_store.specs.declared.last.Last.TheVariants.{Nothing};
 ghost use Rattle.c_rs.specs.Serving.{RefusesCommand, ServesBy};
 
 use crate::telling::told;
-use c_session::Session;
+use c_store::Session;
 use c_values::Answer;
 use ds_machine::{Refusal, Reply};
 use rs_core::{Event, Rs};
 use rs_store::RsReply;
+use script_answers::Wording;
 use std::alloc::Global;
-use store_answers::Wording;
 
 /// A session, RS once it is open, and the last reply, if it is RS's; if not, the session has it.
 #[derive(Drop)]

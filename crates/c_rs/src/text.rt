@@ -1,19 +1,19 @@
 //! The text of the last answer, as a script prints it.
 
 ghost use Rattle.std.specs.Prelude.{◌≡◌, IfOk};
-ghost use Rattle.c_line.specs.Text.{GivesText};
+ghost use Rattle.c_store.specs.Text.{GivesText};
 ghost use Rattle.c_rs.specs.Text.{text_in};
 ghost use Rattle.rs_answers.specs.Served.{served_lines};
-ghost use Rattle.store_answers.specs.declared.wording.Wording.TheVariants.{AsMerge};
+ghost use Rattle.script_answers.specs.declared.wording.Wording.TheVariants.{AsMerge};
 
 use crate::session::RsSession;
-use c_line::{give_part, give_text, no_text};
+use c_store::{give_part, give_text, no_text};
 use c_values::Given;
 use ds_names::NoRoom;
 use rs_answers::append_served;
 use rs_store::RsReply;
+use script_answers::Wording;
 use std::alloc::Global;
-use store_answers::Wording;
 
 impl RsSession {
     /// Writes the text of the last answer to a buffer, as a script prints it, from a byte on: as many bytes as fit. Returns how many these

@@ -27,7 +27,7 @@ use Rattle.std.proofs.GlobalToken.{dealloc_token-Testable}
 use Rattle.std_alloc.specs.Box.Ownership.{box_owns}
 pub use Rattle.c_rs.specs.contracts.session.RsSession.{the_row as Session}
 pub use Rattle.ds_submap.specs.contracts.map.SubMap.{the_row as Map}
-pub use Rattle.c_table.specs.contracts.server_table.ServerTable.{the_row as Table}
+pub use Rattle.c_store.specs.contracts.server_table.ServerTable.{the_row as Table}
 use Rattle.ds_c.specs.Held.{chunk, box_or_null, holds, holds_map, holds_table}
 use Rattle.ds_c.specs.contracts.handle.Handle as handle
 use Rattle.ds_c.specs.contracts.map_handle.MapHandle as map_handle

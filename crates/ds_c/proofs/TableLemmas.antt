@@ -1,8 +1,8 @@
 -- The number of a table's server.
 use Rattle.std.proofs.Common.{◌≡◌, ◌≤◌, ℕ, subst, arith}
-use Rattle.c_table.specs.declared.drivers.Tables.{Tables}
-use Rattle.c_table.specs.declared.drivers.Tables.TheVariants.{File, Net}
-use Rattle.c_table.specs.Drivers.{server_number}
+use Rattle.c_store.specs.declared.drivers.Tables.{Tables}
+use Rattle.c_store.specs.declared.drivers.Tables.TheVariants.{File, Net}
+use Rattle.c_store.specs.Drivers.{server_number}
 
 -- there are two servers
 pub number_few : (t : Tables) (n : ℕ) → server_number t ≡ n → n ≤ 1

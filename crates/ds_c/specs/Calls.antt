@@ -10,8 +10,8 @@ use Rattle.c_values.specs.declared.answer.Answer.{Answer}
 use Rattle.c_values.specs.declared.giving.Given.{Given}
 use Rattle.c_values.specs.Answer.{refusal_number}
 use Rattle.c_values.specs.Pieces.{GivesPieces}
-use Rattle.c_session.specs.declared.last.Last.TheVariants.{Nothing}
-use Rattle.c_line.specs.Text.{GivesText}
+use Rattle.c_store.specs.declared.last.Last.TheVariants.{Nothing}
+use Rattle.c_store.specs.Text.{GivesText}
 use Rattle.c_rs.specs.declared.session.RsSession.{RsSession}
 use Rattle.c_rs.specs.Requests.{CallsRs, answer_pieces}
 use Rattle.c_rs.specs.Running.{RunsCalls}

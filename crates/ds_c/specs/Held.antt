@@ -10,7 +10,7 @@ use Rattle.std.specs.declared.alloc.Global.{Global}
 use Rattle.std.specs.contracts.impls.GlobalAllocator.TheImpl.{ghosts}
 use Rattle.c_rs.specs.contracts.session.RsSession as session
 use Rattle.ds_submap.specs.contracts.map.SubMap as map
-use Rattle.c_table.specs.contracts.server_table.ServerTable as table
+use Rattle.c_store.specs.contracts.server_table.ServerTable as table
 
 -- The token by which the heap knows a block; it doesn't depend on the handle to the heap.
 abbrev pub any_heap : Global

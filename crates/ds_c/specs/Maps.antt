@@ -4,7 +4,7 @@ use Rattle.ds_machine.specs.declared.refusal.Refusal.{Refusal}
 use Rattle.ds_submap.specs.Map.{SubMapRecord}
 use Rattle.c_values.specs.declared.answer.Answer.{Answer}
 use Rattle.c_values.specs.Answer.{refusal_number}
-use Rattle.c_map.specs.Map.{IsMapOf, IsMapRefusal, GivesItems, told_label}
+use Rattle.c_store.specs.Map.{IsMapOf, IsMapRefusal, GivesItems, told_label}
 use Rattle.ds_c.specs.Calls.{done, is_closed, is_open}
 
 -- Whether the word is the number of a refusal for which no map of these kinds and this pattern is made.

@@ -6,10 +6,10 @@ use Rattle.ds_submap.specs.Map.{SubMapRecord}
 use Rattle.ds_machine.specs.declared.refusal.Refusal.TheVariants.{BadKind, NoRoom}
 use Rattle.c_values.specs.declared.answer.Answer.{Answer}
 use Rattle.c_values.specs.Answer.{refusal_number}
-use Rattle.c_table.specs.declared.giving.TableMove.{TableMove}
-use Rattle.c_table.specs.declared.server_table.ServerTable.{ServerTable}
-use Rattle.c_table.specs.Calls.{IsEmptyTable}
-use Rattle.c_table.specs.Giving.{GivesMoves}
+use Rattle.c_store.specs.declared.giving.TableMove.{TableMove}
+use Rattle.c_store.specs.declared.server_table.ServerTable.{ServerTable}
+use Rattle.c_store.specs.Calls.{IsEmptyTable}
+use Rattle.c_store.specs.Giving.{GivesMoves}
 use Rattle.ds_c.specs.Calls.{done, is_closed, is_open}
 
 -- Whether an empty table is made; or none, if the number isn't a server's, or else if memory ran out.

@@ -7,7 +7,7 @@ ghost use Rattle.ds_c.specs.Calls.{Closes};
 
 use crate::map_handle::MapHandle;
 use crate::words::{DONE, IS_CLOSED, IS_OPEN};
-use c_map::{label_in, new_map, take_lines};
+use c_store::{label_in, new_map, take_lines};
 use c_values::{Answer, refusal_number};
 use ds_machine::Refusal;
 use std::alloc::Global;

@@ -4,11 +4,11 @@ ghost use Rattle.std.specs.Prelude.{◌≡◌};
 ghost use Rattle.std.specs.declared.option.Option.{Option};
 ghost use Rattle.std.specs.declared.option.Option.TheVariants.{None, Some};
 ghost use Rattle.std.specs.Option.{MatchOption};
-ghost use Rattle.c_table.specs.declared.server_table.ServerTable.{ServerTable};
+ghost use Rattle.c_store.specs.declared.server_table.ServerTable.{ServerTable};
 ghost use Rattle.ds_c.specs.Held.{holds_table};
 
 use crate::loose::Loose;
-use c_table::ServerTable;
+use c_store::ServerTable;
 use std::alloc::Global;
 use std::marker::Model;
 use std::mem::replace;

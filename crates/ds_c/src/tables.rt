@@ -2,14 +2,14 @@
 
 ghost use Rattle.std.specs.Prelude.{◌≡◌};
 ghost use Rattle.std.specs.declared.option.Option.TheVariants.{None};
-ghost use Rattle.c_table.specs.Calls.{TableAssigns, TableFollows, TableSubmits, TableReplies};
+ghost use Rattle.c_store.specs.Calls.{TableAssigns, TableFollows, TableSubmits, TableReplies};
 ghost use Rattle.ds_c.specs.Tables.{OpensTable, OpenedTable, CallsTable, CallsWithMap, CallsByMap, FetchesMoves};
 ghost use Rattle.ds_c.specs.Calls.{Closes};
 
 use crate::map_handle::MapHandle;
 use crate::table_handle::TableHandle;
 use crate::words::{DONE, IS_CLOSED, IS_OPEN};
-use c_table::{ServerTable, TableMove};
+use c_store::{ServerTable, TableMove};
 use c_values::{Answer, refusal_number};
 use ds_machine::Refusal;
 use std::alloc::Global;

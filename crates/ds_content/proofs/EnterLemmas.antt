@@ -10,7 +10,7 @@ use Rattle.ds_feed.specs.Feed.{Feed}
 use Rattle.ds_feed.specs.Kept.{Kept, Keeps}
 use Rattle.ds_held.specs.Held.{held_items}
 use Rattle.ds_held.specs.Limits.{LimitsRecord, IsLimits}
-use Rattle.ds_marked.specs.Marked.{MarkedHolding}
+use Rattle.ds_index.specs.Marked.{MarkedHolding}
 use Rattle.ds_join.specs.ItemTop.{IsTop}
 use Rattle.ds_watch.specs.Followed.{owed_for}
 use Rattle.ds_watch.specs.Mask.{either, padded}

@@ -16,7 +16,7 @@ use Rattle.ds_join.specs.ItemTop.{IsTop}
 use Rattle.ds_join.specs.declared.merge.Merge.TheVariants.{Taken}
 use Rattle.ds_held.specs.Held.{Holding, held_items, held_changes, held_floors, held_for, held_count, floor_for, floor_count, floor_item, change_item, is_below, is_void_at, IsSound}
 use Rattle.ds_held.specs.Kept.{floored, IsFloorPlace}
-use Rattle.ds_marked.proofs.FloorMarkLemmas.{floor_found, floor_missing}
+use Rattle.ds_index.proofs.FloorMarkLemmas.{floor_found, floor_missing}
 use Rattle.std.proofs.lemmas.Option.{get_or_from_slice_get}
 use Rattle.ds_content.proofs.FlagLemmas.{past_end}
 use Rattle.ds_held.specs.Merge.{MergeAnswer, AnswersFor}

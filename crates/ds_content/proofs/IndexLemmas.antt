@@ -11,8 +11,8 @@ use Rattle.ds_held.specs.Held.{Holding, held_items, held_changes, held_floors, h
 use Rattle.ds_held.specs.Kept.{floored}
 use Rattle.ds_held.specs.Limits.{LimitsRecord, IsLimits}
 use Rattle.ds_held.proofs.HeldLemmas.{is_held, count_is}
-use Rattle.ds_marked.proofs.MarkLemmas.{few_keys}
-use Rattle.ds_marked.specs.Marked.{MarkedHolding, mark_for, floor_mark_for, HasMarks}
+use Rattle.ds_index.proofs.MarkLemmas.{few_keys}
+use Rattle.ds_index.specs.Marked.{MarkedHolding, mark_for, floor_mark_for, HasMarks}
 use Rattle.ds_pattern.specs.declared.query.Query.{Query}
 use Rattle.ds_pattern.specs.Under.{is_under}
 use Rattle.ds_watch.specs.declared.masks.Masks.{Masks}

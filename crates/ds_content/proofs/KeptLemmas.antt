@@ -21,7 +21,7 @@ use Rattle.ds_held.specs.Held.{Holding, held_items, held_for, floor_for, IsSound
 use Rattle.ds_held.specs.Merge.{after_merge}
 use Rattle.ds_held.specs.Raise.{after_raise, at_kept_keys, stays}
 use Rattle.ds_held.proofs.HeldLemmas.{is_held, change_in}
-use Rattle.ds_marked.specs.Marked.{MarkedHolding, mark_for, floor_mark_for, HasMarks}
+use Rattle.ds_index.specs.Marked.{MarkedHolding, mark_for, floor_mark_for, HasMarks}
 use Rattle.ds_watch.specs.Mask.{either, padded}
 use Rattle.ds_watch.specs.Masks.{fresh}
 use Rattle.ds_watch.specs.Watching.{Watching}

@@ -10,7 +10,7 @@ use Rattle.ds_entry.specs.declared.item.Item.TheVariants.{Change as Changed, Flo
 use Rattle.ds_held.specs.Held.{Holding, held_items, held_changes, held_floors, held_count, floor_count, change_item}
 use Rattle.ds_held.specs.Kept.{floored}
 use Rattle.ds_held.proofs.HeldLemmas.{count_is}
-use Rattle.ds_marked.specs.Marked.{MarkedHolding, AreMarks, AreFloorMarks}
+use Rattle.ds_index.specs.Marked.{MarkedHolding, AreMarks, AreFloorMarks}
 use Rattle.ds_watch.specs.declared.masks.Masks.{Masks}
 use Rattle.ds_content.specs.Kept.{ArePending, masks_at}
 use Rattle.ds_content.specs.Shown.{says_unseen, is_to_show, AreFirst, IsNext}

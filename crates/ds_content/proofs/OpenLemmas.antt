@@ -13,7 +13,7 @@ use Rattle.ds_feed.specs.Feed as feeds
 use Rattle.ds_feed.specs.Kept.{Kept, Keeps, cursor_of}
 use Rattle.ds_held.specs.Held.{Holding, held_items, nothing_held, floor_item, change_item}
 use Rattle.ds_held.specs.Limits.{LimitsRecord, IsLimits}
-use Rattle.ds_marked.specs.Marked.{MarkedHolding, nothing_marked}
+use Rattle.ds_index.specs.Marked.{MarkedHolding, nothing_marked}
 use Rattle.ds_watch.specs.Watching.{Watching}
 use Rattle.ds_watch.specs.declared.masks.Masks.{Masks}
 use Rattle.ds_machine.specs.State.{State, cursor, opening}

@@ -18,7 +18,7 @@ use Rattle.ds_entry.specs.declared.item.Item.TheVariants.{Change as Changed, Flo
 use Rattle.ds_entry.proofs.CoversLemmas.{same_key, same_key-refl, same_name, same_name-refl}
 use Rattle.ds_held.specs.Held.{Holding, held_items, held_changes, held_floors, held_for, floor_for, floor_count, IsSound}
 use Rattle.ds_held.proofs.HeldLemmas.{is_held}
-use Rattle.ds_marked.specs.Marked.{MarkedHolding, mark_for, floor_mark_for, remarked, floor_remarked}
+use Rattle.ds_index.specs.Marked.{MarkedHolding, mark_for, floor_mark_for, remarked, floor_remarked}
 use Rattle.ds_pattern.specs.declared.query.Query.{Query}
 use Rattle.ds_watch.specs.Mask.{padded}
 use Rattle.ds_watch.specs.Masks.{shown_to, made_at}

@@ -9,7 +9,7 @@ use Rattle.ds_entry.specs.declared.item.Item.{Item}
 use Rattle.ds_entry.proofs.Members.{Contains-from_filter, Contains-from_take}
 use Rattle.ds_feed.specs.Kept.{Kept}
 use Rattle.ds_held.specs.Held.{Holding, held_items, IsSound}
-use Rattle.ds_marked.specs.Marked.{MarkedHolding}
+use Rattle.ds_index.specs.Marked.{MarkedHolding}
 use Rattle.ds_join.specs.ItemTop.{IsPartOf}
 use Rattle.ds_pattern.specs.declared.query.Query.{Query}
 use Rattle.ds_watch.specs.Followed.{Followed}

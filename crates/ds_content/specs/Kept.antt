@@ -4,7 +4,7 @@ use Rattle.std.specs.Option.{option_map_or}
 use Rattle.ds_entry.specs.declared.item.Item.{Item}
 use Rattle.ds_entry.specs.declared.item.Item.TheVariants.{Change as Changed, Floor as Floored}
 use Rattle.ds_held.specs.Held.{held_items}
-use Rattle.ds_marked.specs.Marked.{MarkedHolding, mark_for, floor_mark_for}
+use Rattle.ds_index.specs.Marked.{MarkedHolding, mark_for, floor_mark_for}
 use Rattle.ds_watch.specs.Mask.{padded}
 use Rattle.ds_watch.specs.Watching.{Watching}
 use Rattle.ds_watch.specs.declared.masks.Masks.{Masks}

@@ -3,7 +3,7 @@ use Rattle.std.specs.Prelude.{◌≡◌, ℕ, ◌<◌, ◌≤◌, Some, slice_ge
 use Rattle.std.specs.Option.{option_map}
 use Rattle.ds_entry.specs.declared.item.Item.{Item}
 use Rattle.ds_held.specs.Held.{held_items}
-use Rattle.ds_marked.specs.Marked.{MarkedHolding}
+use Rattle.ds_index.specs.Marked.{MarkedHolding}
 use Rattle.ds_watch.specs.declared.masks.Masks.{Masks}
 use Rattle.ds_content.specs.Kept.{masks_at}
 

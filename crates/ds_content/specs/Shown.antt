@@ -3,7 +3,7 @@ use Rattle.std.specs.Prelude.{◌≡◌, ℕ, ◌<◌, ◌≤◌, ◌⊎◌, Boo
 use Rattle.std.specs.Prelude.{length, take, filter, slice_get, slice_index_or, Option, Some, None, IfSome}
 use Rattle.ds_entry.specs.declared.item.Item.{Item}
 use Rattle.ds_held.specs.Held.{Holding, held_items}
-use Rattle.ds_marked.specs.Marked.{MarkedHolding}
+use Rattle.ds_index.specs.Marked.{MarkedHolding}
 use Rattle.ds_watch.specs.Followed.{Followed}
 use Rattle.ds_watch.specs.declared.masks.Masks.{Masks}
 use Rattle.ds_content.specs.Content.{ContentRecord}

@@ -1,3 +1,4 @@
+pub mod Rows
 pub mod Limits
 pub mod Held
 pub mod Merge

@@ -1,8 +1,8 @@
 //! Guesses of the places of changes.
 
+use crate::rows::Rows;
 use ds_entry::Change;
 use ds_names::{Key, Kind};
-use ds_rows::Rows;
 use std::alloc::{AllocError, Global};
 use std::hash::{FoldHasher, Hasher};
 

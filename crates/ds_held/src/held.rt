@@ -24,11 +24,11 @@ use crate::join::join_into;
 use crate::limits::Limits;
 use crate::order::{begin_after, change_at, first_of};
 use crate::reading::{copy_all, item_at};
+use crate::rows::Rows;
 use crate::void::drop_void;
 use ds_entry::{Body, Change, Floor, ItemRef, Items, Value};
 use ds_join::{JoinFault, Merge, Stop};
 use ds_names::{Generation, Key, Name, NoRoom};
-use ds_rows::Rows;
 use std::alloc::Global;
 use std::marker::Model;
 

@@ -6,9 +6,9 @@ ghost use Rattle.ds_held.specs.Join.{AreMerged, IsJoinStopped, JoinStopsBehind};
 ghost use Rattle.ds_held.specs.Kept.{floored};
 
 use crate::held::Held;
+use crate::rows::Rows;
 use ds_entry::{Change, Floor};
 use ds_join::Stop;
-use ds_rows::Rows;
 use std::alloc::Global;
 
 // Raises the floors of another holder, in order.

@@ -1,3 +1,5 @@
+//! Lists whose elements stay in their slots while others are inserted before them.
+//!
 //! What a replica or a subscriber holds: of each owner its greatest floor, and of each key the change with the
 //! greatest version that no floor voids.
 //!
@@ -15,8 +17,11 @@ mod limits;
 mod list;
 mod order;
 mod reading;
+mod rows;
+mod slots;
 mod void;
 
 pub use held::Held;
 pub use laws::held_places_need_no_room;
 pub use limits::Limits;
+pub use rows::Rows;

@@ -4,10 +4,10 @@ ghost use Rattle.std.specs.Prelude.{◌≡◌, ◌<◌, ◌≤◌, OnOk, OnErr, 
 ghost use Rattle.ds_held.specs.Kept.{put_at, IsGap, IsPlaceIn};
 ghost use Rattle.ds_held.specs.Merge.{AnswersHeld, AnswersNew, AnswersOwn, UnlessVoid};
 
+use crate::rows::Rows;
 use ds_entry::Change;
 use ds_join::{JoinFault, Merge};
 use ds_names::NoRoom;
-use ds_rows::Rows;
 use std::cmp::Ordering;
 
 // Judges a change of a held key, by the key's owner.

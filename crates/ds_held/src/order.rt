@@ -10,9 +10,9 @@ ghost use Rattle.ds_entry.specs.Change.{IsChange};
 ghost use Rattle.ds_join.specs.Reading.{comes_after};
 ghost use Rattle.ds_held.specs.Kept.{AreKeysRising, IsPlace, changes_map};
 
+use crate::rows::Rows;
 use ds_entry::Change;
 use ds_names::Key;
-use ds_rows::Rows;
 use std::cmp::Ordering;
 
 // Whether the change is of the key.

@@ -6,9 +6,9 @@ ghost use Rattle.ds_entry.specs.Lent.{item_lent};
 ghost use Rattle.ds_held.specs.Held.{change_item};
 ghost use Rattle.ds_held.specs.Kept.{floored};
 
+use crate::rows::Rows;
 use ds_entry::{Change, Floor, Item, ItemRef, Items};
 use ds_names::NoRoom;
-use ds_rows::Rows;
 use std::alloc::Global;
 
 // Returns the item at an index, floors first.

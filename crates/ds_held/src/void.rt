@@ -4,8 +4,8 @@ ghost use Rattle.std.specs.Prelude.{◌≡◌, if◌then◌else◌, length, is_s
 ghost use Rattle.ds_entry.specs.Left.{value_of};
 ghost use Rattle.ds_held.specs.Kept.{left_by_floor, marks_left, puts_void_by};
 
+use crate::rows::Rows;
 use ds_entry::{Body, Change, Floor};
-use ds_rows::Rows;
 
 // Drops the changes that a floor voids, the last first. It allocates nothing.
 pub(crate) fn drop_void(changes: &mut Rows<Change>, floor: &Floor)

@@ -15,8 +15,8 @@ use Rattle.ds_entry.specs.declared.floor.Floor.{Floor}
 use Rattle.ds_join.specs.declared.merge.Merge.TheVariants.{Taken}
 use Rattle.ds_held.specs.Held.{Holding, held_for, IsSound}
 use Rattle.ds_held.specs.Raise.{stays, after_raise}
-use Rattle.ds_marked.specs.Marked.{MarkedHolding}
-use Rattle.ds_marked.specs.Put.{IsPutMarked, IsRaisedMarked}
+use Rattle.ds_index.specs.Marked.{MarkedHolding}
+use Rattle.ds_index.specs.Put.{IsPutMarked, IsRaisedMarked}
 use Rattle.ds_index.specs.declared.named.Named.{Named}
 use Rattle.ds_index.specs.Named.{named_at}
 use Rattle.ds_index.specs.Indexed.{endpoint_left, holder_for, IsIndexed}

@@ -9,13 +9,13 @@ ghost use Rattle.ds_held.specs.Held.{held_changes, held_floors, held_for, floor_
 ghost use Rattle.ds_held.specs.Kept.{puts_void_by, IsFloorPlace, IsPlace};
 ghost use Rattle.ds_held.specs.Merge.{MergeAnswer};
 ghost use Rattle.ds_held.specs.Raise.{RaiseAnswer};
-ghost use Rattle.ds_marked.specs.Marked.{nothing_marked, remarked_at, floor_remarked_at, HasMarks};
-ghost use Rattle.ds_marked.specs.Put.{IsPutMarked, IsRaisedMarked};
+ghost use Rattle.ds_index.specs.Marked.{nothing_marked, remarked_at, floor_remarked_at, HasMarks};
+ghost use Rattle.ds_index.specs.Put.{IsPutMarked, IsRaisedMarked};
 
 use crate::index::Index;
+use crate::marked::Marked;
 use ds_entry::{Change, Floor};
 use ds_held::{Held, Limits};
-use ds_marked::Marked;
 use ds_names::{Endpoint, Name, NoRoom};
 use putting::put_indexed;
 use std::alloc::Global;
@@ -31,8 +31,8 @@ pub struct Indexed<M> {
 }
 
 impl<M> Model for Indexed<M> {
-    ghost use Rattle.ds_marked.specs.Coded.{marked_code};
-    ghost use Rattle.ds_marked.specs.Marked.{MarkedHolding};
+    ghost use Rattle.ds_index.specs.Coded.{marked_code};
+    ghost use Rattle.ds_index.specs.Marked.{MarkedHolding};
     ghost use Rattle.ds_index.specs.Indexed.{IsIndexed};
 
     ghost Value = { MarkedHolding M };

@@ -6,7 +6,7 @@ use Rattle.std.specs.Option.{option_or}
 use Rattle.std.proofs.lemmas.Bool.{and_parts, leb-true}
 use Rattle.std.proofs.lemmas.Option.{IfSome_then}
 use Rattle.std.proofs.lemmas.List.Elements.{All-cons, All-head, All-nil, All-tail}
-use Rattle.crew.specs.Back.{AreBack}
+use Rattle.ds_live.specs.Back.{AreBack}
 use Rattle.desk_rule.specs.declared.view.View.{View}
 use Rattle.desk.specs.declared.fault.DeskFault.TheVariants.{Noted, Worn}
 use Rattle.desk.specs.Pass.{Pass}
@@ -15,31 +15,31 @@ use Rattle.ds_feed.specs.declared.cursor.Cursor.{Cursor}
 use Rattle.ds_machine.specs.declared.command.Command.{Command}
 use Rattle.ds_machine.specs.declared.refusal.Refusal.{Refusal}
 use Rattle.ds_machine.specs.declared.reply.Reply.{Reply}
-use Rattle.ds_pass.specs.Faults.{FailsAsking, FailsBy, TellsRefusal}
-use Rattle.ds_pass.specs.Record.{Boxed, PassRecord}
-use Rattle.ds_pass.specs.declared.fault.CallFault.{CallFault}
-use Rattle.ds_pass.specs.declared.fault.CallFault.TheVariants as calls
-use Rattle.ds_refresh.specs.Faults.{IsRefreshFault}
-use Rattle.ds_refresh.specs.Follower.{FollowerRecord}
-use Rattle.ds_refresh.specs.declared.fault.RefreshFault.{RefreshFault}
-use Rattle.ds_refresh.specs.declared.fault.RefreshFault.TheVariants as refreshes
-use Rattle.ds_exchange.specs.Faults.{IsExchangeFault}
-use Rattle.ds_exchange.specs.declared.fault.ExchangeFault.{ExchangeFault}
-use Rattle.ds_exchange.specs.declared.fault.ExchangeFault.TheVariants as exchanges
-use Rattle.ds_workers.specs.Turns.{FailsFollowing}
-use Rattle.ds_workers.specs.Workers.{EndsBy, FailsTask, FailsToFinishTask, HasEnded, StorePass, TookTask, Worked, plain}
-use Rattle.ds_workers.specs.declared.fault.WorkerFault.{WorkerFault}
-use Rattle.ds_workers.specs.declared.fault.WorkerFault.TheVariants as workers
-use Rattle.ds_workers.specs.declared.task.Task.{Task}
-use Rattle.ds_workers.specs.declared.task.Task.TheVariants.{Exchange, Follow, Publish}
-use Rattle.ds_workers.specs.declared.worker.Worker.{Worker}
+use Rattle.desk_store.specs.CallFaults.{FailsAsking, FailsBy, TellsRefusal}
+use Rattle.desk_store.specs.Record.{Boxed, PassRecord}
+use Rattle.desk_store.specs.declared.call_fault.CallFault.{CallFault}
+use Rattle.desk_store.specs.declared.call_fault.CallFault.TheVariants as calls
+use Rattle.desk_store.specs.RefreshFaults.{IsRefreshFault}
+use Rattle.desk_store.specs.Follower.{FollowerRecord}
+use Rattle.desk_store.specs.declared.refresh_fault.RefreshFault.{RefreshFault}
+use Rattle.desk_store.specs.declared.refresh_fault.RefreshFault.TheVariants as refreshes
+use Rattle.desk_store.specs.ExchangeFaults.{IsExchangeFault}
+use Rattle.desk_store.specs.declared.exchange_fault.ExchangeFault.{ExchangeFault}
+use Rattle.desk_store.specs.declared.exchange_fault.ExchangeFault.TheVariants as exchanges
+use Rattle.ds_live.specs.Turns.{FailsFollowing}
+use Rattle.ds_live.specs.Workers.{EndsBy, FailsTask, FailsToFinishTask, HasEnded, StorePass, TookTask, Worked, plain}
+use Rattle.ds_live.specs.declared.worker_fault.WorkerFault.{WorkerFault}
+use Rattle.ds_live.specs.declared.worker_fault.WorkerFault.TheVariants as workers
+use Rattle.ds_live.specs.declared.task.Task.{Task}
+use Rattle.ds_live.specs.declared.task.Task.TheVariants.{Exchange, Follow, Publish}
+use Rattle.ds_live.specs.declared.worker.Worker.{Worker}
 use Rattle.ds_live.specs.Fails.{IsCallsFault, IsLiveFault}
 use Rattle.ds_live.specs.Faults.{FailsClosing, FailsLabels, FailsTurns, HasWorkersFault, OneFails, call_fault, exchange_fault, fault_or, lowest_fault, own_fault, refresh_fault, worker_fault}
 use Rattle.ds_live.specs.Run.{IsReady, IsReadyTask, downward, worker_count}
 use Rattle.ds_live.specs.Sizes.{are_fit}
 use Rattle.ds_live.specs.Tasks.{IsSubscriber}
-use Rattle.ds_live.specs.declared.fault.LiveFault.{LiveFault}
-use Rattle.ds_live.specs.declared.fault.LiveFault.TheVariants.{BadLimit, BadSizes, Desk, GateShut, NoRoom, NoThread, Refused, Stopped}
+use Rattle.ds_live.specs.declared.live_fault.LiveFault.{LiveFault}
+use Rattle.ds_live.specs.declared.live_fault.LiveFault.TheVariants.{BadLimit, BadSizes, Desk, GateShut, NoRoom, NoThread, Refused, Stopped}
 use Rattle.ds_live.specs.declared.sizes.Sizes.{Sizes}
 
 -- ---- the faults of calls

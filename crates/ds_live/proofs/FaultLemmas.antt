@@ -2,9 +2,9 @@
 use Rattle.std.proofs.Common.{◌≡◌, ◌<◌, ◌+◌, ℕ, List, [], ◌∷◌, ◌++◌, Option, Some, None, length, map, take, refl, ap, sym, ◌∙◌}
 use Rattle.std.proofs.Math.ListN.{get_or}
 use Rattle.std.proofs.lemmas.List.{map_push, take_more}
-use Rattle.ds_live.specs.declared.fault.LiveFault.{LiveFault}
+use Rattle.ds_live.specs.declared.live_fault.LiveFault.{LiveFault}
 use Rattle.ds_live.specs.Faults.{fault_or, lowest_fault, own_fault}
-use Rattle.ds_workers.specs.declared.fault.WorkerFault.{WorkerFault}
+use Rattle.ds_live.specs.declared.worker_fault.WorkerFault.{WorkerFault}
 
 or_again : (f g h : Option LiveFault) → fault_or (fault_or f g) h ≡ fault_or f (fault_or g h)
 or_again (Some f) g h = refl

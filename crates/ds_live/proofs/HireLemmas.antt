@@ -10,12 +10,12 @@ use Rattle.desk.specs.declared.pass.Sight.{Ghosts}
 use Rattle.desk.specs.Pass.{calls}
 use Rattle.ds_machine.specs.declared.command.Command.{Command}
 use Rattle.ds_machine.specs.declared.reply.Reply.{Reply}
-use Rattle.ds_pass.specs.Record.{Boxed, PassRecord, pass_record}
-use Rattle.ds_workers.specs.Commands.{each_below, publisher_label}
-use Rattle.ds_workers.specs.Turns.{AreAccepted, WereAccepted}
-use Rattle.ds_workers.specs.Workers.{StorePass, plain_task}
-use Rattle.ds_workers.specs.declared.task.Task.{Task}
-use Rattle.ds_workers.specs.declared.task.Task.TheVariants.{Exchange, Follow, Publish}
+use Rattle.desk_store.specs.Record.{Boxed, PassRecord, pass_record}
+use Rattle.ds_live.specs.Commands.{each_below, publisher_label}
+use Rattle.ds_live.specs.Turns.{AreAccepted, WereAccepted}
+use Rattle.ds_live.specs.Workers.{StorePass, plain_task}
+use Rattle.ds_live.specs.declared.task.Task.{Task}
+use Rattle.ds_live.specs.declared.task.Task.TheVariants.{Exchange, Follow, Publish}
 use Rattle.ds_live.specs.Run.{IsReadyTask, downward}
 use Rattle.ds_live.specs.Tasks.{IsHired}
 use Rattle.ds_live.specs.declared.sizes.Sizes.{Sizes}

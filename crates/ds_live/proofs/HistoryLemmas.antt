@@ -16,9 +16,9 @@ use Rattle.ds_machine.specs.Owed.{owed_by}
 use Rattle.ds_machine.specs.State.{opening}
 use Rattle.ds_machine.specs.declared.command.Command.{Command}
 use Rattle.ds_machine.specs.declared.reply.Reply.{Reply}
-use Rattle.ds_pass.specs.Record.{Boxed, PassRecord, is_content, pass_record}
+use Rattle.desk_store.specs.Record.{Boxed, PassRecord, is_content, pass_record}
 use Rattle.ds_store.specs.Turns.{Turn}
-use Rattle.ds_workers.specs.Workers.{StorePass}
+use Rattle.ds_live.specs.Workers.{StorePass}
 use Rattle.ds_live.specs.Run.{ClosesAfter}
 
 module _ {A B : Type 0} (f : A → B) where

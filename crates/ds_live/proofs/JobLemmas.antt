@@ -7,10 +7,10 @@ use Rattle.desk_rule.specs.declared.view.View.{View}
 use Rattle.desk.specs.declared.pass.Sight.{Ghosts}
 use Rattle.ds_machine.specs.declared.command.Command.{Command}
 use Rattle.ds_machine.specs.declared.reply.Reply.{Reply}
-use Rattle.ds_pass.specs.Record.{Boxed}
-use Rattle.ds_workers.specs.declared.task.Task.{Task}
-use Rattle.ds_workers.specs.declared.task.Task.TheVariants.{Exchange, Follow, Publish}
-use Rattle.ds_workers.specs.Workers.{IsTask, StorePass}
+use Rattle.desk_store.specs.Record.{Boxed}
+use Rattle.ds_live.specs.declared.task.Task.{Task}
+use Rattle.ds_live.specs.declared.task.Task.TheVariants.{Exchange, Follow, Publish}
+use Rattle.ds_live.specs.Workers.{IsTask, StorePass}
 use Rattle.ds_live.specs.Tasks.{IsOther}
 
 -- a fact of every element of a list, where one is taken from its end, and where one is put there

@@ -1,5 +1,10 @@
+pub mod BackLemmas
+pub mod CommandLemmas
+pub mod WorkerCrossingLemmas
+pub mod TurnLemmas
+pub mod WorkerLemmas
 pub mod CloseLemmas
-pub mod CrossingLemmas
+pub mod LiveCrossingLemmas
 pub mod FailLemmas
 pub mod FaultLemmas
 pub mod HireLemmas

@@ -5,7 +5,7 @@ use Rattle.std.specs.List.{AllByRecursion, flat_map, list_all}
 use Rattle.std.proofs.lemmas.List.{map-append}
 use Rattle.std.proofs.lemmas.List.Concat.{flat_map-append}
 use Rattle.std.proofs.lemmas.List.Elements.{All-cons, All-head, All-map, All-nil, All-push, All-same, All-tail}
-use Rattle.crew.specs.Back.{AreBack}
+use Rattle.ds_live.specs.Back.{AreBack}
 use Rattle.desk_rule.specs.declared.view.View.{View}
 use Rattle.desk_rule.proofs.ListLemmas.{all_append}
 use Rattle.desk.specs.declared.pass.Sight.{Ghosts}
@@ -14,20 +14,20 @@ use Rattle.ds_feed.specs.declared.cursor.Cursor.{Cursor}
 use Rattle.ds_machine.specs.declared.command.Command.{Command}
 use Rattle.ds_machine.specs.declared.reply.Reply.{Reply}
 use Rattle.ds_pattern.specs.declared.query.Query.{Query}
-use Rattle.ds_pass.specs.Called.{Made}
-use Rattle.ds_pass.specs.Record.{Boxed, PassRecord, pass_record}
-use Rattle.ds_refresh.specs.Follower.{FollowerRecord}
-use Rattle.ds_refresh.specs.FollowerCalls.{IsOfFollower}
-use Rattle.ds_refresh.specs.Refresh.{AreOfFollower}
-use Rattle.ds_workers.specs.Commands.{each_below, every_key, publisher_number}
-use Rattle.ds_workers.specs.Turns.{AreAccepted, HasExchangedOften}
-use Rattle.ds_workers.specs.declared.fault.WorkerFault.{WorkerFault}
+use Rattle.desk_store.specs.Called.{Made}
+use Rattle.desk_store.specs.Record.{Boxed, PassRecord, pass_record}
+use Rattle.desk_store.specs.Follower.{FollowerRecord}
+use Rattle.desk_store.specs.FollowerCalls.{IsOfFollower}
+use Rattle.desk_store.specs.Refresh.{AreOfFollower}
+use Rattle.ds_live.specs.Commands.{each_below, every_key, publisher_number}
+use Rattle.ds_live.specs.Turns.{AreAccepted, HasExchangedOften}
+use Rattle.ds_live.specs.declared.worker_fault.WorkerFault.{WorkerFault}
 use Rattle.ds_content.specs.Content.{ContentRecord}
-use Rattle.ds_workers.specs.Workers.{ComesBack, FinishesTask, HasEnded, IsTaskDone, LetsThrough, TookAll, StorePass, TookTask, TookTurns, plain, plain_task}
-use Rattle.ds_workers.specs.declared.task.Task.{Task}
-use Rattle.ds_workers.specs.declared.task.Task.TheVariants.{Exchange, Follow, Publish}
-use Rattle.ds_workers.specs.declared.worker.Worker.{Worker}
-use Rattle.ds_workers.proofs.TurnLemmas.{exchanged_on}
+use Rattle.ds_live.specs.Workers.{ComesBack, FinishesTask, HasEnded, IsTaskDone, LetsThrough, TookAll, StorePass, TookTask, TookTurns, plain, plain_task}
+use Rattle.ds_live.specs.declared.task.Task.{Task}
+use Rattle.ds_live.specs.declared.task.Task.TheVariants.{Exchange, Follow, Publish}
+use Rattle.ds_live.specs.declared.worker.Worker.{Worker}
+use Rattle.ds_live.proofs.TurnLemmas.{exchanged_on}
 use Rattle.ds_live.specs.Dismissed.{AreDismissed, HandBack, HasFinished}
 use Rattle.ds_live.specs.Faults.{has_ended}
 use Rattle.ds_live.specs.Run.{ClosesAfter, RunLeaves, HasTaken, HasTakenTask, HasWorked, IsReady, IsReadyTask, downward, upward, worker_count}

@@ -5,10 +5,10 @@ use Rattle.desk_rule.specs.declared.view.View.{View}
 use Rattle.desk.specs.declared.pass.Sight.{Ghosts}
 use Rattle.ds_machine.specs.declared.command.Command.{Command}
 use Rattle.ds_machine.specs.declared.reply.Reply.{Reply}
-use Rattle.ds_pass.specs.Record.{Boxed}
-use Rattle.ds_refresh.specs.Follower.{FollowerRecord}
-use Rattle.ds_workers.specs.Workers.{ComesBack, Finishes, StorePass, plain}
-use Rattle.ds_workers.specs.declared.worker.Worker.{Worker}
+use Rattle.desk_store.specs.Record.{Boxed}
+use Rattle.desk_store.specs.Follower.{FollowerRecord}
+use Rattle.ds_live.specs.Workers.{ComesBack, Finishes, StorePass, plain}
+use Rattle.ds_live.specs.declared.worker.Worker.{Worker}
 use Rattle.ds_live.specs.Tasks.{followers_in, passes_in}
 
 module _ {Z : Type 0} {G : Ghosts (View (Boxed Z) Command Reply)} where

@@ -2,8 +2,8 @@
 use Rattle.std.specs.Prelude.{◌≡◌, ◌≢◌, ◌⊎◌, ℕ, ◌<◌, ◌≤◌, Bool, false}
 use Rattle.desk.specs.declared.fault.DeskFault.TheVariants.{Noted, Worn}
 use Rattle.ds_machine.specs.declared.refusal.Refusal.TheVariants as refusals
-use Rattle.ds_live.specs.declared.fault.LiveFault.{LiveFault}
-use Rattle.ds_live.specs.declared.fault.LiveFault.TheVariants.{BadLimit, BadSizes, Desk, GateShut, NoRoom, NoThread, Refused, Stopped}
+use Rattle.ds_live.specs.declared.live_fault.LiveFault.{LiveFault}
+use Rattle.ds_live.specs.declared.live_fault.LiveFault.TheVariants.{BadLimit, BadSizes, Desk, GateShut, NoRoom, NoThread, Refused, Stopped}
 use Rattle.ds_live.specs.declared.sizes.Sizes.{Sizes}
 use Rattle.ds_live.specs.Run.{worker_count}
 use Rattle.ds_live.specs.Sizes.{are_fit}

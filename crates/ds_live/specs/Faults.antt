@@ -6,22 +6,22 @@ use Rattle.desk.specs.Closing.{AllLearnt}
 use Rattle.desk.specs.Pass.{Pass, notes_learnt, notes_made}
 use Rattle.desk.specs.declared.fault.DeskFault.TheVariants.{Noted}
 use Rattle.desk.specs.declared.pass.Sight.{Ghosts}
-use Rattle.ds_exchange.specs.declared.fault.ExchangeFault.{ExchangeFault}
-use Rattle.ds_exchange.specs.declared.fault.ExchangeFault.TheVariants as exchanges
-use Rattle.ds_live.specs.declared.fault.LiveFault.{LiveFault}
-use Rattle.ds_live.specs.declared.fault.LiveFault.TheVariants.{BadLimit, Desk, GateShut, NoRoom, NoThread, Refused, Stopped}
-use Rattle.ds_pass.specs.declared.fault.CallFault.{CallFault}
-use Rattle.ds_pass.specs.declared.fault.CallFault.TheVariants as calls
-use Rattle.ds_pass.specs.Faults.{FailsAsking}
-use Rattle.ds_pass.specs.Record.{PassRecord}
-use Rattle.ds_refresh.specs.declared.fault.RefreshFault.{RefreshFault}
-use Rattle.ds_refresh.specs.declared.fault.RefreshFault.TheVariants as refreshes
-use Rattle.ds_workers.specs.Commands.{each_below, publisher_label}
-use Rattle.ds_workers.specs.Turns.{WereAccepted}
-use Rattle.ds_workers.specs.Workers.{EndsBy}
-use Rattle.ds_workers.specs.declared.fault.WorkerFault.{WorkerFault}
-use Rattle.ds_workers.specs.declared.fault.WorkerFault.TheVariants as workers
-use Rattle.ds_workers.specs.declared.worker.Worker.{Worker}
+use Rattle.desk_store.specs.declared.exchange_fault.ExchangeFault.{ExchangeFault}
+use Rattle.desk_store.specs.declared.exchange_fault.ExchangeFault.TheVariants as exchanges
+use Rattle.ds_live.specs.declared.live_fault.LiveFault.{LiveFault}
+use Rattle.ds_live.specs.declared.live_fault.LiveFault.TheVariants.{BadLimit, Desk, GateShut, NoRoom, NoThread, Refused, Stopped}
+use Rattle.desk_store.specs.declared.call_fault.CallFault.{CallFault}
+use Rattle.desk_store.specs.declared.call_fault.CallFault.TheVariants as calls
+use Rattle.desk_store.specs.CallFaults.{FailsAsking}
+use Rattle.desk_store.specs.Record.{PassRecord}
+use Rattle.desk_store.specs.declared.refresh_fault.RefreshFault.{RefreshFault}
+use Rattle.desk_store.specs.declared.refresh_fault.RefreshFault.TheVariants as refreshes
+use Rattle.ds_live.specs.Commands.{each_below, publisher_label}
+use Rattle.ds_live.specs.Turns.{WereAccepted}
+use Rattle.ds_live.specs.Workers.{EndsBy}
+use Rattle.ds_live.specs.declared.worker_fault.WorkerFault.{WorkerFault}
+use Rattle.ds_live.specs.declared.worker_fault.WorkerFault.TheVariants as workers
+use Rattle.ds_live.specs.declared.worker.Worker.{Worker}
 
 -- ---- a fault, as a run reports it
 abbrev pub call_fault : CallFault → LiveFault

@@ -1,3 +1,7 @@
+pub mod Back
+pub mod Commands
+pub mod Turns
+pub mod Workers
 pub mod Dismissed
 pub mod Fails
 pub mod Faults

@@ -7,7 +7,7 @@ use Rattle.ds_entry.specs.declared.item.Item.{Item}
 use Rattle.ds_entry.specs.Under.{entries_of}
 use Rattle.ds_entry.specs.contracts.item.ItemPartialEq.TheImpl.{ghosts as item}
 use Rattle.ds_live.specs.declared.report.LiveReport.{LiveReport}
-use Rattle.ds_refresh.specs.Follower.{FollowerRecord, mapped}
+use Rattle.desk_store.specs.Follower.{FollowerRecord, mapped}
 
 -- Whether two lists have the same items in the same order, by `==`.
 abbrev pub same_items : List Item → List Item → Bool

@@ -11,16 +11,16 @@ use Rattle.ds_held.specs.Limits.{larger}
 use Rattle.ds_machine.specs.State.{opening}
 use Rattle.ds_machine.specs.declared.command.Command.{Command}
 use Rattle.ds_machine.specs.declared.reply.Reply.{Reply}
-use Rattle.ds_pass.specs.Record.{PassRecord}
-use Rattle.ds_refresh.specs.Follower.{FollowerRecord, new_follower}
-use Rattle.ds_refresh.specs.Refresh.{AreOfFollower}
+use Rattle.desk_store.specs.Record.{PassRecord}
+use Rattle.desk_store.specs.Follower.{FollowerRecord, new_follower}
+use Rattle.desk_store.specs.Refresh.{AreOfFollower}
 use Rattle.ds_store.specs.Turns.{Turn}
-use Rattle.ds_workers.specs.Commands.{each_below, every_key, publisher_label, publisher_number}
-use Rattle.ds_workers.specs.Turns.{AreAccepted, HasExchangedOften}
-use Rattle.ds_workers.specs.Workers.{IsAtEnd, LetsThrough}
-use Rattle.ds_workers.specs.declared.task.Task.{Task}
-use Rattle.ds_workers.specs.declared.task.Task.TheVariants.{Exchange, Follow, Publish}
-use Rattle.ds_workers.specs.declared.worker.Worker.{Worker}
+use Rattle.ds_live.specs.Commands.{each_below, every_key, publisher_label, publisher_number}
+use Rattle.ds_live.specs.Turns.{AreAccepted, HasExchangedOften}
+use Rattle.ds_live.specs.Workers.{IsAtEnd, LetsThrough}
+use Rattle.ds_live.specs.declared.task.Task.{Task}
+use Rattle.ds_live.specs.declared.task.Task.TheVariants.{Exchange, Follow, Publish}
+use Rattle.ds_live.specs.declared.worker.Worker.{Worker}
 use Rattle.ds_live.specs.Tasks.{IsSubscriber, followers_in, passes_in}
 use Rattle.ds_live.specs.declared.sizes.Sizes.{Sizes}
 

@@ -6,12 +6,12 @@ use Rattle.desk.specs.declared.pass.Sight.{Ghosts}
 use Rattle.desk.specs.Pass.{desk_of}
 use Rattle.ds_machine.specs.declared.command.Command.{Command}
 use Rattle.ds_machine.specs.declared.reply.Reply.{Reply}
-use Rattle.ds_pass.specs.Record.{Boxed}
-use Rattle.ds_refresh.specs.Follower.{FollowerRecord}
-use Rattle.ds_workers.specs.declared.task.Task.{Task}
-use Rattle.ds_workers.specs.declared.task.Task.TheVariants.{Exchange, Follow, Publish}
-use Rattle.ds_workers.specs.Commands.{every_key}
-use Rattle.ds_workers.specs.Workers.{StorePass}
+use Rattle.desk_store.specs.Record.{Boxed}
+use Rattle.desk_store.specs.Follower.{FollowerRecord}
+use Rattle.ds_live.specs.declared.task.Task.{Task}
+use Rattle.ds_live.specs.declared.task.Task.TheVariants.{Exchange, Follow, Publish}
+use Rattle.ds_live.specs.Commands.{every_key}
+use Rattle.ds_live.specs.Workers.{StorePass}
 use Rattle.ds_live.specs.declared.sizes.Sizes.{Sizes}
 
 -- The follower of a task, if it has one.

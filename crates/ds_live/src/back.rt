@@ -1,6 +1,6 @@
 //! The passes and followers that workers hand back.
 
-use ds_refresh::Follower;
+use desk_store::Follower;
 
 /// The passes and the followers that no worker has any more.
 #[derive(Drop)]

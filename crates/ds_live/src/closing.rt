@@ -7,10 +7,10 @@ ghost use Rattle.desk.specs.Pass.{desk_of};
 ghost use Rattle.ds_live.specs.Faults.{FailsClosing};
 ghost use Rattle.ds_live.specs.Report.{are_exact};
 ghost use Rattle.ds_machine.specs.Owed.{owed_by};
-ghost use Rattle.ds_pass.specs.Record.{is_content};
+ghost use Rattle.desk_store.specs.Record.{is_content};
 ghost use Rattle.ds_store.specs.Turns.{Turn};
 
-use crate::fault::LiveFault;
+use crate::live_fault::LiveFault;
 use desk::{Closed, Desk, DeskFault, Pass, Passes};
 use ds_store::Store;
 use std::alloc::Global;

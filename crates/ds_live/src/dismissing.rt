@@ -5,16 +5,19 @@ ghost use Rattle.std.specs.Prelude.{vec_capacity, OnOk, IfErr, IfNone, IfSome};
 ghost use Rattle.std.specs.declared.option.Option.TheVariants.{Some};
 ghost use Rattle.desk.specs.Desk.{identity};
 ghost use Rattle.desk.specs.Pass.{desk_of};
-ghost use Rattle.ds_workers.specs.Workers.{ComesBack, Finishes, IsOf, others_in, plain};
+ghost use Rattle.ds_live.specs.Workers.{ComesBack, Finishes, IsOf, others_in, plain};
 ghost use Rattle.ds_live.specs.Dismissed.{HandBack};
 ghost use Rattle.ds_live.specs.Fails.{IsCallsFault};
 ghost use Rattle.ds_live.specs.Tasks.{IsOther, followers_in, passes_in};
 
 use crate::back::Back;
-use crate::fault::LiveFault;
+use crate::gate::Gate;
+use crate::live_fault::LiveFault;
+use crate::task::Task;
+use crate::turns::{Desks, StoreTurns, Turns};
+use crate::worker::{StoreWorker, Worker};
 use desk::{Desk, Pass};
 use ds_store::Store;
-use ds_workers::{Desks, Gate, StoreTurns, StoreWorker, Task, Turns, Worker};
 use std::alloc::Global;
 use std::sync::Wait;
 

@@ -6,10 +6,10 @@ ghost use Rattle.ds_held.specs.Held.{held_items};
 ghost use Rattle.ds_live.specs.Report.{all_have, are_exact, have_same, is_exact};
 
 use desk::{Account, Closed, Row};
+use desk_store::Follower;
 use ds_entry::{Body, Item, Items};
 use ds_held::Held;
 use ds_names::NoRoom;
-use ds_refresh::Follower;
 use ds_store::Store;
 use std::alloc::Global;
 

@@ -3,13 +3,16 @@
 ghost use Rattle.std.specs.Prelude.{All, ◌≡◌, ◌⊎◌, map, true, None, IfNone, IfSome};
 ghost use Rattle.std.specs.List.{list_all};
 ghost use Rattle.desk.specs.Desk.{identity};
-ghost use Rattle.crew.specs.Back.{AreBack};
-ghost use Rattle.ds_workers.specs.Workers.{ComesBack, IsOf, TookAll, plain};
+ghost use Rattle.ds_live.specs.Back.{AreBack};
+ghost use Rattle.ds_live.specs.Workers.{ComesBack, IsOf, TookAll, plain};
 ghost use Rattle.ds_live.specs.Faults.{FailsTurns, HasWorkersFault, OneFails, has_ended, lowest_fault, own_fault};
 
-use crate::fault::LiveFault;
-use crew::{GivenUp, run_all};
-use ds_workers::{Gate, StoreTurns, WorkerFault};
+use crate::crew::run_all;
+use crate::gate::Gate;
+use crate::given_up::GivenUp;
+use crate::live_fault::LiveFault;
+use crate::turns::StoreTurns;
+use crate::worker_fault::WorkerFault;
 use std::sync::Wait;
 use std::thread::Threads;
 

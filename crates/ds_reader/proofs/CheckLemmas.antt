@@ -10,10 +10,10 @@ use Rattle.ds_feed.specs.Feed as feeds
 use Rattle.ds_feed.specs.Feed.{Feed}
 use Rattle.ds_pattern.specs.declared.query.Query.{Query}
 use Rattle.ds_pattern.specs.Under.{is_under}
-use Rattle.ds_convergence.specs.Sent.{given}
-use Rattle.ds_convergence.specs.Whole.{IsWhole}
-use Rattle.ds_convergence.specs.Checked.{CheckTurn, IsCheckTurn, AreChecks}
-use Rattle.ds_convergence.specs.Gathered as gathered
+use Rattle.ds_replica.specs.Sent.{given}
+use Rattle.ds_replica.specs.Whole.{IsWhole}
+use Rattle.ds_replica.specs.Checked.{CheckTurn, IsCheckTurn, AreChecks}
+use Rattle.ds_replica.specs.Gathered as gathered
 use Rattle.ds_machine.specs.Subscription.{Subscription}
 use Rattle.ds_machine.specs.State.{State, held, subscription_at}
 use Rattle.ds_machine.specs.Effect.{GoesOn}

@@ -6,7 +6,7 @@ use Rattle.std.proofs.lemmas.Option.{slice_get_within, get_or_from_slice_get}
 use Rattle.ds_entry.specs.declared.item.Item.{Item}
 use Rattle.ds_names.specs.declared.key.Key.{Key}
 use Rattle.ds_entry.specs.declared.item.Item.TheVariants.{Change as Changed, Floor as Floored}
-use Rattle.ds_convergence.specs.Paged.{last_key}
+use Rattle.ds_replica.specs.Paged.{last_key}
 
 -- the first items and the next one
 pub taken_next : (xs : List Item) (i : ℕ) (x : Item) → slice_get xs i ≡ Some x → take (i + 1) xs ≡ take i xs ++ x ∷ []

@@ -12,12 +12,12 @@ use Rattle.ds_feed.specs.declared.reading.Page.{Page}
 use Rattle.ds_feed.specs.Feed.{Feed}
 use Rattle.ds_feed.specs.Page.{page_of}
 use Rattle.ds_pattern.specs.Under.{is_under}
-use Rattle.ds_convergence.specs.Sent.{given}
-use Rattle.ds_convergence.specs.Whole.{IsWhole}
-use Rattle.ds_convergence.specs.Journaled.{AreSince, cursor_after}
-use Rattle.ds_convergence.specs.Paged.{PageTurn, IsPageTurn, last_key}
-use Rattle.ds_convergence.specs.OpenPages.{AreOpenPages, key_after, position_after, first_cursor}
-use Rattle.ds_convergence.specs.Gathered.{journaled, paged}
+use Rattle.ds_replica.specs.Sent.{given}
+use Rattle.ds_replica.specs.Whole.{IsWhole}
+use Rattle.ds_replica.specs.Journaled.{AreSince, cursor_after}
+use Rattle.ds_replica.specs.Paged.{PageTurn, IsPageTurn, last_key}
+use Rattle.ds_replica.specs.OpenPages.{AreOpenPages, key_after, position_after, first_cursor}
+use Rattle.ds_replica.specs.Gathered.{journaled, paged}
 use Rattle.ds_machine.specs.Scope.{is_kept}
 use Rattle.ds_machine.specs.State.{State, held, cursor, next_position}
 use Rattle.ds_machine.specs.Effect.{GoesOn}

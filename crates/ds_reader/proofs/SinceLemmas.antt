@@ -7,8 +7,8 @@ use Rattle.ds_feed.specs.declared.cursor.Cursor.{Cursor}
 use Rattle.ds_feed.specs.declared.reading.Since.{Since}
 use Rattle.ds_feed.specs.Since.{IsGiven}
 use Rattle.ds_pattern.specs.Under.{is_under}
-use Rattle.ds_convergence.specs.Journaled.{SinceTurn, IsSinceTurn, AreSince, cursor_after}
-use Rattle.ds_convergence.specs.Gathered.{journaled}
+use Rattle.ds_replica.specs.Journaled.{SinceTurn, IsSinceTurn, AreSince, cursor_after}
+use Rattle.ds_replica.specs.Gathered.{journaled}
 use Rattle.ds_machine.specs.Scope.{is_kept}
 use Rattle.ds_machine.specs.State.{State}
 use Rattle.ds_machine.specs.Effect.{GoesOn}

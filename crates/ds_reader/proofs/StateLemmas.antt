@@ -18,7 +18,7 @@ use Rattle.ds_machine.specs.declared.command.Command.TheVariants as commands
 use Rattle.ds_machine.specs.declared.command.Scope.{Scope}
 use Rattle.ds_machine.specs.declared.reply.Reply.{Reply}
 use Rattle.ds_machine.specs.declared.reply.Reply.TheVariants.{Journaled, Paged, Refused}
-use Rattle.ds_judge.specs.Last.{IsLast}
+use Rattle.ds_store.specs.Last.{IsLast}
 use Rattle.ds_reader.specs.Asked.{Asked, Went}
 use Rattle.ds_reader.specs.GivesUp.{IsCommandRefused}
 use Rattle.ds_reader.specs.Laws.{ReaderLaws}

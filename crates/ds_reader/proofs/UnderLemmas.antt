@@ -15,12 +15,12 @@ use Rattle.ds_feed.specs.declared.reading.Since.{Since}
 use Rattle.ds_feed.specs.Feed.{Feed}
 use Rattle.ds_feed.specs.Page.{changes_of, floors_of, still_to_come}
 use Rattle.ds_feed.specs.Since.{piece}
-use Rattle.ds_convergence.specs.Checked.{CheckTurn, IsCheckTurn, AreChecks, unseen_by}
-use Rattle.ds_convergence.specs.Gathered.{checked, journaled, paged}
-use Rattle.ds_convergence.specs.Journaled.{SinceTurn, IsSinceTurn, AreSince}
-use Rattle.ds_convergence.specs.OpenPages.{AreOpenPages}
-use Rattle.ds_convergence.specs.Paged.{PageTurn, IsPageTurn, last_key}
-use Rattle.ds_convergence.proofs.SentLemmas.{Contains-under}
+use Rattle.ds_replica.specs.Checked.{CheckTurn, IsCheckTurn, AreChecks, unseen_by}
+use Rattle.ds_replica.specs.Gathered.{checked, journaled, paged}
+use Rattle.ds_replica.specs.Journaled.{SinceTurn, IsSinceTurn, AreSince}
+use Rattle.ds_replica.specs.OpenPages.{AreOpenPages}
+use Rattle.ds_replica.specs.Paged.{PageTurn, IsPageTurn, last_key}
+use Rattle.ds_replica.proofs.SentLemmas.{Contains-under}
 
 -- each of the items is under the query
 abbrev pub ArePassed : (Key → Bool) → List Item → Type 0

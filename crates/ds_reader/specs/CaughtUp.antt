@@ -4,8 +4,8 @@ use Rattle.ds_entry.specs.declared.item.Item.{Item}
 use Rattle.ds_feed.specs.declared.cursor.Cursor.{Cursor}
 use Rattle.ds_pattern.specs.declared.query.Query.{Query}
 use Rattle.ds_pattern.specs.Under.{is_under}
-use Rattle.ds_convergence.specs.Journaled.{SinceTurn, AreSince, cursor_after}
-use Rattle.ds_convergence.specs.Gathered.{journaled}
+use Rattle.ds_replica.specs.Journaled.{SinceTurn, AreSince, cursor_after}
+use Rattle.ds_replica.specs.Gathered.{journaled}
 use Rattle.ds_machine.specs.State.{State, next_position}
 
 -- Whether `more` is `items` followed by the journal's replies up to the store's cursor. The first reply was read from

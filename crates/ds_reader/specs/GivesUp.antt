@@ -6,11 +6,11 @@ use Rattle.ds_entry.specs.declared.item.Item.{Item}
 use Rattle.ds_feed.specs.declared.cursor.Cursor.{Cursor}
 use Rattle.ds_pattern.specs.declared.query.Query.{Query}
 use Rattle.ds_pattern.specs.Under.{is_under}
-use Rattle.ds_convergence.specs.Checked.{CheckTurn, AreChecks}
-use Rattle.ds_convergence.specs.Gathered as gathered
-use Rattle.ds_convergence.specs.Journaled.{SinceTurn, AreSince, cursor_after}
-use Rattle.ds_convergence.specs.Paged.{PageTurn, IsPageTurn}
-use Rattle.ds_convergence.specs.OpenPages.{AreOpenPages, key_after, position_after, first_cursor}
+use Rattle.ds_replica.specs.Checked.{CheckTurn, AreChecks}
+use Rattle.ds_replica.specs.Gathered as gathered
+use Rattle.ds_replica.specs.Journaled.{SinceTurn, AreSince, cursor_after}
+use Rattle.ds_replica.specs.Paged.{PageTurn, IsPageTurn}
+use Rattle.ds_replica.specs.OpenPages.{AreOpenPages, key_after, position_after, first_cursor}
 use Rattle.ds_machine.specs.State.{State, next_position, subscription_at}
 use Rattle.ds_machine.specs.Subscription.{Subscription}
 use Rattle.ds_machine.specs.Effect.{GoesOn}
@@ -20,7 +20,7 @@ use Rattle.ds_machine.specs.declared.command.Command.{Command}
 use Rattle.ds_machine.specs.declared.command.Command.TheVariants.{Check, Since, Page}
 use Rattle.ds_machine.specs.declared.command.Scope.TheVariants.{Under}
 use Rattle.ds_machine.specs.declared.reply.Reply.TheVariants as replies
-use Rattle.ds_judge.specs.Last.{IsLast}
+use Rattle.ds_store.specs.Last.{IsLast}
 use Rattle.ds_reader.specs.Asked.{Goes, subscribe_anew}
 use Rattle.ds_reader.specs.declared.fault.ReadFault.{ReadFault}
 use Rattle.ds_reader.specs.declared.fault.ReadFault.TheVariants.{Refused, NoRoom, Unfinished, Overtaken, Worn}

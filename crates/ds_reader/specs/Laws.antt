@@ -1,6 +1,6 @@
 -- The laws that let a reader conclude that nothing is left out.
-use Rattle.ds_convergence.specs.WholeLaws.{FeedsGrow}
-use Rattle.ds_convergence.specs.TurnLaws.{ChecksGrow, SincesGrow, PagesGrow, FewerReachTheEnd, CheckedIsWhole, PagedIsWhole}
+use Rattle.ds_replica.specs.WholeLaws.{FeedsGrow}
+use Rattle.ds_replica.specs.TurnLaws.{ChecksGrow, SincesGrow, PagesGrow, FewerReachTheEnd, CheckedIsWhole, PagedIsWhole}
 use Rattle.ds_machine.specs.Effect.{StepsGoOn, RunsGoOn, RunsStayReached, GoesOnSame, GoesOnLater, HeldIsTop}
 use Rattle.ds_machine.specs.SubscriptionLaws.{StampTells, SubscribedLeaves, CheckedLeaves}
 use Rattle.ds_machine.specs.Says.{RefusedSays, CheckedSays, JournaledSays, PagedSays}

@@ -6,11 +6,11 @@ use Rattle.ds_join.specs.ItemTop.{IsPartOf}
 use Rattle.ds_feed.specs.declared.cursor.Cursor.{Cursor}
 use Rattle.ds_pattern.specs.declared.query.Query.{Query}
 use Rattle.ds_pattern.specs.Under.{is_under}
-use Rattle.ds_convergence.specs.Checked.{CheckTurn, AreChecks}
-use Rattle.ds_convergence.specs.Gathered.{checked, journaled, paged}
-use Rattle.ds_convergence.specs.Journaled.{SinceTurn, AreSince}
-use Rattle.ds_convergence.specs.Sent.{given}
-use Rattle.ds_convergence.specs.Whole.{IsWhole}
+use Rattle.ds_replica.specs.Checked.{CheckTurn, AreChecks}
+use Rattle.ds_replica.specs.Gathered.{checked, journaled, paged}
+use Rattle.ds_replica.specs.Journaled.{SinceTurn, AreSince}
+use Rattle.ds_replica.specs.Sent.{given}
+use Rattle.ds_replica.specs.Whole.{IsWhole}
 use Rattle.ds_machine.specs.State.{State, next_position}
 use Rattle.ds_reader.specs.GivesUp.{ArePaged}
 use Rattle.ds_reader.specs.declared.reading.Reading.{Reading}

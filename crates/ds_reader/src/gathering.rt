@@ -2,7 +2,7 @@
 
 ghost use Rattle.std.specs.Prelude.{◌≡◌, ◌∷◌, [], IfOk};
 ghost use Rattle.ds_machine.specs.declared.command.Scope.TheVariants.{Under};
-ghost use Rattle.ds_convergence.specs.Paged.{last_key};
+ghost use Rattle.ds_replica.specs.Paged.{last_key};
 
 use ds_entry::{Item, Items};
 use ds_machine::Scope;

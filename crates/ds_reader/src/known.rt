@@ -2,9 +2,8 @@
 
 ghost use Rattle.ds_reader.specs.Laws.{ReaderLaws};
 
-use ds_convergence::{turn_laws, whole_laws};
 use ds_machine::{answers_say, states_are_reached, steps_have_effects, subscriptions_are_kept};
-use ds_replica::stores_grow;
+use ds_replica::{stores_grow, turn_laws, whole_laws};
 
 /// Cites the laws that let a reader conclude that nothing is left out.
 pub(crate) fn laws()

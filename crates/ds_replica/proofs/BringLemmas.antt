@@ -20,7 +20,7 @@ use Rattle.ds_entry.specs.declared.item.Item.{Item}
 use Rattle.ds_entry.specs.declared.item.Item.TheVariants.{Change as Changed, Floor as Floored}
 use Rattle.ds_entry.proofs.Members.{Contains-nil, Contains-head, Contains-tail, Contains-single, Contains-map, Contains-from_take}
 use Rattle.ds_join.specs.Label.{names_endpoint}
-use Rattle.ds_convergence.specs.Sent.{Sent}
+use Rattle.ds_replica.specs.Sent.{Sent}
 use Rattle.ds_machine.specs.Parts.{changes_in}
 use Rattle.ds_machine.specs.State.{State, held, takes_effect, owed}
 use Rattle.ds_machine.specs.Order.{by_command, by_version, by_room}

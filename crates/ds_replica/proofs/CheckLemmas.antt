@@ -6,13 +6,13 @@ use Rattle.ds_entry.specs.declared.item.Item.{Item}
 use Rattle.ds_feed.specs.Feed.{Feed, position}
 use Rattle.ds_pattern.specs.declared.query.Query.{Query}
 use Rattle.ds_pattern.specs.Under.{is_under}
-use Rattle.ds_convergence.specs.Sent.{Sent, given}
-use Rattle.ds_convergence.specs.Taking.{items_of}
-use Rattle.ds_convergence.specs.Front.{IsFront}
-use Rattle.ds_convergence.specs.Whole.{IsWhole}
-use Rattle.ds_convergence.specs.Checked.{CheckTurn, IsCheckTurn, AreChecks, check_items}
-use Rattle.ds_convergence.proofs.WholeLemmas.{front_same, front_later}
-use Rattle.ds_convergence.proofs.CheckLemmas as wholes
+use Rattle.ds_replica.specs.Sent.{Sent, given}
+use Rattle.ds_replica.specs.Taking.{items_of}
+use Rattle.ds_replica.specs.Front.{IsFront}
+use Rattle.ds_replica.specs.Whole.{IsWhole}
+use Rattle.ds_replica.specs.Checked.{CheckTurn, IsCheckTurn, AreChecks, check_items}
+use Rattle.ds_replica.proofs.WholeLemmas.{front_same, front_later}
+use Rattle.ds_replica.proofs.CheckedLemmas as wholes
 use Rattle.ds_machine.specs.Subscription.{Subscription}
 use Rattle.ds_machine.specs.State.{State, held, unseen}
 use Rattle.ds_machine.specs.Machine.{Step}

@@ -18,7 +18,7 @@ use Rattle.ds_entry.specs.declared.item.Item.TheVariants.{Change as Changed, Flo
 use Rattle.ds_entry.proofs.Members.{Contains-from_take}
 use Rattle.ds_join.specs.ItemTop.{IsPartOf}
 use Rattle.ds_pattern.specs.Under.{is_under}
-use Rattle.ds_convergence.proofs.SentLemmas.{Contains-from_under}
+use Rattle.ds_replica.proofs.SentLemmas.{Contains-from_under}
 use Rattle.ds_machine.specs.Parts.{held_at}
 use Rattle.ds_machine.specs.State.{State, held, owed}
 use Rattle.ds_machine.specs.Standing.{standing_of, floor_standing_of, on_held, against_change, against_floor, cause_of, is_same_body}

@@ -8,9 +8,9 @@ use Rattle.ds_entry.proofs.Members.{Contains-nil, Contains-from_take}
 use Rattle.ds_join.specs.ItemTop.{IsTop}
 use Rattle.ds_pattern.specs.declared.query.Query.{Query}
 use Rattle.ds_pattern.specs.Under.{is_under}
-use Rattle.ds_convergence.specs.Sent.{Sent, IsSent}
-use Rattle.ds_convergence.specs.Taking.{items_of}
-use Rattle.ds_convergence.proofs.TakingLemmas.{new_map_is_map}
+use Rattle.ds_replica.specs.Sent.{Sent, IsSent}
+use Rattle.ds_replica.specs.Taking.{items_of}
+use Rattle.ds_replica.proofs.TakingLemmas.{new_map_is_map}
 use Rattle.ds_machine.specs.State.{State}
 use Rattle.ds_machine.specs.Machine.{Step}
 use Rattle.ds_machine.specs.Effect.{learnt_by}

@@ -12,10 +12,10 @@ use Rattle.ds_join.specs.ItemTop.{IsTop, IsPartOf}
 use Rattle.ds_join.proofs.ItemTopLemmas.{held_is_top}
 use Rattle.ds_pattern.specs.declared.query.Query.{Query}
 use Rattle.ds_pattern.specs.Under.{is_under}
-use Rattle.ds_convergence.specs.Sent.{Sent, IsSent, sent_by, given, stood_for}
-use Rattle.ds_convergence.specs.Taking.{items_of, sent_under}
-use Rattle.ds_convergence.proofs.SentLemmas.{from_stood, stood, given_is_sent}
-use Rattle.ds_convergence.proofs.TakingLemmas.{holder_takes, map_takes}
+use Rattle.ds_replica.specs.Sent.{Sent, IsSent, sent_by, given, stood_for}
+use Rattle.ds_replica.specs.Taking.{items_of, sent_under}
+use Rattle.ds_replica.proofs.SentLemmas.{from_stood, stood, given_is_sent}
+use Rattle.ds_replica.proofs.TakingLemmas.{holder_takes, map_takes}
 use Rattle.ds_machine.specs.State.{State, held}
 use Rattle.ds_machine.specs.Machine.{Step}
 use Rattle.ds_machine.specs.Effect.{learnt_by}

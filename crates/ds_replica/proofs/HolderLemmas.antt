@@ -13,12 +13,12 @@ use Rattle.ds_join.specs.ItemTop.{IsTop, IsPartOf, CoversAll}
 use Rattle.ds_join.proofs.ItemTopLemmas.{held_apart, top_of_nothing, top_of_same, void_isnt_held}
 use Rattle.ds_feed.specs.Feed.{position}
 use Rattle.ds_pattern.specs.Under.{is_under}
-use Rattle.ds_convergence.specs.Sent.{Sent}
-use Rattle.ds_convergence.proofs.SentLemmas.{from_stood, Contains-under, Contains-from_under}
-use Rattle.ds_convergence.proofs.HolderLemmas.{top_under_query}
-use Rattle.ds_convergence.proofs.HolderLemmas as wholes
-use Rattle.ds_convergence.proofs.WholeLemmas.{more_is_whole, earlier_is_whole}
-use Rattle.ds_convergence.proofs.LabelLemmas as labels
+use Rattle.ds_replica.specs.Sent.{Sent}
+use Rattle.ds_replica.proofs.SentLemmas.{from_stood, Contains-under, Contains-from_under}
+use Rattle.ds_replica.proofs.HoldingLemmas.{top_under_query}
+use Rattle.ds_replica.proofs.HoldingLemmas as wholes
+use Rattle.ds_replica.proofs.WholeLemmas.{more_is_whole, earlier_is_whole}
+use Rattle.ds_replica.proofs.LabelLemmas as labels
 use Rattle.ds_machine.specs.Reached.{AreExact}
 use Rattle.ds_machine.specs.State.{State, held}
 use Rattle.ds_machine.proofs.ReachedLemmas.{held_is_top}

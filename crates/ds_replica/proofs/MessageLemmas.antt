@@ -11,14 +11,14 @@ use Rattle.ds_feed.specs.declared.journal.SinceFault.TheVariants as faults
 use Rattle.ds_feed.specs.Feed.{Feed, position}
 use Rattle.ds_feed.specs.Since.{fault_at, piece, since_of}
 use Rattle.ds_feed.specs.Page.{floors_of, changes_of, still_to_come, snapshot_of, page_of}
-use Rattle.ds_convergence.specs.Sent.{Sent, given}
-use Rattle.ds_convergence.specs.Front.{IsFront}
-use Rattle.ds_convergence.specs.Whole.{IsWhole}
-use Rattle.ds_convergence.specs.Journaled.{SinceTurn}
-use Rattle.ds_convergence.specs.Paged.{PageTurn}
-use Rattle.ds_convergence.specs.Checked.{CheckTurn}
-use Rattle.ds_convergence.proofs.WholeLemmas as wholes
-use Rattle.ds_convergence.proofs.JournalLemmas as journals
+use Rattle.ds_replica.specs.Sent.{Sent, given}
+use Rattle.ds_replica.specs.Front.{IsFront}
+use Rattle.ds_replica.specs.Whole.{IsWhole}
+use Rattle.ds_replica.specs.Journaled.{SinceTurn}
+use Rattle.ds_replica.specs.Paged.{PageTurn}
+use Rattle.ds_replica.specs.Checked.{CheckTurn}
+use Rattle.ds_replica.proofs.WholeLemmas as wholes
+use Rattle.ds_replica.proofs.JournalLemmas as journals
 use Rattle.ds_machine.specs.Scope.{keeps, is_kept}
 use Rattle.ds_machine.specs.State.{State, held, cursor, unseen}
 use Rattle.ds_machine.specs.Subscription.{Subscription}

@@ -16,8 +16,8 @@ use Rattle.ds_held.specs.Limits.{larger}
 use Rattle.ds_pattern.specs.declared.query.Query.{Query}
 use Rattle.ds_pattern.specs.Under.{is_under}
 use Rattle.ds_join.proofs.ItemTopLemmas.{top_of_covered}
-use Rattle.ds_convergence.proofs.Samples.{top_of_one}
-use Rattle.ds_convergence.proofs.SentLemmas.{Contains-from_under, stood_wider}
+use Rattle.ds_replica.proofs.Samples.{top_of_one}
+use Rattle.ds_replica.proofs.SentLemmas.{Contains-from_under, stood_wider}
 use Rattle.ds_machine.specs.State.{State, takes_effect, opening}
 use Rattle.ds_machine.specs.Machine.{Step, outcome}
 use Rattle.ds_machine.specs.Reached.{AreExact}

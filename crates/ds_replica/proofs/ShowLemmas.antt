@@ -3,8 +3,8 @@ use Rattle.std.proofs.Common.{◌≡◌, ◌==◌, ℕ, Bool, true, false, ◌&&
 use Rattle.std.proofs.lemmas.Bool.Decides.{eqb_tells}
 use Rattle.ds_entry.specs.declared.item.Item.{Item}
 use Rattle.ds_pattern.specs.declared.query.Query.{Query}
-use Rattle.ds_convergence.specs.Sent.{Sent, given}
-use Rattle.ds_convergence.specs.Taking.{items_of}
+use Rattle.ds_replica.specs.Sent.{Sent, given}
+use Rattle.ds_replica.specs.Taking.{items_of}
 use Rattle.ds_machine.specs.State.{State, subscription_at}
 use Rattle.ds_machine.specs.Machine.{Step}
 use Rattle.ds_machine.specs.Reached.{IsReached}

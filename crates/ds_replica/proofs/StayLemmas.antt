@@ -8,9 +8,9 @@ use Rattle.ds_entry.specs.declared.item.Item.{Item}
 use Rattle.ds_entry.proofs.Members.{Contains-nil, Contains-filter, Contains-from_filter}
 use Rattle.ds_join.specs.ItemTop.{IsPartOf}
 use Rattle.ds_pattern.specs.Under.{is_under}
-use Rattle.ds_convergence.specs.Sent.{Sent}
-use Rattle.ds_convergence.specs.Taking.{sent_under}
-use Rattle.ds_convergence.proofs.SentLemmas.{stood_wider}
+use Rattle.ds_replica.specs.Sent.{Sent}
+use Rattle.ds_replica.specs.Taking.{sent_under}
+use Rattle.ds_replica.proofs.SentLemmas.{stood_wider}
 use Rattle.ds_machine.specs.Machine.{outcome}
 use Rattle.ds_machine.specs.declared.command.Command.{Command}
 use Rattle.ds_machine.specs.declared.reply.Reply.{Reply}

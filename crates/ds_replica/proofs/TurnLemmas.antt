@@ -2,7 +2,7 @@
 use Rattle.std.proofs.Common.{◌≡◌, ℕ, true, false, List, [], ◌∷◌, ◌++◌, Option, Some, None, refl, ap, sym, ◌∙◌, subst}
 use Rattle.std.specs.List.{list_any}
 use Rattle.ds_entry.specs.declared.item.Item.{Item}
-use Rattle.ds_convergence.proofs.WholeLemmas as wholes
+use Rattle.ds_replica.proofs.WholeLemmas as wholes
 use Rattle.ds_machine.specs.State.{State}
 use Rattle.ds_machine.specs.Machine.{Step, Run}
 use Rattle.ds_machine.specs.Effect.{GoesOn}

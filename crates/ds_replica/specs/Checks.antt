@@ -4,8 +4,8 @@ use Rattle.std.specs.List.{list_any, slice_get}
 use Rattle.ds_feed.specs.Feed.{position}
 use Rattle.ds_pattern.specs.declared.query.Query.{Query}
 use Rattle.ds_pattern.specs.Under.{is_under}
-use Rattle.ds_convergence.specs.Sent.{Sent}
-use Rattle.ds_convergence.specs.Whole.{IsWhole}
+use Rattle.ds_replica.specs.Sent.{Sent}
+use Rattle.ds_replica.specs.Whole.{IsWhole}
 use Rattle.ds_machine.specs.declared.command.Command.TheVariants.{Subscribe, Check}
 use Rattle.ds_machine.specs.declared.reply.Reply.TheVariants.{Subscribed}
 use Rattle.ds_replica.specs.declared.event.Side.{Side}

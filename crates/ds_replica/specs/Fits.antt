@@ -4,9 +4,9 @@ use Rattle.std.specs.List.{AllZip}
 use Rattle.ds_entry.specs.declared.item.Item.{Item}
 use Rattle.ds_join.specs.ItemTop.{IsTop, IsPartOf}
 use Rattle.ds_pattern.specs.Under.{is_under}
-use Rattle.ds_convergence.specs.Sent.{Sent, IsSent}
-use Rattle.ds_convergence.specs.Taking.{items_of}
-use Rattle.ds_convergence.specs.CatchUp.{MapHolds}
+use Rattle.ds_replica.specs.Sent.{Sent, IsSent}
+use Rattle.ds_replica.specs.Taking.{items_of}
+use Rattle.ds_replica.specs.CatchUp.{MapHolds}
 use Rattle.ds_machine.specs.State.{State, held}
 use Rattle.ds_machine.specs.Reached.{IsReached}
 use Rattle.ds_replica.specs.World.{MapState, World}

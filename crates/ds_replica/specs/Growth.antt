@@ -1,8 +1,8 @@
 -- How a store grows, as the laws of wholeness need it.
 use Rattle.std.specs.Prelude.{List}
 use Rattle.ds_entry.specs.declared.item.Item.{Item}
-use Rattle.ds_convergence.specs.Accepting.{AreNew}
-use Rattle.ds_convergence.specs.Front.{IsFront}
+use Rattle.ds_replica.specs.Accepting.{AreNew}
+use Rattle.ds_replica.specs.Front.{IsFront}
 use Rattle.ds_machine.specs.State.{State}
 use Rattle.ds_machine.specs.Effect.{AreNews, GoesOn}
 

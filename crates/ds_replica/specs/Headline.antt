@@ -6,7 +6,7 @@ use Rattle.ds_entry.specs.ItemCovers.{AreSingleNumbered}
 use Rattle.ds_entry.specs.declared.item.Item.{Item}
 use Rattle.ds_entry.specs.declared.item.Item.TheVariants.{Change as Changed}
 use Rattle.ds_held.specs.Limits.{LimitsRecord, IsLimits}
-use Rattle.ds_convergence.specs.Agreement.{KnowSame}
+use Rattle.ds_replica.specs.Agreement.{KnowSame}
 use Rattle.ds_machine.specs.Reached.{AreExact}
 use Rattle.ds_machine.specs.declared.refusal.Refusal.{Refusal}
 use Rattle.ds_machine.specs.declared.refusal.Refusal.TheVariants.{NotOwner, Clash}

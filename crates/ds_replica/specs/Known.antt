@@ -6,8 +6,8 @@ use Rattle.ds_entry.specs.declared.item.Item.{Item}
 use Rattle.ds_held.specs.Limits.{LimitsRecord}
 use Rattle.ds_pattern.specs.declared.query.Query.{Query}
 use Rattle.ds_pattern.specs.Under.{is_under}
-use Rattle.ds_convergence.specs.Sent.{Sent, given, stood_for, learnt}
-use Rattle.ds_convergence.specs.Taking.{items_of}
+use Rattle.ds_replica.specs.Sent.{Sent, given, stood_for, learnt}
+use Rattle.ds_replica.specs.Taking.{items_of}
 use Rattle.ds_machine.specs.State.{State, takes_effect, opening}
 use Rattle.ds_machine.specs.Standing.{cause_of}
 use Rattle.ds_machine.specs.Machine.{outcome}

@@ -14,8 +14,8 @@ use Rattle.ds_entry.specs.declared.item.Item.TheVariants.{Change as Changed, Flo
 use Rattle.ds_held.specs.Limits.{larger}
 use Rattle.ds_pattern.specs.declared.query.Query.{Query}
 use Rattle.ds_pattern.specs.Under.{is_under}
-use Rattle.ds_convergence.specs.Agreement.{KnowSame}
-use Rattle.ds_convergence.specs.Labels.{label_in, IsNewest}
+use Rattle.ds_replica.specs.Agreement.{KnowSame}
+use Rattle.ds_replica.specs.Labels.{label_in, IsNewest}
 use Rattle.ds_machine.specs.Reached.{AreExact}
 use Rattle.ds_machine.specs.declared.command.Scope.TheVariants.{All}
 use Rattle.ds_machine.specs.declared.command.Command.{Command}

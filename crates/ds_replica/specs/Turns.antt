@@ -8,8 +8,8 @@ use Rattle.ds_entry.specs.declared.floor.Floor.{Floor}
 use Rattle.ds_entry.specs.declared.item.Item.TheVariants.{Change as Changed, Floor as Floored}
 use Rattle.ds_join.specs.ItemTop.{IsPartOf}
 use Rattle.ds_feed.specs.Feed.{position}
-use Rattle.ds_convergence.specs.Sent.{Sent}
-use Rattle.ds_convergence.specs.Whole.{IsWhole}
+use Rattle.ds_replica.specs.Sent.{Sent}
+use Rattle.ds_replica.specs.Whole.{IsWhole}
 use Rattle.ds_machine.specs.Machine.{Run}
 use Rattle.ds_machine.specs.declared.command.Command.{Command}
 use Rattle.ds_machine.specs.declared.reply.Reply.{Reply}

@@ -1,96 +1,113 @@
-//! Laws over every list of events of a world. They cite only definitions.
+//! The laws of items that leave out nothing that a store accepted, and of the holders that take them.
 
-ghost use Rattle.ds_replica.specs.Bringing.{EventsBringItems};
-ghost use Rattle.ds_replica.specs.CaughtUp.{WholeIsAll, HoldsTheStoresInWorlds, HoldsAtLeastInWorlds, LabelsAreNewestInWorlds};
-ghost use Rattle.ds_replica.specs.Checks.{ChecksAreWholeInWorlds};
-ghost use Rattle.ds_replica.specs.Growth.{NewsAreNew, LaterIsFront};
-ghost use Rattle.ds_replica.specs.Headline.{AccountFitsAtStart, EventsFit, EqualWhereKnown};
-ghost use Rattle.ds_replica.specs.Headline.{EqualOverEvents, NothingClashesInWorlds, NothingStopsInWorlds};
-ghost use Rattle.ds_replica.specs.Messages.{SnapshotIsWholeInWorlds, SinceIsTurn, SinceExtendsInWorlds, PageIsTurn, CheckIsTurn};
-ghost use Rattle.ds_replica.specs.Rows.{ReplicasConverge, ReplicasDiffer, MapsCatchUp, MapsLag};
-ghost use Rattle.ds_replica.specs.Rows.{MapsLead, ReplicasClash, MapsClash, OwnersChange};
-ghost use Rattle.ds_replica.specs.Turns.{TurnsAreRunInWorlds, WholeStaysInWorlds, KnownStays};
-ghost use Rattle.ds_replica.specs.Turns.{NothingBelowFloorsInWorlds, FloorsStandInWorlds};
+ghost use Rattle.ds_replica.specs.WholeLaws.{SnapshotIsWhole, SinceExtends, SincesExtend, NothingIsWhole, MoreIsWhole};
+ghost use Rattle.ds_replica.specs.WholeLaws.{EarlierIsWhole, NarrowerIsWhole, WholeStays, FeedsGrow};
+ghost use Rattle.ds_replica.specs.PageLaws.{PagesAreWhole};
+ghost use Rattle.ds_replica.specs.CatchUp.{HoldsTheStores, HoldsAlike, HoldsATop, HoldsAtLeast};
+ghost use Rattle.ds_replica.specs.CatchUp.{AnyHolderHoldsTheStores, MapHoldsItsQuery, GivenIsSent};
+ghost use Rattle.ds_replica.specs.Taking.{HolderTakes, NewMapIsMap, MapsTake};
+ghost use Rattle.ds_replica.specs.Following.{FollowsFromSnapshot, FollowsFromPages};
+ghost use Rattle.ds_replica.specs.Agreement.{HoldersAgree, TopUnderQuery, JoinOfHolders, JoinUnderQuery, MoreIsHeld};
+ghost use Rattle.ds_replica.specs.Labels.{NothingOlderIsHeld, NoOlderLabelIsHeld, LabelsAreNewest};
+ghost use Rattle.ds_replica.specs.Accepting.{OneByOneIsNew};
+ghost use Rattle.ds_replica.specs.CheckLaws.{ChecksAreWhole, ChecksGoOn};
+ghost use Rattle.ds_replica.specs.TurnLaws.{ChecksGrow, SincesGrow, PagesGrow, FewerReachTheEnd, CheckedIsWhole, PagedIsWhole};
 
-/// A law: the empty account fits a world that was just made, and after any events the account that they extend fits.
-pub fn accounts_fit()
-    ensures start { AccountFitsAtStart }
-    ensures events { EventsFit }
-{}
-
-/// A law: after any events, replicas and maps that know the same under a query hold the same under it, if everything
-/// brought is exact.
+/// Laws of wholeness.
 ///
-/// Changes are exact if no two of one key, owner and version have two bodies. They are single-numbered if, besides, each
-/// key has one owner. If everything brought is single-numbered, nothing held or on its way contradicts anything else, and
-/// no delivery stops by a clash or another owner.
-pub fn holders_agree()
-    ensures equal { EqualWhereKnown }
-    ensures over_events { EqualOverEvents }
-    ensures clashes { NothingClashesInWorlds }
-    ensures stops { NothingStopsInWorlds }
+/// A snapshot is whole up to its cursor. With the items that the journal returns from there, it is whole up to the
+/// returned cursor. Whole items stay whole if more are added, for an earlier position, for a narrower query, and when more
+/// takes effect.
+pub fn whole_laws()
+    ensures snapshot { SnapshotIsWhole }
+    ensures since { SinceExtends }
+    ensures sinces { SincesExtend }
+    ensures nothing { NothingIsWhole }
+    ensures more { MoreIsWhole }
+    ensures earlier { EarlierIsWhole }
+    ensures narrower { NarrowerIsWhole }
+    ensures stays { WholeStays }
+    ensures feeds { FeedsGrow }
 {}
 
-/// A law: a map that took everything that a store accepted under the map's query, and nothing that the store doesn't know,
-/// holds exactly what the store holds under the query, if everything brought is exact.
+/// A law of pages.
 ///
-/// The map's labels then have no older generation than the store knows. A map that took more holds at least that.
-pub fn maps_catch_up()
-    ensures all { WholeIsAll }
-    ensures exact { HoldsTheStoresInWorlds }
-    ensures least { HoldsAtLeastInWorlds }
-    ensures labels { LabelsAreNewestInWorlds }
+/// All pages, with the items that the journal returns from the first page's cursor on, are whole up to the returned
+/// cursor. Changes and floors may take effect between the pages.
+pub fn page_laws()
+    ensures pages { PagesAreWhole }
 {}
 
-/// A law: everything that Asks bring in keeps the rules of changes and floors, if the commands' parts are in their
-/// ranges.
-pub fn items_are_brought()
-    ensures events { EventsBringItems }
-{}
-
-/// A law: a store's turns among the events are a run of its machine, and items that are whole for it stay whole.
+/// Laws of taking items.
 ///
-/// None of its messages leaves anything out. Snapshots and the journal are whole, and pages and checks meet the premises of
-/// the laws of pages and checks.
-pub fn messages_are_whole()
-    ensures turns { TurnsAreRunInWorlds }
-    ensures stays { WholeStaysInWorlds }
-    ensures snapshot { SnapshotIsWholeInWorlds }
-    ensures since { SinceIsTurn }
-    ensures extends { SinceExtendsInWorlds }
-    ensures page { PageIsTurn }
-    ensures check { CheckIsTurn }
-    ensures checks { ChecksAreWholeInWorlds }
+/// A holder that merges items knows from then on everything that they stand for. A map knows what the items under its
+/// query stand for.
+pub fn taking_laws()
+    ensures holder { HolderTakes }
+    ensures new_map { NewMapIsMap }
+    ensures map { MapsTake }
 {}
 
-/// A law: the items that take effect at a store are new, as the laws of checks require. The feed of a later state continues
-/// the feed of an earlier one, as the laws of wholeness require.
-pub fn stores_grow()
-    ensures news { NewsAreNew }
-    ensures front { LaterIsFront }
-{}
-
-/// A law: a holder forgets nothing until it is emptied. If it knows a floor, it holds nothing that the floor makes
-/// void, and no event brings such a change in.
-pub fn floors_stand()
-    ensures known { KnownStays }
-    ensures below { NothingBelowFloorsInWorlds }
-    ensures events { FloorsStandInWorlds }
-{}
-
-/// Laws by example.
+/// Laws of catching up.
 ///
-/// In some rows two replicas end up knowing and holding the same, and a map has all of a store and its label. In others one
-/// condition of the laws is missing, and the conclusion fails: the replicas don't know the same, the map didn't take
-/// everything or took more, or what a replica or map took contradicts itself. In the last row a key returns with another
-/// owner, so that everything brought is exact but not single-numbered.
-pub fn rows_happen()
-    ensures converge { ReplicasConverge }
-    ensures differ { ReplicasDiffer }
-    ensures catch_up { MapsCatchUp }
-    ensures lag { MapsLag }
-    ensures lead { MapsLead }
-    ensures clash { ReplicasClash }
-    ensures map_clash { MapsClash }
-    ensures renew { OwnersChange }
+/// A map takes items that are whole up to a store's position. If the store's items cover all that the map learnt, without
+/// contradictions, the map holds exactly what the store holds under its query. Otherwise it holds at least that.
+pub fn catch_up_laws()
+    ensures exact { HoldsTheStores }
+    ensures alike { HoldsAlike }
+    ensures top { HoldsATop }
+    ensures least { HoldsAtLeast }
+    ensures holder { AnyHolderHoldsTheStores }
+    ensures query { MapHoldsItsQuery }
+    ensures sent { GivenIsSent }
+    ensures snapshot { FollowsFromSnapshot }
+    ensures pages { FollowsFromPages }
+{}
+
+/// Laws of agreement.
+///
+/// Holders that know the same under a query hold the same under it. The join of two holdings is the top of everything
+/// that either holder knows.
+pub fn agreement_laws()
+    ensures equal { HoldersAgree }
+    ensures query { TopUnderQuery }
+    ensures join { JoinOfHolders }
+    ensures join_query { JoinUnderQuery }
+    ensures more { MoreIsHeld }
+{}
+
+/// Laws of generations.
+///
+/// If a known change isn't void, no older change of its key is held. Labels are never void. The held label has the
+/// endpoint of the greatest known generation, or none if that one is gone.
+pub fn label_laws()
+    ensures older { NothingOlderIsHeld }
+    ensures older_label { NoOlderLabelIsHeld }
+    ensures newest { LabelsAreNewest }
+{}
+
+/// Laws of checks.
+///
+/// The checks of a subscription end with one that returns fewer items than it may. If nothing counted as shown at first,
+/// their items are whole up to that last check. If some items counted as shown, the checks' items are whole together with
+/// items that were whole when the subscription began. Both laws need that no item that took effect meanwhile was covered
+/// by one before it.
+pub fn check_laws()
+    ensures checks { ChecksAreWhole }
+    ensures later { ChecksGoOn }
+    ensures accepted { OneByOneIsNew }
+{}
+
+/// Laws of a reader that continues check by check, reply by reply or page by page.
+///
+/// A list of calls stays valid when the store accepts more, and can be extended by one call. The store has accepted all
+/// items that the calls returned. The laws of checks and of pages hold for these items, even if the store is taken to
+/// know more than it did at each call. A reply of the journal with fewer items than `max` reaches the store's position.
+pub fn turn_laws()
+    ensures checks { ChecksGrow }
+    ensures sinces { SincesGrow }
+    ensures pages { PagesGrow }
+    ensures ends { FewerReachTheEnd }
+    ensures checked { CheckedIsWhole }
+    ensures paged { PagedIsWhole }
 {}

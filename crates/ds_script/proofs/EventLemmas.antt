@@ -7,15 +7,15 @@ use Rattle.ds_replica.specs.declared.event.Event.{Event}
 use Rattle.ds_replica.specs.declared.event.Side.{Side as OneSide}
 use Rattle.ds_replica.specs.declared.outcome.Outcome.{Outcome}
 use Rattle.script_commands.specs.Event.{event_of}
-use Rattle.store_answers.specs.Outcome.{side_line}
+use Rattle.script_answers.specs.Outcome.{side_line}
 use Rattle.script_commands.specs.Wording.{wording}
-use Rattle.store_answers.specs.Reply.{refused_noroom}
+use Rattle.script_answers.specs.Reply.{refused_noroom}
 use Rattle.script_commands.specs.declared.command.ScriptCommand.{ScriptCommand}
 use Rattle.script_commands.specs.declared.command.ScriptCommand.TheVariants.{Show, All, Entries, Ring, Side, Settings, Service, Death, Beat, Tick, Assign, Follow, Submit, Reply}
 use Rattle.script_commands.specs.declared.service.Device.{Device}
 use Rattle.script_commands.specs.declared.service.Request.{Request}
 use Rattle.script_commands.specs.declared.service.Server.{Server}
-use Rattle.store_answers.specs.declared.wording.Wording.{Wording}
+use Rattle.script_answers.specs.declared.wording.Wording.{Wording}
 use Rattle.ds_script.specs.Session.{SessionContent, IsHappening, turned}
 use Rattle.ds_script.specs.Answer.{told_lines, entries_text, AnswersEvent, AnswersAsEvent, AnswersByServers, AnswersRing, AnswersCommand, IsLineRefused, AnswerTakesRoom, AnswersOrRefuses}
 use Rattle.script_services.specs.Services.{AnswersSettings}

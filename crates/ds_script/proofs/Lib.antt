@@ -6,3 +6,8 @@ pub mod CauseLemmas
 pub mod ProgressLemmas
 pub mod RunLemmas
 pub mod EndLemmas
+pub mod LeftLemmas
+pub mod NoteLineLemmas
+pub mod SourceLemmas
+pub mod ReplayLemmas
+pub mod NoteCauseLemmas

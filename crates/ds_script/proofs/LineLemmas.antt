@@ -5,7 +5,7 @@ use Rattle.ds_line.specs.Part.{texts}
 use Rattle.ds_line.specs.ItemSpelling.{item_parts}
 use Rattle.script_commands.specs.Command.{IsCommand, CommandTakesMemory, IsFaultAmong, ReadsAs, is_offer}
 use Rattle.line_io.specs.Lines.{with_newline}
-use Rattle.store_answers.specs.Reply.{refused_noroom}
+use Rattle.script_answers.specs.Reply.{refused_noroom}
 use Rattle.script_commands.specs.Later.{IsLater}
 use Rattle.script_commands.specs.Fast.{IsOffer, OfPlaced}
 use Rattle.script_commands.specs.declared.command.ScriptCommand.{ScriptCommand}

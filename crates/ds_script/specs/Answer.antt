@@ -17,12 +17,12 @@ use Rattle.script_commands.specs.Command.{IsCommand, CommandTakesMemory, IsLineA
 use Rattle.script_commands.specs.Later.{IsLater}
 use Rattle.line_io.specs.Lines.{with_newline}
 use Rattle.script_commands.specs.Event.{event_of}
-use Rattle.store_answers.specs.Outcome.{outcome_lines, ring_line, side_line}
+use Rattle.script_answers.specs.Outcome.{outcome_lines, ring_line, side_line}
 use Rattle.script_commands.specs.Wording.{wording}
-use Rattle.store_answers.specs.Reply.{reply_lines, refused_noroom}
+use Rattle.script_answers.specs.Reply.{reply_lines, refused_noroom}
 use Rattle.script_commands.specs.declared.command.ScriptCommand.{ScriptCommand}
 use Rattle.script_commands.specs.declared.command.ScriptCommand.TheVariants as lines
-use Rattle.store_answers.specs.declared.wording.Wording.{Wording}
+use Rattle.script_answers.specs.declared.wording.Wording.{Wording}
 use Rattle.script_commands.specs.ServiceEvent.{request_event}
 use Rattle.rs_core.specs.declared.event.Event as services
 use Rattle.rs_core.specs.declared.event.Event.TheVariants.{Death, Beat, Tick}

@@ -4,7 +4,7 @@ use Rattle.std.specs.Prelude.{◌≡◌, ℕ, suc, ◌+◌, ◌≤◌, ◌⊎◌
 use Rattle.ds_names.specs.declared.key.Key.{Key}
 use Rattle.ds_held.specs.Limits.{larger}
 use Rattle.ds_machine.specs.Reached.{AreExact}
-use Rattle.ds_convergence.specs.Agreement.{KnowSame}
+use Rattle.ds_replica.specs.Agreement.{KnowSame}
 use Rattle.ds_replica.specs.declared.event.Event.{Event}
 use Rattle.ds_replica.specs.declared.event.Holder.{Holder}
 use Rattle.ds_replica.specs.declared.event.Holder.TheVariants.{Store}

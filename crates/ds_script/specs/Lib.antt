@@ -6,3 +6,6 @@ pub mod Causes
 pub mod Passing
 pub mod Taking
 pub mod Laws
+pub mod Left
+pub mod Stops
+pub mod NoteCauses

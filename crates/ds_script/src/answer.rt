@@ -1,8 +1,8 @@
 //! Runs commands, and appends their answers.
 
 ghost use Rattle.std.specs.Prelude.{◌≡◌, ◌≤◌, ◌++◌, false, IfErr, OnOk, OnErr};
-ghost use Rattle.store_answers.specs.Outcome.{ring_line};
-ghost use Rattle.store_answers.specs.Reply.{refused_noroom};
+ghost use Rattle.script_answers.specs.Outcome.{ring_line};
+ghost use Rattle.script_answers.specs.Reply.{refused_noroom};
 ghost use Rattle.script_commands.specs.Command.{IsCommand, is_offer};
 ghost use Rattle.script_commands.specs.ServiceEvent.{request_event};
 ghost use Rattle.script_commands.specs.declared.fault.CommandFault.TheVariants as faults;
@@ -15,10 +15,10 @@ use crate::shown::append_shown;
 use ds_names::{Name, NoRoom};
 use ds_replica::Side;
 use rs_core::Event;
+use script_answers::{append_noroom, append_ring, append_side};
 use script_commands::{CommandFault, Request, ScriptCommand};
 use std::alloc::Global;
 use std::mem::swap;
-use store_answers::{append_noroom, append_ring, append_side};
 
 /// Runs any command but an offer, and appends its answer to the output. Not inlined: its locals would be cleared for
 /// every line.

@@ -8,8 +8,8 @@ use crate::shown::append_items;
 use ds_line::append_all;
 use ds_names::NoRoom;
 use ds_submap::SubMap;
+use script_answers::append_noroom;
 use std::alloc::Global;
-use store_answers::append_noroom;
 
 /// Appends the puts of a map, or the refusal: no such map, or out of memory.
 pub(crate) fn append_entries(

@@ -9,9 +9,9 @@ use crate::session::Session;
 use ds_held::Limits;
 use ds_names::NoRoom;
 use ds_replica::Outcome;
+use script_answers::{Wording, append_message, append_outcome};
 use script_commands::ScriptCommand;
 use std::alloc::Global;
-use store_answers::{Wording, append_message, append_outcome};
 
 /// Applies the event of any command but an offer to the world, and appends its outcome to the output.
 pub(crate) fn answer_event(

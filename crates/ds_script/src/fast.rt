@@ -18,9 +18,9 @@ use ds_entry::Item;
 use ds_held::Limits;
 use ds_machine::Command;
 use ds_names::NoRoom;
+use script_answers::{Wording, append_offered, append_reply};
 use script_commands::{CommandFault, Publication};
 use std::alloc::Global;
-use store_answers::{Wording, append_offered, append_reply};
 
 /// Answers an offer's line. Not inlined: its item is parsed into this frame, and isn't copied.
 #[inline(never)]

@@ -12,9 +12,8 @@ ghost use Rattle.ds_script.specs.Session.{IsOpened, seed as described_seed, held
 use ds_entry::Item;
 use ds_held::Held;
 use ds_machine::{Command, Reply};
-use ds_message::Message;
 use ds_names::NoRoom;
-use ds_replica::{Event, Outcome, Seed, Side};
+use ds_replica::{Event, Message, Outcome, Seed, Side};
 use ds_submap::SubMap;
 use ds_world::World;
 use script_services::Servers;

@@ -10,8 +10,8 @@ use ds_entry::{Item, Items};
 use ds_held::Held;
 use ds_line::{append_item, append_numbers};
 use ds_names::NoRoom;
+use script_answers::append_noroom;
 use std::alloc::Global;
-use store_answers::append_noroom;
 
 /// Appends the answer to `show` (the puts) or to `all` (floors and tombstones too), or the refusal if memory runs out.
 ///

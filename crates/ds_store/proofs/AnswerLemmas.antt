@@ -29,9 +29,9 @@ use Rattle.ds_machine.specs.declared.reply.Reply.{Reply}
 use Rattle.ds_machine.specs.declared.reply.Reply.TheVariants as replies
 use Rattle.ds_machine.proofs.PartLemmas.{key_found}
 use Rattle.ds_machine.specs.Says.{IsAskedReply}
-use Rattle.ds_judge.specs.Last.{IsKindInPlace, IsLast, MayLackAsked, MayLackRoom}
-use Rattle.ds_judge.specs.Passed.{passed_as}
-use Rattle.ds_judge.proofs.LastLemmas.{last}
+use Rattle.ds_store.specs.Last.{IsKindInPlace, IsLast, MayLackAsked, MayLackRoom}
+use Rattle.ds_store.specs.Passed.{passed_as}
+use Rattle.ds_store.proofs.LastLemmas.{last}
 use Rattle.ds_content.specs.Content.{ContentRecord}
 use Rattle.ds_content.specs.Stands.{ContentStands}
 use Rattle.ds_store.proofs.ReadingLemmas.{refused_last}

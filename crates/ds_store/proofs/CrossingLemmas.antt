@@ -2,7 +2,7 @@
 use denote.Param.Send.{IsSend, IsSync, sendable}
 use denote.Param.SendFields.{declared_send, declared_sync}
 use Rattle.std.proofs.Crossing.{crosses, send, sync}
-use Rattle.ds_marked.proofs.marked.Marked.TheSendSync as marked
+use Rattle.ds_index.proofs.marked.Marked.TheSendSync as marked
 use Rattle.ds_feed.proofs.journal.Journal.TheSendSync as journal
 use Rattle.ds_watch.proofs.masks.Masks.TheSendSync as masks
 use Rattle.ds_watch.proofs.CrossingLemmas.{subscriptions_send, subscriptions_sync}

@@ -15,7 +15,7 @@ use Rattle.ds_machine.specs.State.{State, held}
 use Rattle.ds_machine.specs.declared.command.Command.TheVariants.{Retrieve, NameOf}
 use Rattle.ds_machine.specs.declared.refusal.Refusal.TheVariants.{NoRoom}
 use Rattle.ds_machine.specs.declared.reply.Reply.TheVariants.{Found, Named, Refused}
-use Rattle.ds_judge.specs.Last.{IsLast}
+use Rattle.ds_store.specs.Last.{IsLast}
 use Rattle.ds_content.specs.Content.{ContentRecord}
 use Rattle.ds_content.specs.Stands.{ContentStands, InEachState}
 use Rattle.ds_store.specs.Finding.{label_name}

@@ -1,3 +1,8 @@
+pub mod HeldLemmas
+pub mod FreeLemmas
+pub mod MadeLemmas
+pub mod RoomLemmas
+pub mod LastLemmas
 pub mod StandingLemmas
 pub mod AnswerLemmas
 pub mod FindLemmas

@@ -31,8 +31,8 @@ use Rattle.ds_machine.specs.declared.refusal.Cause.TheVariants as causes
 use Rattle.ds_machine.specs.declared.refusal.Refusal.{Refusal}
 use Rattle.ds_machine.specs.declared.refusal.Refusal.TheVariants as refusals
 use Rattle.ds_machine.proofs.BatchLemmas.{none_stands}
-use Rattle.ds_judge.specs.Passed.{passed_as}
-use Rattle.ds_judge.specs.Last.{IsLast, MayLackItem}
+use Rattle.ds_store.specs.Passed.{passed_as}
+use Rattle.ds_store.specs.Last.{IsLast, MayLackItem}
 use Rattle.ds_content.specs.Content.{ContentRecord}
 use Rattle.ds_content.specs.Stands.{ContentStands}
 use Rattle.ds_content.proofs.EnterLemmas.{few_places}

@@ -8,7 +8,7 @@ use Rattle.ds_machine.specs.declared.refusal.Refusal.{Refusal}
 use Rattle.ds_machine.specs.declared.refusal.Refusal.TheVariants as refusals
 use Rattle.ds_machine.specs.declared.reply.Reply.{Reply}
 use Rattle.ds_machine.specs.declared.reply.Reply.TheVariants.{Refused}
-use Rattle.ds_judge.specs.Last.{IsLast, MayLackRoom}
+use Rattle.ds_store.specs.Last.{IsLast, MayLackRoom}
 
 -- if no refusal applies, the reply is the machine's, and changes nothing
 pub free_answer : (s : State) (o : Option Refusal) (given reply : Reply) → o ≡ None → reply ≡ given → Answers s (option_map_or (λ (r : Refusal). (Refused r, s)) o (given, s)) reply s

@@ -5,7 +5,7 @@ use Rattle.ds_machine.specs.State.{State}
 use Rattle.ds_machine.specs.declared.command.Command.{Command}
 use Rattle.ds_machine.specs.declared.reply.Reply.{Reply}
 use Rattle.ds_machine.specs.Machine.{Step}
-use Rattle.ds_judge.specs.Last.{IsLast}
+use Rattle.ds_store.specs.Last.{IsLast}
 use Rattle.ds_store.specs.Run.{LastRun, RunsFirst}
 
 -- a run, and one step more at its end

@@ -16,7 +16,7 @@ use Rattle.ds_machine.specs.declared.command.Command.TheVariants.{Since, Snapsho
 use Rattle.ds_machine.specs.declared.reply.Reply.{Reply}
 use Rattle.ds_machine.specs.declared.reply.Reply.TheVariants.{Merged, MergeStopped, Refused}
 use Rattle.ds_machine.proofs.SaysLemmas.{refused_says}
-use Rattle.ds_judge.proofs.RoomLemmas.{no_course}
+use Rattle.ds_store.proofs.RoomLemmas.{no_course}
 use Rattle.ds_store.specs.Turns.{Answered, RepliesSettle, HistoriesSettle}
 
 -- the machine's own answer to a merge is never that it stopped for lack of memory

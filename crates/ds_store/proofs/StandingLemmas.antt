@@ -16,7 +16,7 @@ use Rattle.ds_machine.specs.Standing.{Standing, FloorStanding, standing_of, agai
 use Rattle.ds_machine.specs.Asking.{AskedChange, against_asked, change_asked, name_of, cause_against}
 use Rattle.ds_machine.specs.declared.refusal.Cause.{Cause}
 use Rattle.ds_machine.proofs.PartLemmas.{owner_found}
-use Rattle.ds_judge.specs.Asked.{is_void_under}
+use Rattle.ds_store.specs.Asked.{is_void_under}
 use Rattle.ds_content.specs.Content.{ContentRecord}
 use Rattle.ds_content.specs.Stands.{ContentStands}
 use Rattle.ds_content.proofs.HoldingLemmas.{floor_at-is, void-is}

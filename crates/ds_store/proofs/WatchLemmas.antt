@@ -16,9 +16,9 @@ use Rattle.ds_machine.specs.declared.refusal.Refusal.TheVariants as refusals
 use Rattle.ds_machine.specs.declared.reply.Reply.{Reply}
 use Rattle.ds_machine.specs.declared.reply.Reply.TheVariants.{Subscribed, Checked, Refused}
 use Rattle.ds_machine.specs.declared.command.Command.TheVariants.{Check}
-use Rattle.ds_judge.specs.Last.{IsLast}
-use Rattle.ds_judge.specs.Refused.{IsRefusedFor}
-use Rattle.ds_judge.specs.Cases.{refusal_of_showing}
+use Rattle.ds_store.specs.Last.{IsLast}
+use Rattle.ds_store.specs.Refused.{IsRefusedFor}
+use Rattle.ds_store.specs.Cases.{refusal_of_showing}
 use Rattle.ds_content.specs.Content.{ContentRecord}
 use Rattle.ds_content.specs.Followed.{followed_of}
 use Rattle.ds_content.specs.Stands.{ContentStands}

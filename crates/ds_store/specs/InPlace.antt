@@ -1,7 +1,7 @@
 -- Which commands take no memory.
 use Rattle.ds_machine.specs.declared.command.Command.{Command}
 use Rattle.ds_machine.specs.declared.command.Command.TheVariants.{Retrieve, NameOf}
-use Rattle.ds_judge.specs.Last.{IsKindInPlace}
+use Rattle.ds_store.specs.Last.{IsKindInPlace}
 
 -- The command is answered without taking memory.
 abbrev pub TakesNoMemory : Command → Type 0

@@ -1,3 +1,10 @@
+pub mod Standing
+pub mod Asked
+pub mod Passed
+pub mod Refused
+pub mod Cases
+pub mod Scopes
+pub mod Last
 pub mod Opening
 pub mod InPlace
 pub mod Finding

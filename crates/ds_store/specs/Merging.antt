@@ -9,7 +9,7 @@ use Rattle.ds_machine.specs.Standing.{cause_of}
 use Rattle.ds_machine.specs.declared.refusal.Cause.TheVariants as causes
 use Rattle.ds_machine.specs.declared.refusal.Refusal.{Refusal}
 use Rattle.ds_machine.specs.declared.refusal.Refusal.TheVariants as refusals
-use Rattle.ds_judge.specs.Passed.{passed_as}
+use Rattle.ds_store.specs.Passed.{passed_as}
 
 -- Whether this refusal applies to the item, and stops the merge.
 pub record StopsMerge (s : State) (i : Item) (fault : Refusal) : Type 0 where

@@ -4,7 +4,7 @@ use Rattle.ds_machine.specs.State.{State}
 use Rattle.ds_machine.specs.Machine.{Step}
 use Rattle.ds_machine.specs.declared.command.Command.{Command}
 use Rattle.ds_machine.specs.declared.reply.Reply.{Reply}
-use Rattle.ds_judge.specs.Last.{IsLast}
+use Rattle.ds_store.specs.Last.{IsLast}
 
 -- A run of the machine: each command gets its reply in order, and in each step lack of memory comes last.
 abbrev pub LastRun : State → List Command → List Reply → State → Type 0

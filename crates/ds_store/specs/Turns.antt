@@ -8,7 +8,7 @@ use Rattle.ds_machine.specs.Machine.{Step}
 use Rattle.ds_machine.specs.Reached.{IsReached}
 use Rattle.ds_machine.specs.declared.command.Command.{Command}
 use Rattle.ds_machine.specs.declared.reply.Reply.{Reply}
-use Rattle.ds_judge.specs.Last.{IsLast}
+use Rattle.ds_store.specs.Last.{IsLast}
 use Rattle.ds_content.specs.Content.{ContentRecord}
 use Rattle.ds_content.specs.Stands.{ContentStands, InEachState}
 use Rattle.ds_store.specs.Steps.{ContentSteps}

@@ -16,10 +16,10 @@ use Rattle.ds_replica.specs.Bringing.{IsProperEvent}
 use Rattle.ds_world.specs.World.{WorldRecord}
 use Rattle.ds_world.specs.Run.{EventLeads}
 use Rattle.ds_world.specs.Told.{IsTold}
-use Rattle.system_model.specs.declared.event.SystemEvent.TheVariants as events
-use Rattle.system_model.specs.declared.outcome.SystemOutcome.TheVariants.{Replied, Happened, Refused}
-use Rattle.system_model.specs.declared.outcome.SystemFault.TheVariants as refusals
-use Rattle.system_model.specs.Steps.{AreProper, no_steps, events_alone, is_barred}
+use Rattle.ds_system.specs.declared.event.SystemEvent.TheVariants as events
+use Rattle.ds_system.specs.declared.outcome.SystemOutcome.TheVariants.{Replied, Happened, Refused}
+use Rattle.ds_system.specs.declared.outcome.SystemFault.TheVariants as refusals
+use Rattle.ds_system.specs.Steps.{AreProper, no_steps, events_alone, is_barred}
 use Rattle.ds_system.specs.Stands.{SystemRecord, SystemEventLeads}
 
 -- ---- parts in their ranges

@@ -23,9 +23,9 @@ use Rattle.ds_world.specs.World.{WorldRecord, WorldStands}
 use Rattle.ds_world.specs.declared.fault.SeedFault.{SeedFault}
 use Rattle.ds_world.specs.declared.fault.SeedFault.TheVariants as seeds
 use Rattle.ds_world.specs.Seeds.{IsSeedFault}
-use Rattle.system_model.specs.System.{System}
-use Rattle.system_model.specs.Start.{IsNew, labels_query, unit_with, file_driver_of, net_driver_of, file_unit, net_unit, assigned_all}
-use Rattle.system_model.proofs.LawLemmas.{systems_keep_laws}
+use Rattle.ds_system.specs.System.{System}
+use Rattle.ds_system.specs.Start.{IsNew, labels_query, unit_with, file_driver_of, net_driver_of, file_unit, net_unit, assigned_all}
+use Rattle.ds_system.proofs.LawLemmas.{systems_keep_laws}
 use Rattle.ds_system.specs.Stands.{SystemRecord}
 use Rattle.ds_system.specs.Since.{IsJustNew}
 use Rattle.ds_system.specs.Begin.{MakesLabelMap, MakesTwoMaps, HasBothMaps, BeginsOver, IsFirstGeneration, IsBeginFault, begin_fault_of}

@@ -1,3 +1,23 @@
+pub mod CutLemmas
+pub mod NewsLemmas
+pub mod AboutLemmas
+pub mod LabelLemmas
+pub mod TableRunLemmas
+pub mod RightLemmas
+pub mod WrongLemmas
+pub mod Kept
+pub mod NumberLemmas
+pub mod BringLemmas
+pub mod CopyLemmas
+pub mod AccountLemmas
+pub mod SingleLemmas
+pub mod ActLemmas
+pub mod WrittenLemmas
+pub mod EventLemmas
+pub mod LawLemmas
+pub mod OlderLemmas
+pub mod ApartLemmas
+pub mod StartLemmas
 mod AskLemmas
 mod ServeLemmas
 mod WriteLemmas

@@ -2,9 +2,9 @@
 use Rattle.std.proofs.Common.{◌≡◌, List, [], ◌∷◌, ◌++◌, map, append-nil, All, refl, ap, sym, ◌∙◌, subst}
 use Rattle.std.proofs.lemmas.Grind.{flat_map-append}
 use Rattle.history.proofs.RunLemmas.{path_push, path_join, path_cut}
-use Rattle.system_model.specs.declared.event.SystemEvent.{SystemEvent}
-use Rattle.system_model.specs.declared.outcome.SystemOutcome.{SystemOutcome}
-use Rattle.system_model.specs.System.{System}
+use Rattle.ds_system.specs.declared.event.SystemEvent.{SystemEvent}
+use Rattle.ds_system.specs.declared.outcome.SystemOutcome.{SystemOutcome}
+use Rattle.ds_system.specs.System.{System}
 use Rattle.ds_submap.specs.Map.{IsMap}
 use Rattle.ds_machine.specs.Says.{SnappedSays, PagedSays, JournaledSays}
 use Rattle.ds_world.specs.World.{WorldRecord}
@@ -13,11 +13,11 @@ use Rattle.ds_world.specs.Laws.{Laws}
 use Rattle.ds_world.proofs.HeadlineLemmas.{turns}
 use Rattle.ds_world.proofs.LawLemmas as worlds
 use Rattle.ds_world.proofs.ReplyLemmas.{told_on, replies_are_kept, messages_stay}
-use Rattle.system_model.specs.Steps.{WorldEvents}
-use Rattle.system_model.specs.Happening.{SystemDoes, SystemEntry, SystemRun, all_events}
-use Rattle.system_model.proofs.LawLemmas.{systems_keep_laws}
-use Rattle.system_model.proofs.OlderLemmas.{no_send_to_older}
-use Rattle.system_model.proofs.ApartLemmas.{labels_are_apart}
+use Rattle.ds_system.specs.Steps.{WorldEvents}
+use Rattle.ds_system.specs.Happening.{SystemDoes, SystemEntry, SystemRun, all_events}
+use Rattle.ds_system.proofs.LawLemmas.{systems_keep_laws}
+use Rattle.ds_system.proofs.OlderLemmas.{no_send_to_older}
+use Rattle.ds_system.proofs.ApartLemmas.{labels_are_apart}
 use Rattle.ds_system.specs.Stands.{SystemRecord, SystemEventLeads}
 use Rattle.ds_system.specs.Since.{SystemRunLeads, WorldRan, SystemPast, account_begun, IsRightAmong, HoldsOfPast, SystemLawsHold}
 

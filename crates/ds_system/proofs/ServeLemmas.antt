@@ -33,11 +33,11 @@ use Rattle.ds_world.specs.World.{WorldRecord}
 use Rattle.ds_world.specs.Told.{AreTold}
 use Rattle.ds_world.proofs.ReplyLemmas.{told_on}
 use Rattle.rs_to_store.specs.Asked.{asking_for, command_of, commands}
-use Rattle.system_model.specs.declared.event.SystemEvent.TheVariants as events
-use Rattle.system_model.specs.declared.outcome.SystemOutcome.TheVariants.{Acted, Refused}
-use Rattle.system_model.specs.declared.outcome.SystemFault.TheVariants as refusals
-use Rattle.system_model.specs.Refusals.{IsServiceFault}
-use Rattle.system_model.specs.Steps.{WorldEvents, AreProper, no_steps, events_alone, asks_replied}
+use Rattle.ds_system.specs.declared.event.SystemEvent.TheVariants as events
+use Rattle.ds_system.specs.declared.outcome.SystemOutcome.TheVariants.{Acted, Refused}
+use Rattle.ds_system.specs.declared.outcome.SystemFault.TheVariants as refusals
+use Rattle.ds_system.specs.Refusals.{IsServiceFault}
+use Rattle.ds_system.specs.Steps.{WorldEvents, AreProper, no_steps, events_alone, asks_replied}
 use Rattle.ds_system.specs.Stands.{SystemRecord, SystemEventLeads}
 use Rattle.ds_system.specs.Effects.{AskedIfAny, AllAsked}
 use Rattle.ds_system.proofs.AskLemmas.{proper_one}

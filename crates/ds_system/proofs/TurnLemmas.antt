@@ -18,14 +18,14 @@ use Rattle.ds_replica.specs.World.{MapState, World, map_held, held_by}
 use Rattle.ds_world.specs.World.{WorldRecord, WorldStands, map_state, held_in}
 use Rattle.ds_world.specs.Told.{AreTold}
 use Rattle.rs_to_store.specs.Following.{labels_of, Follows, HasFollowed}
-use Rattle.system_model.specs.declared.event.Table.{Table}
-use Rattle.system_model.specs.declared.event.Table.TheVariants.{File, Net}
-use Rattle.system_model.specs.declared.event.SystemEvent.TheVariants as events
-use Rattle.system_model.specs.declared.outcome.SystemOutcome.TheVariants.{Moved}
-use Rattle.system_model.specs.System.{System, table_at, system_with_table, map_number}
-use Rattle.system_model.specs.Turn.{TableTurn, FollowsItems}
-use Rattle.system_model.specs.Steps.{no_steps, turn_alone}
-use Rattle.system_model.specs.Effects.{Submits}
+use Rattle.ds_system.specs.declared.event.Table.{Table}
+use Rattle.ds_system.specs.declared.event.Table.TheVariants.{File, Net}
+use Rattle.ds_system.specs.declared.event.SystemEvent.TheVariants as events
+use Rattle.ds_system.specs.declared.outcome.SystemOutcome.TheVariants.{Moved}
+use Rattle.ds_system.specs.System.{System, table_at, system_with_table, map_number}
+use Rattle.ds_system.specs.Turn.{TableTurn, FollowsItems}
+use Rattle.ds_system.specs.Steps.{no_steps, turn_alone}
+use Rattle.ds_system.specs.EffectsOfTurns.{Submits}
 use Rattle.ds_system.specs.Stands.{SystemRecord, kept_table, keeping_table, SystemStands, SystemEventLeads}
 use Rattle.ds_system.specs.Turns.{moved_so, HasSubmitted, HasReplied, ServersFollow}
 

@@ -23,15 +23,15 @@ use Rattle.ds_world.specs.World.{WorldRecord}
 use Rattle.ds_world.specs.Run.{EventLeads}
 use Rattle.ds_world.specs.Told.{IsTold, AreTold}
 use Rattle.rs_to_store.specs.Asked.{asking_for}
-use Rattle.system_model.specs.declared.outcome.SystemFault.{SystemFault}
-use Rattle.system_model.specs.declared.outcome.SystemFault.TheVariants as refusals
-use Rattle.system_model.specs.declared.outcome.SystemFault.TheVariants.{UnknownLabel, NotDeclared, NotUp, BadKind, SeqSpent}
-use Rattle.system_model.specs.declared.outcome.SystemOutcome.TheVariants.{Replied, Refused}
-use Rattle.system_model.specs.System.{System}
-use Rattle.system_model.specs.Drawing.{Instance, is_declared, is_spent, numbers_left, judged_kind, judged_state, judged_place, judged}
-use Rattle.system_model.specs.Steps.{Steps, no_steps, events_alone}
-use Rattle.system_model.specs.Effects.{WritesEntry}
-use Rattle.system_model.specs.Refusals.{IsWriteFault}
+use Rattle.ds_system.specs.declared.outcome.SystemFault.{SystemFault}
+use Rattle.ds_system.specs.declared.outcome.SystemFault.TheVariants as refusals
+use Rattle.ds_system.specs.declared.outcome.SystemFault.TheVariants.{UnknownLabel, NotDeclared, NotUp, BadKind, SeqSpent}
+use Rattle.ds_system.specs.declared.outcome.SystemOutcome.TheVariants.{Replied, Refused}
+use Rattle.ds_system.specs.System.{System}
+use Rattle.ds_system.specs.Drawing.{Instance, is_declared, is_spent, numbers_left, judged_kind, judged_state, judged_place, judged}
+use Rattle.ds_system.specs.Steps.{Steps, no_steps, events_alone}
+use Rattle.ds_system.specs.EffectsOfTurns.{WritesEntry}
+use Rattle.ds_system.specs.Refusals.{IsWriteFault}
 use Rattle.ds_system.specs.Stands.{SystemRecord, SystemStands, SystemEventLeads}
 use Rattle.ds_system.specs.Effects.{instance_at, write_event}
 use Rattle.ds_system.proofs.AskLemmas.{proper_one}

@@ -20,7 +20,7 @@ use Rattle.ds_world.specs.Run.{EventLeads}
 use Rattle.ds_world.specs.declared.fault.SeedFault.{SeedFault}
 use Rattle.ds_world.specs.declared.fault.SeedFault.TheVariants as seeds
 use Rattle.ds_world.specs.Seeds.{AreSeeds, IsSeedFault}
-use Rattle.system_model.specs.Start.{labels_query, two_maps, file_unit, net_unit, assigned_all}
+use Rattle.ds_system.specs.Start.{labels_query, two_maps, file_unit, net_unit, assigned_all}
 use Rattle.ds_system.specs.declared.fault.BeginFault.{BeginFault}
 use Rattle.ds_system.specs.declared.fault.BeginFault.TheVariants.{OutOfRange, BadRing, BadFirst, OldIncarnation, NoRoom}
 use Rattle.ds_system.specs.Stands.{SystemRecord}

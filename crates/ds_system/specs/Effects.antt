@@ -17,11 +17,11 @@ use Rattle.ds_replica.specs.Happens.{HappenAll}
 use Rattle.ds_world.specs.World.{WorldRecord, Leads}
 use Rattle.ds_world.specs.Run.{EventLeads}
 use Rattle.ds_world.specs.Told.{IsTold, AreTold}
-use Rattle.system_model.specs.declared.event.SystemEvent.{SystemEvent}
-use Rattle.system_model.specs.declared.event.SystemEvent.TheVariants as events
-use Rattle.system_model.specs.declared.outcome.SystemFault.{SystemFault}
-use Rattle.system_model.specs.Drawing.{Instance, judged}
-use Rattle.system_model.specs.Steps.{asks_replied, AreProper}
+use Rattle.ds_system.specs.declared.event.SystemEvent.{SystemEvent}
+use Rattle.ds_system.specs.declared.event.SystemEvent.TheVariants as events
+use Rattle.ds_system.specs.declared.outcome.SystemFault.{SystemFault}
+use Rattle.ds_system.specs.Drawing.{Instance, judged}
+use Rattle.ds_system.specs.Steps.{asks_replied, AreProper}
 use Rattle.ds_system.specs.Stands.{SystemRecord}
 
 -- A command, if there is one, went to the store of a side, and its reply was appended. The world reports it.

@@ -1,3 +1,16 @@
+pub mod System
+pub mod Drawing
+pub mod Turn
+pub mod Steps
+pub mod EffectsOfTurns
+pub mod Refusals
+pub mod Happening
+pub mod Start
+pub mod Numbers
+pub mod Laws
+pub mod Sending
+pub mod Wrong
+pub mod Copying
 pub mod Stands
 pub mod Effects
 pub mod Turns

@@ -12,14 +12,14 @@ use Rattle.ds_world.specs.Run.{most_events}
 use Rattle.ds_world.specs.Account.{TurnsAreRun}
 use Rattle.ds_world.specs.Told.{AreTold, RepliesAreKept, MessagesStay}
 use Rattle.ds_world.specs.Laws.{CameSince, Laws, LawsHold}
-use Rattle.system_model.specs.declared.event.SystemEvent.{SystemEvent}
-use Rattle.system_model.specs.declared.outcome.SystemOutcome.{SystemOutcome}
-use Rattle.system_model.specs.System.{System}
-use Rattle.system_model.specs.Steps.{WorldEvents}
-use Rattle.system_model.specs.Happening.{SystemDoes, SystemEntry, SystemRun, all_events}
-use Rattle.system_model.specs.Start.{IsNew, two_maps, account_since}
-use Rattle.system_model.specs.Laws.{SystemLaws}
-use Rattle.system_model.specs.Sending.{sent_over, TurnsAreRight}
+use Rattle.ds_system.specs.declared.event.SystemEvent.{SystemEvent}
+use Rattle.ds_system.specs.declared.outcome.SystemOutcome.{SystemOutcome}
+use Rattle.ds_system.specs.System.{System}
+use Rattle.ds_system.specs.Steps.{WorldEvents}
+use Rattle.ds_system.specs.Happening.{SystemDoes, SystemEntry, SystemRun, all_events}
+use Rattle.ds_system.specs.Start.{IsNew, two_maps, account_since}
+use Rattle.ds_system.specs.Laws.{SystemLaws}
+use Rattle.ds_system.specs.Sending.{sent_over, TurnsAreRight}
 use Rattle.ds_system.specs.Stands.{SystemRecord, SystemStands}
 
 -- ---- a list of events

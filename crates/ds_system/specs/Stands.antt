@@ -6,13 +6,13 @@ use Rattle.rs_core.specs.Numbering.{NumbererRecord}
 use Rattle.driver_tables.specs.Stands.{TableRecord, TableStands}
 use Rattle.ds_world.specs.World.{WorldRecord, WorldStands}
 use Rattle.ds_world.specs.Told.{AreTold}
-use Rattle.system_model.specs.declared.event.Table.{Table}
-use Rattle.system_model.specs.declared.event.Table.TheVariants.{File, Net}
-use Rattle.system_model.specs.declared.event.SystemEvent.{SystemEvent}
-use Rattle.system_model.specs.declared.outcome.SystemOutcome.{SystemOutcome}
-use Rattle.system_model.specs.System.{System}
-use Rattle.system_model.specs.Steps.{Steps}
-use Rattle.system_model.specs.Happening.{SystemDoes}
+use Rattle.ds_system.specs.declared.event.Table.{Table}
+use Rattle.ds_system.specs.declared.event.Table.TheVariants.{File, Net}
+use Rattle.ds_system.specs.declared.event.SystemEvent.{SystemEvent}
+use Rattle.ds_system.specs.declared.outcome.SystemOutcome.{SystemOutcome}
+use Rattle.ds_system.specs.System.{System}
+use Rattle.ds_system.specs.Steps.{Steps}
+use Rattle.ds_system.specs.Happening.{SystemDoes}
 
 pub record SystemRecord : Type 0 where
   pub rs : RsRecord

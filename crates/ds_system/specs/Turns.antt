@@ -9,10 +9,10 @@ use Rattle.driver_tables.specs.Stands.{TableRecord, TableStands}
 use Rattle.ds_replica.specs.declared.event.Holder.TheVariants.{Map}
 use Rattle.ds_world.specs.World.{WorldRecord, held_in}
 use Rattle.rs_to_store.specs.Following.{HasFollowed}
-use Rattle.system_model.specs.declared.outcome.SystemOutcome.{SystemOutcome}
-use Rattle.system_model.specs.declared.outcome.SystemOutcome.TheVariants.{Moved}
-use Rattle.system_model.specs.Turn.{TableTurn, FollowsItems}
-use Rattle.system_model.specs.Effects.{Submits, Replies}
+use Rattle.ds_system.specs.declared.outcome.SystemOutcome.{SystemOutcome}
+use Rattle.ds_system.specs.declared.outcome.SystemOutcome.TheVariants.{Moved}
+use Rattle.ds_system.specs.Turn.{TableTurn, FollowsItems}
+use Rattle.ds_system.specs.EffectsOfTurns.{Submits, Replies}
 
 -- The move of an answer, and its fault.
 abbrev pub own_move_of : Result Move TableFault → Option Move

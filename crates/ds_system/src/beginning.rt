@@ -6,7 +6,7 @@ ghost use Rattle.rs_settings.specs.Settings.{IsSettings};
 ghost use Rattle.rs_core.specs.Numbering.{numberer};
 ghost use Rattle.driver_tables.specs.declared.fault.TableFault.TheVariants.{NoRoom as room};
 ghost use Rattle.driver_tables.specs.Stands.{TableStands};
-ghost use Rattle.system_model.specs.Start.{labels_query, file_unit, net_unit, assigned_all};
+ghost use Rattle.ds_system.specs.Start.{labels_query, file_unit, net_unit, assigned_all};
 ghost use Rattle.ds_system.specs.Begin.{AddsUnit, MakesLabelMap, MakesTwoMaps};
 
 use driver_tables::{FileClass, FileTable, NetTable, TableFault};

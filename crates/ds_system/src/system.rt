@@ -5,6 +5,10 @@ ghost use Rattle.ds_world.specs.Run.{most_events};
 ghost use Rattle.ds_system.specs.Stands.{SystemEventLeads};
 ghost use Rattle.ds_system.specs.Since.{SystemRunLeads, SystemLawsHold, IsSystemRunFault};
 
+use crate::event::SystemEvent;
+use crate::events::SystemEvents;
+use crate::outcome::SystemOutcome;
+use crate::outcomes::SystemOutcomes;
 use driver_tables::{FileTable, NetTable};
 use ds_entry::{Body, Change};
 use ds_machine::answers_say;
@@ -12,7 +16,6 @@ use ds_world::{World, WorldFault};
 use rs_core::{Numberer, Rs};
 use std::alloc::Global;
 use std::marker::Model;
-use system_model::{SystemEvent, SystemEvents, SystemOutcome, SystemOutcomes};
 
 mod asking;
 mod moving;

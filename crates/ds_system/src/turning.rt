@@ -5,11 +5,12 @@ ghost use Rattle.ds_replica.specs.declared.event.Holder.TheVariants.{Map};
 ghost use Rattle.ds_world.specs.World.{held_in};
 ghost use Rattle.ds_system.specs.Turns.{moved_so, FollowsMap, HasSubmitted, HasReplied, ServersFollow};
 
+use crate::outcome::SystemOutcome;
+use crate::rounds::Rounds;
 use driver_tables::{Drivers, FileTable, Move, Moves, NetTable, TableFault};
 use ds_names::Endpoint;
 use ds_world::World;
 use rs_to_store::follow;
-use system_model::{Rounds, SystemOutcome};
 
 /// The number of the map that the file server follows.
 pub(crate) const FILE_MAP: usize = 0;

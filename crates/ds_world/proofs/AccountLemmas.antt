@@ -12,8 +12,8 @@ use Rattle.ds_join.proofs.ItemTopLemmas.{top_of_same}
 use Rattle.ds_held.specs.Held.{held_items}
 use Rattle.ds_pattern.specs.Under.{is_under}
 use Rattle.ds_submap.specs.Map.{SubMapRecord, IsMap}
-use Rattle.ds_convergence.specs.Sent.{Sent, IsSent, sent_by, given, learnt}
-use Rattle.ds_convergence.proofs.SentLemmas.{from_stood, given_stands, given_is_sent, learnt_of}
+use Rattle.ds_replica.specs.Sent.{Sent, IsSent, sent_by, given, learnt}
+use Rattle.ds_replica.proofs.SentLemmas.{from_stood, given_stands, given_is_sent, learnt_of}
 use Rattle.ds_machine.specs.State.{State}
 use Rattle.ds_machine.specs.Reached.{IsReached}
 use Rattle.ds_machine.proofs.ReachedLemmas.{held_is_top}

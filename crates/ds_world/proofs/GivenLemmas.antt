@@ -1,8 +1,8 @@
 -- What events with their outcomes say of checks, and of deliveries that stop.
 use Rattle.std.proofs.Common.{◌≡◌, ℕ, true, List, [], ◌∷◌, ◌++◌, Some, refl, ap, sym, ◌∙◌, subst}
 use Rattle.ds_pattern.specs.Under.{is_under}
-use Rattle.ds_convergence.specs.Sent.{given}
-use Rattle.ds_convergence.specs.Checked.{CheckTurn, IsCheckTurn}
+use Rattle.ds_replica.specs.Sent.{given}
+use Rattle.ds_replica.specs.Checked.{CheckTurn, IsCheckTurn}
 use Rattle.ds_machine.specs.Subscription.{Subscription}
 use Rattle.ds_machine.specs.State.{subscription_at}
 use Rattle.ds_machine.specs.declared.command.Command.{Command}

@@ -11,7 +11,7 @@ use Rattle.ds_join.specs.ItemTop.{CoversAll}
 use Rattle.ds_held.specs.Held.{held_items}
 use Rattle.ds_pattern.specs.Under.{is_under}
 use Rattle.ds_submap.specs.Map.{SubMapRecord, IsMap}
-use Rattle.ds_convergence.specs.Labels.{label_in, IsNewest}
+use Rattle.ds_replica.specs.Labels.{label_in, IsNewest}
 use Rattle.ds_replica.specs.declared.event.Event.{Event}
 use Rattle.ds_replica.specs.declared.event.Side.{Side}
 use Rattle.ds_replica.specs.declared.event.Side.TheVariants.{A, B}

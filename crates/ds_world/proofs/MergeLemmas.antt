@@ -27,8 +27,8 @@ use Rattle.ds_machine.specs.Says.{IsMergeReply}
 use Rattle.ds_machine.specs.declared.reply.Reply.{Reply}
 use Rattle.ds_machine.specs.declared.reply.Reply.TheVariants.{Merged, MergeStopped, Refused}
 use Rattle.ds_machine.proofs.SaysLemmas.{merged_says, merge_stopped_says}
-use Rattle.ds_judge.specs.Last.{IsLast, MayLackItem}
-use Rattle.ds_judge.proofs.RoomLemmas.{no_course}
+use Rattle.ds_store.specs.Last.{IsLast, MayLackItem}
+use Rattle.ds_store.proofs.RoomLemmas.{no_course}
 use Rattle.ds_content.specs.Content.{ContentRecord}
 use Rattle.ds_content.specs.Stands.{ContentStands}
 use Rattle.ds_replica.specs.Delivery.{Tally, counting, ended, added, OthersFollow, GroupsAreMerged, StoreTakes}

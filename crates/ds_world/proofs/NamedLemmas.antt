@@ -11,7 +11,7 @@ use Rattle.ds_entry.proofs.Members.{Contains-nil, Contains-cons, Contains-head, 
 use Rattle.ds_held.specs.Held.{Holding, held_items, held_for, IsSound}
 use Rattle.ds_held.proofs.HeldLemmas.{change_in, is_held}
 use Rattle.ds_submap.specs.Map as maps
-use Rattle.ds_convergence.specs.Labels.{label_in}
+use Rattle.ds_replica.specs.Labels.{label_in}
 use Rattle.ds_entry.specs.Left.{value_of, endpoint_in, endpoint_of_value}
 
 -- a label without a change names nothing

@@ -12,13 +12,13 @@ use Rattle.ds_feed.specs.declared.reading.Since as journals
 use Rattle.ds_feed.specs.Feed.{position}
 use Rattle.ds_feed.specs.Since.{IsGiven, piece, since_of}
 use Rattle.ds_feed.specs.Page.{floors_of, changes_of, still_to_come, page_of}
-use Rattle.ds_convergence.specs.Under.{KeepsQuery}
-use Rattle.ds_convergence.specs.Sent.{Sent, given}
-use Rattle.ds_convergence.specs.Whole.{IsWhole}
-use Rattle.ds_convergence.specs.Journaled.{SinceTurn, IsSinceTurn, AreSince, since_items, cursor_after}
-use Rattle.ds_convergence.specs.Paged.{PageTurn, IsPageTurn, last_key, ArePages, page_items, last_cursor}
-use Rattle.ds_convergence.proofs.JournalLemmas.{sinces_extend}
-use Rattle.ds_convergence.proofs.PageLemmas.{pages_are_whole}
+use Rattle.ds_replica.specs.Under.{KeepsQuery}
+use Rattle.ds_replica.specs.Sent.{Sent, given}
+use Rattle.ds_replica.specs.Whole.{IsWhole}
+use Rattle.ds_replica.specs.Journaled.{SinceTurn, IsSinceTurn, AreSince, since_items, cursor_after}
+use Rattle.ds_replica.specs.Paged.{PageTurn, IsPageTurn, last_key, ArePages, page_items, last_cursor}
+use Rattle.ds_replica.proofs.JournalLemmas.{sinces_extend}
+use Rattle.ds_replica.proofs.PageLemmas.{pages_are_whole}
 use Rattle.ds_machine.specs.Scope.{keeps, is_kept}
 use Rattle.ds_machine.specs.State.{State, held, cursor}
 use Rattle.ds_machine.specs.Machine.{Step}

@@ -18,10 +18,10 @@ use Rattle.ds_machine.specs.declared.command.Command.{Command}
 use Rattle.ds_machine.specs.declared.reply.Reply.{Reply}
 use Rattle.ds_machine.specs.declared.refusal.Refusal.{Refusal}
 use Rattle.ds_content.specs.Stands as contents
-use Rattle.ds_convergence.specs.Agreement.{KnowSame}
-use Rattle.ds_convergence.specs.Labels.{IsNewest}
-use Rattle.ds_convergence.specs.Sent.{Sent}
-use Rattle.ds_convergence.specs.Whole.{IsWhole}
+use Rattle.ds_replica.specs.Agreement.{KnowSame}
+use Rattle.ds_replica.specs.Labels.{IsNewest}
+use Rattle.ds_replica.specs.Sent.{Sent}
+use Rattle.ds_replica.specs.Whole.{IsWhole}
 use Rattle.ds_replica.specs.declared.event.Side.{Side}
 use Rattle.ds_replica.specs.declared.event.Holder.{Holder}
 use Rattle.ds_replica.specs.declared.event.Holder.TheVariants.{Store, Map}

@@ -9,13 +9,13 @@ use Rattle.ds_feed.specs.declared.reading.Page as pages
 use Rattle.ds_feed.specs.Feed.{Feed, position}
 use Rattle.ds_pattern.specs.declared.query.Query.{Query}
 use Rattle.ds_pattern.specs.Under.{is_under}
-use Rattle.ds_convergence.specs.Under.{KeepsQuery}
-use Rattle.ds_convergence.specs.Sent.{Sent, given}
-use Rattle.ds_convergence.specs.Front.{IsFront}
-use Rattle.ds_convergence.specs.Whole.{IsWhole}
-use Rattle.ds_convergence.specs.Checked.{CheckTurn, IsCheckTurn}
-use Rattle.ds_convergence.specs.Journaled.{SinceTurn, IsSinceTurn}
-use Rattle.ds_convergence.specs.Paged.{PageTurn, IsPageTurn}
+use Rattle.ds_replica.specs.Under.{KeepsQuery}
+use Rattle.ds_replica.specs.Sent.{Sent, given}
+use Rattle.ds_replica.specs.Front.{IsFront}
+use Rattle.ds_replica.specs.Whole.{IsWhole}
+use Rattle.ds_replica.specs.Checked.{CheckTurn, IsCheckTurn}
+use Rattle.ds_replica.specs.Journaled.{SinceTurn, IsSinceTurn}
+use Rattle.ds_replica.specs.Paged.{PageTurn, IsPageTurn}
 use Rattle.ds_machine.specs.Scope.{keeps}
 use Rattle.ds_machine.specs.Subscription.{Subscription}
 use Rattle.ds_machine.specs.State.{subscription_at}

@@ -14,7 +14,7 @@ use Rattle.ds_machine.specs.declared.reply.Reply.{Reply}
 use Rattle.ds_machine.specs.declared.refusal.Refusal.{Refusal}
 use Rattle.ds_machine.specs.declared.refusal.Refusal.TheVariants.{NoRoom}
 use Rattle.ds_machine.specs.State.{State}
-use Rattle.ds_judge.specs.Last.{IsLast, MayLackItem}
+use Rattle.ds_store.specs.Last.{IsLast, MayLackItem}
 use Rattle.ds_replica.specs.declared.event.Side.{Side}
 use Rattle.ds_replica.specs.declared.event.Holder.TheVariants.{Store, Map}
 use Rattle.ds_replica.specs.declared.event.Event.{Event}

@@ -1,12 +1,12 @@
 //! Which commands get replies with items, and how these replies are kept as messages.
 
 ghost use Rattle.std.specs.Prelude.{◌≡◌, ◌<◌, ◌++◌, ◌∷◌, [], None, Some, is_some, length, vec_capacity, IfSome, IfNone};
-ghost use Rattle.ds_message.specs.Lent.{items_lent};
+ghost use Rattle.ds_replica.specs.Lent.{items_lent};
 ghost use Rattle.ds_replica.specs.Happens.{gives_items, items_given};
 ghost use Rattle.ds_world.specs.World.{kept_items};
 
 use ds_machine::{Command, Reply};
-use ds_message::{Lent, Message};
+use ds_replica::{Lent, Message};
 use std::alloc::Global;
 
 // Returns whether the reply to the command is kept as a message.

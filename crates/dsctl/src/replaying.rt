@@ -2,10 +2,11 @@
 
 use crate::stepped::{LineNumber, Stepped};
 use ds_explain::{Audience, TextKind, explain};
-use ds_script::{BadLine, BadLines, ReplayFault, Replayed, Report, replay_reporting};
+use ds_script::{
+    BadLine, BadLines, ReplayFault, Replayed, Report, replay_reporting, replay_without_notes,
+};
 use dsctl_cli::{Answers, Failure, Greeting, Input, LastLine, Replaying, Terminals, Typed, greet};
 use line_io::Plain;
-use script_notes::replay_without_notes;
 use std::io::{self, Read};
 use std::process::ExitCode;
 use std::rt::Runtime;

@@ -3,7 +3,7 @@ use Rattle.std.proofs.Common.{◌≡◌, ℕ, zero, suc, ◌+◌, List, [], ◌�
 use Rattle.std.specs.List.{slice_get}
 use Rattle.ds_machine.specs.declared.reply.Reply.{Reply}
 use Rattle.rs_core.specs.declared.action.Action.{Action}
-use Rattle.service_answers.specs.Actions.{action_line}
+use Rattle.script_answers.specs.Actions.{action_line}
 use Rattle.rs_answers.specs.Served.{acted_lines, reply_lines_if}
 
 abbrev line_with : Action → Option (Option Reply) → List ℕ

@@ -8,11 +8,11 @@ use Rattle.rs_core.specs.declared.action.Action.{Action}
 use Rattle.rs_core.specs.declared.fault.NewFault.{NewFault}
 use Rattle.rs_core.specs.declared.fault.NewFault.TheVariants as new_faults
 use Rattle.rs_settings.specs.declared.fault.SettingsCause.TheVariants as causes
-use Rattle.store_answers.specs.Reply.{reply_lines}
-use Rattle.store_answers.specs.declared.wording.Wording.{Wording}
-use Rattle.store_answers.specs.declared.wording.Wording.TheVariants.{AsMerge}
-use Rattle.service_answers.specs.Actions.{action_line, action_count_line, rs_fault_line}
-use Rattle.service_answers.specs.SettingsLines.{settings_line, settings_fault_line, exists_line}
+use Rattle.script_answers.specs.Reply.{reply_lines}
+use Rattle.script_answers.specs.declared.wording.Wording.{Wording}
+use Rattle.script_answers.specs.declared.wording.Wording.TheVariants.{AsMerge}
+use Rattle.script_answers.specs.Actions.{action_line, action_count_line, rs_fault_line}
+use Rattle.script_answers.specs.SettingsLines.{settings_line, settings_fault_line, exists_line}
 use Rattle.rs_store.specs.declared.call.RsReply.{RsReply}
 use Rattle.rs_store.specs.declared.call.RsReply.TheVariants.{Replied, NotAllowed, Begun, Exists, NotBegun, Acted, Refused}
 

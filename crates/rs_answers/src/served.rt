@@ -3,7 +3,7 @@
 ghost use Rattle.std.specs.Prelude.{◌≡◌, ◌++◌, OnOk, OnErr};
 ghost use Rattle.std.specs.Option.{option_copied};
 ghost use Rattle.rs_answers.specs.Served.{all_acted_lines, not_allowed_lines, reply_lines_if, served_lines, start_fault_line};
-ghost use Rattle.service_answers.specs.Appending.{AppendsSome};
+ghost use Rattle.script_answers.specs.Appending.{AppendsSome};
 
 use ds_held::Limits;
 use ds_machine::{Refusal, Reply};
@@ -11,11 +11,10 @@ use ds_names::NoRoom;
 use rs_core::{Actions, NewFault};
 use rs_settings::SettingsCause;
 use rs_store::{Replies, RsReply};
-use service_answers::{
-    append_action, append_action_count, append_exists, append_rs_fault, append_settings,
-    append_settings_fault,
+use script_answers::{
+    Wording, append_action, append_action_count, append_exists, append_reply, append_rs_fault,
+    append_settings, append_settings_fault,
 };
-use store_answers::{Wording, append_reply};
 
 /// Appends the lines of a reply, as in a script: a line for each action, followed by the store's reply to it, and then
 /// the number of actions. `wording` is that of the reply to a client's Merge. If memory runs out, the buffer is

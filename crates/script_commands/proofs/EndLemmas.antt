@@ -21,7 +21,7 @@ use Rattle.ds_machine.specs.declared.command.Scope.{Scope}
 use Rattle.ds_machine.specs.declared.command.Scope.TheVariants.{All as AllKeys, Under}
 use Rattle.ds_replica.specs.declared.event.Holder.{Holder}
 use Rattle.ds_replica.specs.declared.event.Holder.TheVariants as holders
-use Rattle.store_answers.specs.Outcome.{side_word}
+use Rattle.script_answers.specs.Outcome.{side_word}
 use Rattle.script_commands.specs.declared.command.ScriptCommand.{ScriptCommand}
 use Rattle.script_commands.specs.declared.service.Device.{Device}
 use Rattle.script_commands.specs.declared.service.Device.TheVariants.{File, Net}

@@ -25,7 +25,7 @@ use Rattle.script_commands.specs.declared.slot.Slot.TheVariants as slots
 use Rattle.script_commands.specs.Command.{command_word, fields_of, behind_word}
 use Rattle.script_commands.specs.Pieces.{initial_word, mode_word}
 use Rattle.script_commands.specs.Table.{slots_of, piece_of, kind_after, row_of}
-use Rattle.store_answers.specs.Outcome.{side_word}
+use Rattle.script_answers.specs.Outcome.{side_word}
 use Rattle.script_commands.specs.World.{holder_word, count_part}
 use Rattle.script_commands.specs.Page.{range_parts}
 use Rattle.script_commands.specs.Scope.{scope_parts}

@@ -18,7 +18,7 @@ use Rattle.ds_replica.specs.declared.event.Side.{Side}
 use Rattle.ds_replica.specs.declared.event.Side.TheVariants.{A, B}
 use Rattle.ds_replica.specs.declared.event.Holder.{Holder}
 use Rattle.ds_replica.specs.declared.event.Holder.TheVariants.{Store, Map}
-use Rattle.store_answers.specs.Outcome.{side_word}
+use Rattle.script_answers.specs.Outcome.{side_word}
 use Rattle.script_commands.specs.World.{holder_word, IsHolder, count_part, IsCount}
 use Rattle.script_commands.specs.WorldPieces.{a_ring, a_side, a_holder, a_count}
 use Rattle.script_commands.proofs.PieceLemmas.{one_part, no_part, number_part}

@@ -1,6 +1,6 @@
 -- The wording of a line's reply.
-use Rattle.store_answers.specs.declared.wording.Wording.{Wording}
-use Rattle.store_answers.specs.declared.wording.Wording.TheVariants.{AsOffer, AsMerge}
+use Rattle.script_answers.specs.declared.wording.Wording.{Wording}
+use Rattle.script_answers.specs.declared.wording.Wording.TheVariants.{AsOffer, AsMerge}
 use Rattle.script_commands.specs.declared.command.ScriptCommand.{ScriptCommand}
 use Rattle.script_commands.specs.declared.command.ScriptCommand.TheVariants as asked
 

@@ -4,7 +4,7 @@ use Rattle.std.specs.Fmt.{decimal}
 use Rattle.ds_line.specs.Part.{Part, part, byte, Number}
 use Rattle.ds_replica.specs.declared.event.Holder.{Holder}
 use Rattle.ds_replica.specs.declared.event.Holder.TheVariants.{Store, Map}
-use Rattle.store_answers.specs.Outcome.{side_word}
+use Rattle.script_answers.specs.Outcome.{side_word}
 
 -- A side's word, or `m` and the number of a map.
 abbrev pub holder_word : Holder → List ℕ

@@ -4,7 +4,7 @@ use Rattle.std.specs.Fmt.{decimal}
 use Rattle.ds_line.specs.Part.{part, Word, Number}
 use Rattle.ds_line.specs.Spelling.{space}
 use Rattle.ds_line.specs.Piece.{Piece}
-use Rattle.store_answers.specs.Outcome.{side_word}
+use Rattle.script_answers.specs.Outcome.{side_word}
 use Rattle.script_commands.specs.World.{holder_word, IsHolder, count_part, IsCount}
 use Rattle.ds_replica.specs.declared.event.Side.{Side}
 use Rattle.ds_replica.specs.declared.event.Holder.{Holder}

@@ -4,7 +4,7 @@ ghost use Rattle.std.specs.Prelude.{◌≡◌};
 ghost use Rattle.script_commands.specs.Wording.{wording};
 
 use crate::command::ScriptCommand;
-use store_answers::Wording;
+use script_answers::Wording;
 
 impl ScriptCommand {
     /// Returns how the reply to the line's Merge is worded.

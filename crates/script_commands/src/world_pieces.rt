@@ -6,7 +6,7 @@ ghost use Rattle.std.specs.Prelude.{◌≡◌, ◌≢◌, ◌∷◌, ◌<◌, �
 ghost use Rattle.std.specs.Fmt.{decimal};
 ghost use Rattle.ds_replica.specs.declared.event.Holder.{Holder};
 ghost use Rattle.ds_replica.specs.declared.event.Side.{Side};
-ghost use Rattle.store_answers.specs.Outcome.{side_word};
+ghost use Rattle.script_answers.specs.Outcome.{side_word};
 ghost use Rattle.script_commands.specs.Reads.{Reads};
 ghost use Rattle.script_commands.specs.World.{holder_word, IsHolder};
 ghost use Rattle.script_commands.specs.WorldPieces.{a_ring, a_side, a_holder, a_count};

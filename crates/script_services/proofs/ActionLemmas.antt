@@ -19,7 +19,7 @@ use Rattle.rs_core.specs.declared.action.Action.TheVariants as actions
 use Rattle.rs_core.specs.declared.event.Event as services
 use Rattle.rs_core.specs.declared.event.Event.TheVariants.{Up, Stop, Refresh, Restart, Death, Beat, Tick}
 use Rattle.rs_to_store.specs.Asked.{asking_for, command_of}
-use Rattle.service_answers.specs.Actions.{action_line}
+use Rattle.script_answers.specs.Actions.{action_line}
 use Rattle.script_services.specs.Services.{without_settings, AsksIfAny, AnswersActions}
 use Rattle.script_services.specs.Waiting.{BeginsTelling}
 

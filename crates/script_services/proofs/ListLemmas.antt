@@ -1,6 +1,6 @@
 -- The bytes that a loop appended.
 use Rattle.std.proofs.Common.{ℕ, List, ◌++◌, ap, append_assoc, ◌∙◌}
-use Rattle.service_answers.specs.Appending.{AppendsSome}
+use Rattle.script_answers.specs.Appending.{AppendsSome}
 
 -- an extension of an extension is one
 pub some_more : (old now new : List ℕ) → AppendsSome old now → AppendsSome now new → AppendsSome old new

@@ -4,7 +4,7 @@ use Rattle.std.specs.List.{slice_get}
 use Rattle.std.proofs.lemmas.List.Concat.{flat_map-append}
 use Rattle.driver_tables.specs.declared.moves.Move.{Move}
 use Rattle.driver_tables.specs.declared.moves.Move.TheVariants.{Start, Send, Answer, Held}
-use Rattle.service_answers.specs.Moves.{move_line}
+use Rattle.script_answers.specs.Moves.{move_line}
 use Rattle.rs_to_store.specs.Submitting.{all_in}
 use Rattle.script_services.specs.Tables.{move_lines}
 use Rattle.rs_to_store.proofs.ListLemmas.{next_taken}

@@ -25,10 +25,10 @@ use Rattle.ds_world.specs.World.{WorldRecord}
 use Rattle.ds_world.specs.Run.{EventLeads}
 use Rattle.ds_world.specs.Told.{IsTold}
 use Rattle.rs_to_store.specs.Asked.{command_of}
-use Rattle.store_answers.specs.Reply.{reply_lines}
-use Rattle.service_answers.specs.Actions.{action_line, action_count_line, rs_fault_line}
-use Rattle.service_answers.specs.SettingsLines.{settings_line, settings_fault_line, exists_line}
-use Rattle.store_answers.specs.declared.wording.Wording.TheVariants.{AsMerge}
+use Rattle.script_answers.specs.Reply.{reply_lines}
+use Rattle.script_answers.specs.Actions.{action_line, action_count_line, rs_fault_line}
+use Rattle.script_answers.specs.SettingsLines.{settings_line, settings_fault_line, exists_line}
+use Rattle.script_answers.specs.declared.wording.Wording.TheVariants.{AsMerge}
 use Rattle.script_services.specs.Servers.{Servers, ServersRecord, with_rs}
 
 -- ---- settings

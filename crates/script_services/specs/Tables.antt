@@ -15,8 +15,8 @@ use Rattle.ds_held.specs.Held.{held_items}
 use Rattle.ds_submap.specs.Map.{SubMapRecord}
 use Rattle.rs_to_store.specs.Following.{labels_of, Follows}
 use Rattle.rs_to_store.specs.Submitting.{all_in, FollowsAndTakes}
-use Rattle.service_answers.specs.Moves.{assigned_line, move_line, move_count_line, table_fault_line}
-use Rattle.service_answers.specs.Refusal.{refusal_line}
+use Rattle.script_answers.specs.Moves.{assigned_line, move_line, move_count_line, table_fault_line}
+use Rattle.script_answers.specs.Refusal.{refusal_line}
 use Rattle.script_commands.specs.declared.service.Device.{Device}
 use Rattle.script_commands.specs.declared.service.Device.TheVariants as devices
 use Rattle.script_commands.specs.declared.service.Server.{Server}

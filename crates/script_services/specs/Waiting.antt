@@ -9,9 +9,9 @@ use Rattle.ds_replica.specs.declared.event.Event.{Event}
 use Rattle.ds_replica.specs.declared.event.Side.{Side}
 use Rattle.ds_replica.specs.declared.outcome.Outcome.{Outcome}
 use Rattle.ds_world.specs.World.{WorldRecord}
-use Rattle.store_answers.specs.Reply.{refused_noroom}
+use Rattle.script_answers.specs.Reply.{refused_noroom}
 use Rattle.script_services.specs.Servers.{Servers, ServersRecord, ServersLead}
-pub use Rattle.service_answers.specs.Appending.{AppendsSome}
+pub use Rattle.script_answers.specs.Appending.{AppendsSome}
 use Rattle.script_services.specs.Services.{AsksIfAny, AnswersActions, AnswersSettings, ServicesAnswer, TellsActions, AnswersService}
 
 -- Whether an answer `out` is appended, with which R leads from the old servers to the new.

@@ -15,9 +15,8 @@ use ds_replica::Side;
 use ds_world::World;
 use rs_core::{Action, Actions, Event, Rs, RsFault, steps_say};
 use rs_to_store::command_of;
-use service_answers::{append_action, append_action_count, append_rs_fault};
+use script_answers::{Wording, append_action, append_action_count, append_reply, append_rs_fault};
 use std::alloc::Global;
-use store_answers::{Wording, append_reply};
 
 /// Passes an event to RS at a tick, and sends RS's label changes and sweeps, with RS as their caller, to the store of a
 /// side. Appends each action's line, followed by the store's reply, and then the number of actions; or RS's refusal, in

@@ -8,8 +8,8 @@ ghost use Rattle.script_services.specs.Waiting.{AppendsLed, LeadsUnanswered};
 use crate::servers::Servers;
 use driver_tables::{Move, TableFault};
 use ds_names::{Endpoint, Name, NoRoom};
+use script_answers::{append_assigned, append_move, append_table_fault};
 use script_commands::{Device, Server};
-use service_answers::{append_assigned, append_move, append_table_fault};
 
 impl Servers {
     /// Assigns a device to the driver with a label, and appends `assigned`, or the refusal. At `Err` only the answer is

@@ -7,7 +7,7 @@ ghost use Rattle.script_services.specs.Waiting.{AppendsSome};
 
 use driver_tables::{Move, Moves, TableFault};
 use ds_names::NoRoom;
-use service_answers::{append_move, append_move_count, append_table_fault};
+use script_answers::{append_move, append_move_count, append_table_fault};
 
 /// Appends the moves of rounds, the request's own move, and the number of all; or, in place of the last two, the
 /// refusal. If memory runs out, appends nothing.

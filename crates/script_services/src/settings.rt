@@ -7,9 +7,8 @@ use crate::servers::Servers;
 use ds_names::NoRoom;
 use rs_core::Rs;
 use rs_settings::read;
-use service_answers::{append_exists, append_settings, append_settings_fault};
+use script_answers::{append_exists, append_noroom, append_settings, append_settings_fault};
 use std::alloc::Global;
-use store_answers::append_noroom;
 
 /// The generation of the first start.
 const FIRST: u32 = 1;

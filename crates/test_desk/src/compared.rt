@@ -2,7 +2,7 @@
 
 use history::Machine;
 use std::alloc::Global;
-use test_crews::Kept;
+use test_kit::Kept;
 
 /// A machine whose replies to threads at a desk are compared with those to one thread.
 pub(crate) trait Compared: Machine {

@@ -4,7 +4,7 @@ use crate::compared::Compared;
 use crate::counter::{Count, Counted, Counter};
 use history::Machine;
 use std::alloc::Global;
-use test_crews::Kept;
+use test_kit::Kept;
 
 impl Compared for Counter {
     fn begin(_alloc: Global) -> Option<Counter> {

@@ -2,7 +2,7 @@
 
 use ds_machine::{Refusal, Reply};
 use std::alloc::Global;
-use test_crews::Kept;
+use test_kit::Kept;
 
 // FNV-1a of 64 bits: the value at the beginning, and the factor of each byte (Fowler, Noll and Vo).
 const BEGINNING: u64 = 0xcbf2_9ce4_8422_2325;

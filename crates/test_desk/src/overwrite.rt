@@ -12,7 +12,7 @@ use desk::{Desk, Pass};
 use std::alloc::Global;
 use std::sync::Wait;
 use std::thread::Threads;
-use test_crews::{Board, Crew, DeskName, Task, Worker, run_crew};
+use test_kit::{Board, Crew, DeskName, Task, Worker, run_crew};
 
 /// The overwrites of one thread. Its label has the number of the thread's subscription, so no other thread overwrites it.
 #[derive(Clone, Copy)]

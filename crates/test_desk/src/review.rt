@@ -6,7 +6,7 @@ use crate::share::Share;
 use std::alloc::Global;
 use std::sync::Wait;
 use std::thread::Threads;
-use test_crews::{Crew, Kept, Said, run_crew};
+use test_kit::{Crew, Kept, Said, run_crew};
 
 /// The result of a comparison with one thread.
 #[derive(Clone, Copy)]

@@ -8,7 +8,7 @@ use crate::compared::Compared;
 use desk::{Answer, Desk, Pass};
 use std::alloc::Global;
 use std::sync::Wait;
-use test_crews::{Board, DeskName, Said, Task, Worker};
+use test_kit::{Board, DeskName, Said, Task, Worker};
 
 /// The calls of one thread. A take follows every fourth call, and a note for another thread every eighth.
 #[derive(Clone, Copy)]

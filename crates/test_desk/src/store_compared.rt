@@ -9,7 +9,7 @@ use ds_feed::Cursor;
 use ds_machine::{Command, Reply, Scope};
 use ds_store::Store;
 use std::alloc::Global;
-use test_crews::Kept;
+use test_kit::Kept;
 
 // The labels that threads publish.
 const LABELS: [&[u8]; 4] = [b"disk", b"eth0", b"inet", b"tty"];

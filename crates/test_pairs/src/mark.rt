@@ -7,9 +7,9 @@ use ds_store::Store;
 use rs_answers::append_served;
 use rs_core::{NewFault, RsFault};
 use rs_store::{Replies, RsReply};
+use script_answers::Wording;
 use std::alloc::Global;
-use store_answers::Wording;
-use test_crews::Kept;
+use test_kit::Kept;
 
 // FNV-1a of 64 bits: the value at the beginning, and the factor of each byte (Fowler, Noll and Vo).
 const BEGINNING: u64 = 0xcbf2_9ce4_8422_2325;

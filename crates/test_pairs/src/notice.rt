@@ -3,16 +3,15 @@
 ghost use Rattle.std.specs.Prelude.{◌≡◌};
 ghost use Rattle.desk.specs.Desk.{identity};
 ghost use Rattle.desk.specs.Pass.{desk_of};
-ghost use Rattle.ds_refresh.specs.KeepsUp.{KeepsUpWith};
-ghost use Rattle.rs_pass.specs.Record.{pair_record};
+ghost use Rattle.desk_store.specs.KeepsUp.{KeepsUpWith};
+ghost use Rattle.desk_store.specs.PairRecord.{pair_record};
 
 use crate::new_pair::{beginning, new_pair};
 use desk::{Desk, Pass, Taken};
+use desk_store::{Follower, Fresh, PairSeat, refresh};
 use ds_names::{Endpoint, Generation, Kinds, Name};
 use ds_pattern::{PatternText, Query};
-use ds_refresh::{Follower, Fresh, refresh};
 use rs_core::Event;
-use rs_pass::PairSeat;
 use rs_store::{RsCommand, RsStore};
 use std::alloc::Global;
 use std::sync::Wait;

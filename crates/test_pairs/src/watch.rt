@@ -3,23 +3,21 @@
 ghost use Rattle.std.specs.Prelude.{◌≡◌};
 ghost use Rattle.desk.specs.Desk.{identity};
 ghost use Rattle.desk.specs.Pass.{desk_of};
-ghost use Rattle.ds_refresh.specs.KeepsUp.{KeepsUpWith};
-ghost use Rattle.rs_pass.specs.Record.{pair_record};
+ghost use Rattle.desk_store.specs.KeepsUp.{KeepsUpWith};
+ghost use Rattle.desk_store.specs.PairRecord.{pair_record};
 
 use crate::asked::{Known, command_of, query};
 use crate::line::Sizes;
 use crate::mark::{kept_of, mark_of_map};
 use desk::{Desk, Pass};
+use desk_store::{CallFault, Follower, Fresh, PairSeat, RefreshFault, refresh};
 use ds_entry::Value;
 use ds_machine::Reply;
-use ds_pass::CallFault;
-use ds_refresh::{Follower, Fresh, RefreshFault, refresh};
-use rs_pass::PairSeat;
 use rs_store::{RsReply, RsStore};
 use std::alloc::Global;
 use std::sync::Wait;
 use std::sync::atomic::{AtomicU32, Ordering};
-use test_crews::{Board, DeskName, Kept, Said, Task, Worker};
+use test_kit::{Board, DeskName, Kept, Said, Task, Worker};
 
 /// The turn with which a refresh is kept. No caller has as many turns.
 pub(crate) const REFRESHED: u32 = u32::MAX;

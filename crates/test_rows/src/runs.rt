@@ -7,8 +7,8 @@ use ds_held::Limits;
 use ds_machine::{Command, Reply};
 use ds_names::{Endpoint, Key, Kind, Name, Version};
 use ds_store::{Store, run};
+use script_answers::{Wording, append_reply};
 use std::alloc::Global;
-use store_answers::{Wording, append_reply};
 
 /// Writes the reply to each of four commands that a new store runs at once. `None` if out of memory.
 pub(crate) fn tell_rows(text: &mut Vec<u8>, alloc: Global) -> Option<()> {

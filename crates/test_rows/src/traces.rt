@@ -4,7 +4,7 @@ use crate::telling::tell;
 use line_io::FailRead;
 use std::alloc::Global;
 use trace_check::verify;
-use trace_model::Verdict;
+use trace_walk::Verdict;
 
 const TRACE: &[u8] =
     b"trace 2 1 0 256 128 4096\n> 0 publish 0/2 new eth0 label 3.0 = 3/17\n< taken\n> 7 retrieve eth0 label\n< found 3/17\n";

@@ -8,12 +8,11 @@
 use ds_entry::{Text, TextFault, Value};
 use ds_names::{Key, Kind, Name};
 use ds_replica::Side;
-use ds_system::SystemEvents;
+use ds_system::{SystemEvent, SystemEvents, Table};
 use line_io::split_line;
 use script_commands::{CommandFault, ScriptCommand, Server, read_command};
 use std::alloc::Global;
 use std::str::Split;
-use system_model::{SystemEvent, Table};
 use test_kit::{Failure, name_at, number_at};
 
 /// Parses the lines as events.

@@ -12,10 +12,9 @@ use rs_answers::append_served;
 use rs_core::State;
 use rs_settings::{SettingsCause, read};
 use rs_store::{RsCommand, RsReply, RsStore};
+use script_answers::{Wording, append_settings_fault};
 use script_commands::{CommandFault, ScriptCommand, SettingsText, read_command};
-use service_answers::append_settings_fault;
 use std::alloc::Global;
-use store_answers::Wording;
 use test_kit::{Failure, name_at, number_at};
 
 /// RS and its store.

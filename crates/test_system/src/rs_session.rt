@@ -8,7 +8,7 @@ use ds_line::append_all;
 use ds_names::{Name, NoRoom};
 use rs_core::{Actions, Event, Numberer, Rs};
 use rs_settings::read;
-use service_answers::{append_action, append_action_count, append_rs_fault, append_settings};
+use script_answers::{append_action, append_action_count, append_rs_fault, append_settings};
 use std::alloc::Global;
 use test_kit::Failure;
 

@@ -4,7 +4,7 @@ use crate::words::{tell, tell_numbers};
 use ds_names::{NoRoom, Version};
 use rs_core::{NewFault, Running, SeqSpent, State};
 use rs_settings::SettingsFault;
-use service_answers::append_settings_fault;
+use script_answers::append_settings_fault;
 
 /// Appends the state of a service.
 pub(crate) fn tell_state(text: &mut Vec<u8>, state: Option<State>) -> Result<(), NoRoom> {

@@ -7,15 +7,14 @@ use ds_held::Limits;
 use ds_line::append_item;
 use ds_names::NoRoom;
 use ds_replica::Outcome;
+use ds_system::{Replies, Rounds, SystemFault, SystemOutcome};
 use ds_world::World;
 use rs_core::{Action, Actions};
-use service_answers::{
-    append_action, append_action_count, append_move, append_move_count, append_rs_fault,
-    append_table_fault,
+use script_answers::{
+    Wording, append_action, append_action_count, append_message, append_move, append_move_count,
+    append_outcome, append_reply, append_rs_fault, append_table_fault,
 };
 use std::alloc::Global;
-use store_answers::{Wording, append_message, append_outcome, append_reply};
-use system_model::{Replies, Rounds, SystemFault, SystemOutcome};
 
 /// Appends the outcome of an event. A message is written as the store's reply.
 pub(crate) fn tell_outcome(

@@ -2,8 +2,8 @@
 use Rattle.std.specs.Prelude.{◌≡◌}
 use Rattle.desk.specs.Desk.{identity}
 use Rattle.desk.specs.Pass.{desk_of}
-use Rattle.ds_pass.specs.Record.{pass_record}
-use Rattle.ds_refresh.specs.KeepsUp.{KeepsUpWith}
+use Rattle.desk_store.specs.Record.{pass_record}
+use Rattle.desk_store.specs.KeepsUp.{KeepsUpWith}
 use Rattle.test_threads.specs.declared.world.Side.{Side}
 use Rattle.test_threads.specs.declared.world.World.{World}
 

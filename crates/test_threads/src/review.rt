@@ -9,7 +9,7 @@ use std::alloc::Global;
 use std::sync::Wait;
 use std::sync::atomic::AtomicU32;
 use std::thread::Threads;
-use test_crews::{Crew, Kept, Said, run_crew};
+use test_kit::{Crew, Kept, Said, run_crew};
 
 /// The result of the comparison.
 #[derive(Clone, Copy)]

@@ -3,21 +3,21 @@
 ghost use Rattle.std.specs.Prelude.{◌≡◌};
 ghost use Rattle.desk.specs.Desk.{identity};
 ghost use Rattle.desk.specs.Pass.{desk_of};
-ghost use Rattle.ds_pass.specs.Record.{pass_record};
-ghost use Rattle.ds_refresh.specs.KeepsUp.{KeepsUpWith};
+ghost use Rattle.desk_store.specs.Record.{pass_record};
+ghost use Rattle.desk_store.specs.KeepsUp.{KeepsUpWith};
 ghost use Rattle.test_threads.specs.World.{IsSide};
 
 use crate::asked::Asked;
 use crate::tell::{tell, tell_fault};
 use crate::world::Side;
 use desk::{Desk, Pass};
-use ds_exchange::{ExchangeFault, Exchanged, exchange_once};
+use desk_store::{
+    ExchangeFault, Exchanged, Follower, Fresh, RefreshFault, Seat, exchange_once, refresh,
+};
 use ds_feed::Cursor;
 use ds_live::LiveFault;
 use ds_machine::Reply;
 use ds_names::Name;
-use ds_pass::Seat;
-use ds_refresh::{Follower, Fresh, RefreshFault, refresh};
 use ds_store::Store;
 use std::alloc::Global;
 use std::sync::Wait;

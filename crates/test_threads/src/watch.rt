@@ -3,21 +3,20 @@
 ghost use Rattle.std.specs.Prelude.{◌≡◌};
 ghost use Rattle.desk.specs.Desk.{identity};
 ghost use Rattle.desk.specs.Pass.{desk_of};
-ghost use Rattle.ds_pass.specs.Record.{pass_record};
-ghost use Rattle.ds_refresh.specs.KeepsUp.{KeepsUpWith};
+ghost use Rattle.desk_store.specs.Record.{pass_record};
+ghost use Rattle.desk_store.specs.KeepsUp.{KeepsUpWith};
 
 use crate::asked::{command_of, query};
 use crate::line::Sizes;
 use crate::mark::mark_of_map;
 use desk::{Answer, Desk, Pass};
+use desk_store::{CallFault, Follower, Fresh, RefreshFault, Seat, refresh};
 use ds_machine::{Refusal, Reply};
-use ds_pass::{CallFault, Seat};
-use ds_refresh::{Follower, Fresh, RefreshFault, refresh};
 use ds_store::Store;
 use std::alloc::Global;
 use std::sync::Wait;
 use std::sync::atomic::{AtomicU32, Ordering};
-use test_crews::{Board, DeskName, Kept, Said, Task, Worker};
+use test_kit::{Board, DeskName, Kept, Said, Task, Worker};
 
 /// The turn with which a refresh is kept. No writer has as many turns.
 pub(crate) const REFRESHED: u32 = u32::MAX;

@@ -6,8 +6,8 @@ ghost use Rattle.test_threads.specs.World.{IsSide, IsWorld};
 use crate::asked::query;
 use crate::rows::Row;
 use desk::{Desk, Pass};
+use desk_store::Follower;
 use ds_feed::Cursor;
-use ds_refresh::Follower;
 use ds_store::Store;
 use std::alloc::Global;
 

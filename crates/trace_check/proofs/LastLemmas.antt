@@ -3,8 +3,8 @@ use Rattle.std.proofs.Common.{◌≡◌, ℕ, suc, ◌⊎◌, List, [], ◌∷�
 use Rattle.std.specs.List.{All}
 use Rattle.std.proofs.lemmas.Grind.{flat_map-append}
 use Rattle.line_io.specs.Lines.{HasLines, IsUnbroken, joined, unended, with_newline}
-use Rattle.trace_model.specs.Verdict.{Fails, IsLegal, IsWrongAt}
-use Rattle.trace_model.specs.Walk.{NoneEnds}
+use Rattle.trace_walk.specs.Verdict.{Fails, IsLegal, IsWrongAt}
+use Rattle.trace_walk.specs.Walk.{NoneEnds}
 use Rattle.trace_walk.proofs.BeginLemmas.{joined_none}
 use Rattle.trace_walk.proofs.WalkingLemmas.{first_line, only_line}
 

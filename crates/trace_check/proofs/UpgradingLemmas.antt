@@ -8,16 +8,16 @@ use Rattle.std.proofs.lemmas.Result.{err_from_is_err_and}
 use Rattle.line_io.specs.Lines.{HasLines, joined}
 use Rattle.line_io.specs.Reading.{LinesContent}
 use Rattle.line_io.proofs.InputLemmas.{has_lines}
-use Rattle.trace_model.specs.declared.header.Format.{Format}
-use Rattle.trace_model.specs.declared.header.Format.TheVariants.{One, Two}
-use Rattle.trace_model.specs.declared.header.Header.{Header}
-use Rattle.trace_model.specs.Legal.{EntryLeads, IsTrace, opened_by}
-use Rattle.trace_model.specs.Text.{TraceEntry, asked_text, entry_text, header_text, marked, trace_text}
-use Rattle.trace_model.specs.Upgrade.{BecomesAs, IsUpgradeOf, IsUpgraded, IsUpgradedBefore, IsUpgradedInPart, IsUpgradedSoFar, upgraded}
-use Rattle.trace_model.specs.Verdict.{IsWrongAt}
-use Rattle.trace_model.specs.Walk.{NoneEnds}
-use Rattle.trace_model.proofs.EntryLemmas.{trace_more}
-use Rattle.trace_model.proofs.UpgradeLemmas.{become_more, upgraded_is_legal, upgraded_more}
+use Rattle.trace_walk.specs.declared.header.Format.{Format}
+use Rattle.trace_walk.specs.declared.header.Format.TheVariants.{One, Two}
+use Rattle.trace_walk.specs.declared.header.Header.{Header}
+use Rattle.trace_walk.specs.Legal.{EntryLeads, IsTrace, opened_by}
+use Rattle.trace_walk.specs.Text.{TraceEntry, asked_text, entry_text, header_text, marked, trace_text}
+use Rattle.trace_walk.specs.Upgrade.{BecomesAs, IsUpgradeOf, IsUpgraded, IsUpgradedBefore, IsUpgradedInPart, IsUpgradedSoFar, upgraded}
+use Rattle.trace_walk.specs.Verdict.{IsWrongAt}
+use Rattle.trace_walk.specs.Walk.{NoneEnds}
+use Rattle.trace_walk.proofs.EntryLemmas.{trace_more}
+use Rattle.trace_walk.proofs.UpgradeLemmas.{become_more, upgraded_is_legal, upgraded_more}
 use Rattle.trace_walk.specs.declared.fault.WalkFault.{WalkFault}
 use Rattle.trace_walk.specs.declared.fault.WalkFault.TheVariants as walks
 use Rattle.trace_walk.specs.declared.passed.Passed.{Passed}

@@ -1,7 +1,7 @@
 -- The line that a verdict names, and what must follow in its place.
 use Rattle.std.specs.Prelude.{◌≡◌, ℕ, List, Option, None, Some}
-use Rattle.trace_model.specs.declared.verdict.Verdict.{Verdict}
-use Rattle.trace_model.specs.declared.verdict.Verdict.TheVariants as verdicts
+use Rattle.trace_walk.specs.declared.verdict.Verdict.{Verdict}
+use Rattle.trace_walk.specs.declared.verdict.Verdict.TheVariants as verdicts
 use Rattle.trace_walk.specs.declared.walk.Walk.{Walk}
 use Rattle.trace_walk.specs.declared.wrong_line.Wanted.{Wanted}
 use Rattle.trace_walk.specs.declared.wrong_line.Wanted.TheVariants.{Header, Reply}

@@ -5,13 +5,13 @@ use Rattle.line_io.specs.Lines.{HasLines, joined}
 use Rattle.line_io.specs.Streams.{CallsLead, HasFailedRead, HasFailedWrite}
 use Rattle.line_io.specs.declared.streams.Source.{Ghosts as Reader}
 use Rattle.line_io.specs.declared.streams.Sink.{Ghosts as Writer}
-use Rattle.trace_model.specs.declared.header.Format.TheVariants.{One, Two}
-use Rattle.trace_model.specs.declared.header.Header.{Header}
-use Rattle.trace_model.specs.declared.verdict.Verdict.TheVariants as verdicts
-use Rattle.trace_model.specs.Legal.{IsTrace, opened_by}
-use Rattle.trace_model.specs.Text.{TraceEntry, IsHeader, header_text, trace_text}
-use Rattle.trace_model.specs.Upgrade.{Become, IsUpgraded, IsUpgradedBefore, IsUpgradedInPart, IsUpgradedSoFar, upgraded}
-use Rattle.trace_model.specs.Verdict.{IsVerdict}
+use Rattle.trace_walk.specs.declared.header.Format.TheVariants.{One, Two}
+use Rattle.trace_walk.specs.declared.header.Header.{Header}
+use Rattle.trace_walk.specs.declared.verdict.Verdict.TheVariants as verdicts
+use Rattle.trace_walk.specs.Legal.{IsTrace, opened_by}
+use Rattle.trace_walk.specs.Text.{TraceEntry, IsHeader, header_text, trace_text}
+use Rattle.trace_walk.specs.Upgrade.{Become, IsUpgraded, IsUpgradedBefore, IsUpgradedInPart, IsUpgradedSoFar, upgraded}
+use Rattle.trace_walk.specs.Verdict.{IsVerdict}
 use Rattle.trace_walk.specs.declared.fault.WalkFault.{WalkFault}
 use Rattle.trace_walk.specs.declared.fault.WalkFault.TheVariants as walks
 use Rattle.trace_check.specs.declared.upgrading.UpgradeFault.{UpgradeFault}

@@ -2,9 +2,9 @@
 use Rattle.std.specs.Prelude.{◌≡◌, ℕ, List, Option}
 use Rattle.line_io.specs.Streams.{CallsLead, HasFailedRead}
 use Rattle.line_io.specs.declared.streams.Source.{Ghosts as Reader}
-use Rattle.trace_model.specs.declared.verdict.Verdict.{Verdict}
-use Rattle.trace_model.specs.declared.verdict.Verdict.TheVariants.{ReadFault}
-use Rattle.trace_model.specs.Verdict.{IsVerdict}
+use Rattle.trace_walk.specs.declared.verdict.Verdict.{Verdict}
+use Rattle.trace_walk.specs.declared.verdict.Verdict.TheVariants.{ReadFault}
+use Rattle.trace_walk.specs.Verdict.{IsVerdict}
 use Rattle.trace_walk.specs.declared.walk.Walk.{Walk}
 use Rattle.trace_walk.specs.Steps.{WalksAt}
 use Rattle.trace_walk.specs.Walking.{Spot}

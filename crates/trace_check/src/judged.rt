@@ -3,8 +3,7 @@
 ghost use Rattle.std.specs.Prelude.{◌≡◌, IfSome, IfNone};
 ghost use Rattle.trace_check.specs.Telling.{IsOfLine, TellsNoLine, wanted_by};
 
-use trace_model::Verdict;
-use trace_walk::{Stands, Walk, Wanted, WrongLine};
+use trace_walk::{Stands, Verdict, Walk, Wanted, WrongLine};
 
 /// A verdict on a trace, with the walk that reached it.
 #[derive(Drop)]

@@ -1,6 +1,6 @@
 //! Recorded traces of one store, judged against the store's machine.
 //!
-//! `trace_model` defines traces and verdicts, and `trace_walk` passes one entry after another. This crate judges a
+//! `trace_walk` defines traces and verdicts, and `trace_walk` passes one entry after another. This crate judges a
 //! whole trace, and writes one of format 1 in format 2.
 #![tactic(auto)]
 
@@ -9,7 +9,6 @@ mod upgrading;
 mod verifying;
 
 pub use judged::Judged;
-pub use trace_model::Verdict;
-pub use trace_walk::{Stands, Wanted, WrongLine};
+pub use trace_walk::{Stands, Verdict, Wanted, WrongLine};
 pub use upgrading::{UpgradeFault, upgrade};
 pub use verifying::{judge, verify};

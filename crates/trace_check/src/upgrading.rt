@@ -1,7 +1,7 @@
 //! Traces of format 1, written in format 2.
 
 ghost use Rattle.std.specs.Prelude.{◌≡◌, IfOk, IfErr, IfSome};
-ghost use Rattle.trace_model.specs.Upgrade.{upgraded};
+ghost use Rattle.trace_walk.specs.Upgrade.{upgraded};
 ghost use Rattle.trace_check.specs.Upgrading.{EndsBehindHeader, EndsUpgraded, BlamesUpgrade, BlamesUpgradeOn};
 ghost use Rattle.trace_check.specs.Upgrading.{StopsBehindHeader, StopsUpgrading, UpgradesAll, UpgradesInPart};
 
@@ -9,8 +9,7 @@ use ds_names::NoRoom;
 use line_io::{Sink, Source, WriteFailed, write_out};
 use std::alloc::Global;
 use thiserror::Error;
-use trace_model::{Format, Header, append_header};
-use trace_walk::{Walk, WalkFault, append_passed};
+use trace_walk::{Format, Header, Walk, WalkFault, append_header, append_passed};
 
 /// Why a trace wasn't upgraded, or not whole.
 #[derive(Clone, Copy, Debug, PartialEq, Eq, Error)]

@@ -1,15 +1,14 @@
 //! The verdict on a trace.
 
 ghost use Rattle.std.specs.Prelude.{IfSome};
-ghost use Rattle.trace_model.specs.Verdict.{IsVerdict};
+ghost use Rattle.trace_walk.specs.Verdict.{IsVerdict};
 ghost use Rattle.trace_check.specs.Telling.{EndsWanting, WantsRightly};
 ghost use Rattle.trace_check.specs.Verifying.{EndsWith, IsVerdictCause, IsWalkedCause};
 
 use crate::judged::Judged;
 use line_io::Source;
 use std::alloc::Global;
-use trace_model::Verdict;
-use trace_walk::Walk;
+use trace_walk::{Verdict, Walk};
 
 /// Judges a trace of format 1 or 2. If it isn't legal, the verdict names the first line, from 1, that no legal trace
 /// has in its place, even if that line is missing. ReadFault comes only if the last read failed, or 2^32 reads were made.

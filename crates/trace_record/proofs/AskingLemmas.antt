@@ -3,9 +3,9 @@ use Rattle.std.proofs.Common.{◌≡◌, ℕ, ◌<◌, ◌≤◌, Bool, true, fa
 use Rattle.std.specs.Char.{is_ascii_digit}
 use Rattle.std.specs.Fmt.{decimal}
 use Rattle.line_io.specs.Lines.{EndsLine, with_newline}
-use Rattle.trace_model.specs.Text.{TraceEntry, asked_text}
-use Rattle.trace_model.proofs.AskedLemmas.{pass_ends}
-use Rattle.trace_model.proofs.SplitLemmas.{ends_after, without}
+use Rattle.trace_walk.specs.Text.{TraceEntry, asked_text}
+use Rattle.trace_walk.proofs.AskedLemmas.{pass_ends}
+use Rattle.trace_walk.proofs.SplitLemmas.{ends_after, without}
 use Rattle.trace_record.specs.Asking.{has_pass, asked_by, AskAll}
 
 -- with its mark a line is a line

@@ -4,10 +4,10 @@ use Rattle.std.specs.List.{flat_map}
 use Rattle.line_io.specs.Lines.{HasLines, joined, with_newline}
 use Rattle.line_io.specs.Reading.{LinesContent}
 use Rattle.trace_walk.specs.Walking.{HasLine, IsLong, IsRead, IsShort}
-use Rattle.trace_model.specs.declared.asked.Head.TheVariants as heads
-use Rattle.trace_model.specs.declared.header.Format.{Format}
-use Rattle.trace_model.specs.Head.{IsHeadOf}
-use Rattle.trace_model.specs.Text.{plus_text}
+use Rattle.trace_walk.specs.declared.asked.Head.TheVariants as heads
+use Rattle.trace_walk.specs.declared.header.Format.{Format}
+use Rattle.trace_walk.specs.Head.{IsHeadOf}
+use Rattle.trace_walk.specs.Text.{plus_text}
 use Rattle.trace_record.specs.Asking.{AsksNothing, AsksNothingAt, IsAtLimit, IsFirstLines, IsNoItem, IsPlaceOfLine, IsRingLine, asked_by}
 use Rattle.trace_record.specs.Reading.{IsAtLine}
 use Rattle.trace_record.specs.Steps.{LacksNext, LacksOne}

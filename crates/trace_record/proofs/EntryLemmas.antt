@@ -5,12 +5,12 @@ use Rattle.std.proofs.lemmas.Grind.{flat_map-append}
 use Rattle.std.proofs.lemmas.List.Elements.{All-nil, All-push}
 use Rattle.ds_feed.specs.Kept.{IsRing}
 use Rattle.ds_machine.specs.State.{State}
-use Rattle.trace_model.specs.declared.header.Format.{Format}
-use Rattle.trace_model.specs.declared.header.Header.{Header}
-use Rattle.trace_model.specs.Legal.{EntryLeads, AllLead, opened_by}
-use Rattle.trace_model.specs.Text.{TraceEntry, FormatHas, IsEntry, IsHeader, asked_text, entry_text, header_text, trace_text}
-use Rattle.trace_model.proofs.TracedLemmas.{traced_stays}
-use Rattle.trace_model.proofs.WalkLemmas.{header_behind}
+use Rattle.trace_walk.specs.declared.header.Format.{Format}
+use Rattle.trace_walk.specs.declared.header.Header.{Header}
+use Rattle.trace_walk.specs.Legal.{EntryLeads, AllLead, opened_by}
+use Rattle.trace_walk.specs.Text.{TraceEntry, FormatHas, IsEntry, IsHeader, asked_text, entry_text, header_text, trace_text}
+use Rattle.trace_walk.proofs.TracedLemmas.{traced_stays}
+use Rattle.trace_walk.proofs.WalkLemmas.{header_behind}
 use Rattle.trace_record.specs.declared.form.Form.{Form}
 use Rattle.trace_record.specs.declared.form.Form.TheVariants.{One, Two}
 use Rattle.trace_record.specs.Asking.{asked_by}

@@ -10,7 +10,7 @@ use Rattle.script_commands.specs.declared.command.ScriptCommand.{ScriptCommand}
 use Rattle.script_commands.specs.declared.command.ScriptCommand.TheVariants.{Ring}
 use Rattle.script_commands.specs.declared.fault.CommandFault.{CommandFault}
 use Rattle.script_commands.specs.declared.fault.CommandFault.TheVariants.{BadLine, NoRoom}
-use Rattle.trace_model.proofs.AskedLemmas.{same_command}
+use Rattle.trace_walk.proofs.AskedLemmas.{same_command}
 use Rattle.trace_record.specs.Asking.{IsRingLine, ring_text}
 use Rattle.trace_record.specs.Reading.{SaysRing}
 

@@ -10,9 +10,9 @@ use Rattle.line_io.specs.Transfer.{SendsFront, WritesPart}
 use Rattle.ds_machine.specs.State.{State}
 use Rattle.trace_walk.specs.Walking.{IsAt}
 use Rattle.trace_walk.proofs.BeginLemmas.{by_known}
-use Rattle.trace_model.specs.declared.header.Format.{Format}
-use Rattle.trace_model.specs.declared.header.Header.{Header}
-use Rattle.trace_model.specs.Legal.{opened_by}
+use Rattle.trace_walk.specs.declared.header.Format.{Format}
+use Rattle.trace_walk.specs.declared.header.Header.{Header}
+use Rattle.trace_walk.specs.Legal.{opened_by}
 use Rattle.trace_record.specs.declared.fault.RecordFault.{RecordFault}
 use Rattle.trace_record.specs.declared.fault.RecordFault.TheVariants.{BadLine, ReadFault, WriteFault, NoRoom}
 use Rattle.trace_record.specs.declared.form.Form.{Form}

@@ -12,18 +12,18 @@ use Rattle.line_io.specs.Lines.{EndsLine, with_newline}
 use Rattle.line_io.specs.Reading.{LinesContent}
 use Rattle.ds_machine.specs.State.{State}
 use Rattle.script_commands.specs.declared.command.ScriptCommand.{ScriptCommand}
-use Rattle.store_answers.specs.Reply.{reply_lines}
+use Rattle.script_answers.specs.Reply.{reply_lines}
 use Rattle.trace_walk.specs.Walking.{IsAt, IsShort}
-use Rattle.trace_model.specs.declared.asked.Asked.{Asked}
-use Rattle.trace_model.specs.declared.asked.Asked.TheVariants as askeds
-use Rattle.trace_model.specs.declared.asked.Head.{Head}
-use Rattle.trace_model.specs.declared.asked.Head.TheVariants as heads
-use Rattle.trace_model.specs.declared.header.Format.{Format}
-use Rattle.trace_model.specs.declared.header.Header.{Header}
-use Rattle.trace_model.specs.Head.{IsHeadOf}
-use Rattle.trace_model.specs.Legal.{StepOf}
-use Rattle.trace_model.specs.OneReply.{IsTraced}
-use Rattle.trace_model.specs.Text.{TraceEntry, MayAsk, MayMerge, asked_text, entry_text, marked, merge_text, pass_text, plus_text, worded_as}
+use Rattle.trace_walk.specs.declared.asked.Asked.{Asked}
+use Rattle.trace_walk.specs.declared.asked.Asked.TheVariants as askeds
+use Rattle.trace_walk.specs.declared.asked.Head.{Head}
+use Rattle.trace_walk.specs.declared.asked.Head.TheVariants as heads
+use Rattle.trace_walk.specs.declared.header.Format.{Format}
+use Rattle.trace_walk.specs.declared.header.Header.{Header}
+use Rattle.trace_walk.specs.Head.{IsHeadOf}
+use Rattle.trace_walk.specs.Legal.{StepOf}
+use Rattle.trace_walk.specs.OneReply.{IsTraced}
+use Rattle.trace_walk.specs.Text.{TraceEntry, MayAsk, MayMerge, asked_text, entry_text, marked, merge_text, pass_text, plus_text, worded_as}
 use Rattle.trace_record.specs.declared.fault.RecordFault.{RecordFault}
 use Rattle.trace_record.specs.declared.fault.RecordFault.TheVariants.{BadLine, ReadFault, WriteFault, NoRoom}
 use Rattle.trace_record.specs.declared.recorder.Recorder.{Recorder}

@@ -13,10 +13,10 @@ use Rattle.script_commands.specs.Later.{IsLater}
 use Rattle.script_commands.specs.declared.command.ScriptCommand.{ScriptCommand}
 use Rattle.script_commands.specs.declared.command.ScriptCommand.TheVariants.{Offer, Ring}
 use Rattle.trace_walk.specs.Walking.{IsShort}
-use Rattle.trace_model.specs.declared.asked.Head.{Head}
-use Rattle.trace_model.specs.declared.header.Format.{Format}
-use Rattle.trace_model.specs.Head.{IsHeadOf}
-use Rattle.trace_model.specs.Text.{TraceEntry, MayMerge, asked_text, merge_text, pass_text, plus_text}
+use Rattle.trace_walk.specs.declared.asked.Head.{Head}
+use Rattle.trace_walk.specs.declared.header.Format.{Format}
+use Rattle.trace_walk.specs.Head.{IsHeadOf}
+use Rattle.trace_walk.specs.Text.{TraceEntry, MayMerge, asked_text, merge_text, pass_text, plus_text}
 
 -- Whether a line begins with a pass: a digit.
 abbrev pub has_pass : List ℕ → Bool

@@ -3,9 +3,9 @@ use Rattle.std.specs.Prelude.{◌≡◌, ℕ, true, false, Bool, List, [], Optio
 use Rattle.line_io.specs.Lines.{EndsLine, with_newline}
 use Rattle.line_io.specs.Reading.{LinesContent}
 use Rattle.trace_walk.specs.Walking.{IsAt, IsRead, IsLong, HasLine, IsShort}
-use Rattle.trace_model.specs.declared.asked.Head.{Head}
-use Rattle.trace_model.specs.declared.header.Format.{Format}
-use Rattle.trace_model.specs.Head.{IsHeadOf}
+use Rattle.trace_walk.specs.declared.asked.Head.{Head}
+use Rattle.trace_walk.specs.declared.header.Format.{Format}
+use Rattle.trace_walk.specs.Head.{IsHeadOf}
 use Rattle.trace_record.specs.declared.begin.Beginning.{Beginning}
 use Rattle.trace_record.specs.declared.fault.RecordFault.{RecordFault}
 use Rattle.trace_record.specs.declared.fault.RecordFault.TheVariants.{BadLine, WriteFault, NoRoom}

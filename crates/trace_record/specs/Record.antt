@@ -4,11 +4,11 @@ use Rattle.std.specs.Io.KnownBytes.{Appends}
 use Rattle.ds_held.specs.Limits.{smaller}
 use Rattle.line_io.specs.Transfer.{WritesPart}
 use Rattle.ds_machine.specs.State.{State}
-use Rattle.trace_model.specs.declared.header.Format.{Format}
-use Rattle.trace_model.specs.declared.header.Format.TheVariants as formats
-use Rattle.trace_model.specs.declared.header.Header.{Header}
-use Rattle.trace_model.specs.Legal.{IsTrace}
-use Rattle.trace_model.specs.Text.{TraceEntry}
+use Rattle.trace_walk.specs.declared.header.Format.{Format}
+use Rattle.trace_walk.specs.declared.header.Format.TheVariants as formats
+use Rattle.trace_walk.specs.declared.header.Header.{Header}
+use Rattle.trace_walk.specs.Legal.{IsTrace}
+use Rattle.trace_walk.specs.Text.{TraceEntry}
 use Rattle.trace_record.specs.declared.fault.RecordFault.{RecordFault}
 use Rattle.trace_record.specs.declared.fault.RecordFault.TheVariants.{BadLine, WriteFault, NoRoom}
 use Rattle.trace_record.specs.declared.form.Form.{Form}

@@ -5,7 +5,7 @@ use Rattle.std.specs.Io.KnownBytes.{Appends}
 use Rattle.ds_content.specs.Stands.{ContentStands}
 use Rattle.line_io.specs.Transfer.{WritesPart}
 use Rattle.ds_machine.specs.State.{State}
-use Rattle.trace_model.specs.declared.header.Header.{Header}
+use Rattle.trace_walk.specs.declared.header.Header.{Header}
 use Rattle.trace_record.specs.declared.fault.RecordFault.{RecordFault}
 use Rattle.trace_record.specs.declared.fault.RecordFault.TheVariants.{WriteFault}
 use Rattle.trace_record.specs.declared.recorder.Recorder.{Recorder}

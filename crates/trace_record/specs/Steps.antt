@@ -8,19 +8,19 @@ use Rattle.line_io.specs.Reading.{LinesContent}
 use Rattle.ds_machine.specs.State.{State}
 use Rattle.ds_machine.specs.declared.command.Command.{Command}
 use Rattle.ds_machine.specs.declared.reply.Reply.{Reply}
-use Rattle.store_answers.specs.Reply.{reply_lines}
-use Rattle.store_answers.specs.declared.wording.Wording.{Wording}
+use Rattle.script_answers.specs.Reply.{reply_lines}
+use Rattle.script_answers.specs.declared.wording.Wording.{Wording}
 use Rattle.trace_walk.specs.Walking.{IsAt, IsShort}
-use Rattle.trace_model.specs.declared.asked.Asked.{Asked}
-use Rattle.trace_model.specs.declared.asked.Head.{Head}
-use Rattle.trace_model.specs.declared.asked.Head.TheVariants as heads
-use Rattle.trace_model.specs.declared.header.Format.{Format}
-use Rattle.trace_model.specs.declared.header.Header.{Header}
-use Rattle.trace_model.specs.Head.{IsHeadOf}
-use Rattle.trace_model.specs.Legal.{IsTrace, StepOf, opened_by}
-use Rattle.trace_model.specs.OneReply.{IsTraced}
-use Rattle.trace_model.specs.Text.{TraceEntry, IsHeader, MayAsk, MayMerge, asked_text, command_asked}
-use Rattle.trace_model.specs.Text.{header_text, marked, plus_text, worded_as}
+use Rattle.trace_walk.specs.declared.asked.Asked.{Asked}
+use Rattle.trace_walk.specs.declared.asked.Head.{Head}
+use Rattle.trace_walk.specs.declared.asked.Head.TheVariants as heads
+use Rattle.trace_walk.specs.declared.header.Format.{Format}
+use Rattle.trace_walk.specs.declared.header.Header.{Header}
+use Rattle.trace_walk.specs.Head.{IsHeadOf}
+use Rattle.trace_walk.specs.Legal.{IsTrace, StepOf, opened_by}
+use Rattle.trace_walk.specs.OneReply.{IsTraced}
+use Rattle.trace_walk.specs.Text.{TraceEntry, IsHeader, MayAsk, MayMerge, asked_text, command_asked}
+use Rattle.trace_walk.specs.Text.{header_text, marked, plus_text, worded_as}
 use Rattle.trace_record.specs.declared.fault.RecordFault.{RecordFault}
 use Rattle.trace_record.specs.declared.fault.RecordFault.TheVariants.{BadLine, WriteFault}
 use Rattle.trace_record.specs.declared.form.Form.{Form}

@@ -1,11 +1,11 @@
 //! The form of a recorded trace.
 
 ghost use Rattle.std.specs.Prelude.{◌≡◌};
-ghost use Rattle.trace_model.specs.Text.{FormatHas};
+ghost use Rattle.trace_walk.specs.Text.{FormatHas};
 ghost use Rattle.trace_record.specs.Record.{header_of};
 
 use ds_held::Limits;
-use trace_model::{Format, Header};
+use trace_walk::{Format, Header};
 
 /// The format of a trace, and the limits of its store. Format 1 has 64 subscriptions and 1024 keys.
 #[derive(Clone, Copy, Debug, PartialEq, Eq)]

@@ -1,7 +1,7 @@
 //! Recording: runs one store on the commands of an input, and writes the trace of that run.
 //!
 //! A line is a command as in a trace, without its mark, and with the pass 0 if none is there. The output is a legal
-//! trace, as `trace_model` defines it, whatever the input is and however the recording ends. This project's.
+//! trace, as `trace_walk` defines it, whatever the input is and however the recording ends. This project's.
 #![tactic(auto)]
 
 mod begin;

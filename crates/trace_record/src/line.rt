@@ -10,7 +10,7 @@ use crate::fault::RecordFault;
 use crate::place::{Wanted, longest, place_of_command, place_of_long};
 use line_io::{LONGEST_LINE, Lines, Pulled, Source};
 use std::alloc::Global;
-use trace_model::{AskedFault, Format, Head, read_head};
+use trace_walk::{AskedFault, Format, Head, read_head};
 
 /// Reads the next line, where a line of this sort must follow, and returns whether there is one.
 pub(crate) fn next_line<R: Source>(

@@ -3,7 +3,7 @@
 ghost use Rattle.std.specs.Prelude.{◌≡◌, ◌≢◌, ◌++◌, ◌∷◌, [], None, OnOk, OnErr, IfOk, IfErr};
 ghost use Rattle.line_io.specs.Lines.{EndsLine};
 ghost use Rattle.line_io.specs.Pulling.{LeadsOn};
-ghost use Rattle.trace_model.specs.Text.{command_asked};
+ghost use Rattle.trace_walk.specs.Text.{command_asked};
 ghost use Rattle.trace_record.specs.Causes.{IsCausedOn};
 ghost use Rattle.trace_record.specs.Steps.{KeepsOutput, OpensAs, HeadsFrom, FailsAtHead, AddsLines, MissesLines, AddsItems, MissesItems};
 ghost use Rattle.trace_record.specs.Steps.{AddsItem, MissesItem, AddsReply, AnswersAsked, AddsEntry, FailsInEntry};
@@ -19,10 +19,11 @@ use ds_machine::Reply;
 use ds_names::NoRoom;
 use ds_store::Store;
 use line_io::{Lines, Source};
+use script_answers::{Wording, append_reply};
 use std::alloc::Global;
-use store_answers::{Wording, append_reply};
-use trace_model::{Asked, AskedFault, Head, Header, append_header, append_marked, read_plus};
-use trace_walk::ask_store;
+use trace_walk::{
+    Asked, AskedFault, Head, Header, append_header, append_marked, ask_store, read_plus,
+};
 
 /// A recording under way: its place in the input, the store and its header, whole entries that wait to be written, and
 /// the text of the current entry and of its reply.

@@ -13,23 +13,23 @@ use Rattle.ds_machine.specs.declared.refusal.Refusal.TheVariants as refusals
 use Rattle.ds_machine.specs.declared.reply.Reply.{Reply as AReply}
 use Rattle.ds_machine.specs.declared.reply.Reply.TheVariants.{Refused}
 use Rattle.ds_names.specs.Endpoint.{EndpointRecord}
-use Rattle.store_answers.specs.Reply.{reply_lines, refused_noroom}
+use Rattle.script_answers.specs.Reply.{reply_lines, refused_noroom}
 use Rattle.script_commands.specs.declared.command.ScriptCommand.TheVariants as commands
-use Rattle.store_answers.specs.declared.wording.Wording.{Wording}
-use Rattle.store_answers.specs.declared.wording.Wording.TheVariants.{AsMerge}
+use Rattle.script_answers.specs.declared.wording.Wording.{Wording}
+use Rattle.script_answers.specs.declared.wording.Wording.TheVariants.{AsMerge}
 use Rattle.ds_machine.specs.OneStep.{room_wanted}
-use Rattle.trace_model.specs.declared.asked.Asked.{Asked}
-use Rattle.trace_model.specs.declared.asked.Asked.TheVariants as askeds
-use Rattle.trace_model.specs.declared.header.Format.TheVariants.{One}
-use Rattle.trace_model.specs.declared.header.Header.{Header}
-use Rattle.trace_model.specs.Legal.{StepOf, EntryLeads}
-use Rattle.trace_model.specs.Noroom.{noroom_line, stopped_line}
-use Rattle.trace_model.specs.Sweep.{older_sweep}
-use Rattle.trace_model.specs.Text.{TraceEntry, IsEntry, asked_text, command_asked, marked, marked_from, worded_as}
-use Rattle.trace_model.specs.Walk.{IsPlaceInEntry, MayReply}
-use Rattle.trace_model.proofs.EntryLemmas.{entries_lead}
-use Rattle.trace_model.proofs.OneReplyLemmas.{none_of, older_plain}
-use Rattle.trace_model.proofs.PlaceLemmas.{reply_places, within_replies, wants_step, asks_some}
+use Rattle.trace_walk.specs.declared.asked.Asked.{Asked}
+use Rattle.trace_walk.specs.declared.asked.Asked.TheVariants as askeds
+use Rattle.trace_walk.specs.declared.header.Format.TheVariants.{One}
+use Rattle.trace_walk.specs.declared.header.Header.{Header}
+use Rattle.trace_walk.specs.Legal.{StepOf, EntryLeads}
+use Rattle.trace_walk.specs.Noroom.{noroom_line, stopped_line}
+use Rattle.trace_walk.specs.Sweep.{older_sweep}
+use Rattle.trace_walk.specs.Text.{TraceEntry, IsEntry, asked_text, command_asked, marked, marked_from, worded_as}
+use Rattle.trace_walk.specs.Walk.{IsPlaceInEntry, MayReply}
+use Rattle.trace_walk.proofs.EntryLemmas.{entries_lead}
+use Rattle.trace_walk.proofs.OneReplyLemmas.{none_of, older_plain}
+use Rattle.trace_walk.proofs.PlaceLemmas.{reply_places, within_replies, wants_step, asks_some}
 use Rattle.trace_walk.specs.declared.fault.WalkFault.{WalkFault}
 use Rattle.trace_walk.specs.declared.fault.WalkFault.TheVariants.{IllegalAt, BadLineAt, ReadFault, NoRoom}
 use Rattle.trace_walk.specs.declared.place.Place.TheVariants.{Reply}

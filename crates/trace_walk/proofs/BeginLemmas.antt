@@ -8,15 +8,15 @@ use Rattle.line_io.specs.Lines.{HasLines, IsUnbroken, with_newline, joined}
 use Rattle.line_io.specs.Reading.{LinesContent, no_lines}
 use Rattle.line_io.specs.Pulling.{left}
 use Rattle.line_io.proofs.InputLemmas.{has_lines}
-use Rattle.trace_model.specs.declared.header.Format.{Format}
-use Rattle.trace_model.specs.declared.header.Format.TheVariants.{One, Two}
-use Rattle.trace_model.specs.declared.header.Header.{Header}
-use Rattle.trace_model.specs.declared.verdict.Verdict.TheVariants as verdicts
-use Rattle.trace_model.specs.Legal.{IsTrace}
-use Rattle.trace_model.specs.Text.{IsHeader, FormatHas, HasNoHeader, header_text, format_text, numbers_text, limits_text}
-use Rattle.trace_model.specs.Verdict.{IsLegal, IsWrongAt, MayBegin, WantsReply, IsVerdict}
-use Rattle.trace_model.proofs.HeaderLemmas.{few_limits}
-use Rattle.trace_model.proofs.WalkLemmas.{header_behind, bad_header}
+use Rattle.trace_walk.specs.declared.header.Format.{Format}
+use Rattle.trace_walk.specs.declared.header.Format.TheVariants.{One, Two}
+use Rattle.trace_walk.specs.declared.header.Header.{Header}
+use Rattle.trace_walk.specs.declared.verdict.Verdict.TheVariants as verdicts
+use Rattle.trace_walk.specs.Legal.{IsTrace}
+use Rattle.trace_walk.specs.Text.{IsHeader, FormatHas, HasNoHeader, header_text, format_text, numbers_text, limits_text}
+use Rattle.trace_walk.specs.Verdict.{IsLegal, IsWrongAt, MayBegin, WantsReply, IsVerdict}
+use Rattle.trace_walk.proofs.HeaderLemmas.{few_limits}
+use Rattle.trace_walk.proofs.WalkLemmas.{header_behind, bad_header}
 use Rattle.trace_walk.specs.declared.fault.WalkFault.{WalkFault}
 use Rattle.trace_walk.specs.declared.fault.WalkFault.TheVariants as faults
 use Rattle.trace_walk.specs.declared.place.Place.TheVariants.{Form}

@@ -4,10 +4,10 @@ use Rattle.std.specs.Result.{IfErr, IsErrAnd}
 use Rattle.std.proofs.lemmas.Result.{err_from_is_err_and}
 use Rattle.line_io.specs.Lines.{HasLines, IsUnbroken, EndsLine, with_newline, joined}
 use Rattle.line_io.specs.Reading.{LinesContent}
-use Rattle.trace_model.specs.Text.{marked, marked_from}
-use Rattle.trace_model.specs.Verdict.{Fails, IsWrongAt}
-use Rattle.trace_model.specs.Walk.{IsPlaceInEntry, NoneEnds}
-use Rattle.trace_model.proofs.MarkLemmas.{marked_line, marked_append}
+use Rattle.trace_walk.specs.Text.{marked, marked_from}
+use Rattle.trace_walk.specs.Verdict.{Fails, IsWrongAt}
+use Rattle.trace_walk.specs.Walk.{IsPlaceInEntry, NoneEnds}
+use Rattle.trace_walk.proofs.MarkLemmas.{marked_line, marked_append}
 use Rattle.trace_walk.specs.declared.fault.WalkFault.{WalkFault}
 use Rattle.trace_walk.specs.declared.fault.WalkFault.TheVariants.{IllegalAt, BadLineAt, ReadFault, NoRoom}
 use Rattle.trace_walk.specs.declared.place.Place.{Place}

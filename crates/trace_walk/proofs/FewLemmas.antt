@@ -57,16 +57,16 @@ use Rattle.ds_machine.proofs.ReachedLemmas.{held_is_top}
 use Rattle.ds_replica.specs.Bringing.{IsProper}
 use Rattle.ds_replica.specs.CaughtUp.{AreItems}
 use Rattle.ds_machine.specs.Given.{IsSmall}
-use Rattle.trace_model.specs.declared.asked.Asked.{Asked}
-use Rattle.trace_model.specs.declared.header.Format.{Format}
-use Rattle.trace_model.specs.declared.header.Format.TheVariants.{One, Two}
-use Rattle.trace_model.specs.Legal.{StepOf}
-use Rattle.trace_model.specs.OneReply.{IsTraced}
-use Rattle.trace_model.specs.Sweep.{older_sweep, tombstones}
-use Rattle.trace_model.specs.Text.{MayAsk, command_asked}
-use Rattle.trace_model.proofs.HeaderLemmas.{few_limits}
-use Rattle.trace_model.proofs.OneReplyLemmas.{asked_small}
-use Rattle.trace_model.proofs.TracedLemmas.{asked_proper}
+use Rattle.trace_walk.specs.declared.asked.Asked.{Asked}
+use Rattle.trace_walk.specs.declared.header.Format.{Format}
+use Rattle.trace_walk.specs.declared.header.Format.TheVariants.{One, Two}
+use Rattle.trace_walk.specs.Legal.{StepOf}
+use Rattle.trace_walk.specs.OneReply.{IsTraced}
+use Rattle.trace_walk.specs.Sweep.{older_sweep, tombstones}
+use Rattle.trace_walk.specs.Text.{MayAsk, command_asked}
+use Rattle.trace_walk.proofs.HeaderLemmas.{few_limits}
+use Rattle.trace_walk.proofs.OneReplyLemmas.{asked_small}
+use Rattle.trace_walk.proofs.TracedLemmas.{asked_proper}
 
 abbrev pub IsFew : ℕ → Type 0
 IsFew n = n < 2 ^ 64

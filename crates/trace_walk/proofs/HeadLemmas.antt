@@ -8,18 +8,18 @@ use Rattle.ds_entry.specs.declared.item.Item.{Item}
 use Rattle.line_io.specs.Lines.{HasLines, IsUnbroken, with_newline, joined}
 use Rattle.line_io.specs.Reading.{LinesContent}
 use Rattle.script_commands.specs.declared.command.ScriptCommand.{ScriptCommand}
-use Rattle.trace_model.specs.declared.asked.Asked.TheVariants as askeds
-use Rattle.trace_model.specs.declared.asked.AskedFault.{AskedFault}
-use Rattle.trace_model.specs.declared.asked.AskedFault.TheVariants as badly
-use Rattle.trace_model.specs.declared.asked.Head.{Head}
-use Rattle.trace_model.specs.declared.asked.Head.TheVariants as heads
-use Rattle.trace_model.specs.declared.header.Header.{Header}
-use Rattle.trace_model.specs.Head.{IsHeadOf, HasNoHead}
-use Rattle.trace_model.specs.Text.{MayMerge, merge_text, pass_text, plus_text}
-use Rattle.trace_model.specs.Verdict.{IsLegal, IsWrongAt}
-use Rattle.trace_model.specs.Walk.{IsBehind, IsPlaceInEntry, IsPlus}
-use Rattle.trace_model.proofs.PlaceLemmas.{plus_places}
-use Rattle.trace_model.proofs.WalkLemmas.{bad_head, behind_begins, no_reply}
+use Rattle.trace_walk.specs.declared.asked.Asked.TheVariants as askeds
+use Rattle.trace_walk.specs.declared.asked.AskedFault.{AskedFault}
+use Rattle.trace_walk.specs.declared.asked.AskedFault.TheVariants as badly
+use Rattle.trace_walk.specs.declared.asked.Head.{Head}
+use Rattle.trace_walk.specs.declared.asked.Head.TheVariants as heads
+use Rattle.trace_walk.specs.declared.header.Header.{Header}
+use Rattle.trace_walk.specs.Head.{IsHeadOf, HasNoHead}
+use Rattle.trace_walk.specs.Text.{MayMerge, merge_text, pass_text, plus_text}
+use Rattle.trace_walk.specs.Verdict.{IsLegal, IsWrongAt}
+use Rattle.trace_walk.specs.Walk.{IsBehind, IsPlaceInEntry, IsPlus}
+use Rattle.trace_walk.proofs.PlaceLemmas.{plus_places}
+use Rattle.trace_walk.proofs.WalkLemmas.{bad_head, behind_begins, no_reply}
 use Rattle.trace_walk.specs.declared.fault.WalkFault.{WalkFault}
 use Rattle.trace_walk.specs.declared.fault.WalkFault.TheVariants.{IllegalAt, BadLineAt, ReadFault, NoRoom}
 use Rattle.trace_walk.specs.declared.place.Place.TheVariants.{Form}

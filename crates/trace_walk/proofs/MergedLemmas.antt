@@ -12,7 +12,7 @@ use Rattle.ds_machine.specs.declared.refusal.Refusal.TheVariants as refusals
 use Rattle.ds_machine.specs.declared.reply.Reply.{Reply}
 use Rattle.ds_machine.specs.declared.reply.Reply.TheVariants.{Merged, MergeStopped}
 use Rattle.ds_machine.specs.OneStep.{room_wanted}
-use Rattle.trace_model.proofs.OneReplyLemmas.{none_of}
+use Rattle.trace_walk.proofs.OneReplyLemmas.{none_of}
 use Rattle.ds_machine.proofs.BatchLemmas.{none_stands}
 use Rattle.ds_machine.proofs.OneStepLemmas.{steps_one, outcomes_want_none}
 

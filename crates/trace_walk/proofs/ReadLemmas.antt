@@ -5,8 +5,8 @@ use Rattle.std.proofs.lemmas.Result.{err_from_is_err_and}
 use Rattle.line_io.specs.Reading.{LinesContent, no_lines}
 use Rattle.line_io.specs.Streams.{CallsLead}
 use Rattle.line_io.specs.declared.streams.Source.{Ghosts as Reader}
-use Rattle.trace_model.specs.declared.asked.AskedFault.{AskedFault}
-use Rattle.trace_model.specs.declared.asked.AskedFault.TheVariants as badly
+use Rattle.trace_walk.specs.declared.asked.AskedFault.{AskedFault}
+use Rattle.trace_walk.specs.declared.asked.AskedFault.TheVariants as badly
 use Rattle.trace_walk.specs.declared.fault.WalkFault.{WalkFault}
 use Rattle.trace_walk.specs.declared.fault.WalkFault.TheVariants.{IllegalAt, BadLineAt, ReadFault, NoRoom}
 use Rattle.trace_walk.specs.declared.place.Place.{Place}

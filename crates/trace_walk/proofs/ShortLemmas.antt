@@ -31,18 +31,18 @@ use Rattle.ds_machine.specs.declared.refusal.Refusal.TheVariants as refusals
 use Rattle.ds_machine.specs.declared.reply.Reply.{Reply}
 use Rattle.ds_machine.specs.declared.reply.Reply.TheVariants.{Changed as Accepted, Known, Swept, Found, Named, Subscribed, Checked, Journaled, Snapped, Paged, Merged, MergeStopped, Refused}
 use Rattle.ds_replica.specs.CaughtUp.{AreItems}
-use Rattle.store_answers.specs.Reply.{reply_lines, reply_words, owed_line, refusal_words, cursor_text, merged, mask_hex, page_mark}
+use Rattle.script_answers.specs.Reply.{reply_lines, reply_words, owed_line, refusal_words, cursor_text, merged, mask_hex, page_mark}
 use Rattle.ds_machine.specs.Given.{shown_by}
-use Rattle.store_answers.specs.declared.wording.Wording.{Wording}
-use Rattle.store_answers.specs.declared.wording.Wording.TheVariants.{AsOffer, AsMerge}
-use Rattle.trace_model.specs.declared.asked.Asked.{Asked}
-use Rattle.trace_model.specs.declared.header.Header.{Header}
-use Rattle.trace_model.specs.Legal.{StepOf}
-use Rattle.trace_model.specs.OneReply.{IsTraced}
-use Rattle.trace_model.specs.Text.{IsHeader, MayAsk, command_asked, plus_text, worded_as}
-use Rattle.trace_model.specs.Walk.{MayReply}
-use Rattle.trace_model.proofs.WalkLemmas.{limits_are}
-use Rattle.trace_model.proofs.OneReplyLemmas.{asked_small, reply_spelt}
+use Rattle.script_answers.specs.declared.wording.Wording.{Wording}
+use Rattle.script_answers.specs.declared.wording.Wording.TheVariants.{AsOffer, AsMerge}
+use Rattle.trace_walk.specs.declared.asked.Asked.{Asked}
+use Rattle.trace_walk.specs.declared.header.Header.{Header}
+use Rattle.trace_walk.specs.Legal.{StepOf}
+use Rattle.trace_walk.specs.OneReply.{IsTraced}
+use Rattle.trace_walk.specs.Text.{IsHeader, MayAsk, command_asked, plus_text, worded_as}
+use Rattle.trace_walk.specs.Walk.{MayReply}
+use Rattle.trace_walk.proofs.WalkLemmas.{limits_are}
+use Rattle.trace_walk.proofs.OneReplyLemmas.{asked_small, reply_spelt}
 use Rattle.trace_walk.specs.Walking.{IsShort, IsEnded}
 use Rattle.trace_walk.proofs.FewLemmas.{IsFew, IsFewFault, IsFewCursor, IsFewReply, few_reply}
 use Rattle.trace_walk.proofs.WalkingLemmas.{front_within, unbroken_has_none}

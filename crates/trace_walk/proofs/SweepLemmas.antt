@@ -28,10 +28,10 @@ use Rattle.ds_machine.proofs.ReachedLemmas.{with_accepted}
 use Rattle.ds_machine.proofs.OneStepLemmas.{none_some}
 use Rattle.ds_machine.specs.Batches.{AreFree}
 use Rattle.ds_machine.proofs.BatchLemmas.{free_in_parts, owed_in_parts}
-use Rattle.trace_model.proofs.HeaderLemmas.{few_limits}
-use Rattle.trace_model.specs.Sweep.{is_swept, tombstone, tombstones, older_sweep}
-use Rattle.trace_model.specs.Text.{TraceEntry, entry_text}
-use Rattle.trace_model.specs.Upgrade.{MergeInParts, IsPart, IsFullPart, AreFilled, merge_entry}
+use Rattle.trace_walk.proofs.HeaderLemmas.{few_limits}
+use Rattle.trace_walk.specs.Sweep.{is_swept, tombstone, tombstones, older_sweep}
+use Rattle.trace_walk.specs.Text.{TraceEntry, entry_text}
+use Rattle.trace_walk.specs.Upgrade.{MergeInParts, IsPart, IsFullPart, AreFilled, merge_entry}
 use Rattle.trace_walk.specs.declared.merges.Merges.{Merges}
 use Rattle.trace_walk.specs.Merging.{AreEntries, IsEmpty, taking_entry}
 use Rattle.trace_walk.specs.declared.sweep.Sweep.{Sweep}

@@ -18,27 +18,27 @@ use Rattle.ds_machine.specs.declared.refusal.Refusal.TheVariants as refusals
 use Rattle.ds_machine.specs.declared.reply.Reply.{Reply}
 use Rattle.ds_machine.specs.declared.reply.Reply.TheVariants.{MergeStopped, Refused}
 use Rattle.script_commands.specs.Command.{IsCommand, store_command}
-use Rattle.store_answers.specs.Reply.{reply_lines, owed_line}
+use Rattle.script_answers.specs.Reply.{reply_lines, owed_line}
 use Rattle.script_commands.specs.declared.command.ScriptCommand.{ScriptCommand}
 use Rattle.script_commands.specs.declared.command.ScriptCommand.TheVariants as lines
-use Rattle.store_answers.specs.declared.wording.Wording.{Wording}
-use Rattle.store_answers.specs.declared.wording.Wording.TheVariants.{AsOffer, AsMerge}
+use Rattle.script_answers.specs.declared.wording.Wording.{Wording}
+use Rattle.script_answers.specs.declared.wording.Wording.TheVariants.{AsOffer, AsMerge}
 use Rattle.ds_machine.specs.OneStep.{is_noroom, room_wanted}
 use Rattle.ds_machine.proofs.OneStepLemmas.{done_same, none_done, none_some, outcomes_want_none, whole_command}
-use Rattle.trace_model.specs.declared.asked.Asked.{Asked}
-use Rattle.trace_model.specs.declared.asked.Asked.TheVariants as askeds
-use Rattle.trace_model.specs.declared.header.Format.{Format}
-use Rattle.trace_model.specs.declared.header.Format.TheVariants.{One, Two}
-use Rattle.trace_model.specs.Legal.{StepOf}
-use Rattle.trace_model.specs.Noroom.{noroom_line, stopped_line}
-use Rattle.trace_model.specs.Sweep.{older_sweep}
-use Rattle.trace_model.specs.OneReply.{HaveOneFirst, IsSpelt, IsTraced}
-use Rattle.trace_model.specs.Text.{TraceEntry, MayAsk, command_asked, worded_as}
-use Rattle.trace_model.specs.Upgrade.{BecomesAs}
-use Rattle.trace_model.specs.Walk.{MayReply}
-use Rattle.trace_model.proofs.OneReplyLemmas.{older_plain, steps_told, offer_wants, is_merge, asked_small, reply_spelt}
-use Rattle.trace_model.proofs.SplitLemmas.{lines_one, without, ends_after}
-use Rattle.trace_model.proofs.TellLemmas.{first_lines_tell, noroom_is}
+use Rattle.trace_walk.specs.declared.asked.Asked.{Asked}
+use Rattle.trace_walk.specs.declared.asked.Asked.TheVariants as askeds
+use Rattle.trace_walk.specs.declared.header.Format.{Format}
+use Rattle.trace_walk.specs.declared.header.Format.TheVariants.{One, Two}
+use Rattle.trace_walk.specs.Legal.{StepOf}
+use Rattle.trace_walk.specs.Noroom.{noroom_line, stopped_line}
+use Rattle.trace_walk.specs.Sweep.{older_sweep}
+use Rattle.trace_walk.specs.OneReply.{HaveOneFirst, IsSpelt, IsTraced}
+use Rattle.trace_walk.specs.Text.{TraceEntry, MayAsk, command_asked, worded_as}
+use Rattle.trace_walk.specs.Upgrade.{BecomesAs}
+use Rattle.trace_walk.specs.Walk.{MayReply}
+use Rattle.trace_walk.proofs.OneReplyLemmas.{older_plain, steps_told, offer_wants, is_merge, asked_small, reply_spelt}
+use Rattle.trace_walk.proofs.SplitLemmas.{lines_one, without, ends_after}
+use Rattle.trace_walk.proofs.TellLemmas.{first_lines_tell, noroom_is}
 use Rattle.trace_walk.specs.declared.merges.Merges.{Merges}
 use Rattle.trace_walk.specs.declared.passed.Passed.TheVariants.{AsItStands, Swept}
 use Rattle.trace_walk.specs.declared.sweep.Sweep.{Sweep}

@@ -8,7 +8,7 @@ use Rattle.std.proofs.lemmas.List.Elements.{All-nil}
 use Rattle.line_io.specs.Lines.{IsUnbroken, EndsLine, with_newline, joined, unended, HasLines}
 use Rattle.line_io.specs.Reading.{LinesContent}
 use Rattle.line_io.specs.Pulling.{left, ComesNext, StandsFirst}
-use Rattle.trace_model.proofs.SplitLemmas.{split_same}
+use Rattle.trace_walk.proofs.SplitLemmas.{split_same}
 use Rattle.trace_walk.specs.Walking.{IsAt, HasLine, IsRead, IsLong, IsLongFault, line_fault}
 use Rattle.trace_walk.specs.declared.place.Place.{Place}
 use Rattle.trace_walk.specs.declared.place.Place.TheVariants.{Form, Reply}

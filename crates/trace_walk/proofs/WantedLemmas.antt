@@ -1,6 +1,6 @@
 -- The sort of line that must be where a walk ends.
 use Rattle.std.proofs.Common.{◌≡◌, ℕ, List, sym, subst, refl}
-use Rattle.trace_model.specs.Verdict.{IsWrongAt}
+use Rattle.trace_walk.specs.Verdict.{IsWrongAt}
 use Rattle.trace_walk.specs.declared.fault.WalkFault.{WalkFault}
 use Rattle.trace_walk.specs.declared.fault.WalkFault.TheVariants.{IllegalAt, BadLineAt, ReadFault, NoRoom}
 use Rattle.trace_walk.specs.declared.place.Place.{Place}

@@ -8,11 +8,11 @@ use Rattle.ds_machine.specs.declared.command.Command.{Command}
 use Rattle.ds_machine.specs.declared.reply.Reply.{Reply}
 use Rattle.script_commands.specs.Command.{store_command}
 use Rattle.script_commands.specs.declared.command.ScriptCommand.{ScriptCommand}
-use Rattle.trace_model.specs.declared.asked.Asked.{Asked}
-use Rattle.trace_model.specs.declared.header.Format.{Format}
-use Rattle.trace_model.specs.Legal.{StepOf}
-use Rattle.trace_model.specs.OneReply.{IsTraced}
-use Rattle.trace_model.specs.Text.{command_asked}
+use Rattle.trace_walk.specs.declared.asked.Asked.{Asked}
+use Rattle.trace_walk.specs.declared.header.Format.{Format}
+use Rattle.trace_walk.specs.Legal.{StepOf}
+use Rattle.trace_walk.specs.OneReply.{IsTraced}
+use Rattle.trace_walk.specs.Text.{command_asked}
 
 -- Whether the store answers the entry's command with this reply, as a trace's store does, from each state that it may
 -- be in and that a trace of the format leads to.

@@ -1,3 +1,13 @@
+pub mod Text
+pub mod Head
+pub mod Noroom
+pub mod Sweep
+pub mod Legal
+pub mod Verdict
+pub mod Walk
+pub mod OneReply
+pub mod History
+pub mod Upgrade
 pub mod Sweeping
 pub mod Merging
 pub mod Walking

@@ -5,8 +5,8 @@ use Rattle.ds_entry.specs.declared.item.Item.{Item}
 use Rattle.ds_held.specs.Limits.{LimitsRecord}
 use Rattle.ds_machine.specs.declared.reply.Reply.{Reply}
 use Rattle.ds_machine.specs.declared.reply.Reply.TheVariants.{Merged}
-use Rattle.trace_model.specs.declared.asked.Asked.TheVariants.{Merge}
-use Rattle.trace_model.specs.Text.{TraceEntry, entry_text}
+use Rattle.trace_walk.specs.declared.asked.Asked.TheVariants.{Merge}
+use Rattle.trace_walk.specs.Text.{TraceEntry, entry_text}
 use Rattle.trace_walk.specs.declared.merges.Merges.{Merges}
 
 -- The entry of a pass that merges the items, with this reply.

@@ -4,14 +4,14 @@ use Rattle.ds_held.specs.Limits.{LimitsRecord}
 use Rattle.ds_machine.specs.State.{State}
 use Rattle.ds_machine.specs.declared.refusal.Refusal.TheVariants.{NoRoom}
 use Rattle.ds_machine.specs.declared.reply.Reply.TheVariants.{Refused}
-use Rattle.trace_model.specs.declared.asked.Asked.{Asked}
-use Rattle.trace_model.specs.declared.header.Format.{Format}
-use Rattle.trace_model.specs.declared.header.Format.TheVariants.{One}
-use Rattle.trace_model.specs.declared.header.Header.{Header}
-use Rattle.store_answers.specs.Reply.{reply_lines}
-use Rattle.trace_model.specs.Legal.{EntryLeads}
-use Rattle.trace_model.specs.Text.{TraceEntry, IsEntry, asked_text, marked, worded_as}
-use Rattle.trace_model.specs.Upgrade.{BecomesAs}
+use Rattle.trace_walk.specs.declared.asked.Asked.{Asked}
+use Rattle.trace_walk.specs.declared.header.Format.{Format}
+use Rattle.trace_walk.specs.declared.header.Format.TheVariants.{One}
+use Rattle.trace_walk.specs.declared.header.Header.{Header}
+use Rattle.script_answers.specs.Reply.{reply_lines}
+use Rattle.trace_walk.specs.Legal.{EntryLeads}
+use Rattle.trace_walk.specs.Text.{TraceEntry, IsEntry, asked_text, marked, worded_as}
+use Rattle.trace_walk.specs.Upgrade.{BecomesAs}
 use Rattle.trace_walk.specs.declared.passed.Passed.{Passed}
 use Rattle.trace_walk.specs.declared.passed.Passed.TheVariants.{AsItStands, Swept}
 use Rattle.trace_walk.specs.declared.walk.Walk.{Walk}

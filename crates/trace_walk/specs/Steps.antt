@@ -15,16 +15,16 @@ use Rattle.ds_names.specs.Limits.{most_items}
 use Rattle.script_commands.specs.declared.command.ScriptCommand.{ScriptCommand}
 use Rattle.ds_machine.specs.declared.command.Command.TheVariants as machine
 use Rattle.script_commands.specs.declared.command.ScriptCommand.TheVariants as commands
-use Rattle.store_answers.specs.Reply.{reply_lines, refused_noroom}
-use Rattle.store_answers.specs.declared.wording.Wording.{Wording}
-use Rattle.trace_model.specs.declared.asked.Asked.{Asked}
-use Rattle.trace_model.specs.declared.asked.Asked.TheVariants as askeds
-use Rattle.trace_model.specs.declared.asked.Head.{Head}
-use Rattle.trace_model.specs.declared.header.Header.{Header}
-use Rattle.trace_model.specs.Legal.{opened_by}
-use Rattle.trace_model.specs.Noroom.{stopped_line}
-use Rattle.trace_model.specs.Text.{header_text, marked}
-use Rattle.trace_model.specs.Walk.{IsPlaceInEntry}
+use Rattle.script_answers.specs.Reply.{reply_lines, refused_noroom}
+use Rattle.script_answers.specs.declared.wording.Wording.{Wording}
+use Rattle.trace_walk.specs.declared.asked.Asked.{Asked}
+use Rattle.trace_walk.specs.declared.asked.Asked.TheVariants as askeds
+use Rattle.trace_walk.specs.declared.asked.Head.{Head}
+use Rattle.trace_walk.specs.declared.header.Header.{Header}
+use Rattle.trace_walk.specs.Legal.{opened_by}
+use Rattle.trace_walk.specs.Noroom.{stopped_line}
+use Rattle.trace_walk.specs.Text.{header_text, marked}
+use Rattle.trace_walk.specs.Walk.{IsPlaceInEntry}
 use Rattle.trace_walk.specs.declared.fault.WalkFault.{WalkFault}
 use Rattle.trace_walk.specs.declared.passed.Passed.{Passed}
 use Rattle.trace_walk.specs.declared.place.Place.{Place}

@@ -11,12 +11,12 @@ use Rattle.ds_machine.specs.declared.reply.Reply.{Reply}
 use Rattle.script_commands.specs.declared.command.ScriptCommand.{ScriptCommand}
 use Rattle.ds_machine.specs.declared.command.Command.TheVariants as machine
 use Rattle.script_commands.specs.declared.command.ScriptCommand.TheVariants as commands
-use Rattle.trace_model.specs.declared.header.Format.{Format}
-use Rattle.trace_model.specs.declared.header.Format.TheVariants.{One}
-use Rattle.trace_model.specs.OneReply.{IsTraced}
-use Rattle.trace_model.specs.Sweep.{is_swept, tombstone, older_sweep}
-use Rattle.trace_model.specs.Text.{TraceEntry}
-use Rattle.trace_model.specs.Upgrade.{SweepBecomes}
+use Rattle.trace_walk.specs.declared.header.Format.{Format}
+use Rattle.trace_walk.specs.declared.header.Format.TheVariants.{One}
+use Rattle.trace_walk.specs.OneReply.{IsTraced}
+use Rattle.trace_walk.specs.Sweep.{is_swept, tombstone, older_sweep}
+use Rattle.trace_walk.specs.Text.{TraceEntry}
+use Rattle.trace_walk.specs.Upgrade.{SweepBecomes}
 use Rattle.trace_walk.specs.declared.merges.Merges.{Merges}
 use Rattle.trace_walk.specs.declared.sweep.Sweep.{Sweep}
 use Rattle.trace_walk.specs.Merging.{AreEntries}

@@ -14,25 +14,25 @@ use Rattle.ds_machine.specs.Merging.{course}
 use Rattle.ds_machine.specs.State.{State}
 use Rattle.ds_machine.specs.declared.command.Command.{Command}
 use Rattle.ds_machine.specs.declared.reply.Reply.{Reply as AReply}
-use Rattle.store_answers.specs.declared.wording.Wording.{Wording}
-use Rattle.trace_model.specs.declared.asked.Asked.{Asked}
-use Rattle.trace_model.specs.declared.asked.Asked.TheVariants as askeds
-use Rattle.trace_model.specs.declared.asked.Head.{Head}
-use Rattle.trace_model.specs.declared.asked.AskedFault.{AskedFault}
-use Rattle.trace_model.specs.declared.asked.AskedFault.TheVariants as badly
-use Rattle.trace_model.specs.declared.header.Format.{Format}
-use Rattle.trace_model.specs.declared.header.Format.TheVariants.{One}
-use Rattle.trace_model.specs.declared.header.Header.{Header}
-use Rattle.trace_model.specs.declared.verdict.Verdict.{Verdict}
-use Rattle.trace_model.specs.declared.verdict.Verdict.TheVariants as verdicts
-use Rattle.trace_model.specs.Head.{MayHead, head_text}
-use Rattle.trace_model.specs.Legal.{StepOf}
-use Rattle.trace_model.specs.Noroom.{noroom_line, stopped_line}
-use Rattle.trace_model.specs.Text.{TraceEntry, MayAsk, MayMerge, asked_text, command_asked, entry_text}
-use Rattle.trace_model.specs.Text.{marked, merge_text, pass_text, plus_text, worded_as}
-use Rattle.trace_model.specs.Upgrade.{BecomesAs}
-use Rattle.trace_model.specs.Verdict.{IsWrongAt, WantsReply}
-use Rattle.trace_model.specs.Walk.{IsBehind, IsPlaceInEntry, NoneEnds}
+use Rattle.script_answers.specs.declared.wording.Wording.{Wording}
+use Rattle.trace_walk.specs.declared.asked.Asked.{Asked}
+use Rattle.trace_walk.specs.declared.asked.Asked.TheVariants as askeds
+use Rattle.trace_walk.specs.declared.asked.Head.{Head}
+use Rattle.trace_walk.specs.declared.asked.AskedFault.{AskedFault}
+use Rattle.trace_walk.specs.declared.asked.AskedFault.TheVariants as badly
+use Rattle.trace_walk.specs.declared.header.Format.{Format}
+use Rattle.trace_walk.specs.declared.header.Format.TheVariants.{One}
+use Rattle.trace_walk.specs.declared.header.Header.{Header}
+use Rattle.trace_walk.specs.declared.verdict.Verdict.{Verdict}
+use Rattle.trace_walk.specs.declared.verdict.Verdict.TheVariants as verdicts
+use Rattle.trace_walk.specs.Head.{MayHead, head_text}
+use Rattle.trace_walk.specs.Legal.{StepOf}
+use Rattle.trace_walk.specs.Noroom.{noroom_line, stopped_line}
+use Rattle.trace_walk.specs.Text.{TraceEntry, MayAsk, MayMerge, asked_text, command_asked, entry_text}
+use Rattle.trace_walk.specs.Text.{marked, merge_text, pass_text, plus_text, worded_as}
+use Rattle.trace_walk.specs.Upgrade.{BecomesAs}
+use Rattle.trace_walk.specs.Verdict.{IsWrongAt, WantsReply}
+use Rattle.trace_walk.specs.Walk.{IsBehind, IsPlaceInEntry, NoneEnds}
 use Rattle.trace_walk.specs.declared.fault.WalkFault.{WalkFault}
 use Rattle.trace_walk.specs.declared.fault.WalkFault.TheVariants.{IllegalAt, BadLineAt, ReadFault, NoRoom}
 use Rattle.trace_walk.specs.declared.place.Place.{Place}

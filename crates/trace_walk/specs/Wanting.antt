@@ -2,9 +2,9 @@
 use Rattle.std.specs.Prelude.{◌≡◌, ℕ, ◌<◌, Bool, true, false, List, [], ◌++◌, length, Option, IfSome}
 use Rattle.std.specs.List.{flat_map}
 use Rattle.ds_entry.specs.declared.item.Item.{Item}
-use Rattle.trace_model.specs.Text.{merge_text, pass_text, plus_text}
-use Rattle.trace_model.specs.Verdict.{IsLegal, IsWrongAt, WantsReply}
-use Rattle.trace_model.specs.declared.asked.Head.{Head}
+use Rattle.trace_walk.specs.Text.{merge_text, pass_text, plus_text}
+use Rattle.trace_walk.specs.Verdict.{IsLegal, IsWrongAt, WantsReply}
+use Rattle.trace_walk.specs.declared.asked.Head.{Head}
 use Rattle.trace_walk.specs.declared.fault.WalkFault.{WalkFault}
 use Rattle.trace_walk.specs.declared.fault.WalkFault.TheVariants.{BadLineAt}
 use Rattle.trace_walk.specs.declared.place.Place.{Place}

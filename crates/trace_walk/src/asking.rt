@@ -1,21 +1,22 @@
 //! Applies an entry's command to a store.
 
 ghost use Rattle.std.specs.Prelude.{◌≡◌, ◌≢◌, None, IfOk};
-ghost use Rattle.trace_model.specs.declared.asked.Asked.TheVariants as askeds;
-ghost use Rattle.trace_model.specs.Text.{command_asked, worded_as};
+ghost use Rattle.trace_walk.specs.declared.asked.Asked.TheVariants as askeds;
+ghost use Rattle.trace_walk.specs.Text.{command_asked, worded_as};
 ghost use Rattle.script_commands.specs.Command.{store_command};
 ghost use Rattle.trace_walk.specs.Sweeping.{SweepsAs};
 ghost use Rattle.trace_walk.specs.Asking.{StepsAsSaid, StepsBy};
 
+use crate::asked::Asked;
+use crate::header::Format;
 use crate::sweep::{Sweep, older, sweep_older};
 use ds_held::Limits;
 use ds_machine::{Command, Reply};
 use ds_names::NoRoom;
 use ds_store::Store;
+use script_answers::Wording;
 use script_commands::ScriptCommand;
 use std::alloc::Global;
-use store_answers::Wording;
-use trace_model::{Asked, Format};
 
 /// The answer of a store to an entry's command: its reply, and the wording of the reply's lines.
 #[derive(Drop)]

@@ -7,8 +7,8 @@ ghost use Rattle.trace_walk.specs.Wanting.{IsOfReply};
 
 use crate::fault::WalkFault;
 use crate::place::{Place, wanted_line};
+use crate::replies::is_marked;
 use line_io::{Lines, Source, split_line};
-use trace_model::is_marked;
 
 /// Compares a reply with the trace, from the line that was reached last.
 pub(crate) fn expect<R: Source>(

@@ -3,9 +3,10 @@
 ghost use Rattle.std.specs.Prelude.{◌≡◌};
 ghost use Rattle.trace_walk.specs.Walking.{of_line, verdict_of};
 
+use crate::asked::AskedFault;
+use crate::verdict::Verdict;
 use ds_names::NoRoom;
 use std::alloc::AllocError;
-use trace_model::{AskedFault, Verdict};
 
 /// Why a walk through a trace ended before its input did.
 #[derive(Clone, Copy, Debug, PartialEq, Eq)]

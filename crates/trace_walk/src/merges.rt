@@ -1,16 +1,16 @@
 //! Merges of tombstones, as entries of a trace.
 
 ghost use Rattle.std.specs.Prelude.{◌≡◌, ◌+◌, ◌<◌, ◌++◌, OnOk};
-ghost use Rattle.trace_model.specs.Text.{entry_text};
+ghost use Rattle.trace_walk.specs.Text.{entry_text};
 ghost use Rattle.trace_walk.specs.Merging.{told_merge, taking_entry, IsEmpty};
 
+use crate::writing::{append_marked, append_merge};
 use ds_entry::Item;
 use ds_held::Limits;
 use ds_machine::Reply;
 use ds_names::NoRoom;
+use script_answers::{Wording, append_reply};
 use std::alloc::Global;
-use store_answers::{Wording, append_reply};
-use trace_model::{append_marked, append_merge};
 
 /// Merges of tombstones, as the text of entries, and their count. A sweep leaves at most 4096 tombstones.
 #[derive(Drop)]

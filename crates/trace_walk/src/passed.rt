@@ -5,9 +5,9 @@ ghost use Rattle.trace_walk.specs.Passing.{IsWrittenAs};
 
 use crate::merges::Merges;
 use crate::walk::Walk;
+use crate::writing::append_marked;
 use ds_line::append_all;
 use ds_names::NoRoom;
-use trace_model::append_marked;
 
 /// An entry of format 1 that a walk passed, in format 2.
 #[derive(Drop)]

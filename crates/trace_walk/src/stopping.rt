@@ -2,17 +2,17 @@
 
 ghost use Rattle.std.specs.Prelude.{◌≡◌, ◌<◌, length, is_some, IfOk, IfErr, IfSome, IfNone};
 ghost use Rattle.ds_machine.specs.OneStep.{room_wanted};
-ghost use Rattle.trace_model.specs.Noroom.{stopped_line};
+ghost use Rattle.trace_walk.specs.Noroom.{stopped_line};
 ghost use Rattle.trace_walk.specs.Reads.{IsBlameless};
 ghost use Rattle.trace_walk.specs.Steps.{EndsMidway, IsUnmerged, StopsMidway, FailsToStop, StopsNowhere};
 ghost use Rattle.trace_walk.specs.Wanting.{IsOfReply};
 
 use crate::fault::WalkFault;
+use crate::replies::stopped_at;
 use ds_entry::Items;
 use ds_machine::{Command, Refusal, Reply};
 use ds_store::Store;
 use std::alloc::Global;
-use trace_model::stopped_at;
 
 /// Returns after how many of its items the line stops a Merge for lack of memory.
 pub(crate) fn stop_of(line: &[u8], count: usize) -> Option<usize>

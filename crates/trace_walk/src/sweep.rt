@@ -4,9 +4,10 @@ ghost use Rattle.std.specs.Prelude.{◌≡◌, ◌≤◌, true, length, Some, If
 ghost use Rattle.std.specs.List.{slice_get};
 ghost use Rattle.std.specs.Option.{option_and_then};
 ghost use Rattle.ds_held.specs.Held.{held_items, held_changes};
-ghost use Rattle.trace_model.specs.Sweep.{is_swept, tombstone, tombstones};
+ghost use Rattle.trace_walk.specs.Sweep.{is_swept, tombstone, tombstones};
 ghost use Rattle.trace_walk.specs.Sweeping.{tombstone_over, older_of, MergesPart, SweepsInMerges};
 
+use crate::header::Format;
 use crate::merges::Merges;
 use ds_entry::{Body, Change, Item, Items};
 use ds_held::{Held, Limits};
@@ -16,7 +17,6 @@ use ds_names::{Endpoint, Generation, Name, NoRoom, Version};
 use ds_store::Store;
 use script_commands::ScriptCommand;
 use std::alloc::Global;
-use trace_model::Format;
 
 /// A sweep that RS sends.
 #[derive(Clone, Copy, Debug)]

@@ -9,7 +9,9 @@ ghost use Rattle.trace_walk.specs.declared.wrong_line.Wanted.TheVariants as want
 
 mod judging;
 
+use crate::asked::{Asked, Head, read_head, read_plus};
 use crate::fault::WalkFault;
+use crate::header::{Header, read_header};
 use crate::passed::Passed;
 use crate::place::{Place, next_line, wanted_line};
 use ds_entry::{Item, Items};
@@ -17,7 +19,6 @@ use ds_names::NoRoom;
 use ds_store::Store;
 use line_io::{Lines, Source};
 use std::alloc::Global;
-use trace_model::{Asked, Head, Header, read_head, read_header, read_plus};
 
 /// A walk under way: its place in the input, the store, and the header that opened it.
 ///

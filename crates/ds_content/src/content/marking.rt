@@ -12,12 +12,10 @@ ghost use Rattle.ds_pattern.specs.Under.{is_under};
 ghost use Rattle.ds_entry.specs.Item.{passes};
 
 use ds_entry::ItemRef;
-use ds_held::Held;
-use ds_index::Indexed;
-use ds_marked::Marked;
+use ds_held::{Held, Rows};
+use ds_index::{Indexed, Marked};
 use ds_names::NoRoom;
 use ds_pattern::{Asker, Filter};
-use ds_rows::Rows;
 use ds_watch::Masks;
 use std::alloc::Global;
 

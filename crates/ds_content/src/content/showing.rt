@@ -15,7 +15,7 @@ use crate::content::copying::copy_at;
 use crate::content::marking::{next_unseen, show_first};
 use ds_entry::Items;
 use ds_held::Held;
-use ds_marked::Marked;
+use ds_index::Marked;
 use ds_names::NoRoom;
 use ds_watch::{Mask, Masks};
 use std::alloc::Global;

@@ -13,10 +13,10 @@ use super::Held;
 use crate::floors;
 use crate::list::{put, put_row};
 use crate::order::place_of;
+use crate::rows::Rows;
 use crate::void::drop_beside;
 use ds_entry::{Change, Floor};
 use ds_names::{Key, Name, NoRoom};
-use ds_rows::Rows;
 
 impl Held {
     /// Searches for a key's change: `Ok` is its index in key order, `Err` the index at which it would be inserted.

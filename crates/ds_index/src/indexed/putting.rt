@@ -8,14 +8,14 @@ ghost use Rattle.ds_join.specs.declared.merge.Merge.TheVariants.{Taken};
 ghost use Rattle.ds_held.specs.Held.{held_changes, held_for, IsSound};
 ghost use Rattle.ds_held.specs.Kept.{IsPlace};
 ghost use Rattle.ds_held.specs.Merge.{MergeAnswer};
-ghost use Rattle.ds_marked.specs.Put.{IsPutMarked};
+ghost use Rattle.ds_index.specs.Put.{IsPutMarked};
 ghost use Rattle.ds_index.specs.Named.{named_at};
 ghost use Rattle.ds_index.specs.Indexed.{endpoint_left, IsIndexed};
 
 use crate::index::Index;
+use crate::marked::Marked;
 use crate::named::{Named, endpoint_in};
 use ds_entry::Change;
-use ds_marked::Marked;
 use ds_names::{Key, NoRoom};
 
 // Returns the index's element of a held label, by the label's place.

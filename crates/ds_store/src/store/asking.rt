@@ -8,21 +8,21 @@ ghost use Rattle.ds_machine.specs.Asking.{cause_against, change_asked, name_of};
 ghost use Rattle.ds_machine.specs.Machine.{Answers, Step, asking};
 ghost use Rattle.ds_machine.specs.Says.{IsReplyTo};
 ghost use Rattle.ds_machine.specs.State.{State};
-ghost use Rattle.ds_judge.specs.Asked.{request_of};
-ghost use Rattle.ds_judge.specs.Last.{IsLast, MayLackAsked};
-ghost use Rattle.ds_judge.specs.Standing.{machine_standing};
+ghost use Rattle.ds_store.specs.Asked.{request_of};
+ghost use Rattle.ds_store.specs.Last.{IsLast, MayLackAsked};
+ghost use Rattle.ds_store.specs.Standing.{machine_standing};
 ghost use Rattle.ds_content.specs.Stands.{ContentStands, InEachState};
 ghost use Rattle.ds_content.specs.Standing.{standing_in};
 ghost use Rattle.ds_machine.specs.Standing.{IsFree};
 ghost use Rattle.ds_store.specs.Asking.{asked_here};
 ghost use Rattle.ds_store.specs.Steps.{ContentSteps};
 
+use crate::answer::answer_to;
+use crate::asked::{Asked, cause_of_asked, change_asked, is_void_under, published};
+use crate::standing::Standing;
 use crate::store::Store;
 use ds_content::Content;
 use ds_entry::{Body, Value};
-use ds_judge::{
-    Asked, Standing, answer_to, cause_of_asked, change_asked, is_void_under, published,
-};
 use ds_machine::{Cause, Command, Refusal, Reply};
 use ds_names::{Endpoint, Key, Name, NoRoom, Version};
 

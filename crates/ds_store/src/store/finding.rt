@@ -6,7 +6,7 @@ ghost use Rattle.ds_entry.specs.Change.{kind_of};
 ghost use Rattle.ds_machine.specs.Machine.{Step, live_at};
 ghost use Rattle.ds_machine.specs.Says.{IsReplyTo};
 ghost use Rattle.ds_machine.specs.State.{State};
-ghost use Rattle.ds_judge.specs.Last.{IsLast};
+ghost use Rattle.ds_store.specs.Last.{IsLast};
 ghost use Rattle.ds_content.specs.Stands.{ContentStands, InEachState};
 ghost use Rattle.ds_store.specs.Finding.{label_name};
 ghost use Rattle.ds_store.specs.InPlace.{TakesNoMemory};

@@ -5,15 +5,16 @@ ghost use Rattle.ds_machine.specs.State.{State};
 ghost use Rattle.ds_machine.specs.Machine.{Answers, journaling, snapping, paging};
 ghost use Rattle.ds_machine.specs.Scope.{is_kept};
 ghost use Rattle.ds_feed.specs.Since.{IsGiven};
-ghost use Rattle.ds_judge.specs.Last.{IsLast};
-ghost use Rattle.ds_judge.specs.Refused.{IsJournalRefusal};
-ghost use Rattle.ds_judge.specs.Scopes.{scope_of};
+ghost use Rattle.ds_store.specs.Last.{IsLast};
+ghost use Rattle.ds_store.specs.Refused.{IsJournalRefusal};
+ghost use Rattle.ds_store.specs.Scopes.{scope_of};
 ghost use Rattle.ds_content.specs.Stands.{ContentStands};
 ghost use Rattle.ds_store.specs.Reading.{page_in, snapshot_in};
 
+use crate::reading::{refusal_of_journal, scope_of_page, scope_of_since};
+use crate::scope::ScopeFilter;
 use crate::store::Store;
 use ds_feed::{AllKeys, Cursor, Page, Since, Snapshot};
-use ds_judge::{ScopeFilter, refusal_of_journal, scope_of_page, scope_of_since};
 use ds_machine::{Command, Refusal, Reply, Scope};
 use ds_names::{Key, NoRoom};
 

@@ -4,12 +4,13 @@ ghost use Rattle.std.specs.Prelude.{◌≡◌, ◌<◌, ◌^◌, ◌&&◌, cond}
 ghost use Rattle.ds_machine.specs.State.{State};
 ghost use Rattle.ds_machine.specs.Machine.{Answers};
 ghost use Rattle.ds_machine.specs.Watching.{subscribing, checking};
-ghost use Rattle.ds_judge.specs.Last.{IsLast};
+ghost use Rattle.ds_store.specs.Last.{IsLast};
 ghost use Rattle.ds_content.specs.Stands.{ContentStands};
 ghost use Rattle.ds_store.specs.Steps.{ContentSteps};
 
+use crate::check::{CheckCase, refusal_of_showing, stamp_before};
 use crate::store::Store;
-use ds_judge::{CheckCase, SubscribeCase, refusal_of_showing, stamp_before, take_up};
+use crate::subscribe::{SubscribeCase, take_up};
 use ds_machine::{Command, Refusal, Reply};
 use ds_names::NoRoom;
 use ds_pattern::Query;

@@ -6,17 +6,19 @@ ghost use Rattle.ds_machine.specs.Asking.{sweep_cause};
 ghost use Rattle.ds_machine.specs.Machine.{Answers, sweeping};
 ghost use Rattle.ds_machine.specs.Parts.{floors_in};
 ghost use Rattle.ds_machine.specs.State.{State};
-ghost use Rattle.ds_judge.specs.Last.{IsLast};
-ghost use Rattle.ds_judge.specs.Standing.{machine_floor_standing};
+ghost use Rattle.ds_store.specs.Last.{IsLast};
+ghost use Rattle.ds_store.specs.Standing.{machine_floor_standing};
 ghost use Rattle.ds_content.specs.Stands.{ContentStands};
 ghost use Rattle.ds_content.specs.Standing.{floor_standing_in};
 ghost use Rattle.ds_machine.specs.Standing.{IsFloorFree};
 ghost use Rattle.ds_store.specs.Steps.{ContentSteps};
 
+use crate::answer::sweep_answer;
+use crate::floor::cause_of_sweep;
+use crate::standing::FloorStanding;
 use crate::store::Store;
 use ds_content::Content;
 use ds_entry::Floor;
-use ds_judge::{FloorStanding, cause_of_sweep, sweep_answer};
 use ds_machine::{Cause, Command, Refusal, Reply};
 use ds_names::{Endpoint, NoRoom};
 

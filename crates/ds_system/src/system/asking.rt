@@ -4,17 +4,17 @@ ghost use Rattle.std.specs.Prelude.{◌≡◌, slice_get, IfOk, OnErr};
 ghost use Rattle.std.specs.Option.{option_copied};
 ghost use Rattle.ds_entry.specs.Change.{IsBodyInPlace, IsChange};
 ghost use Rattle.ds_entry.specs.declared.item.Item.TheVariants.{Change as Changed};
-ghost use Rattle.system_model.specs.Steps.{is_barred, is_bringing};
-ghost use Rattle.system_model.specs.declared.event.SystemEvent.TheVariants as events;
+ghost use Rattle.ds_system.specs.Steps.{is_barred, is_bringing};
+ghost use Rattle.ds_system.specs.declared.event.SystemEvent.TheVariants as events;
 ghost use Rattle.ds_system.specs.Stands.{SystemEventLeads};
 
+use crate::outcome::{SystemFault, SystemOutcome};
 use crate::system::System;
 use ds_entry::{Change, Item};
 use ds_machine::Command;
 use ds_names::NoRoom;
 use ds_replica::{Event, Side};
 use std::alloc::Global;
-use system_model::{SystemFault, SystemOutcome};
 
 // Returns a copy of a change, as an item. Takes memory only for a text or a blob.
 fn item_of(alloc: Global, change: &Change) -> Result<Item, NoRoom>

@@ -1,13 +1,15 @@
 //! The servers' events: they follow their maps, and take requests and replies.
 
 ghost use Rattle.std.specs.Prelude.{◌≡◌};
-ghost use Rattle.system_model.specs.declared.event.SystemEvent.TheVariants as events;
+ghost use Rattle.ds_system.specs.declared.event.SystemEvent.TheVariants as events;
 ghost use Rattle.ds_system.specs.Stands.{SystemEventLeads};
 
+use crate::event::Table;
+use crate::outcome::SystemOutcome;
+use crate::rounds::Rounds;
 use crate::system::System;
 use crate::turning::{FILE_MAP, NET_MAP, moved, replies, servers_follow, submits};
 use ds_names::Endpoint;
-use system_model::{Rounds, SystemOutcome, Table};
 
 impl System {
     // Follows both maps, the file server's first.

@@ -7,10 +7,12 @@ ghost use Rattle.rs_core.specs.Judging.{asks, has_actions};
 ghost use Rattle.rs_core.specs.Machine.{asked};
 ghost use Rattle.rs_core.specs.Run.{offers};
 ghost use Rattle.rs_to_store.specs.Asked.{command_of as command_for, commands};
-ghost use Rattle.system_model.specs.declared.event.SystemEvent.TheVariants as events;
+ghost use Rattle.ds_system.specs.declared.event.SystemEvent.TheVariants as events;
 ghost use Rattle.ds_system.specs.Stands.{SystemEventLeads};
 ghost use Rattle.ds_system.specs.Effects.{AskedIfAny, AllAsked, HasRoomToAct};
 
+use crate::outcome::{SystemFault, SystemOutcome};
+use crate::replies::Replies;
 use crate::system::System;
 use ds_entry::Change;
 use ds_machine::Reply;
@@ -19,7 +21,6 @@ use ds_world::World;
 use rs_core::{Action, Actions, Event, Rs, RsFault, steps_say};
 use rs_to_store::command_of;
 use std::alloc::Global;
-use system_model::{Replies, SystemFault, SystemOutcome};
 
 /// The most actions of one event: a kill, a tombstone of a label, a sweep, a start and a label's put.
 const MOST_ACTIONS: usize = 5;

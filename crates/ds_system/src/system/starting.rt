@@ -6,7 +6,7 @@ ghost use Rattle.rs_settings.specs.Settings.{IsSettings};
 ghost use Rattle.rs_core.specs.Numbering.{numberer};
 ghost use Rattle.driver_tables.specs.Stands.{TableStands};
 ghost use Rattle.ds_world.specs.Seeds.{AreSeeds, IsSeedFault};
-ghost use Rattle.system_model.specs.Start.{file_unit, net_unit, assigned_all};
+ghost use Rattle.ds_system.specs.Start.{file_unit, net_unit, assigned_all};
 ghost use Rattle.ds_system.specs.Stands.{system_of};
 ghost use Rattle.ds_system.specs.Since.{IsJustNew};
 ghost use Rattle.ds_system.specs.Begin.{resting_rs, begin_fault_of, HasBothMaps, BeginsOver, CanBegin, IsBeginFault};

@@ -5,10 +5,11 @@ ghost use Rattle.ds_names.specs.Kind.{is_label};
 ghost use Rattle.ds_entry.specs.Change.{change_of, is_of_kind, IsBody, IsChange};
 ghost use Rattle.rs_core.specs.State.{service_at};
 ghost use Rattle.rs_core.specs.Numbering.{numberer};
-ghost use Rattle.system_model.specs.Drawing.{numberer_at, numbers_left, numbers_of};
+ghost use Rattle.ds_system.specs.Drawing.{numberer_at, numbers_left, numbers_of};
 ghost use Rattle.ds_system.specs.Stands.{SystemEventLeads};
 ghost use Rattle.ds_system.specs.Effects.{instance_at, judged_by, write_event};
 
+use crate::outcome::{SystemFault, SystemOutcome};
 use crate::system::System;
 use ds_entry::{Body, Change};
 use ds_names::{Generation, Key, Name, NoRoom, Version};
@@ -17,7 +18,6 @@ use rs_core::{Numberer, Running, State};
 use rs_settings::Service;
 use rs_to_store::asking;
 use std::alloc::Global;
-use system_model::{SystemFault, SystemOutcome};
 
 /// The instance that draws a number, and the numbers left to it.
 #[derive(Drop)]

@@ -5,7 +5,7 @@ ghost use Rattle.ds_machine.specs.Says.{IsReplyTo};
 ghost use Rattle.ds_machine.specs.State.{State};
 ghost use Rattle.ds_machine.specs.Machine.{Step};
 ghost use Rattle.ds_machine.specs.declared.command.Command.TheVariants.{Merge};
-ghost use Rattle.ds_judge.specs.Last.{IsLast};
+ghost use Rattle.ds_store.specs.Last.{IsLast};
 ghost use Rattle.ds_content.specs.Stands.{ContentStands};
 ghost use Rattle.ds_store.specs.Steps.{ContentSteps};
 ghost use Rattle.ds_replica.specs.declared.event.Event.TheVariants.{Ask};

@@ -1,8 +1,8 @@
 //! Judges the replies of a trace.
 
 ghost use Rattle.std.specs.Prelude.{◌≡◌, ◌≢◌, ◌<◌, length, None, IfOk, IfErr};
-ghost use Rattle.trace_model.specs.declared.asked.Asked.TheVariants as askeds;
-ghost use Rattle.trace_model.specs.Noroom.{noroom_line, stopped_line};
+ghost use Rattle.trace_walk.specs.declared.asked.Asked.TheVariants as askeds;
+ghost use Rattle.trace_walk.specs.Noroom.{noroom_line, stopped_line};
 ghost use Rattle.trace_walk.specs.Reads.{Advances};
 ghost use Rattle.trace_walk.specs.Steps.{GoesBehind, FailsBehind, GoesPastReply, FailsAtReply, HasRefused, PassesLine};
 ghost use Rattle.trace_walk.specs.Steps.{PassesSweep, PassesMerge, FailsAtMerge, PassesPlain, FailsAtPlain};
@@ -12,20 +12,22 @@ ghost use Rattle.trace_walk.specs.Passing.{IsRefusedAs};
 ghost use Rattle.trace_walk.specs.Wanting.{IsOfReply};
 
 use super::Walk;
+use crate::asked::Asked;
 use crate::expected::expect;
 use crate::fault::WalkFault;
+use crate::header::Format;
 use crate::merges::Merges;
 use crate::passed::Passed;
 use crate::place::{Place, wanted_line};
+use crate::replies::is_noroom;
 use crate::stopping::{stop_of, stopped, wants_room};
 use crate::sweep::{Sweep, older, sweep_older};
 use ds_entry::Items;
 use ds_machine::{Command, Reply};
 use line_io::Source;
+use script_answers::{Wording, append_noroom, append_reply};
 use script_commands::ScriptCommand;
 use std::alloc::Global;
-use store_answers::{Wording, append_noroom, append_reply};
-use trace_model::{Asked, Format, is_noroom};
 
 impl Walk {
     /// Reads the reply to a command, which must be the store's.

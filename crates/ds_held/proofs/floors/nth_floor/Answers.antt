@@ -1,5 +1,5 @@
 use Rattle.std.proofs.Common.{◌∙◌}
-use Rattle.ds_rows.proofs.RowLemmas.{found_at}
+use Rattle.ds_held.proofs.RowLemmas.{found_at}
 use Rattle.ds_held.proofs.floors.nth_floor.Goals as goal
 
 pub returns : goal.returns

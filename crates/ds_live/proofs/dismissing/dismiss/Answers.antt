@@ -2,7 +2,7 @@ use Rattle.std.proofs.Common.{All, ◌≡◌, Some, [], ◌∷◌, ◌++◌, len
 use Rattle.std.proofs.lemmas.List.Elements.{All-nil, All-same}
 use Rattle.desk.specs.Desk.{identity}
 use Rattle.desk.specs.Pass.{desk_of}
-use Rattle.ds_workers.specs.Workers.{Finishes, IsOf, others_in, plain}
+use Rattle.ds_live.specs.Workers.{Finishes, IsOf, others_in, plain}
 use Rattle.ds_live.specs.Dismissed.{HandBack}
 use Rattle.ds_live.specs.Tasks.{followers_in}
 use Rattle.ds_live.proofs.FailLemmas.{same_or_calls, still_same}

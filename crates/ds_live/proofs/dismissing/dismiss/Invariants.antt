@@ -1,7 +1,7 @@
 use Rattle.std.proofs.Common.{All, ◌≡◌, ◌⊎◌, ◌+◌, ◌≤◌, List, ◌++◌, length, map, Some, IfNone, IfSome, sum_by, vec_capacity}
 use Rattle.desk.specs.Desk.{identity}
 use Rattle.desk.specs.Pass.{desk_of}
-use Rattle.ds_workers.specs.Workers.{IsOf, others_in}
+use Rattle.ds_live.specs.Workers.{IsOf, others_in}
 use Rattle.ds_live.specs.Dismissed.{HandBack}
 use Rattle.ds_live.specs.Fails.{IsCallsFault}
 use Rattle.ds_live.proofs.dismissing.dismiss.Given as goal

@@ -1,6 +1,6 @@
 use Rattle.std.proofs.Common.{inr}
-use Rattle.ds_workers.specs.Workers.{plain}
-use Rattle.ds_workers.proofs.WorkerLemmas.{is_back}
+use Rattle.ds_live.specs.Workers.{plain}
+use Rattle.ds_live.proofs.WorkerLemmas.{is_back}
 use Rattle.ds_live.proofs.FailLemmas.{finish_calls, still_same}
 use Rattle.ds_live.proofs.dismissing.finish.Goals as goal
 

@@ -1,6 +1,6 @@
 use Rattle.std.proofs.Common.{◌≡◌, ◌⊎◌, IfSome, Option, Some, subst, sym}
 use Rattle.ds_live.specs.Fails.{IsCallsFault}
-use Rattle.ds_live.specs.declared.fault.LiveFault.{LiveFault}
+use Rattle.ds_live.specs.declared.live_fault.LiveFault.{LiveFault}
 use Rattle.ds_live.proofs.FailLemmas.{or_room, still_same}
 use Rattle.ds_live.proofs.dismissing.hand_back.Goals as goal
 

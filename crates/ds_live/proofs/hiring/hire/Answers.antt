@@ -1,7 +1,7 @@
 use Rattle.std.proofs.Common.{◌≡◌, [], length, sum_by, refl, ap, ◌∙◌, arith}
 use Rattle.desk.specs.Desk.{identity}
 use Rattle.desk.specs.Pass.{calls, desk_of}
-use Rattle.ds_workers.specs.Workers.{IsOf, others_in, plain}
+use Rattle.ds_live.specs.Workers.{IsOf, others_in, plain}
 use Rattle.ds_live.specs.Run.{IsReady}
 use Rattle.ds_live.specs.Fails.{IsCallsFault}
 use Rattle.ds_live.proofs.FailLemmas.{all_idle, labels_fail, out_of_memory}

@@ -1,7 +1,7 @@
 use Rattle.std.proofs.Common.{All, ◌≡◌, ◌+◌, ◌≤◌, [], ◌++◌, length, map, sum_by, vec_capacity}
 use Rattle.desk.specs.Desk.{identity}
 use Rattle.desk.specs.Pass.{calls, desk_of}
-use Rattle.ds_workers.specs.Workers.{IsOf, others_in, plain}
+use Rattle.ds_live.specs.Workers.{IsOf, others_in, plain}
 use Rattle.ds_live.specs.Run.{IsReady, downward}
 use Rattle.ds_live.proofs.hiring.hire.Given as goal
 

@@ -1,8 +1,8 @@
 use Rattle.std.proofs.Common.{refl, sym, subst, ◌∙◌, ℕ, add-one}
-use Rattle.ds_pass.specs.Record.{pass_record}
-use Rattle.ds_workers.specs.Commands.{each_below, publisher_label}
-use Rattle.ds_workers.specs.Turns.{WereAccepted}
-use Rattle.ds_workers.proofs.TurnLemmas.{more_accepted, none_accepted}
+use Rattle.desk_store.specs.Record.{pass_record}
+use Rattle.ds_live.specs.Commands.{each_below, publisher_label}
+use Rattle.ds_live.specs.Turns.{WereAccepted}
+use Rattle.ds_live.proofs.TurnLemmas.{more_accepted, none_accepted}
 use Rattle.ds_live.proofs.hiring.publish_labels.Goals as goal
 
 pub loop-index-init : goal.loop-index-init

@@ -1,8 +1,8 @@
 use Rattle.std.proofs.Common.{◌≡◌}
 use Rattle.desk.specs.Pass.{desk_of}
-use Rattle.ds_pass.specs.Record.{pass_record}
-use Rattle.ds_workers.specs.Commands.{each_below, publisher_label}
-use Rattle.ds_workers.specs.Turns.{WereAccepted}
+use Rattle.desk_store.specs.Record.{pass_record}
+use Rattle.ds_live.specs.Commands.{each_below, publisher_label}
+use Rattle.ds_live.specs.Turns.{WereAccepted}
 use Rattle.ds_live.proofs.hiring.publish_labels.Given as goal
 
 -- the labels so far

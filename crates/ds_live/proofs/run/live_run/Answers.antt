@@ -1,7 +1,7 @@
 use Rattle.std.proofs.Common.{IsTrue, arith, inr, refl, sym, ◌∙◌}
 use Rattle.desk.specs.Desk.{first_call, identity, opened_with}
-use Rattle.crew.proofs.BackLemmas.{each_back, same_length, same_sum}
-use Rattle.ds_workers.specs.Workers.{ComesBack, IsOf, others_in}
+use Rattle.ds_live.proofs.BackLemmas.{each_back, same_length, same_sum}
+use Rattle.ds_live.specs.Workers.{ComesBack, IsOf, others_in}
 use Rattle.ds_live.specs.Fails.{IsLiveFault}
 use Rattle.ds_live.specs.Sizes.{are_fit}
 use Rattle.ds_live.proofs.FailLemmas.{calls_told, out_of_memory, run_by_calls, run_failed, told_last}

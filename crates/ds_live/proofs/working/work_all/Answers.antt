@@ -2,13 +2,13 @@ use denote.Param.Send.{sendable}
 use Rattle.desk.proofs.CrossingLemmas.{desk_sync}
 use Rattle.std.proofs.Common.{◌≡◌, Some, true, map, ap, inr, ◌∙◌}
 use Rattle.std.specs.List.{list_all}
-use Rattle.crew.specs.Back.{AreBack}
+use Rattle.ds_live.specs.Back.{AreBack}
 use Rattle.ds_live.specs.Faults.{FailsTurns, OneFails, fault_or, has_ended}
-use Rattle.ds_live.specs.declared.fault.LiveFault.TheVariants.{NoThread}
-use Rattle.ds_workers.specs.Workers.{ComesBack, TookAll, Worked, plain}
-use Rattle.ds_workers.proofs.CrossingLemmas.{turns_send}
-use Rattle.ds_workers.proofs.WorkerLemmas.{is_back}
-use Rattle.ds_live.proofs.CrossingLemmas.{desks_sync, store_slot_send, store_worker_send}
+use Rattle.ds_live.specs.declared.live_fault.LiveFault.TheVariants.{NoThread}
+use Rattle.ds_live.specs.Workers.{ComesBack, TookAll, Worked, plain}
+use Rattle.ds_live.proofs.WorkerCrossingLemmas.{turns_send}
+use Rattle.ds_live.proofs.WorkerLemmas.{is_back}
+use Rattle.ds_live.proofs.LiveCrossingLemmas.{desks_sync, store_slot_send, store_worker_send}
 use Rattle.ds_live.proofs.FailLemmas.{caused, one_failed, or_as}
 use Rattle.ds_live.proofs.RunLemmas.{all_ended, back_all, none_then, took_all}
 use Rattle.ds_live.proofs.working.work_all.Goals as goal

@@ -3,7 +3,7 @@ use Rattle.std.specs.Prelude.{slice_get}
 use Rattle.std.specs.Option.{option_copied}
 use Rattle.ds_names.specs.declared.key.Key.{Key}
 use Rattle.ds_entry.specs.declared.item.Item.{Item}
-use Rattle.ds_convergence.specs.Paged.{last_key}
+use Rattle.ds_replica.specs.Paged.{last_key}
 use Rattle.ds_reader.proofs.ListLemmas.{key_next, none_next}
 use Rattle.ds_reader.proofs.gathering.go_behind.Goals as goal
 use Rattle.ds_reader.proofs.gathering.go_behind.Goals.{in-Some, in_default}

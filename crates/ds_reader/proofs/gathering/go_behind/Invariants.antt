@@ -1,5 +1,5 @@
 use Rattle.std.proofs.Common.{◌≡◌, take}
-use Rattle.ds_convergence.specs.Paged.{last_key}
+use Rattle.ds_replica.specs.Paged.{last_key}
 use Rattle.ds_reader.proofs.gathering.go_behind.Given as goal
 
 -- it is the last key of the first ones

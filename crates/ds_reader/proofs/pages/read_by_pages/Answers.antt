@@ -5,7 +5,7 @@ use Rattle.ds_names.specs.declared.key.Key.{Key}
 use Rattle.ds_entry.specs.declared.item.Item.{Item}
 use Rattle.ds_feed.specs.declared.cursor.Cursor.{Cursor}
 use Rattle.ds_feed.specs.Page.{page_of}
-use Rattle.ds_convergence.specs.Paged.{last_key}
+use Rattle.ds_replica.specs.Paged.{last_key}
 use Rattle.ds_machine.specs.declared.command.Scope.{Scope}
 use Rattle.ds_machine.specs.Scope.{is_kept}
 use Rattle.ds_machine.specs.State.{held, cursor}

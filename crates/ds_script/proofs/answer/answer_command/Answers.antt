@@ -1,9 +1,9 @@
 use Rattle.std.proofs.Common.{inl, inr, subst}
 use Rattle.rs_core.specs.declared.event.Event.{Event}
 use Rattle.std.specs.Option.{option_copied}
-use Rattle.store_answers.specs.Outcome.{side_line}
-use Rattle.store_answers.specs.Reply.{refused_noroom}
-use Rattle.store_answers.proofs.ResultLemmas.{on_ok}
+use Rattle.script_answers.specs.Outcome.{side_line}
+use Rattle.script_answers.specs.Reply.{refused_noroom}
+use Rattle.script_answers.proofs.ResultLemmas.{on_ok}
 use Rattle.ds_script.specs.Answer.{entries_text, AnswersByServices}
 use Rattle.ds_script.proofs.EventLemmas.{is_event, event_answers, entries_answers, entries_refused, ring_answers, side_answers, settings_answers, answers_as}
 use Rattle.ds_script.proofs.answer.answer_command.Goals as goal

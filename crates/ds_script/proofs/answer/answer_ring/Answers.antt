@@ -1,6 +1,6 @@
 use Rattle.std.proofs.Common.{inl, refl, sym, subst}
-use Rattle.store_answers.specs.Outcome.{ring_line}
-use Rattle.store_answers.proofs.ResultLemmas.{on_ok}
+use Rattle.script_answers.specs.Outcome.{ring_line}
+use Rattle.script_answers.proofs.ResultLemmas.{on_ok}
 use Rattle.ds_script.specs.Session.{IsOpened, SessionContent}
 use Rattle.ds_script.proofs.answer.answer_ring.Goals as goal
 

@@ -1,6 +1,6 @@
 use Rattle.std.proofs.Common.{inl, sym, ◌∙◌}
 use Rattle.ds_script.specs.Answer.{told_lines}
-use Rattle.store_answers.proofs.ResultLemmas.{on_ok}
+use Rattle.script_answers.proofs.ResultLemmas.{on_ok}
 use Rattle.ds_script.proofs.EventLemmas.{as_event}
 use Rattle.ds_script.proofs.event.answer_event.Goals as goal
 

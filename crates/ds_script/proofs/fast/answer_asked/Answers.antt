@@ -1,9 +1,9 @@
 use Rattle.std.proofs.Common.{◌++◌, inl, refl, ap, ◌∙◌}
 use Rattle.ds_held.specs.Limits.{LimitsRecord, larger}
 use Rattle.ds_replica.specs.declared.outcome.Outcome.TheVariants.{Replied}
-use Rattle.store_answers.specs.Reply.{reply_lines}
-use Rattle.store_answers.specs.declared.wording.Wording.TheVariants.{AsMerge}
-use Rattle.store_answers.proofs.ResultLemmas.{on_ok}
+use Rattle.script_answers.specs.Reply.{reply_lines}
+use Rattle.script_answers.specs.declared.wording.Wording.TheVariants.{AsMerge}
+use Rattle.script_answers.proofs.ResultLemmas.{on_ok}
 use Rattle.ds_script.proofs.fast.answer_asked.Goals as goal
 
 pub returns-clause-answered : goal.returns-clause-answered

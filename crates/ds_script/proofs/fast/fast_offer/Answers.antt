@@ -1,6 +1,6 @@
 use Rattle.std.proofs.Common.{◌≡◌, Err}
 use Rattle.std.proofs.lemmas.Result.{IfErr-weaker}
-use Rattle.store_answers.proofs.ResultLemmas.{on_ok}
+use Rattle.script_answers.proofs.ResultLemmas.{on_ok}
 use Rattle.script_commands.specs.Command.{ReadsCommand}
 use Rattle.script_commands.specs.Later.{ReadsLater}
 use Rattle.script_commands.specs.declared.command.ScriptCommand.TheVariants.{Offer}

@@ -1,6 +1,6 @@
 use Rattle.std.proofs.Common.{◌≡◌, Err}
 use Rattle.std.proofs.lemmas.Result.{IfErr-weaker}
-use Rattle.store_answers.proofs.ResultLemmas.{on_ok}
+use Rattle.script_answers.proofs.ResultLemmas.{on_ok}
 use Rattle.ds_machine.specs.declared.command.Command.TheVariants.{Retrieve}
 use Rattle.script_commands.specs.declared.command.ScriptCommand.TheVariants.{Store}
 use Rattle.ds_script.proofs.LineLemmas.{read_behind, event_behind, unread_behind, unread_fault, keeps}

@@ -1,7 +1,7 @@
 use Rattle.std.proofs.Common.{◌≡◌, Ok, Err, sym, ◌∙◌, arith}
 use Rattle.std.proofs.lemmas.Bool.{false≢true}
 use Rattle.std.proofs.lemmas.Result.{IfErr-weaker}
-use Rattle.store_answers.proofs.ResultLemmas.{on_ok}
+use Rattle.script_answers.proofs.ResultLemmas.{on_ok}
 use Rattle.ds_script.proofs.LineLemmas.{line_behind, offer_line, answered_behind, unread_behind, unread_fault, keeps}
 use Rattle.ds_script.proofs.line.answer_line.Goals as goal
 

@@ -2,7 +2,7 @@ use Rattle.std.proofs.Common.{Some, refl}
 use Rattle.rs_settings.specs.declared.class.Class.TheVariants.{Block, Character}
 use Rattle.driver_tables.specs.declared.file_table.FileClass.TheVariants as files
 use Rattle.driver_tables.specs.FileDriver.{file_driver}
-use Rattle.system_model.specs.Start.{file_unit}
+use Rattle.ds_system.specs.Start.{file_unit}
 use Rattle.ds_system.proofs.BeginLemmas.{unit_added, file_is}
 use Rattle.ds_system.proofs.beginning.add_file.Goals as goal
 

@@ -1,7 +1,7 @@
 use Rattle.std.proofs.Common.{Some, refl}
 use Rattle.rs_settings.specs.declared.class.Class.TheVariants.{Network}
 use Rattle.driver_tables.specs.Driver.{net_driver}
-use Rattle.system_model.specs.Start.{net_unit}
+use Rattle.ds_system.specs.Start.{net_unit}
 use Rattle.ds_system.proofs.BeginLemmas.{unit_added, net_is}
 use Rattle.ds_system.proofs.beginning.add_net.Goals as goal
 

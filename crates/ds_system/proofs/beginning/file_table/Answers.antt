@@ -5,7 +5,7 @@ use Rattle.std.proofs.lemmas.List.{take_all}
 use Rattle.rs_settings.specs.declared.service.Service.{Service}
 use Rattle.driver_tables.specs.Driver.{Driver}
 use Rattle.driver_tables.specs.Stands.{TableStands}
-use Rattle.system_model.specs.Start.{file_unit, assigned_all}
+use Rattle.ds_system.specs.Start.{file_unit, assigned_all}
 use Rattle.ds_system.proofs.ServeLemmas.{taken_by}
 use Rattle.ds_system.proofs.beginning.file_table.Goals as goal
 

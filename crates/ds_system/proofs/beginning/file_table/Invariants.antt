@@ -1,7 +1,7 @@
 use Rattle.std.proofs.Common.{take}
 use Rattle.std.specs.List.{filter_map}
 use Rattle.driver_tables.specs.Stands.{TableStands}
-use Rattle.system_model.specs.Start.{file_unit, assigned_all}
+use Rattle.ds_system.specs.Start.{file_unit, assigned_all}
 use Rattle.ds_system.proofs.beginning.file_table.Given as goal
 
 -- the units of the services before the index are assigned

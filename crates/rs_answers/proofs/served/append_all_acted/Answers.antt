@@ -3,9 +3,9 @@ use Rattle.std.specs.Prelude.{Option}
 use Rattle.std.specs.List.{slice_get}
 use Rattle.std.specs.Option.{option_copied}
 use Rattle.ds_machine.specs.declared.reply.Reply.{Reply}
-use Rattle.service_answers.specs.Actions.{action_line}
+use Rattle.script_answers.specs.Actions.{action_line}
 use Rattle.rs_answers.specs.Served.{acted_lines, reply_lines_if}
-use Rattle.service_answers.proofs.AppendLemmas.{lines_after, on_each, some_after}
+use Rattle.script_answers.proofs.AppendLemmas.{lines_after, on_each, some_after}
 use Rattle.rs_answers.proofs.ServedLemmas.{acted_more}
 use Rattle.rs_answers.proofs.served.append_all_acted.Goals as goal
 

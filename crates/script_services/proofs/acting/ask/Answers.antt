@@ -3,11 +3,11 @@ use Rattle.ds_held.specs.Limits.{LimitsRecord, larger}
 use Rattle.ds_machine.specs.declared.command.Command.{Command}
 use Rattle.ds_replica.specs.declared.event.Event.TheVariants.{Ask}
 use Rattle.ds_replica.specs.declared.outcome.Outcome.TheVariants.{Replied}
-use Rattle.store_answers.proofs.ResultLemmas.{on_ok}
-use Rattle.store_answers.specs.Reply.{reply_lines}
-use Rattle.store_answers.specs.declared.wording.Wording.TheVariants.{AsMerge}
+use Rattle.script_answers.proofs.ResultLemmas.{on_ok}
+use Rattle.script_answers.specs.Reply.{reply_lines}
+use Rattle.script_answers.specs.declared.wording.Wording.TheVariants.{AsMerge}
 use Rattle.script_services.specs.Services.{AsksIfAny}
-use Rattle.service_answers.proofs.AppendLemmas.{on_each}
+use Rattle.script_answers.proofs.AppendLemmas.{on_each}
 use Rattle.script_services.proofs.ActionLemmas.{command_gives, asks_none}
 use Rattle.script_services.proofs.acting.ask.Goals as goal
 

@@ -3,11 +3,11 @@ use Rattle.std.specs.List.{slice_get}
 use Rattle.std.specs.Option.{option_copied}
 use Rattle.std.proofs.lemmas.List.{take_all}
 use Rattle.rs_core.specs.declared.action.Action.{Action}
-use Rattle.service_answers.specs.Actions.{action_line, action_count_line}
-use Rattle.store_answers.proofs.ResultLemmas.{on_ok}
+use Rattle.script_answers.specs.Actions.{action_line, action_count_line}
+use Rattle.script_answers.proofs.ResultLemmas.{on_ok}
 use Rattle.script_services.specs.Services.{AnswersActions}
 use Rattle.rs_to_store.proofs.ListLemmas.{next_taken}
-use Rattle.service_answers.proofs.AppendLemmas.{lines_after, on_each, some_after}
+use Rattle.script_answers.proofs.AppendLemmas.{lines_after, on_each, some_after}
 use Rattle.script_services.proofs.ActionLemmas.{actions_more, first_sent, in_place_at}
 use Rattle.script_services.proofs.acting.pass_on.Goals as goal
 

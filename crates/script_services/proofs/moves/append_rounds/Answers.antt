@@ -1,7 +1,7 @@
 use Rattle.std.proofs.Common.{take, arith}
 use Rattle.rs_to_store.specs.Submitting.{all_in}
 use Rattle.script_services.proofs.ListLemmas.{some_more}
-use Rattle.service_answers.proofs.AppendLemmas.{on_each}
+use Rattle.script_answers.proofs.AppendLemmas.{on_each}
 use Rattle.script_services.proofs.MoveLemmas.{moves_few, moves_fit}
 use Rattle.script_services.proofs.moves.append_rounds.Goals as goal
 

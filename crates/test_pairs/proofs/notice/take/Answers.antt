@@ -1,6 +1,6 @@
-use Rattle.ds_refresh.proofs.LawLemmas.{keeps_up_later}
-use Rattle.rs_pass.specs.Record.{pair_record}
-use Rattle.rs_pass.proofs.PassLemmas.{sees_by_looks}
+use Rattle.desk_store.proofs.LawLemmas.{keeps_up_later}
+use Rattle.desk_store.specs.PairRecord.{pair_record}
+use Rattle.desk_store.proofs.PairPassLemmas.{sees_by_looks}
 use Rattle.test_pairs.proofs.notice.take.Goals as goal
 
 pub returns-in-Ok-clause-keeps : goal.returns-in-Ok-clause-keeps

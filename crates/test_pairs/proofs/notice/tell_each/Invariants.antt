@@ -1,8 +1,8 @@
 use Rattle.std.proofs.Common.{◌≡◌}
 use Rattle.desk.specs.Desk.{identity}
 use Rattle.desk.specs.Pass.{desk_of}
-use Rattle.ds_refresh.specs.KeepsUp.{KeepsUpWith}
-use Rattle.rs_pass.specs.Record.{pair_record}
+use Rattle.desk_store.specs.KeepsUp.{KeepsUpWith}
+use Rattle.desk_store.specs.PairRecord.{pair_record}
 use Rattle.test_pairs.proofs.notice.tell_each.Given as goal
 
 abbrev pub invariant-loop-step : goal.invariant-loop-step

@@ -1,6 +1,6 @@
-use Rattle.ds_pass.specs.Record.{pass_record}
-use Rattle.ds_pass.proofs.PassLemmas.{sees_by_looks}
-use Rattle.ds_refresh.proofs.LawLemmas.{keeps_up_later}
+use Rattle.desk_store.specs.Record.{pass_record}
+use Rattle.desk_store.proofs.PassLemmas.{sees_by_looks}
+use Rattle.desk_store.proofs.LawLemmas.{keeps_up_later}
 use Rattle.test_threads.proofs.steps.take.Goals as goal
 
 pub returns-in-Ok-clause-keeps : goal.returns-in-Ok-clause-keeps

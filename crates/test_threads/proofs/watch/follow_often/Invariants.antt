@@ -1,7 +1,7 @@
 use Rattle.std.proofs.Common.{◌≡◌}
 use Rattle.desk.specs.Pass.{desk_of}
-use Rattle.ds_pass.specs.Record.{pass_record}
-use Rattle.ds_refresh.specs.KeepsUp.{KeepsUpWith}
+use Rattle.desk_store.specs.Record.{pass_record}
+use Rattle.desk_store.specs.KeepsUp.{KeepsUpWith}
 use Rattle.test_threads.proofs.watch.follow_often.Given as goal
 
 abbrev pub invariant-loop-turn : goal.invariant-loop-turn

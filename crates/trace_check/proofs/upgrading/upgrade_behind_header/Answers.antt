@@ -2,9 +2,9 @@ use Rattle.std.proofs.Common.{◌++◌, ◌∙◌, [], List, ℕ, refl, sym, sub
 use Rattle.std.specs.Io.KnownBytes.{Appends}
 use Rattle.std.proofs.KnownBytes.{Appends-nil, Appends-trans}
 use Rattle.std.proofs.lemmas.Result.{IfOk-weaker, IfErr-weaker}
-use Rattle.trace_model.specs.declared.header.Header.{Header}
-use Rattle.trace_model.specs.Text.{header_text}
-use Rattle.trace_model.specs.Upgrade.{upgraded}
+use Rattle.trace_walk.specs.declared.header.Header.{Header}
+use Rattle.trace_walk.specs.Text.{header_text}
+use Rattle.trace_walk.specs.Upgrade.{upgraded}
 use Rattle.trace_walk.specs.Steps.{first_spot}
 use Rattle.trace_check.proofs.UpgradingLemmas.{begins_two, handed_on, header_upgrades, nothing_yet, stops_in_header}
 use Rattle.trace_check.proofs.upgrading.upgrade_behind_header.Goals as goal

@@ -1,8 +1,8 @@
 use Rattle.std.proofs.Common.{[], refl, subst, sym}
-use Rattle.trace_model.specs.Verdict.{IsVerdict}
+use Rattle.trace_walk.specs.Verdict.{IsVerdict}
 use Rattle.trace_walk.specs.Steps.{first_spot}
 use Rattle.trace_walk.proofs.BeginLemmas.{known_both, known_then, said_for}
-use Rattle.trace_model.specs.declared.verdict.Verdict.{Verdict}
+use Rattle.trace_walk.specs.declared.verdict.Verdict.{Verdict}
 use Rattle.trace_check.specs.Verifying.{IsVerdictCause}
 use Rattle.trace_check.proofs.CauseLemmas.{cause_told}
 use Rattle.trace_check.proofs.TellingLemmas.{wanted_for}

@@ -1,7 +1,7 @@
 use Rattle.std.proofs.Common.{List, ℕ, Option, IfNone, refl, sym, subst, arith}
-use Rattle.trace_model.specs.declared.header.Header.{Header}
-use Rattle.trace_model.specs.declared.verdict.Verdict.TheVariants.{Legal}
-use Rattle.trace_model.specs.Verdict.{IsVerdict}
+use Rattle.trace_walk.specs.declared.header.Header.{Header}
+use Rattle.trace_walk.specs.declared.verdict.Verdict.TheVariants.{Legal}
+use Rattle.trace_walk.specs.Verdict.{IsVerdict}
 use Rattle.trace_walk.specs.declared.passed.Passed.{Passed}
 use Rattle.trace_walk.specs.Steps.{EndsThere, GoesPast}
 use Rattle.trace_walk.specs.Walking.{Spot, Walks, spot_behind}
@@ -9,7 +9,7 @@ use Rattle.trace_walk.proofs.BeginLemmas.{legal_at_end, said_for}
 use Rattle.trace_walk.proofs.FaultLemmas.{some_at}
 use Rattle.trace_walk.proofs.ReadLemmas.{on_and_on, stays}
 use Rattle.trace_walk.specs.Reads.{CountsOn}
-use Rattle.trace_model.specs.declared.verdict.Verdict.{Verdict}
+use Rattle.trace_walk.specs.declared.verdict.Verdict.{Verdict}
 use Rattle.trace_check.specs.Verifying.{IsVerdictCause}
 use Rattle.trace_check.proofs.CauseLemmas.{cause_told}
 use Rattle.trace_check.proofs.TellingLemmas.{wanted_for}

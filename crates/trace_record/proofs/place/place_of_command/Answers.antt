@@ -1,6 +1,6 @@
 use Rattle.std.proofs.Common.{◌+◌, ◌-◌, ◌++◌, ◌∙◌, Bool, List, ℕ, ap, arith, inl, inr, refl, subst}
 use Rattle.std.specs.Fmt.{decimal}
-use Rattle.trace_model.proofs.NumberLemmas.{none_behind}
+use Rattle.trace_walk.proofs.NumberLemmas.{none_behind}
 use Rattle.trace_record.specs.Asking.{IsLineBadAt}
 use Rattle.trace_record.proofs.AskingLemmas.{ends_behind_pass}
 use Rattle.trace_record.proofs.PlaceLemmas.{behind_pass}

@@ -1,5 +1,5 @@
 use Rattle.std.proofs.Common.{◌≡◌, ◌+◌, ◌∙◌, ℕ, suc, List, Option, Bool, Result, Ok, Err, refl, sym, ap, subst, arith}
-use Rattle.trace_model.specs.declared.header.Header.{Header}
+use Rattle.trace_walk.specs.declared.header.Header.{Header}
 use Rattle.trace_record.specs.declared.fault.RecordFault.{RecordFault}
 use Rattle.trace_record.specs.declared.recorder.Recorder.{Recorder}
 use Rattle.trace_record.specs.Causes.{IsToBlame, ReadsLead}

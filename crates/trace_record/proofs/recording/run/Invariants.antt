@@ -1,5 +1,5 @@
 use Rattle.std.proofs.Common.{ℕ, List, Option}
-use Rattle.trace_model.specs.declared.header.Header.{Header}
+use Rattle.trace_walk.specs.declared.header.Header.{Header}
 use Rattle.trace_record.specs.Causes.{LeadsFrom}
 use Rattle.trace_record.specs.Reading.{IsReady}
 use Rattle.trace_record.specs.Running.{Runs}

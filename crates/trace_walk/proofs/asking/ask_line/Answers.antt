@@ -2,9 +2,9 @@ use Rattle.std.proofs.Common.{sym, ap, subst, ◌∙◌}
 use Rattle.std.proofs.lemmas.Result.{IfOk-weaker}
 use Rattle.ds_machine.specs.declared.command.Command.TheVariants.{Sweep}
 use Rattle.script_commands.specs.Command.{store_command}
-use Rattle.trace_model.specs.declared.header.Format.{Format}
-use Rattle.trace_model.specs.OneReply.{IsTraced}
-use Rattle.trace_model.specs.Sweep.{older_sweep}
+use Rattle.trace_walk.specs.declared.header.Format.{Format}
+use Rattle.trace_walk.specs.OneReply.{IsTraced}
+use Rattle.trace_walk.specs.Sweep.{older_sweep}
 use Rattle.trace_walk.proofs.ToldLemmas.{older_is, plain_steps, sweep_step}
 use Rattle.trace_walk.proofs.asking.ask_line.Goals as goal
 

@@ -5,11 +5,11 @@ use Rattle.ds_machine.specs.Machine.{Step}
 use Rattle.ds_machine.specs.State.{State}
 use Rattle.ds_machine.specs.declared.command.Command.TheVariants.{Merge}
 use Rattle.ds_machine.specs.declared.reply.Reply.{Reply}
-use Rattle.trace_model.specs.declared.asked.Asked.{Asked}
-use Rattle.trace_model.specs.declared.header.Format.{Format}
-use Rattle.trace_model.specs.declared.header.Format.TheVariants.{One, Two}
-use Rattle.trace_model.specs.Legal.{StepOf}
-use Rattle.trace_model.specs.Text.{command_asked, worded_as}
+use Rattle.trace_walk.specs.declared.asked.Asked.{Asked}
+use Rattle.trace_walk.specs.declared.header.Format.{Format}
+use Rattle.trace_walk.specs.declared.header.Format.TheVariants.{One, Two}
+use Rattle.trace_walk.specs.Legal.{StepOf}
+use Rattle.trace_walk.specs.Text.{command_asked, worded_as}
 use Rattle.trace_walk.specs.Asking.{StepsBy}
 use Rattle.trace_walk.proofs.asking.ask_store.Goals as goal
 

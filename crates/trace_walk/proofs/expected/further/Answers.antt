@@ -1,5 +1,5 @@
 use Rattle.std.proofs.Common.{◌++◌, ◌∷◌, [], List, ℕ, length, length-append, sym, ap, arith, ◌∙◌}
-use Rattle.trace_model.specs.Text.{marked}
+use Rattle.trace_walk.specs.Text.{marked}
 use Rattle.trace_walk.proofs.FaultLemmas.{carried, split_on, one_more, all_said, further_short, further_there}
 use Rattle.trace_walk.specs.Reads.{Advances}
 use Rattle.trace_walk.proofs.ReadLemmas.{carried_as, no_cause, on_and_on, stays}

@@ -1,5 +1,5 @@
 use Rattle.std.proofs.Common.{◌≡◌, ◌++◌, ◌∷◌, [], length, ℕ, List}
-use Rattle.trace_model.specs.Text.{marked}
+use Rattle.trace_walk.specs.Text.{marked}
 use Rattle.trace_walk.specs.Reads.{ReadsFurther}
 use Rattle.trace_walk.specs.Walking.{IsAt, IsSaid}
 use Rattle.trace_walk.proofs.expected.further.Given as goal

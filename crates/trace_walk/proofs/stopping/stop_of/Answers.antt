@@ -1,5 +1,5 @@
 use Rattle.std.proofs.Common.{◌∙◌, drop, ap, sym, refl, arith}
-use Rattle.trace_model.proofs.NumberLemmas.{number_one}
+use Rattle.trace_walk.proofs.NumberLemmas.{number_one}
 use Rattle.trace_walk.proofs.stopping.stop_of.Goals as goal
 
 pub returns-else-done-count-clause-none : goal.returns-else-done-count-clause-none

@@ -13,11 +13,11 @@ use Rattle.ds_machine.specs.State.{State, held, next_position, takes_effect, owe
 use Rattle.ds_machine.proofs.ReachedLemmas.{with_accepted}
 use Rattle.ds_machine.specs.Batches.{AreFree}
 use Rattle.ds_machine.proofs.OneStepLemmas.{nothing_owed}
-use Rattle.trace_model.proofs.TombstoneLemmas.{tombstones_are_free}
-use Rattle.trace_model.specs.declared.header.Format.TheVariants.{One}
-use Rattle.trace_model.specs.OneReply.{IsTraced}
-use Rattle.trace_model.specs.Sweep.{tombstones}
-use Rattle.trace_model.specs.Upgrade.{IsPart, IsFullPart}
+use Rattle.trace_walk.proofs.TombstoneLemmas.{tombstones_are_free}
+use Rattle.trace_walk.specs.declared.header.Format.TheVariants.{One}
+use Rattle.trace_walk.specs.OneReply.{IsTraced}
+use Rattle.trace_walk.specs.Sweep.{tombstones}
+use Rattle.trace_walk.specs.Upgrade.{IsPart, IsFullPart}
 use Rattle.trace_walk.proofs.SweepLemmas.{AreMerged, batch_free, caller_is, least_most, least_some, none_left, none_merged, none_swept, older_swept, one_batch, one_merged}
 use Rattle.trace_walk.proofs.sweep.sweep_older.Goals as goal
 

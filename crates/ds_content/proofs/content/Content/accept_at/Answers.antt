@@ -12,7 +12,7 @@ use Rattle.ds_held.proofs.KeptLemmas.{merged_joins}
 use Rattle.ds_join.specs.ItemTop.{IsTop}
 use Rattle.ds_join.specs.declared.merge.Merge.TheVariants.{Taken}
 use Rattle.ds_machine.specs.Parts.{changes_in, held_at}
-use Rattle.ds_marked.specs.Put.{IsPutMarked}
+use Rattle.ds_index.specs.Put.{IsPutMarked}
 use Rattle.ds_machine.specs.State.{State, takes_effect}
 use Rattle.ds_watch.specs.Mask.{padded}
 use Rattle.ds_watch.specs.Masks.{fresh}

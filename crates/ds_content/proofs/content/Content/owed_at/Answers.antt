@@ -3,7 +3,7 @@ use Rattle.ds_names.specs.declared.key.Key.{Key}
 use Rattle.ds_entry.specs.declared.item.Item.TheVariants.{Change as Changed}
 use Rattle.ds_held.specs.Held.{held_changes}
 use Rattle.ds_held.specs.Kept.{IsPlace}
-use Rattle.ds_marked.specs.Marked.{mark_for}
+use Rattle.ds_index.specs.Marked.{mark_for}
 use Rattle.ds_machine.specs.Parts.{changes_in, held_at}
 use Rattle.ds_machine.specs.Subscription.{is_owed}
 use Rattle.ds_watch.specs.Followed.{owed_for}

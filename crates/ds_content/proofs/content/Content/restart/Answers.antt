@@ -3,7 +3,7 @@ use Rattle.ds_feed.specs.Feed.{restarted}
 use Rattle.ds_feed.specs.Kept.{Keeps}
 use Rattle.ds_held.specs.Held.{Holding, held_items}
 use Rattle.ds_held.specs.Limits.{LimitsRecord, IsLimits}
-use Rattle.ds_marked.specs.Marked.{nothing_marked}
+use Rattle.ds_index.specs.Marked.{nothing_marked}
 use Rattle.ds_watch.specs.Watching.{Watching}
 use Rattle.ds_machine.specs.State.{State, opening}
 use Rattle.ds_content.specs.Content.{ContentRecord}

@@ -1,6 +1,6 @@
 use Rattle.std.proofs.Common.{◌≡◌, ℕ, ◌+◌, ◌-◌, cond, filter, length, take, ap, subst, arith}
 use Rattle.ds_held.specs.Held.{held_items}
-use Rattle.ds_marked.specs.Marked.{MarkedHolding}
+use Rattle.ds_index.specs.Marked.{MarkedHolding}
 use Rattle.ds_watch.specs.declared.masks.Masks.{Masks}
 use Rattle.ds_content.specs.Shown.{is_to_show, IsToShowHere}
 use Rattle.ds_content.proofs.BackLemmas.{AreMarkedFrom, all_marked, left_now, marked_before, marked_same}

@@ -1,6 +1,6 @@
 use Rattle.std.proofs.Common.{Option, OnOk, subst}
 use Rattle.ds_submap.specs.Map.{SubMapRecord}
-use Rattle.store_answers.proofs.ResultLemmas.{on_ok}
+use Rattle.script_answers.proofs.ResultLemmas.{on_ok}
 use Rattle.script_services.specs.Tables.{map_items, AnswersFollow}
 use Rattle.script_services.specs.Waiting.{AppendsLed}
 use Rattle.ds_script.specs.Session.{SessionContent}

@@ -6,7 +6,7 @@ use Rattle.ds_machine.specs.Asking.{AskedChange}
 use Rattle.ds_machine.specs.Machine.{Answers, Step, asking, outcome}
 use Rattle.ds_machine.specs.Says.{IsReplyTo}
 use Rattle.ds_machine.proofs.FitLemmas.{replies_fit}
-use Rattle.ds_judge.specs.Last.{IsLast, MayLackAsked}
+use Rattle.ds_store.specs.Last.{IsLast, MayLackAsked}
 use Rattle.ds_store.proofs.AnswerLemmas.{asked_last}
 use Rattle.ds_store.proofs.store.Store.apply.Goals as goal
 

@@ -9,8 +9,8 @@ use Rattle.ds_machine.specs.declared.refusal.Cause.{Cause}
 use Rattle.ds_machine.specs.Machine.{IsOutcome, asking}
 use Rattle.ds_machine.specs.Parts.{held_at}
 use Rattle.ds_machine.specs.declared.reply.Reply.{Reply}
-use Rattle.ds_judge.specs.Asked.{request_of}
-use Rattle.ds_judge.proofs.RoomLemmas.{no_cause}
+use Rattle.ds_store.specs.Asked.{request_of}
+use Rattle.ds_store.proofs.RoomLemmas.{no_cause}
 use Rattle.ds_content.specs.Content.{ContentRecord}
 use Rattle.ds_content.specs.Stands.{ContentStands}
 use Rattle.ds_store.proofs.AnswerLemmas.{answered_no_room, asked_refused, asked_taken, asked_lacks, owed_number}

@@ -1,7 +1,7 @@
 use Rattle.std.proofs.Common.{IfNone, subst}
 use Rattle.ds_machine.specs.Asking.{change_asked}
-use Rattle.ds_judge.specs.Asked.{request_of}
-use Rattle.ds_judge.specs.Standing.{machine_standing}
+use Rattle.ds_store.specs.Asked.{request_of}
+use Rattle.ds_store.specs.Standing.{machine_standing}
 use Rattle.ds_store.proofs.StandingLemmas.{asked_cause, none_free}
 use Rattle.ds_store.proofs.store.Store.cause_against.Goals as goal
 use Rattle.ds_content.specs.Standing.{standing_in}

@@ -5,8 +5,8 @@ use Rattle.ds_machine.specs.Machine.{Answers}
 use Rattle.ds_machine.specs.declared.refusal.Refusal.{Refusal}
 use Rattle.ds_machine.specs.declared.reply.Reply.TheVariants.{Refused}
 use Rattle.ds_machine.specs.declared.command.Command.TheVariants.{Check}
-use Rattle.ds_judge.specs.Cases.{refusal_of_showing}
-use Rattle.ds_judge.specs.Last.{IsLast}
+use Rattle.ds_store.specs.Cases.{refusal_of_showing}
+use Rattle.ds_store.specs.Last.{IsLast}
 use Rattle.ds_content.specs.Content.{ContentRecord}
 use Rattle.ds_content.specs.Stands.{ContentStands}
 use Rattle.ds_store.proofs.WatchLemmas.{stamp_at, is_shown, check_first, begun, some_is, no_items, some_items, are_some, check_refused, check_short, short_last, check_empty, check_done}

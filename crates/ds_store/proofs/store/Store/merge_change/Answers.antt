@@ -11,7 +11,7 @@ use Rattle.ds_machine.specs.Parts.{held_at}
 use Rattle.ds_machine.specs.State.{takes_effect}
 use Rattle.ds_machine.specs.declared.refusal.Refusal.{Refusal}
 use Rattle.ds_machine.specs.declared.refusal.Refusal.TheVariants.{NoRoom}
-use Rattle.ds_judge.proofs.RoomLemmas.{no_cause}
+use Rattle.ds_store.proofs.RoomLemmas.{no_cause}
 use Rattle.ds_content.specs.Content.{ContentRecord}
 use Rattle.ds_content.specs.Owed.{owed_flags}
 use Rattle.ds_content.specs.Stands.{ContentStands}

@@ -5,7 +5,7 @@ use Rattle.ds_machine.specs.declared.command.Command.TheVariants.{Publish}
 use Rattle.ds_machine.specs.Asking.{AskedChange}
 use Rattle.ds_machine.specs.Machine.{Answers, asking, outcome}
 use Rattle.ds_machine.proofs.FitLemmas.{replies_fit}
-use Rattle.ds_judge.specs.Last.{MayLackAsked}
+use Rattle.ds_store.specs.Last.{MayLackAsked}
 use Rattle.ds_store.proofs.AnswerLemmas.{asked_last}
 use Rattle.ds_store.proofs.store.Store.publish.Goals as goal
 

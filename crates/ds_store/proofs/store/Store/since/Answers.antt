@@ -7,9 +7,9 @@ use Rattle.ds_machine.specs.Scope.{is_kept}
 use Rattle.ds_machine.specs.declared.command.Command.TheVariants as commands
 use Rattle.ds_machine.specs.declared.command.Scope.{Scope}
 use Rattle.ds_machine.specs.declared.reply.Reply.TheVariants.{Journaled}
-use Rattle.ds_judge.specs.Refused.{refusal_of_journal}
-use Rattle.ds_judge.specs.Scopes.{scope_of}
-use Rattle.ds_judge.proofs.RoomLemmas.{pattern_may}
+use Rattle.ds_store.specs.Refused.{refusal_of_journal}
+use Rattle.ds_store.specs.Scopes.{scope_of}
+use Rattle.ds_store.proofs.RoomLemmas.{pattern_may}
 use Rattle.ds_store.proofs.ReadingLemmas.{free_answer, refused_last}
 use Rattle.ds_store.proofs.store.Store.since.Goals as goal
 

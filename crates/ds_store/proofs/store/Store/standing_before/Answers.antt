@@ -3,7 +3,7 @@ use Rattle.std.specs.Option.{unwrap_or}
 use Rattle.ds_entry.specs.Change.{change_of}
 use Rattle.ds_entry.specs.Void.{is_void}
 use Rattle.ds_machine.specs.Asking.{change_asked}
-use Rattle.ds_judge.specs.Asked.{request_of, is_void_under}
+use Rattle.ds_store.specs.Asked.{request_of, is_void_under}
 use Rattle.ds_content.specs.Content.{ContentRecord}
 use Rattle.ds_store.proofs.StandingLemmas.{void_is}
 use Rattle.ds_store.proofs.store.Store.standing_before.Goals as goal

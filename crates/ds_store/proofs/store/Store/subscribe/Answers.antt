@@ -7,7 +7,7 @@ use Rattle.ds_machine.specs.Watching.{subscribing, shown_at_first}
 use Rattle.ds_machine.specs.Machine.{Answers}
 use Rattle.ds_machine.specs.declared.command.Command.TheVariants.{Subscribe}
 use Rattle.ds_machine.specs.declared.reply.Reply.{Reply}
-use Rattle.ds_judge.specs.Last.{before_patterns}
+use Rattle.ds_store.specs.Last.{before_patterns}
 use Rattle.ds_content.specs.Content.{ContentRecord}
 use Rattle.ds_content.specs.Stands.{ContentStands}
 use Rattle.ds_store.proofs.ReadingLemmas.{refused_last}

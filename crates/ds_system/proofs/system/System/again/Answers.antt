@@ -8,8 +8,8 @@ use Rattle.ds_replica.specs.declared.event.Event.TheVariants.{Ask}
 use Rattle.ds_replica.specs.declared.outcome.Outcome.TheVariants as results
 use Rattle.ds_world.specs.Run.{EventLeads}
 use Rattle.ds_world.specs.Told.{IsTold}
-use Rattle.system_model.specs.declared.event.SystemEvent.TheVariants as events
-use Rattle.system_model.specs.declared.outcome.SystemOutcome.TheVariants.{Replied}
+use Rattle.ds_system.specs.declared.event.SystemEvent.TheVariants as events
+use Rattle.ds_system.specs.declared.outcome.SystemOutcome.TheVariants.{Replied}
 use Rattle.ds_system.specs.Stands.{SystemRecord, system_of, SystemEventLeads}
 use Rattle.ds_system.proofs.AskLemmas.{no_change, no_room_again, repeated}
 use Rattle.ds_system.proofs.system.System.again.Goals as goal

@@ -1,9 +1,9 @@
 use Rattle.std.proofs.Common.{◌≡◌, ◌∙◌, List, [], sym, ap, subst}
 use Rattle.driver_tables.specs.declared.moves.Move.{Move}
-use Rattle.system_model.specs.declared.event.Table.{Table}
-use Rattle.system_model.specs.declared.event.Table.TheVariants.{File, Net}
-use Rattle.system_model.specs.declared.event.SystemEvent.TheVariants as events
-use Rattle.system_model.specs.declared.outcome.SystemOutcome.{SystemOutcome}
+use Rattle.ds_system.specs.declared.event.Table.{Table}
+use Rattle.ds_system.specs.declared.event.Table.TheVariants.{File, Net}
+use Rattle.ds_system.specs.declared.event.SystemEvent.TheVariants as events
+use Rattle.ds_system.specs.declared.outcome.SystemOutcome.{SystemOutcome}
 use Rattle.ds_system.specs.Stands.{SystemRecord, system_of, SystemEventLeads}
 use Rattle.ds_system.specs.Turns.{moved_so}
 use Rattle.ds_system.proofs.TurnLemmas.{reply_leads}

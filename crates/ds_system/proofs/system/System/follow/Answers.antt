@@ -1,7 +1,7 @@
 use Rattle.std.proofs.Common.{List, None, sym, subst}
 use Rattle.driver_tables.specs.declared.moves.Move.{Move}
-use Rattle.system_model.specs.declared.event.SystemEvent.TheVariants as events
-use Rattle.system_model.specs.declared.outcome.SystemOutcome.TheVariants.{Moved}
+use Rattle.ds_system.specs.declared.event.SystemEvent.TheVariants as events
+use Rattle.ds_system.specs.declared.outcome.SystemOutcome.TheVariants.{Moved}
 use Rattle.ds_system.specs.Stands.{SystemRecord, system_of, SystemEventLeads}
 use Rattle.ds_system.proofs.TurnLemmas.{both_lead}
 use Rattle.ds_system.proofs.system.System.follow.Goals as goal

@@ -1,5 +1,5 @@
 use Rattle.std.proofs.Common.{sym, subst}
-use Rattle.system_model.specs.declared.event.SystemEvent.{SystemEvent}
+use Rattle.ds_system.specs.declared.event.SystemEvent.{SystemEvent}
 use Rattle.ds_system.specs.Stands.{SystemEventLeads}
 use Rattle.ds_system.proofs.system.System.happen.Goals as goal
 

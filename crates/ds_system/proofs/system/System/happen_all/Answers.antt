@@ -1,6 +1,6 @@
 use Rattle.std.proofs.Common.{◌≤◌, List, ap, subst, sym, ◌∙◌, ◌+◌, ◌++◌, ◌∷◌, [], length, append_assoc}
 use Rattle.std.proofs.lemmas.List.{length_push}
-use Rattle.system_model.specs.declared.outcome.SystemOutcome.{SystemOutcome}
+use Rattle.ds_system.specs.declared.outcome.SystemOutcome.{SystemOutcome}
 use Rattle.ds_system.specs.Since.{SystemRunLeads}
 use Rattle.ds_system.proofs.RunLemmas.{run_more}
 use Rattle.ds_system.proofs.system.System.happen_all.Goals as goal

@@ -4,7 +4,7 @@ use Rattle.rs_core.specs.declared.state.State.TheVariants.{Up}
 use Rattle.rs_core.specs.Numbering.{NumbererRecord}
 use Rattle.rs_core.specs.Says.{place_of_label}
 use Rattle.rs_core.specs.State.{RsRecord, state_at, service_at}
-use Rattle.system_model.specs.Drawing.{is_declared, numbers_left, numbers_of}
+use Rattle.ds_system.specs.Drawing.{is_declared, numbers_left, numbers_of}
 use Rattle.ds_system.specs.Stands.{SystemRecord}
 use Rattle.ds_system.specs.Effects.{instance_at}
 use Rattle.ds_system.proofs.WriteLemmas.{up_from, spent, drawn_so}

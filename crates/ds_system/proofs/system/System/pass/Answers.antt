@@ -1,6 +1,6 @@
 use Rattle.std.proofs.Common.{◌∙◌, sym, subst}
-use Rattle.system_model.specs.declared.event.SystemEvent.TheVariants as events
-use Rattle.system_model.specs.declared.outcome.SystemOutcome.TheVariants.{Happened}
+use Rattle.ds_system.specs.declared.event.SystemEvent.TheVariants as events
+use Rattle.ds_system.specs.declared.outcome.SystemOutcome.TheVariants.{Happened}
 use Rattle.ds_system.specs.Stands.{SystemRecord, system_of, SystemEventLeads}
 use Rattle.ds_system.proofs.AskLemmas.{barred, passed}
 use Rattle.ds_system.proofs.system.System.pass.Goals as goal

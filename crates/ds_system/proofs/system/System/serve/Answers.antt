@@ -5,9 +5,9 @@ use Rattle.rs_core.specs.declared.fault.RsFault.TheVariants as faults
 use Rattle.rs_core.specs.Judging.{refusal}
 use Rattle.rs_core.specs.Run.{offers}
 use Rattle.rs_core.proofs.SaysLemmas.{steps_say}
-use Rattle.system_model.specs.declared.event.SystemEvent.TheVariants as events
-use Rattle.system_model.specs.declared.outcome.SystemOutcome.TheVariants.{Acted, Refused}
-use Rattle.system_model.specs.declared.outcome.SystemFault.TheVariants as refusals
+use Rattle.ds_system.specs.declared.event.SystemEvent.TheVariants as events
+use Rattle.ds_system.specs.declared.outcome.SystemOutcome.TheVariants.{Acted, Refused}
+use Rattle.ds_system.specs.declared.outcome.SystemFault.TheVariants as refusals
 use Rattle.ds_system.specs.Stands.{SystemRecord, system_of, SystemEventLeads}
 use Rattle.ds_system.proofs.ServeLemmas.{stands_fault, late_fault, rs_refused, rs_kept, acted}
 use Rattle.ds_system.proofs.system.System.serve.Goals as goal

@@ -10,9 +10,9 @@ use Rattle.ds_replica.specs.Happens.{gives_items}
 use Rattle.ds_world.specs.Run.{EventLeads}
 use Rattle.ds_world.specs.Told.{IsTold}
 use Rattle.rs_to_store.specs.Asked.{asking_for}
-use Rattle.system_model.specs.declared.outcome.SystemFault.TheVariants as refusals
-use Rattle.system_model.specs.declared.outcome.SystemOutcome.TheVariants.{Replied, Refused}
-use Rattle.system_model.specs.Drawing.{judged, numbers_left}
+use Rattle.ds_system.specs.declared.outcome.SystemFault.TheVariants as refusals
+use Rattle.ds_system.specs.declared.outcome.SystemOutcome.TheVariants.{Replied, Refused}
+use Rattle.ds_system.specs.Drawing.{judged, numbers_left}
 use Rattle.ds_system.specs.Stands.{SystemRecord, system_of, SystemEventLeads}
 use Rattle.ds_system.specs.Effects.{instance_at, write_event}
 use Rattle.ds_system.proofs.ServeLemmas.{asking_plain}

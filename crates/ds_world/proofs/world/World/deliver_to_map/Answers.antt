@@ -9,7 +9,7 @@ use Rattle.ds_replica.specs.declared.event.Event.TheVariants.{Deliver}
 use Rattle.ds_replica.specs.declared.event.Holder.TheVariants.{Map}
 use Rattle.ds_replica.specs.declared.outcome.Outcome.{Outcome}
 use Rattle.ds_machine.specs.declared.reply.Reply.{Reply}
-use Rattle.ds_message.specs.Lent.{items_lent}
+use Rattle.ds_replica.specs.Lent.{items_lent}
 use Rattle.ds_world.specs.World.{WorldRecord, world_of, map_state, kept_items}
 use Rattle.ds_replica.specs.declared.outcome.Outcome.TheVariants.{Refused}
 use Rattle.ds_replica.specs.declared.outcome.EventFault.TheVariants.{NoMessage, NoMap, TooMany}

@@ -6,7 +6,7 @@ use Rattle.ds_replica.specs.declared.event.Side.TheVariants.{A, B}
 use Rattle.ds_replica.specs.declared.event.Event.TheVariants.{Deliver}
 use Rattle.ds_replica.specs.declared.event.Holder.TheVariants.{Store}
 use Rattle.ds_machine.specs.declared.reply.Reply.{Reply}
-use Rattle.ds_message.specs.Lent.{items_lent}
+use Rattle.ds_replica.specs.Lent.{items_lent}
 use Rattle.ds_world.specs.World.{WorldRecord, world_of, kept_items}
 use Rattle.ds_replica.specs.declared.outcome.Outcome.TheVariants.{Refused}
 use Rattle.ds_replica.specs.declared.outcome.EventFault.TheVariants.{NoMessage, TooMany}

@@ -1,7 +1,7 @@
 use Rattle.std.proofs.Common.{sym, subst}
 use Rattle.ds_machine.specs.State.{State}
 use Rattle.ds_machine.specs.Machine.{Step}
-use Rattle.ds_judge.specs.Last.{IsLast}
+use Rattle.ds_store.specs.Last.{IsLast}
 use Rattle.ds_content.specs.Stands.{ContentStands}
 use Rattle.ds_replica.specs.declared.event.Side.{Side}
 use Rattle.ds_replica.specs.World.{store_at, with_state}

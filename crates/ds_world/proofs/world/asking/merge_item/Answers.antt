@@ -4,7 +4,7 @@ use Rattle.ds_machine.specs.State.{State}
 use Rattle.ds_machine.specs.Machine.{Step}
 use Rattle.ds_machine.specs.Says.{IsReplyTo}
 use Rattle.ds_machine.specs.declared.command.Command.TheVariants.{Merge}
-use Rattle.ds_judge.specs.Last.{IsLast}
+use Rattle.ds_store.specs.Last.{IsLast}
 use Rattle.ds_content.specs.Stands.{ContentStands}
 use Rattle.ds_store.specs.Steps.{ContentSteps}
 use Rattle.ds_world.proofs.world.asking.merge_item.Goals as goal

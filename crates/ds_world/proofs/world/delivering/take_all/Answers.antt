@@ -2,7 +2,7 @@ use Rattle.std.proofs.Common.{◌≡◌, Some, refl, sym, ◌∙◌, ap, subst}
 use Rattle.ds_machine.specs.Stopped.{refusal_of_join}
 use Rattle.ds_machine.specs.declared.refusal.Refusal.{Refusal}
 use Rattle.ds_replica.specs.Delivery.{Tally, ended, MapTakes}
-use Rattle.ds_message.specs.Lent.{items_lent}
+use Rattle.ds_replica.specs.Lent.{items_lent}
 use Rattle.ds_world.specs.World.{map_state}
 use Rattle.ds_replica.specs.Happens.{tally_outcome}
 use Rattle.ds_world.specs.Tally.{tally_of}

@@ -2,14 +2,14 @@ use Rattle.std.proofs.Common.{sym, subst}
 use Rattle.driver_tables.specs.Driver.{net_driver}
 use Rattle.driver_tables.specs.FileDriver.{file_driver}
 use Rattle.driver_tables.specs.Run.{no_moves, Assign}
-use Rattle.store_answers.proofs.ResultLemmas.{on_ok}
+use Rattle.script_answers.proofs.ResultLemmas.{on_ok}
 use Rattle.script_commands.specs.declared.service.Device.{Device}
 use Rattle.script_commands.specs.declared.service.Device.TheVariants as devices
 use Rattle.script_services.specs.Servers.{ServersRecord, ServersLead, servers_of}
 use Rattle.script_services.specs.Tables.{AnswersAssign, assign_text}
 use Rattle.driver_tables.proofs.CallLemmas.{assign_step}
 use Rattle.script_services.proofs.LeadLemmas.{file_called, net_called}
-use Rattle.service_answers.proofs.AppendLemmas.{on_each}
+use Rattle.script_answers.proofs.AppendLemmas.{on_each}
 use Rattle.script_services.proofs.servers.Servers.assign.Goals as goal
 
 pub returns-in-File-clause-answered : goal.returns-in-File-clause-answered

@@ -4,13 +4,13 @@ use Rattle.ds_entry.specs.declared.item.Item.{Item}
 use Rattle.ds_held.specs.Held.{held_items}
 use Rattle.driver_tables.specs.declared.fault.TableFault.{TableFault}
 use Rattle.driver_tables.specs.declared.moves.Move.{Move}
-use Rattle.store_answers.proofs.ResultLemmas.{on_ok}
+use Rattle.script_answers.proofs.ResultLemmas.{on_ok}
 use Rattle.script_services.specs.Servers.{ServersRecord, ServersLead, servers_of}
 use Rattle.rs_to_store.specs.Submitting.{all_in}
 use Rattle.script_services.specs.Tables.{AnswersFollow, ended_by, map_items, moves_text, nomap_line}
 use Rattle.script_services.specs.Kept.{BothFollowed}
 use Rattle.script_services.proofs.LeadLemmas.{both_lead}
-use Rattle.service_answers.proofs.AppendLemmas.{on_each}
+use Rattle.script_answers.proofs.AppendLemmas.{on_each}
 use Rattle.script_services.proofs.servers.Servers.follow.Goals as goal
 
 pub returns-clause-answered : goal.returns-clause-answered

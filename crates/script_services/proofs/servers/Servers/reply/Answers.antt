@@ -1,13 +1,13 @@
 use Rattle.std.proofs.Common.{sym, subst}
 use Rattle.driver_tables.specs.Run.{one_move, Reply}
-use Rattle.store_answers.proofs.ResultLemmas.{on_ok}
+use Rattle.script_answers.proofs.ResultLemmas.{on_ok}
 use Rattle.script_commands.specs.declared.service.Server.{Server}
 use Rattle.script_commands.specs.declared.service.Server.TheVariants.{File, Net}
 use Rattle.script_services.specs.Servers.{ServersRecord, ServersLead, servers_of}
 use Rattle.script_services.specs.Tables.{AnswersReply, answer_text}
 use Rattle.driver_tables.proofs.CallLemmas.{reply_step}
 use Rattle.script_services.proofs.LeadLemmas.{file_called, net_called}
-use Rattle.service_answers.proofs.AppendLemmas.{on_each}
+use Rattle.script_answers.proofs.AppendLemmas.{on_each}
 use Rattle.script_services.proofs.servers.Servers.reply.Goals as goal
 
 pub returns-in-File-clause-answered : goal.returns-in-File-clause-answered

@@ -3,14 +3,14 @@ use Rattle.std.specs.Option.{option_copied}
 use Rattle.ds_entry.specs.declared.item.Item.{Item}
 use Rattle.ds_held.specs.Held.{held_items}
 use Rattle.driver_tables.specs.declared.moves.Move.{Move}
-use Rattle.store_answers.proofs.ResultLemmas.{on_ok}
+use Rattle.script_answers.proofs.ResultLemmas.{on_ok}
 use Rattle.script_commands.specs.declared.service.Server.{Server}
 use Rattle.script_commands.specs.declared.service.Server.TheVariants.{File, Net}
 use Rattle.script_services.specs.Servers.{ServersRecord, ServersLead, servers_of}
 use Rattle.rs_to_store.specs.Submitting.{FollowedAndTaken, all_in}
 use Rattle.script_services.specs.Tables.{AnswersSubmit, map_items, moves_text, nomap_line, own_moves}
 use Rattle.script_services.proofs.LeadLemmas.{file_led, net_led}
-use Rattle.service_answers.proofs.AppendLemmas.{on_each}
+use Rattle.script_answers.proofs.AppendLemmas.{on_each}
 use Rattle.script_services.proofs.servers.Servers.submit.Goals as goal
 
 pub returns-in-File-clause-answered : goal.returns-in-File-clause-answered

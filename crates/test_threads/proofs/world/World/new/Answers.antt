@@ -1,9 +1,9 @@
 use Rattle.std.proofs.Common.{◌≡◌, subst, sym}
 use Rattle.std.specs.Bool.{⊤}
 use Rattle.std.proofs.lemmas.Option.{MatchOption-at_some}
-use Rattle.ds_pass.specs.Record.{pass_record}
-use Rattle.ds_refresh.specs.Follower.{FollowerRecord, new_follower}
-use Rattle.ds_refresh.specs.KeepsUp.{KeepsUpWith}
+use Rattle.desk_store.specs.Record.{pass_record}
+use Rattle.desk_store.specs.Follower.{FollowerRecord, new_follower}
+use Rattle.desk_store.specs.KeepsUp.{KeepsUpWith}
 use Rattle.test_threads.specs.World.{IsSide}
 use Rattle.test_threads.proofs.BothLemmas.{both_hold, ok_holds}
 use Rattle.test_threads.proofs.world.World.new.Goals as goal

@@ -1,6 +1,6 @@
 use Rattle.std.proofs.Common.{◌++◌, ◌∙◌, List, ℕ, refl, ap, append-nil}
-use Rattle.store_answers.specs.Reply.{reply_lines}
-use Rattle.trace_model.specs.Text.{marked}
+use Rattle.script_answers.specs.Reply.{reply_lines}
+use Rattle.trace_walk.specs.Text.{marked}
 use Rattle.trace_record.proofs.recorder.Recorder.add_reply.Goals as goal
 
 pub returns-clause-adds : goal.returns-clause-adds

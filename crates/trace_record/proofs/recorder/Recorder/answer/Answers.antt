@@ -1,10 +1,10 @@
 use Rattle.std.proofs.Common.{◌++◌, ◌∙◌, sym, ap, subst}
 use Rattle.ds_content.specs.Content.{ContentRecord}
 use Rattle.ds_content.specs.Stands.{ContentStands}
-use Rattle.store_answers.specs.Reply.{reply_lines}
-use Rattle.store_answers.specs.declared.wording.Wording.{Wording}
-use Rattle.store_answers.proofs.ResultLemmas.{on_ok}
-use Rattle.trace_model.specs.Text.{marked}
+use Rattle.script_answers.specs.Reply.{reply_lines}
+use Rattle.script_answers.specs.declared.wording.Wording.{Wording}
+use Rattle.script_answers.proofs.ResultLemmas.{on_ok}
+use Rattle.trace_walk.specs.Text.{marked}
 use Rattle.trace_record.proofs.recorder.Recorder.answer.Goals as goal
 
 pub returns-clause-goes : goal.returns-clause-goes

@@ -2,7 +2,7 @@ use Rattle.std.proofs.Common.{◌≡◌, ◌++◌, ◌∙◌, List, ℕ, refl, s
 use Rattle.std.proofs.lemmas.Result.{IfOk-weaker, IfErr-weaker}
 use Rattle.line_io.specs.Lines.{EndsLine}
 use Rattle.trace_walk.specs.Walking.{IsShort}
-use Rattle.trace_model.specs.Head.{IsHeadOf}
+use Rattle.trace_walk.specs.Head.{IsHeadOf}
 use Rattle.trace_record.specs.declared.fault.RecordFault.TheVariants.{NoRoom}
 use Rattle.trace_record.specs.Asking.{asked_by}
 use Rattle.trace_record.specs.Reading.{IsBadHead}

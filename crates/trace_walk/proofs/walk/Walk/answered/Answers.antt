@@ -1,6 +1,6 @@
 use Rattle.std.proofs.Common.{◌∙◌, refl, sym, subst}
 use Rattle.std.proofs.lemmas.Result.{IfOk-weaker, IfErr-weaker}
-use Rattle.trace_model.specs.declared.asked.Asked.{Asked}
+use Rattle.trace_walk.specs.declared.asked.Asked.{Asked}
 use Rattle.trace_walk.specs.declared.fault.WalkFault.{WalkFault}
 use Rattle.trace_walk.specs.Walking.{IsFault}
 use Rattle.trace_walk.specs.Steps.{HearsAt}

@@ -1,7 +1,7 @@
 use Rattle.std.proofs.Common.{◌≡◌, ◌∙◌, false, is_some, refl, sym, ap, subst}
 use Rattle.std.proofs.lemmas.Result.{IfOk-weaker, IfErr-weaker}
-use Rattle.store_answers.specs.Reply.{reply_lines}
-use Rattle.store_answers.specs.declared.wording.Wording.{Wording}
+use Rattle.script_answers.specs.Reply.{reply_lines}
+use Rattle.script_answers.specs.declared.wording.Wording.{Wording}
 use Rattle.ds_machine.specs.OneStep.{room_wanted}
 use Rattle.trace_walk.specs.declared.passed.Passed.{Passed}
 use Rattle.trace_walk.specs.declared.passed.Passed.TheVariants.{AsItStands}

@@ -1,5 +1,5 @@
 use Rattle.std.proofs.Common.{refl, subst}
-use Rattle.trace_model.specs.declared.asked.Head.{Head}
+use Rattle.trace_walk.specs.declared.asked.Head.{Head}
 use Rattle.trace_walk.specs.Steps.{HeadsAt}
 use Rattle.trace_walk.proofs.FaultLemmas.{carried}
 use Rattle.trace_walk.proofs.HeadLemmas.{asks_line, lists_none, asks_merge}

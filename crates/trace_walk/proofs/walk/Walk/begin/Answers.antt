@@ -1,7 +1,7 @@
 use Rattle.std.proofs.Common.{◌≡◌, List, [], ℕ, refl, sym, subst, ◌∙◌}
 use Rattle.line_io.specs.Lines.{with_newline}
-use Rattle.trace_model.specs.Text.{HasNoHeader, header_text}
-use Rattle.trace_model.proofs.WalkLemmas.{header_behind}
+use Rattle.trace_walk.specs.Text.{HasNoHeader, header_text}
+use Rattle.trace_walk.proofs.WalkLemmas.{header_behind}
 use Rattle.trace_walk.specs.Walking.{IsAt}
 use Rattle.trace_walk.proofs.BeginLemmas.{first_fails, input_empty, line_wrong, at_start, by_known}
 use Rattle.trace_walk.proofs.ReadLemmas.{none_read}

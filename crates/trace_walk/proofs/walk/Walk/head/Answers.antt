@@ -1,5 +1,5 @@
 use Rattle.std.proofs.Common.{sym, subst}
-use Rattle.trace_model.specs.Head.{HasNoHead}
+use Rattle.trace_walk.specs.Head.{HasNoHead}
 use Rattle.trace_walk.specs.declared.wrong_line.Wanted.TheVariants.{Entry}
 use Rattle.trace_walk.specs.Wanting.{IsWanted}
 use Rattle.trace_walk.specs.Walking.{IsFault}

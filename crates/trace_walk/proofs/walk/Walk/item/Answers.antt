@@ -1,7 +1,7 @@
 use Rattle.std.proofs.Common.{List, ℕ, refl, ◌++◌, ◌∷◌, [], length, length-append, sym, subst, ap, arith, ◌∙◌}
 use Rattle.std.specs.List.{flat_map}
 use Rattle.ds_entry.specs.declared.item.Item.{Item}
-use Rattle.trace_model.specs.Text.{merge_text, pass_text, plus_text}
+use Rattle.trace_walk.specs.Text.{merge_text, pass_text, plus_text}
 use Rattle.trace_walk.specs.declared.wrong_line.Wanted.TheVariants.{Item as AnItem}
 use Rattle.trace_walk.specs.Wanting.{IsWanted}
 use Rattle.trace_walk.specs.Walking.{IsFault, Lists}

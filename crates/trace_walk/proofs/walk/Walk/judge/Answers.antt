@@ -1,6 +1,6 @@
 use Rattle.std.proofs.Common.{◌++◌}
 use Rattle.std.proofs.lemmas.Result.{IfOk-weaker, IfErr-weaker}
-use Rattle.trace_model.specs.Text.{asked_text}
+use Rattle.trace_walk.specs.Text.{asked_text}
 use Rattle.trace_walk.proofs.AskLemmas.{reply_wanted, hears}
 use Rattle.trace_walk.proofs.ReadLemmas.{on_then}
 use Rattle.trace_walk.proofs.walk.Walk.judge.Goals as goal

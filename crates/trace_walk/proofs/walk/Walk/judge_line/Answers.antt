@@ -1,7 +1,7 @@
 use Rattle.std.proofs.Common.{◌∙◌, sym, subst}
 use Rattle.std.proofs.lemmas.Result.{IfOk-weaker, IfErr-weaker}
 use Rattle.script_commands.specs.declared.command.ScriptCommand.{ScriptCommand}
-use Rattle.trace_model.specs.declared.asked.Asked.TheVariants as askeds
+use Rattle.trace_walk.specs.declared.asked.Asked.TheVariants as askeds
 use Rattle.trace_walk.specs.Steps.{HearsAt}
 use Rattle.trace_walk.proofs.ToldLemmas.{older_is}
 use Rattle.trace_walk.proofs.walk.Walk.judge_line.Goals as goal

@@ -1,5 +1,5 @@
 use Rattle.std.proofs.lemmas.Result.{IfOk-weaker, IfErr-weaker}
-use Rattle.trace_model.specs.declared.asked.Asked.TheVariants as askeds
+use Rattle.trace_walk.specs.declared.asked.Asked.TheVariants as askeds
 use Rattle.trace_walk.proofs.ToldLemmas.{merge_for_store}
 use Rattle.trace_walk.proofs.walk.Walk.judge_merge.Goals as goal
 

@@ -1,5 +1,5 @@
 use Rattle.std.proofs.Common.{◌++◌, ◌∙◌, List, ℕ, refl, ap}
-use Rattle.store_answers.specs.Reply.{refused_noroom}
+use Rattle.script_answers.specs.Reply.{refused_noroom}
 use Rattle.trace_walk.proofs.walk.Walk.judge_noroom.Goals as goal
 
 pub returns-clause-goes : goal.returns-clause-goes

@@ -1,6 +1,6 @@
 use Rattle.std.proofs.Common.{◌∙◌, sym}
 use Rattle.std.proofs.lemmas.Result.{IfOk-weaker, IfErr-weaker}
-use Rattle.trace_model.specs.declared.asked.Asked.TheVariants as askeds
+use Rattle.trace_walk.specs.declared.asked.Asked.TheVariants as askeds
 use Rattle.trace_walk.proofs.ToldLemmas.{line_for_store}
 use Rattle.trace_walk.specs.Reads.{Advances}
 use Rattle.trace_walk.proofs.ReadLemmas.{carried_as}

@@ -1,11 +1,11 @@
 use Rattle.std.proofs.Common.{refl, sym, subst}
 use Rattle.std.proofs.lemmas.Result.{IfOk-weaker, IfErr-weaker}
-use Rattle.store_answers.specs.Reply.{reply_lines}
-use Rattle.store_answers.specs.declared.wording.Wording.TheVariants.{AsMerge}
+use Rattle.script_answers.specs.Reply.{reply_lines}
+use Rattle.script_answers.specs.declared.wording.Wording.TheVariants.{AsMerge}
 use Rattle.ds_machine.specs.declared.command.Command.TheVariants.{Sweep}
-use Rattle.trace_model.specs.declared.header.Format.{Format}
-use Rattle.trace_model.specs.OneReply.{IsTraced}
-use Rattle.trace_model.specs.Sweep.{older_sweep}
+use Rattle.trace_walk.specs.declared.header.Format.{Format}
+use Rattle.trace_walk.specs.OneReply.{IsTraced}
+use Rattle.trace_walk.specs.Sweep.{older_sweep}
 use Rattle.trace_walk.specs.declared.passed.Passed.{Passed}
 use Rattle.trace_walk.specs.declared.passed.Passed.TheVariants.{Swept}
 use Rattle.trace_walk.specs.Passing.{HasPassed}

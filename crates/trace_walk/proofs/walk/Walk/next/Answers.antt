@@ -1,5 +1,5 @@
 use Rattle.std.proofs.Common.{◌∙◌, arith, subst}
-use Rattle.trace_model.specs.declared.header.Header.{Header}
+use Rattle.trace_walk.specs.declared.header.Header.{Header}
 use Rattle.trace_walk.specs.Passing.{HasPassed}
 use Rattle.trace_walk.specs.Steps.{ReadsHead}
 use Rattle.trace_walk.proofs.FaultLemmas.{carried, some_at}

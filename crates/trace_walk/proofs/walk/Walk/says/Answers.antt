@@ -1,5 +1,5 @@
 use Rattle.std.proofs.Common.{◌++◌, ◌∙◌, List, ℕ, refl, ap, subst}
-use Rattle.store_answers.specs.Reply.{reply_lines}
+use Rattle.script_answers.specs.Reply.{reply_lines}
 use Rattle.trace_walk.specs.Steps.{MissesReply, SaysAll}
 use Rattle.trace_walk.specs.Reads.{Advances}
 use Rattle.trace_walk.proofs.ReadLemmas.{carried_as}

@@ -1,5 +1,5 @@
 use Rattle.std.proofs.Common.{◌∙◌, sym, subst}
-use Rattle.trace_model.specs.declared.asked.Asked.{Asked}
+use Rattle.trace_walk.specs.declared.asked.Asked.{Asked}
 use Rattle.trace_walk.specs.declared.passed.Passed.TheVariants.{AsItStands, Swept}
 use Rattle.trace_walk.specs.Passing.{IsRefusedAs}
 use Rattle.trace_walk.proofs.ToldLemmas.{line_refused, merge_refused, sweep_refused}

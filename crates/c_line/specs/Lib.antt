@@ -1,4 +1,0 @@
-pub mod Line
-pub mod Calling
-pub mod Text
-pub mod Fast

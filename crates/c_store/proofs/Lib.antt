@@ -1,0 +1,4 @@
+pub mod CalledLemmas
+pub mod LineLemmas
+pub mod FastLemmas
+pub mod GivingLemmas

@@ -1,0 +1,12 @@
+pub mod Kept
+pub mod Called
+pub mod Line
+pub mod Calling
+pub mod Text
+pub mod Fast
+pub mod Map
+pub mod Drivers
+pub mod Following
+pub mod Giving
+pub mod Answers
+pub mod Calls

@@ -1,0 +1,21 @@
+pub mod RecordLemmas
+pub mod FaultLemmas
+pub mod PassLemmas
+mod ShownLemmas
+mod MapLemmas
+pub mod FollowLemmas
+mod CountLemmas
+pub mod FitLemmas
+pub mod MergedLemmas
+mod StandLemmas
+mod CheckLemmas
+mod OnlyLemmas
+mod GoneLemmas
+mod RoomLemmas
+pub mod LawLemmas
+mod GivingLemmas
+mod PageLemmas
+mod WholeLemmas
+mod BothLemmas
+pub mod PartLemmas
+pub mod PairPassLemmas

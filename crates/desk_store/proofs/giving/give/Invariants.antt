@@ -1,0 +1,13 @@
+use Rattle.std.proofs.Common.{◌≡◌, List, ◌++◌, length}
+use Rattle.ds_entry.specs.declared.item.Item.{Item}
+use Rattle.desk_store.specs.Seat.{IsSameSeat}
+use Rattle.desk_store.specs.Giving.{GivesAll}
+use Rattle.desk_store.proofs.giving.give.Given as goal
+
+-- what isn't left was given
+abbrev pub invariant-loop-rest : goal.invariant-loop-rest
+invariant-loop-rest g l =
+    IsSameSeat l.fn.seat l.seat × ((front : List Item) × GivesAll l.fn.seat.pass l.seat.pass front l.taken × (front ++ l.rest ≡ l.fn.items))
+
+abbrev pub decreases-loop-rest : goal.decreases-loop-rest
+decreases-loop-rest g l = length l.rest

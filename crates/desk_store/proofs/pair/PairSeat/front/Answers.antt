@@ -1,0 +1,13 @@
+use Rattle.std.proofs.Common.{◌≡◌, [], ap, subst}
+use Rattle.desk_store.specs.Called.{Made}
+use Rattle.desk_store.specs.Record.{PassRecord}
+use Rattle.desk_store.specs.Seat.{SeatRecord}
+use Rattle.desk_store.specs.PairRecord.{pair_record}
+use Rattle.desk_store.proofs.PairPassLemmas.{sees_made}
+use Rattle.desk_store.proofs.pair.PairSeat.front.Goals as goal
+
+pub returns-clause-looked : goal.returns-clause-looked
+returns-clause-looked g c =
+    let p = c.self.inside.pass.now in
+    let same : pair_record p ≡ c.args.self.now.pass = ap (λ (s : SeatRecord). s.pass) c.self.view_is in
+    subst (λ (x : PassRecord). Made x (pair_record c.front.new.pass) []) same (sees_made p c.front.new.pass c.front.ensures.sees)

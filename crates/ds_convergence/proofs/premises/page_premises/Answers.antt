@@ -1,5 +1,0 @@
-use Rattle.ds_convergence.proofs.PagePremiseLemmas.{pages_need}
-use Rattle.ds_convergence.proofs.premises.page_premises.Goals as goal
-
-pub returns : goal.returns
-returns c = pages_need

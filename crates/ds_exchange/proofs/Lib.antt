@@ -1,4 +1,0 @@
-mod GivingLemmas
-mod PageLemmas
-mod WholeLemmas
-mod BothLemmas

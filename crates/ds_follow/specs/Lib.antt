@@ -1,3 +1,0 @@
-pub mod Follower
-pub mod Laws
-pub mod Merged

@@ -1,0 +1,117 @@
+-- Workers that come back.
+use Rattle.std.proofs.Common.{◌≡◌, ℕ, suc, ◌+◌, ◌/◌, ◌<◌, ◌≤◌, Bool, true, List, [], ◌++◌, length, refl, ◌∙◌, sym, subst, inr, arith, add-one, length-append}
+use Rattle.history.specs.declared.entry.Entry.{Entry}
+use Rattle.atomic_table.specs.Seated.{TableId}
+use Rattle.desk_rule.specs.declared.view.View.{View}
+use Rattle.desk_rule.proofs.ListLemmas.{all_append}
+use Rattle.desk.specs.declared.pass.Sight.{Ghosts}
+use Rattle.ds_machine.specs.declared.command.Command.{Command}
+use Rattle.ds_machine.specs.declared.reply.Reply.{Reply}
+use Rattle.ds_pattern.specs.declared.query.Query.{Query}
+use Rattle.desk.specs.Calls.{Sees, TakesPending}
+use Rattle.desk_store.specs.Record.{Boxed, PassRecord, is_content, pass_record}
+use Rattle.desk_store.proofs.PassLemmas.{sees_made}
+use Rattle.desk_store.proofs.RecordLemmas.{made_more, made_none, made_sees_more}
+use Rattle.desk_store.specs.KeepsUp.{KeepsUpWith}
+use Rattle.desk_store.proofs.LawLemmas.{keeps_up_later}
+use Rattle.ds_store.specs.Turns.{Turn}
+use Rattle.desk_store.specs.Follower.{FollowerRecord}
+use Rattle.desk_store.specs.FollowerCalls.{IsOfFollower}
+use Rattle.desk_store.specs.Refresh.{AreOfFollower}
+use Rattle.ds_live.specs.declared.task.Task.{Task}
+use Rattle.ds_live.specs.declared.task.Task.TheVariants.{Exchange, Follow, Publish}
+use Rattle.ds_live.specs.declared.worker.Worker.{Worker}
+use Rattle.ds_live.specs.Commands.{each_below, publisher_number}
+use Rattle.ds_live.specs.Turns.{HasCalled, HasFollowed, HasFollowedOn, HasRefreshed}
+use Rattle.ds_live.specs.declared.worker_fault.WorkerFault.{WorkerFault}
+use Rattle.ds_live.specs.Workers.{ComesBack, EndsBy, FailsTurn, IsTask, LetsThrough, StorePass, TakesTask, TurnTaken, TookTask, TookTurns, plain_task}
+use Rattle.ds_live.proofs.TurnLemmas.{called_more, called_none, more_accepted, none_accepted, refreshed_later}
+
+module _ {Z : Type 0} {G : Ghosts (View (Boxed Z) Command Reply)} where
+  pub is_back : (w : Worker (StorePass Z G)) → ComesBack w w
+  is_back w = record { same_index = refl; same_turns = refl; same_others = refl; called = called_none (pass_record w.pass); still = λ first second is. is }
+
+  pub back_again : (u v w : Worker (StorePass Z G)) → ComesBack u v → ComesBack v w → ComesBack u w
+  back_again u v w a b = record {
+    same_index = b.same_index ∙ a.same_index;
+    same_turns = b.same_turns ∙ a.same_turns;
+    same_others = b.same_others ∙ a.same_others;
+    called = called_more (pass_record u.pass) (pass_record v.pass) (pass_record w.pass) a.called b.called;
+    still = λ first second is. b.still first second (a.still first second is);
+  }
+
+  -- before the first turn
+  pub took_none : (second : TableId) (index : ℕ) (pass : StorePass Z G) (task : Task (StorePass Z G)) → IsTask second index pass task
+      → TookTask index 0 (pass_record pass) (pass_record pass) (plain_task task) (plain_task task)
+  took_none second index pass Publish is = none_accepted (pass_record pass)
+  took_none second index pass (Follow f) is = record {
+    own = [];
+    made = made_none (pass_record pass);
+    many = omega arith;
+    theirs = tt;
+    keeps = is;
+    same = record { sub = refl; query = refl };
+  }
+  took_none second index pass (Exchange other cursor) is = (refl, refl, refl)
+
+-- ---- a pass that looked, or did nothing
+module _ {Z : Type 0} {G : Ghosts (View (Boxed Z) Command Reply)} (p m : StorePass Z G) where
+  pub same_called : m ≡ p → HasCalled (pass_record p) (pass_record m)
+  same_called e = subst (λ (x : StorePass Z G). HasCalled (pass_record p) (pass_record x)) (sym e) (called_none (pass_record p))
+
+  pub followed : (q : StorePass Z G) (f : FollowerRecord) (sub bits : ℕ) → sub ≡ f.sub → TakesPending p m (sub / 8) bits → HasRefreshed (pass_record m) (pass_record q) f → HasFollowed p q f
+  followed q f sub bits same takes refreshed =
+      record { mid = m; bits = bits; takes = subst (λ (n : ℕ). TakesPending p m (n / 8) bits) same takes; refreshed = refreshed }
+
+  module _ (sees : Sees is_content Turn p m) where
+    pub looked_keeps : (f : FollowerRecord) → KeepsUpWith (pass_record p) f → KeepsUpWith (pass_record m) f
+    looked_keeps f keeps = keeps_up_later (pass_record p) (pass_record m) f (made_sees_more (pass_record p) (pass_record m) [] (sees_made p m sees)) keeps
+
+    pub looked_called : (q : PassRecord) → HasCalled (pass_record m) q → HasCalled (pass_record p) q
+    looked_called q called = called_more (pass_record p) (pass_record m) q ([], sees_made p m sees) called
+
+    pub looked_refreshed : (q : PassRecord) (f : FollowerRecord) → HasRefreshed (pass_record m) q f → HasRefreshed (pass_record p) q f
+    looked_refreshed q f h = refreshed_later (pass_record p) (pass_record m) q f (sees_made p m sees) h
+
+-- the calls of a follower, after its calls
+pub theirs_both : (f g : FollowerRecord) (own more : List (Entry Command Reply)) → g.sub ≡ f.sub → g.map.query ≡ f.map.query → AreOfFollower f.sub f.map.query own
+    → AreOfFollower g.sub g.map.query more → AreOfFollower f.sub f.map.query (own ++ more)
+theirs_both f g own more sub query a b = all_append (λ (e : Entry Command Reply). IsOfFollower f.sub f.map.query e.command) own more a
+    (subst (λ (n : ℕ). AreOfFollower n f.map.query more) sub (subst (λ (q : Query). AreOfFollower g.sub q more) query b))
+
+-- one turn more
+pub took_more : (index count : ℕ) (p q r : PassRecord) (t u w : Task PassRecord) → TookTask index count p q t u → TakesTask index count q r u w → TookTask index (suc count) p r t w
+took_more index count p q r Publish Publish Publish a b = more_accepted p q r (each_below (publisher_number index) count) (publisher_number index count) a b
+took_more index count p q r Publish Publish (Follow h) a b = absurd b
+took_more index count p q r Publish Publish (Exchange o next) a b = absurd b
+took_more index count p q r Publish (Follow g) w a b = absurd a
+took_more index count p q r Publish (Exchange o mid) w a b = absurd a
+took_more index count p q r (Follow f) Publish w a b = absurd a
+took_more index count p q r (Follow f) (Follow g) Publish a b = absurd b
+took_more index count p q r (Follow f) (Follow g) (Follow h) a b = record {
+  own = a.own ++ b.0.own;
+  made = made_more p q r a.own b.0.own a.made b.0.made;
+  many = omega (arith, a.many, b.0.some, length-append a.own b.0.own);
+  theirs = theirs_both f g a.own b.0.own a.same.sub a.same.query a.theirs b.0.theirs;
+  keeps = b.1;
+  same = record { sub = b.2.sub ∙ a.same.sub; query = b.2.query ∙ a.same.query };
+}
+took_more index count p q r (Follow f) (Follow g) (Exchange o next) a b = absurd b
+took_more index count p q r (Follow f) (Exchange o mid) w a b = absurd a
+took_more index count p q r (Exchange o from) Publish w a b = absurd a
+took_more index count p q r (Exchange o from) (Follow g) w a b = absurd a
+took_more index count p q r (Exchange o from) (Exchange s mid) Publish a b = absurd b
+took_more index count p q r (Exchange o from) (Exchange s mid) (Follow h) a b = absurd b
+took_more index count p q r (Exchange o from) (Exchange s mid) (Exchange v next) a b = (q, s, mid, b.0, a, b.1)
+
+pub turns_more : (v u w : Worker PassRecord) (count : ℕ) → u.index ≡ v.index → TookTurns count v u → TurnTaken count u w → TookTurns (count + 1) v w
+turns_more v u w count same a b = subst (λ (n : ℕ). TookTurns n v w) (sym (add-one count))
+    (took_more v.index count v.pass u.pass w.pass v.task u.task w.task a (subst (λ (i : ℕ). TakesTask i count u.pass w.pass u.task w.task) same b))
+
+module _ (answers : ℕ → ℕ → Bool → Type 0) where
+  pub through_more : (index own count : ℕ) → own ≡ index → LetsThrough answers index count → answers own count true → LetsThrough answers index (count + 1)
+  through_more index own count same a b = subst (λ (n : ℕ). LetsThrough answers index n) (sym (add-one count)) (a, subst (λ (i : ℕ). answers i count true) same b)
+
+  -- ended early
+  pub ended_by_turn : (v u w : Worker PassRecord) (count : ℕ) (fault : WorkerFault) → count < v.turns → TookTurns count v u → u.index ≡ v.index → FailsTurn count u w fault → EndsBy answers v w fault
+  ended_by_turn v u w count fault few took same fails = inr (inr (count, few, u, took, same, fails))

@@ -1,5 +1,0 @@
-pub mod LeftMarkLemmas
-pub mod RowMarkLemmas
-pub mod MarkLemmas
-pub mod FloorMarkLemmas
-pub mod PutLemmas

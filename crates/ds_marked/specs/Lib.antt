@@ -1,5 +1,0 @@
-pub mod Marked
-pub mod Put
-pub mod Beside
-pub mod Room
-pub mod Coded

@@ -1,3 +1,0 @@
-pub mod Head
-pub mod Kept
-pub mod Lent

@@ -1,4 +1,0 @@
-pub mod CommandLemmas
-pub mod CrossingLemmas
-pub mod TurnLemmas
-pub mod WorkerLemmas

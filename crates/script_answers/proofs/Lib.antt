@@ -1,0 +1,3 @@
+pub mod ResultLemmas
+pub mod MaskLemmas
+pub mod AppendLemmas

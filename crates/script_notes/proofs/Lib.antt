@@ -1,5 +1,0 @@
-pub mod LeftLemmas
-pub mod LineLemmas
-pub mod SourceLemmas
-pub mod ReplayLemmas
-pub mod CauseLemmas

@@ -1,6 +1,0 @@
-pub mod Refusal
-pub mod Process
-pub mod SettingsLines
-pub mod Actions
-pub mod Moves
-pub mod Appending

@@ -1,2 +1,0 @@
-pub mod ResultLemmas
-pub mod MaskLemmas

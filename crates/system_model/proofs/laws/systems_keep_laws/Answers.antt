@@ -1,9 +1,0 @@
-use Rattle.system_model.proofs.LawLemmas.{systems_keep_laws}
-use Rattle.system_model.proofs.StartLemmas.{new_systems_exist}
-use Rattle.system_model.proofs.laws.systems_keep_laws.Goals as goal
-
-pub returns-clause-start : goal.returns-clause-start
-returns-clause-start c = new_systems_exist
-
-pub returns-clause-laws : goal.returns-clause-laws
-returns-clause-laws c = systems_keep_laws

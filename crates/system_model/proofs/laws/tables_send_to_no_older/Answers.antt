@@ -1,9 +1,0 @@
-use Rattle.system_model.proofs.ApartLemmas.{labels_are_apart}
-use Rattle.system_model.proofs.OlderLemmas.{no_send_to_older}
-use Rattle.system_model.proofs.laws.tables_send_to_no_older.Goals as goal
-
-pub returns-clause-sends : goal.returns-clause-sends
-returns-clause-sends c = no_send_to_older
-
-pub returns-clause-apart : goal.returns-clause-apart
-returns-clause-apart c = labels_are_apart

@@ -1,5 +1,0 @@
-use Rattle.system_model.proofs.WrongLemmas.{wrong_turns as the_law}
-use Rattle.system_model.proofs.laws.wrong_turns_are_refused.Goals as goal
-
-pub returns : goal.returns
-returns c = the_law

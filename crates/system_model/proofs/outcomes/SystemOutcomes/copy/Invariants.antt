@@ -1,5 +1,0 @@
-use Rattle.std.proofs.Common.{◌≡◌, take}
-use Rattle.system_model.proofs.outcomes.SystemOutcomes.copy.Given as goal
-
-abbrev pub invariant-loop-outcome : goal.invariant-loop-outcome
-invariant-loop-outcome l = l.outcomes.items ≡ take l.outcome-index l.outcome-items

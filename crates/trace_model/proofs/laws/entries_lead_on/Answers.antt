@@ -1,5 +1,0 @@
-use Rattle.trace_model.proofs.EntryLemmas.{entries_lead}
-use Rattle.trace_model.proofs.laws.entries_lead_on.Goals as goal
-
-pub returns : goal.returns
-returns c = entries_lead

@@ -1,5 +1,0 @@
-use Rattle.trace_model.proofs.TellLemmas.{first_lines_tell, offer_lines_tell}
-use Rattle.trace_model.proofs.laws.first_lines_tell.Goals as goal
-
-pub returns : goal.returns
-returns c = record { merge = first_lines_tell; offer = offer_lines_tell }

@@ -1,5 +1,0 @@
-use Rattle.trace_model.proofs.WalkLemmas.{header_behind, bad_header}
-use Rattle.trace_model.proofs.laws.headers_are_judged.Goals as goal
-
-pub returns : goal.returns
-returns c = record { begin = header_behind; wrong = bad_header }

@@ -1,5 +1,0 @@
-use Rattle.trace_model.proofs.OneReplyLemmas.{reply_is_one}
-use Rattle.trace_model.proofs.laws.replies_are_one.Goals as goal
-
-pub returns : goal.returns
-returns c = reply_is_one

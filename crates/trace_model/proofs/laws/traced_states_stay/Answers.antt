@@ -1,5 +1,0 @@
-use Rattle.trace_model.proofs.TracedLemmas.{traced_stays}
-use Rattle.trace_model.proofs.laws.traced_states_stay.Goals as goal
-
-pub returns : goal.returns
-returns c = traced_stays
