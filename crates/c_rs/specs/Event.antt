@@ -15,6 +15,7 @@ use Rattle.c_rs.specs.Serving.{SessionDoes, ServesBy}
 abbrev pub event_of_label : ℕ → List ℕ → Event
 event_of_label kind label = cond (kind == 0) (Up label) (cond (kind == 1) (Stop label) (cond (kind == 2) (Refresh label) (Restart label)))
 
+-- The event of a struct whose kind is 0 to 3, if its label is a name.
 unfoldable pub of_label : RsEvent → Option Event
 of_label e = option_map (event_of_label e.kind) (name_at e.label e.label_length)
 
@@ -22,6 +23,7 @@ of_label e = option_map (event_of_label e.kind) (name_at e.label e.label_length)
 abbrev pub of_endpoint : ℕ → ℕ → EndpointRecord → Event
 of_endpoint kind cause instance = cond (kind == 4) (Death instance cause) (Beat instance)
 
+-- The event of a struct whose kind is 4 or 5, if its endpoint is in range.
 unfoldable pub of_instance : RsEvent → Option Event
 of_instance e = option_map (of_endpoint e.kind e.cause) (endpoint_at e.generation e.slot)
 

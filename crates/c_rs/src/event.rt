@@ -75,7 +75,7 @@ fn event_of(event: &RsEvent) -> Option<Event>
     }
 }
 
-// Returns the event of a kind and a label.
+// Returns the event of a kind, 0 to 3, and a label; `None` if the label isn't a name.
 #[tactic(auto, unfolding(crate::specs::Event::of_label))]
 fn of_label(event: &RsEvent) -> Option<Event>
     ensures { result ≡ of_label event.now }
@@ -89,7 +89,7 @@ fn of_label(event: &RsEvent) -> Option<Event>
     }
 }
 
-// Returns the event of a kind and an instance.
+// Returns the event of a kind, 4 or 5, and an instance; `None` if its endpoint is out of range.
 #[tactic(auto, unfolding(crate::specs::Event::of_instance))]
 fn of_instance(event: &RsEvent) -> Option<Event>
     ensures { result ≡ of_instance event.now }

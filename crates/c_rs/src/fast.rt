@@ -55,7 +55,8 @@ impl RsSession {
     }
 }
 
-// Reports a heartbeat at a tick to RS, and returns the reply.
+// Reports a heartbeat at a tick to RS, and returns the reply: OldEndpoint before RS has begun. By the law of `steps_say` it has no
+// actions, so the store isn't called.
 #[inline(always)]
 fn beat(alloc: Global, services: &mut Option<Rs>, instance: Endpoint, tick: u64) -> RsReply
     ensures { (store : ContentRecord) → EventTurn (Beat instance) tick services.old store result services.new store }

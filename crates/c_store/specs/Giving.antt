@@ -5,10 +5,11 @@ use Rattle.driver_tables.specs.declared.moves.Move.{Move}
 use Rattle.driver_tables.specs.declared.moves.Move.TheVariants.{Start, Send, Answer, Held}
 use Rattle.c_store.specs.declared.giving.TableMove.{TableMove}
 
--- The move of a kind, with zeros for the rest.
+-- The move of a kind for a request, with zeros for the rest.
 abbrev pub blank_move : ℕ → ℕ → TableMove
 blank_move kind id = record { id = id; kind = kind; generation = 0; slot = 0; unit = 0 }
 
+-- A move, as C has it.
 abbrev pub told_move : Move → TableMove
 told_move (Start unit e) = record (blank_move 0 0) { generation = e.generation; slot = e.slot; unit = unit }
 told_move (Send id e) = record (blank_move 1 id) { generation = e.generation; slot = e.slot }

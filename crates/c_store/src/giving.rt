@@ -92,7 +92,7 @@ fn told_move(step: &Move) -> TableMove
     }
 }
 
-// A move of a kind to an endpoint.
+// Returns a move of a kind to an endpoint, for a request; a start is for request 0.
 fn sent_to(kind: u32, id: u64, endpoint: Endpoint) -> TableMove
     ensures { result ≡ record (blank_move kind id) { generation = endpoint.generation; slot = endpoint.slot } }
 {
@@ -103,7 +103,7 @@ fn sent_to(kind: u32, id: u64, endpoint: Endpoint) -> TableMove
     }
 }
 
-// A move of a kind, and zeros.
+// Returns a move of a kind for a request, with zeros for the rest.
 fn blank(kind: u32, id: u64) -> TableMove
     ensures { result ≡ blank_move kind id }
 {

@@ -97,6 +97,7 @@ fn found(value: &Value) -> Answer
     }
 }
 
+// Returns the answer with items, and the stamps before and after them.
 fn of_items(word: Word, before: u64, after: u64) -> Answer
     ensures { result ≡ told_of_items word before after }
 {
@@ -107,6 +108,7 @@ fn of_items(word: Word, before: u64, after: u64) -> Answer
     }
 }
 
+// Returns the answer with items and a cursor: `before` is its incarnation, and `after` its position.
 fn at_cursor(word: Word, cursor: Cursor) -> Answer
     ensures { result ≡ told_of_items word cursor.incarnation cursor.position }
 {

@@ -82,7 +82,7 @@ impl fmt::Display for TextKind {
     }
 }
 
-/// Whether a line is empty or a comment.
+/// Returns whether a line is blank or a comment. Spaces may come before its `#`.
 pub(crate) fn is_note(line: &[u8]) -> bool {
     matches!(line.trim_ascii().first().copied(), None | Some(b'#'))
 }

@@ -10,8 +10,9 @@ use std::rt::Runtime;
 use trace_check::{Stands, Wanted, WrongLine};
 use typed_words::Plain;
 
-/// Writes to standard error which line a trace was expected to have, and which it has; of a header, and of a line with
-/// the mark of an entry or of an item, which part is bad. `kind` is that of the whole text. A failed write is ignored.
+/// Writes to standard error which line a trace was expected to have, and which it has. For a header, and for a line with the expected
+/// mark of an entry or of an item, it writes which part is bad instead. `kind` is the kind of the whole text, if known; only the
+/// sentence about line 1 names it. A failed write is ignored.
 pub fn explain_trace(
     rt: &(impl Runtime + AllocGlobal),
     wrong: &WrongLine<'_>,
@@ -20,7 +21,7 @@ pub fn explain_trace(
     explain_wrong(rt, wrong, Formats::Both, kind);
 }
 
-/// Writes likewise what is wrong with a trace of these formats.
+/// Like `explain_trace`, for a trace whose header has one of these formats.
 pub(crate) fn explain_wrong(
     rt: &(impl Runtime + AllocGlobal),
     wrong: &WrongLine<'_>,
@@ -180,7 +181,7 @@ impl fmt::Display for StoodThere<'_> {
     }
 }
 
-// Splits a carriage return off a line, and returns the words for it.
+// Splits a carriage return off the end of a line without its newline. Returns the rest, and words for the carriage return, or "".
 fn without_return(line: &[u8]) -> (&[u8], &'static str) {
     match line.strip_suffix(b"\r") {
         Some(front) => (front, " and a carriage return"),

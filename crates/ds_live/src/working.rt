@@ -17,7 +17,7 @@ use std::sync::Wait;
 use std::thread::Threads;
 
 /// Runs all jobs, and returns them with the fault of the run, if any: that of the lowest worker that failed, else NoThread if a thread
-/// couldn't be made. Without a fault each worker took all of its turns.
+/// couldn't be made or a worker gave up. Without a fault each worker took all of its turns.
 pub(crate) fn work_all<'e, R: Threads + Wait + Sync, G: Gate + Sync>(
     rt: &'e R,
     given_up: &'e GivenUp,

@@ -28,7 +28,7 @@ impl<W: Sink, B: Report> Replay<'_, W, B> {
         self.take_read(reader, lines)
     }
 
-    // Reads once, and answers all whole lines; at the end, also the last line, and writes its answer.
+    // Like `take_turn`, without first writing the waiting answers. An interrupted read answers nothing, and there may be more to read.
     fn take_read<R: Source>(
         &mut self,
         reader: &mut R,

@@ -7,7 +7,7 @@ use std::io;
 use std::rt::Runtime;
 use typed_words::{Meant, Plain, Search};
 
-// The texts of the help before and after these rows.
+// The texts before the rows of each sort, which must be in the help exactly so, and the text after any of them.
 const LINES_BEGIN: &str = "Lines of a script:\n";
 
 const ANSWERS_BEGIN: &str = "Answers:\n";
@@ -83,6 +83,7 @@ fn print_word(
     Ok(lines || answers || parts || refusals || kinds)
 }
 
+// Each of these four returns the help's rows of a sort.
 fn lines() -> &'static str {
     between(LONG_ABOUT, LINES_BEGIN, PARAGRAPH_ENDS)
 }

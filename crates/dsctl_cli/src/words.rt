@@ -274,6 +274,7 @@ fn add_replay<'a>(alloc: Global, all: &mut Vec<Command<'a>>) -> Result<(), Alloc
     add_made(all, replay.args(options))
 }
 
+// Adds the options of `replay`. `--stop` and `--keep-going` exclude each other.
 fn add_flags<'a>(alloc: Global, options: &mut Vec<Arg<'a>>) -> Result<(), AllocError> {
     add(options, flag(alloc, KEEP_GOING, KEEP_GOING_ABOUT))?;
     let stop = flag(alloc, STOP, STOP_ABOUT);

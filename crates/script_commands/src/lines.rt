@@ -1,4 +1,7 @@
-//! Readers of the rest of a line, one for each command's word.
+//! Readers of the rest of a line, one for each command's word: `show_at` reads what follows `show`.
+//!
+//! Each reads the slots of its word, which specs/Table.antt lists, in order. It returns the command, or why the first bad slot can't be
+//! read. A fault depends on the order of the reads.
 
 #![tactic(auto, unfolding(crate::specs::Row::TakesRow))]
 

@@ -28,7 +28,8 @@ pub(crate) fn longest(line: &[u8]) -> usize
     LONGEST_LINE - mark_length(line)
 }
 
-/// Returns where the line after `before` others becomes too long.
+/// Returns where the line after `before` others, which `Lines::pull` found too long, becomes too long for a trace. If its newline was
+/// read, it is the current line; otherwise it is in the front.
 pub(crate) fn place_of_long(lines: &Lines, before: u64, wanted: Wanted) -> usize
     ensures { IsAtLimit result }
 {

@@ -49,7 +49,8 @@ pub(crate) fn wanted_line<R: Source>(
     }
 }
 
-/// Reads the next line, and returns whether there is one.
+/// Reads the next line, where one of this sort may follow, and returns whether there is one. A line above 4096 bytes is a fault of this
+/// sort; ReadFault and NoRoom are of any.
 pub(crate) fn next_line<R: Source>(
     lines: &mut Lines,
     reader: &mut R,
