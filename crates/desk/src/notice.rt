@@ -8,7 +8,7 @@ ghost use Rattle.desk.specs.Tally.{CanPost, Counts, Posts, RaisesMask, Tallies, 
 
 use desk_rule::{DeskSeat, DeskShared, Machine, post};
 
-/// Adds 1 to the row of each set bit of a server.
+/// Adds 1 to the row of each set bit of a server: bit b of server s has row `8 s + b`.
 pub(crate) fn tally(rows: &mut [u64; 128], server: u32, bits: u64)
     requires server { server < 16 }
     requires room { (b : ℕ) → b < 8 → row_at rows.old server b < 2 ^ 63 }
@@ -19,7 +19,8 @@ pub(crate) fn tally(rows: &mut [u64; 128], server: u32, bits: u64)
     }
 }
 
-/// Posts to each server the bits that the last call owes it. Returns the mask of the bits that weren't pending before.
+/// Posts to each server the bits that the last call owes it, and counts in `raises` those that weren't pending before. Returns the mask of
+/// these; server s has bits 8 s to 8 s + 7.
 pub(crate) fn post_owed<M: Machine>(
     shared: &DeskShared<M>,
     seat: &mut DeskSeat<M>,

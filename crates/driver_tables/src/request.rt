@@ -133,6 +133,8 @@ fn settled(
     settled_by(label, state, p, device)
 }
 
+// As `settled`, for the request's device: `None` if it has another label. A request to a block driver is sent again; any other is
+// answered Fault.
 fn settled_by(label: &Name, state: &Option<Endpoint>, p: &Pending, device: &Device) -> Option<Move>
     ensures { result ≡ settled_by label.now state.now p.now device.now }
 {

@@ -76,6 +76,7 @@ fn lacks_field(table: &Table) -> bool
     field(table, "label").is_none() || field(table, "class").is_none() || no_unit
 }
 
+// Returns the class that the field names; `None` if there is no such field, or it names none.
 fn class_field(table: &Table) -> Option<Class>
     ensures { result ≡ option_and_then class_in (get_member (codes "class") (table_view table.now)) }
 {

@@ -87,7 +87,8 @@ impl Rs {
         None
     }
 
-    // Returns what the event calls for, unless a fault applies to it.
+    // Returns what the event calls for, or `None` if that is nothing. Refuses it by the first fault of the one order. BadCause is looked
+    // for early, since only a death has a cause.
     pub(crate) fn judge(&self, event: &Event, tick: u64) -> Result<Option<Plan>, RsFault>
         ensures refused { IfErr result (λ fault. refusal self.now event.now tick ≡ Some fault) }
         ensures allowed { OnOk result (refusal self.now event.now tick ≡ None) }
