@@ -51,7 +51,7 @@ struct pollfd clients_watched(const struct clients *clients, const struct client
     return (struct pollfd){.fd = client->socket, .events = (short)((reads ? POLLIN : 0) | (writes ? POLLOUT : 0))};
 }
 
-/* Gives up a client's answers. The lines that it sent before are still read. */
+/* Drops a client's answers. The lines that it sent before are still carried out. */
 static void hang_up(struct client *client) {
     client->gone = true;
     text_free(&client->held);
@@ -68,7 +68,7 @@ void clients_read(struct client *client, short events) {
 
 /* ---- slow clients ---- */
 
-/* Whether a client left an answer unread for long, which is kept here or by the system. */
+/* Whether a client has left an answer unread for long, here or in the socket's buffer. */
 static bool is_slow(const struct client *client, uint64_t now) {
     int unread = 0;
     if (now < client->moved + CLIENT_SLOW) return false;
@@ -118,8 +118,8 @@ static void note_refused(struct clients *clients, const struct client *client) {
     clients->crowded |= clients->waiting >= clients->limits.all_output && backlog(client) < CLIENT_FEW;
 }
 
-/* Answers the lines of a client that have come. Where one is answered that a change is held, all these answers wait
- * for the stream; so a line whose answer may be long is answered by itself. */
+/* Answers the lines that a client has sent. If one says that a change is held, all these answers wait for the stream.
+ * So a line whose answer may be long is answered alone. */
 static bool answer_lines(struct clients *clients, struct client *client) {
     size_t done = 0, length, used;
     bool fine = true, holds = false, alone = false;
@@ -143,8 +143,8 @@ static bool answer_lines(struct clients *clients, struct client *client) {
     return fine;
 }
 
-/* Room for long answers goes to the client that was refused it first, and to the newest one, by turns: the one waits
- * for long after many that don't read, the other for ever after those that come later. */
+/* Room for long answers goes by turns to the client that was refused it first, and to the newest one. By the first rule
+ * alone a client waits long after many that don't read; by the second alone, for ever after those that come later. */
 void clients_answer(struct clients *clients) {
     size_t count = clients->count, first = clients->first;
     uint64_t end = clock_now() + CLIENTS_TURN;

@@ -20,8 +20,8 @@
 
 enum {
     RING = 4096,
-    LAST = 2 * SECOND, /* for what clients wait for at the end */
-    REST = 100,        /* before a client is taken in again, where none could be */
+    LAST = 2 * SECOND, /* for answers at the end */
+    REST = 100,        /* before clients are accepted again, after that failed */
     DESCRIPTORS = 32,  /* that aren't clients' */
     LARGE = 1 << 20    /* bytes of a large block of memory */
 };
@@ -40,8 +40,8 @@ struct program {
 
 /* ---- a turn ---- */
 
-/* Takes in the clients that wait, up to the limit. Where one can't be, as out of descriptors, the listener rests, since
- * poll would report it again and again. */
+/* Accepts waiting clients, up to the limit. If that fails, say for want of descriptors, the listener rests: poll would
+ * report it again and again. */
 static void admit(struct program *program) {
     struct pollfd waiting = {.fd = program->place.listener, .events = POLLIN};
     while (poll(&waiting, 1, 0) > 0) {
@@ -78,7 +78,7 @@ static const char *public_part(const char *url) {
     return at ? at + 1 : rest;
 }
 
-/* Says once what it waits for, where the socket isn't made at once. */
+/* Logs once what it waits for, if the socket isn't made soon. */
 static void tell_waiting(struct program *program, enum ds_fleet_word word) {
     bool is_soon = word == DS_FLEET_LATE && clock_now() < program->begun + SECOND;
     if (program->told_waiting || program->place.listener >= 0 || is_soon) return;
@@ -133,7 +133,7 @@ static int run(struct program *program) {
 
 /* ---- beginning and ending ---- */
 
-/* Makes large blocks go back to the system when they are freed. By itself glibc keeps them, once it has freed some. */
+/* Returns large blocks to the system when they are freed. By default glibc keeps them once it has freed some. */
 static void give_memory_back(void) {
 #ifdef M_MMAP_THRESHOLD
     mallopt(M_MMAP_THRESHOLD, LARGE);
@@ -141,7 +141,7 @@ static void give_memory_back(void) {
 #endif
 }
 
-/* Allows as many descriptors as there may be clients, if the system does. */
+/* Raises the limit of descriptors to what all clients need, as far as the system allows. */
 static void allow_descriptors(struct program *program) {
     struct rlimit limit;
     rlim_t wanted = program->clients.limits.clients + DESCRIPTORS;

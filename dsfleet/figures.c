@@ -36,14 +36,14 @@ static bool put_heads(struct text *to, const char *name, const char *help) {
     return text_print(to, "# HELP %s %s\n# TYPE %s %s\n", name, help, name, is_counter ? "counter" : "gauge");
 }
 
-/* The live entries, or -1 where memory runs out. */
+/* Returns the live entries, or -1 if memory runs out. */
 static double entries_of(struct ds_handle *store) {
     static const char show[] = "show";
     struct ds_answer answer;
     return ds_call_line(store, show, sizeof show - 1, &answer) || answer.word != DS_SHOWN ? -1 : (double)answer.count;
 }
 
-/* A number of at most 2^53 is printed as it is. */
+/* A double holds each number up to 2^53 exactly. */
 static bool put_metrics(const struct clients *clients, const struct ds_fleet_state *state, struct text *to) {
     bool in_step = state->word == DS_FLEET_INSTEP, connected = *state->server && (in_step || state->word == DS_FLEET_LATE);
     const struct { const char *name, *help; double value; } metrics[] = {

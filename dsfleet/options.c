@@ -80,7 +80,7 @@ static bool read_password(void *to, char *path) {
     return *password != '\0';
 }
 
-/* Takes the URL, and overwrites its password, so that others don't see it for longer than that. */
+/* Copies the URL, and overwrites the password among the words, where `ps` shows it. */
 static bool take_url(char *word, struct options *options) {
     char *front = strstr(word, "://"), *at = strrchr(word, '@');
     options->url = strdup(word);
@@ -93,7 +93,7 @@ static bool take_url(char *word, struct options *options) {
     return options->url;
 }
 
-/* Reads what goes by other words, and puts what depends on several options. */
+/* Reads the words that aren't options, and the environment, and sets what depends on several options. */
 static int finish_options(const struct usage *usage, int count, char **words, struct options *options) {
     int wanted = options->checks ? 1 : 2;
     if (count != wanted) return usage_refuse(usage, options->checks ? "an address of redis is wanted" : "a socket and an address of redis are wanted");

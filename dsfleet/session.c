@@ -27,7 +27,7 @@ static bool is_owned(const struct clients *clients, const struct client *but, lo
     return false;
 }
 
-/* A number that no client has, or -1. Those who name numbers begin below, so this one begins above. */
+/* Returns a number that no client has, or -1. Clients that choose numbers begin low, so this begins high. */
 static long free_sub(const struct clients *clients) {
     long sub = WIRE_SUBS - 1;
     while (sub >= 0 && is_owned(clients, NULL, sub)) sub--;

@@ -55,7 +55,7 @@ static void ask_to_write(struct ds_fleet *fleet, const struct text *held, bool c
     link_ask(teller, "EXEC");
 }
 
-/* Puts what the snapshot is to be into `held`, or nothing if it isn't to be written. */
+/* Puts the text of the snapshot into `held`, or nothing if none is to be written. */
 static enum ds_fleet_word prepare_snapshot(struct ds_fleet *fleet, struct text *held, bool *counts_anew) {
     struct redisReply **answers = fleet->server.teller.answers, *snapshot = answers[WATCHING_SNAPSHOT];
     const redisReply *error = error_of(answers, WATCHING_STREAM);
@@ -106,7 +106,7 @@ static enum ds_fleet_word snapshot_written(struct ds_fleet *fleet) {
     return DS_FLEET_INSTEP;
 }
 
-/* What was watched leads to the next round, which is sent at once. */
+/* After a watch the next round is asked at once. */
 static enum ds_fleet_word compacting_answered(struct ds_fleet *fleet) {
     return fleet->compacting.state == COMPACTING_WATCHES ? snapshot_watched(fleet) : snapshot_written(fleet);
 }

@@ -125,7 +125,7 @@ static void look_for_loss(struct ds_fleet *fleet, const struct stock *stock, boo
     if (!is_above(stock->newest, reading->last)) reading->read_up_to = stock->generated;
 }
 
-/* Whether an entry that was there a second ago hasn't come: the connection that waits for it may be dead, and nobody told us. */
+/* Whether an entry that was in the stream a second ago hasn't arrived: the listener's connection may be dead without an error. */
 static bool is_deaf(const struct ds_fleet *fleet) {
     if (fleet->reading.state != READING_END) return false;
     return is_above(fleet->comparing.stock.newest, fleet->reading.last) && clock_now() > fleet->server.listener.heard + PERIOD;

@@ -12,10 +12,10 @@
 #include <sys/socket.h>
 #include <unistd.h>
 
-/* A look-up, which the host and its thread share: the last of the two frees it. */
+/* A look-up that the host and its thread share. The last of the two frees it. */
 struct lookup {
     atomic_int holders;
-    atomic_bool is_answered; /* what follows is written before */
+    atomic_bool is_answered; /* the members below are written before it is set */
     int error;               /* of getaddrinfo */
     unsigned count;
     char address[HOST_ADDRESSES][HOST_TEXT];
@@ -56,7 +56,7 @@ static void *look_up(void *given) {
 
 /* ---- beside the loop ---- */
 
-/* A thread that takes no signal: they are the program's. */
+/* Starts a thread that takes no signals: they are the program's. */
 static bool start_thread(struct lookup *lookup) {
     pthread_t thread;
     pthread_attr_t detached;

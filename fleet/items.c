@@ -74,7 +74,7 @@ static int compare_hashes(const void *a, const void *b) {
     return (*one > *other) - (*one < *other);
 }
 
-/* Without memory nothing is noted, and everything goes there again. */
+/* If memory runs out, nothing is noted, and everything is sent again. */
 void items_note(struct items *items, const char *lines, size_t length) {
     while (items->notes && length) {
         size_t line = first_lines(lines, length, 1);
@@ -90,7 +90,7 @@ void items_forget_noted(struct items *items) {
     text_free(&items->noted);
 }
 
-/* Drops the lines of what is untold, from a place on, that the server has. */
+/* Drops from the untold, from this byte on, the lines that the server has. */
 static void drop_noted(struct items *items, size_t from) {
     struct text *untold = &items->untold, *noted = &items->noted;
     size_t kept = from, count = noted->length / sizeof(uint64_t);
@@ -131,7 +131,7 @@ enum ds_fleet_word items_gather(struct items *items) {
         struct ds_answer answer;
         enum ds_fleet_word word = ask_store(items, items->store, DS_SINCE, &answer);
         if (word != DS_FLEET_INSTEP) return word;
-        if (answer.word != DS_JOURNALED) return items_gather_all(items); /* further back than its ring, or another store by now */
+        if (answer.word != DS_JOURNALED) return items_gather_all(items); /* the position is older than its ring, or another store's */
         if ((word = keep_untold(items, &answer)) != DS_FLEET_INSTEP || answer.pieces < ITEMS_MOST) return word;
     }
 }
@@ -150,7 +150,7 @@ static bool is_news(struct items *items, const char *line, size_t length, uint32
     return true;
 }
 
-/* entry is NULL for what was logged before. */
+/* entry: NULL if the refusal was logged before. */
 static void log_refusal(struct items *items, const char *entry, const char *line, size_t length, uint32_t refusal) {
     if (!entry || !is_news(items, line, length, refusal)) return;
     size_t shown = length && line[length - 1] == '\n' ? length - 1 : length;
@@ -169,7 +169,7 @@ static uint64_t refused_now(const struct items *items) {
     return count;
 }
 
-/* Another item that no store here has a place for. */
+/* Counts an item that neither store here can hold. */
 static void lose_item(struct items *items) {
     if (items->lost++) return;
     items->lost_beside = refused_now(items);
@@ -186,7 +186,7 @@ void items_begin_anew(struct items *items, bool notes) {
     items->notes = notes;
 }
 
-/* Keeps a refused line in the second store, by which a newer one of the same key takes its place. */
+/* Keeps a refused line in the second store, where a newer one of the same key replaces it. */
 static enum ds_fleet_word set_aside(struct items *items, const char *entry, const char *line, size_t length, uint32_t refusal) {
     struct ds_request request = {.command = DS_MERGE, .text_length = length};
     struct ds_answer answer;
@@ -195,7 +195,7 @@ static enum ds_fleet_word set_aside(struct items *items, const char *entry, cons
     if (ds_call(&items->aside[items->here], &request, line, length, &answer)) return DS_FLEET_CLOSED;
     if (answer.refusal == DS_NOROOM) return DS_FLEET_NOROOM;
     log_refusal(items, entry, line, length, refusal);
-    if (answer.word == DS_STOPPED && answer.refusal == DS_FULL) lose_item(items); /* else it keeps another one of this version */
+    if (answer.word == DS_STOPPED && answer.refusal == DS_FULL) lose_item(items); /* otherwise it holds another item of this version */
     if (answer.word == DS_STOPPED || answer.taken) {
         items->refused[refusal <= DS_NOROOM ? refusal : 0]++;
         items->news = true;
@@ -203,13 +203,13 @@ static enum ds_fleet_word set_aside(struct items *items, const char *entry, cons
     return DS_FLEET_INSTEP;
 }
 
-/* What is lost isn't forgotten: nothing but the stream has it. */
+/* `lost` stays: only the stream has those items. */
 static void forget_refused(struct items *items) {
     memset(items->refused, 0, sizeof items->refused);
     items->news = false;
 }
 
-/* Merges what was set aside once more; the second store is filled anew by what is still refused. */
+/* Merges again what was set aside. A new second store takes what is still refused. */
 static enum ds_fleet_word offered_again(struct items *items, const struct text *lines) {
     items->here = !items->here;
     items->has_aside = false;
@@ -246,7 +246,7 @@ static void count_unread(struct items *items, const char *entry, const char *lin
     log_refusal(items, entry, line, length, 0);
 }
 
-/* Merges lines, and says how many bytes of them are done: up to a line that is refused, and with it. */
+/* Merges lines. `done`: the bytes that were carried out, up to and including a line that is refused. */
 static enum ds_fleet_word merge_lines(struct items *items, const char *entry, const char *lines, size_t length, bool is_one, size_t *done) {
     struct ds_request request = {.command = DS_MERGE, .text_length = length};
     struct ds_answer answer;
@@ -254,7 +254,7 @@ static enum ds_fleet_word merge_lines(struct items *items, const char *entry, co
     if (ds_call(items->store, &request, lines, length, &answer)) return DS_FLEET_CLOSED;
     if (answer.word == DS_REFUSED && answer.refusal == DS_NOROOM) return DS_FLEET_NOROOM;
     if (answer.word == DS_NOREQUEST || answer.word == DS_REFUSED) {
-        if (!is_one) return DS_FLEET_INSTEP; /* none is done, and they come one by one */
+        if (!is_one) return DS_FLEET_INSTEP; /* none was merged: they are tried one by one */
         *done = length;
         count_unread(items, entry, lines, length);
         return DS_FLEET_INSTEP;
@@ -270,8 +270,8 @@ static enum ds_fleet_word merge_lines(struct items *items, const char *entry, co
     return word;
 }
 
-/* Merges lines each of which has its newline. After one that ends a merge they come one by one, and then more and more again: those past
- * it are read anew, and many may be refused. */
+/* Merges lines, each with its newline. A refused line ends a merge, and the lines after it are parsed again. So the next merge has one line,
+ * and then twice as many each time: many lines in a row may be refused. */
 static enum ds_fleet_word take_ended(struct items *items, const char *entry, const char *lines, size_t length) {
     unsigned count = ITEMS_MOST;
     while (length) {

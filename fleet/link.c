@@ -12,7 +12,7 @@ static void keep_words(struct link *link, const char *words) {
     snprintf(link->said, sizeof link->said, "%s", words);
 }
 
-/* The name comes last: a server that doesn't let it be set, serves all the same. */
+/* The name comes last: a server that refuses it still serves. */
 static void greet(struct link *link, const struct link_call *call) {
     if (call->password && call->user) link_ask(link, "AUTH %s %s", call->user, call->password);
     else if (call->password) link_ask(link, "AUTH %s", call->password);
@@ -23,7 +23,7 @@ static void greet(struct link *link, const struct link_call *call) {
     link->asked = 0;
 }
 
-/* Lets no child have the descriptor; and lets the kernel notice a peer that is gone, also without a question. */
+/* Closes the descriptor in children. TCP keepalive notices a dead peer while no question is under way. */
 static void set_up(redisContext *redis, bool is_local) {
     int flags = fcntl(redis->fd, F_GETFD);
     if (flags >= 0) fcntl(redis->fd, F_SETFD, flags | FD_CLOEXEC);
@@ -58,7 +58,7 @@ void link_ask(struct link *link, const char *format, ...) {
     va_end(given);
 }
 
-/* Keeps an answer of the round; one to a greeting has to be good, but for that to the name. */
+/* Keeps an answer of the round. An error of a greeting ends the connection, except that of the name. */
 static bool keep_answer(struct link *link, redisReply *answer) {
     if (!link->greetings && link->came < link->asked) {
         link->answers[link->came++] = answer;
@@ -77,7 +77,7 @@ static bool keep_answer(struct link *link, redisReply *answer) {
     return good;
 }
 
-/* The connection failed: its own words say why. */
+/* Keeps hiredis' words on why the connection failed. */
 static bool connection_failed(struct link *link) {
     keep_words(link, link->redis->errstr);
     return false;
@@ -93,13 +93,13 @@ static bool write_some(struct link *link, uint64_t now) {
     return true;
 }
 
-/* Reads what has come, up to a megabyte, unless it is known that nothing has. */
+/* Reads what has arrived, up to a megabyte. A quiet link has nothing to read. */
 static bool read_bytes(struct link *link, uint64_t now) {
     redisReader *reader = link->redis->reader;
     for (int times = 0; times < MOST_READS && !link->quiet; times++) {
         size_t before = reader->len;
         if (redisBufferRead(link->redis) != REDIS_OK) return connection_failed(link);
-        link->quiet = reader->len < before + REDIS_READER_MAX_BUF; /* it reads so much at a time */
+        link->quiet = reader->len < before + REDIS_READER_MAX_BUF; /* what hiredis reads at a time */
         if (reader->len > before) link->heard = now;
     }
     return true;
@@ -115,7 +115,7 @@ static bool read_some(struct link *link, uint64_t now) {
     }
 }
 
-/* Whether answers are missing for longer than any may take. */
+/* Whether answers have been missing for longer than the server may take. */
 static bool is_silent(struct link *link, uint64_t now) {
     if (now <= link->heard + link->blocks + LINK_SILENCE) return false;
     keep_words(link, "the server answers nothing");

@@ -32,10 +32,10 @@ struct link {
     unsigned asked, came, greetings;       /* greetings: how many answers come before this round's */
     bool names;                            /* the last greeting is the connection's name */
     bool writes;                           /* not all that was asked could be written yet */
-    bool quiet;                            /* all that had come is read; who hears that more came clears it */
-    uint64_t heard;                        /* when bytes last went or came, or nothing was asked, in milliseconds */
-    uint32_t watched;                      /* for what a poller watches it; 0: it doesn't yet */
-    unsigned blocks;                       /* for how many of them this round may wait at the server before it is answered */
+    bool quiet;                            /* everything that arrived is read; the bell clears it when more arrives */
+    uint64_t heard;                        /* when bytes were last sent or received, or nothing was asked, in milliseconds */
+    uint32_t watched;                      /* the events that the bell watches it for; 0: none yet */
+    unsigned blocks;                       /* milliseconds for which the server may hold this round back before it answers */
     char said[LINK_WORDS];                 /* why the connection went, or the error of a greeting */
 };
 
@@ -46,15 +46,15 @@ enum link_state {
     LINK_LOST      /* the connection is gone, or there was none; link->said says why */
 };
 
-/* Begins to connect, and asks what a server needs to let the caller in. It waits for nothing. */
+/* Begins to connect, and sends the greetings: AUTH, SELECT, CLIENT SETNAME. Doesn't wait. */
 bool link_open(struct link *link, const struct link_call *call, uint64_t now);
-/* Asks one question of a round, in the format of redisAppendCommand. What is given is copied. */
+/* Asks one question of a round, in the format of redisAppendCommand. Arguments are copied. */
 void link_ask(struct link *link, const char *format, ...);
-/* Writes and reads what can be without waiting. */
+/* Writes and reads as much as it can without waiting. */
 enum link_state link_turn(struct link *link, uint64_t now);
 /* Ends a round: its answers are freed. */
 void link_done(struct link *link);
-/* Ends the connection. What it said last stays. */
+/* Ends the connection. `said` stays. */
 void link_close(struct link *link);
 /* Its descriptor, or -1. */
 int link_descriptor(const struct link *link);

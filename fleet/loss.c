@@ -15,7 +15,7 @@ struct stock look_answered(struct redisReply **looked) {
     stock.bytes = count_of(looked[LOOK_BYTES]);
     stock.added = count_of(field_of(stream, "entries-added"));
     stock.gone = stock.added - count_of(field_of(stream, "length")) - count_of(fields[LOOK_TRIMMED]);
-    if (is_above(stock.snapshot, stock.generated)) { /* of no entry that there ever was */
+    if (is_above(stock.snapshot, stock.generated)) { /* an entry that never existed */
         stock.snapshot = NO_ENTRY;
         stock.bytes = 0;
     }

@@ -21,9 +21,9 @@ struct stock {
 
 /* Asks the questions of a look, after a MULTI. */
 void look_ask(struct link *link, const char *stream);
-/* Reads what the transaction answered to them; to LOOK_SNAPSHOT a list of LOOK_FIELDS. Another answer of another kind counts as none. */
+/* Reads what the transaction answered to them; to LOOK_SNAPSHOT a list of LOOK_FIELDS. An answer of another kind counts as none. */
 struct stock look_answered(struct redisReply **looked);
-/* Whether a server has less than before: the snapshot is older or smaller, entries went and not into it, or fewer were ever added. */
+/* Whether a server has less than before: the snapshot is older or smaller, entries left the stream and aren't in it, or fewer were ever added. */
 bool has_lost(const struct stock *before, const struct stock *now);
 
 /* Entries of one origin, as those that a bridge told. While the stream is the same one, each of them is in it, or in the snapshot. A

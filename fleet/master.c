@@ -53,7 +53,7 @@ static bool decode_percents(char *text) {
     return true;
 }
 
-/* Reads a number of at most this, or -1. */
+/* Returns the number that is all of the text, or -1 if it isn't one or is above `most`. */
 static int read_number(const char *text, int most) {
     unsigned long long number;
     size_t digits = read_digits(text, strlen(text), (unsigned long long)most, &number);
@@ -68,7 +68,7 @@ static char *cut_at_slash(char *text) {
     return slash + 1;
 }
 
-/* Cuts off what is before the last `@`, and returns what is after it. NULL: it can't be read. */
+/* Takes the user and the password off the front. Returns what is after the last `@`, or NULL if they can't be read. */
 static char *read_user(struct master *master, char *text) {
     char *at = *text == '/' ? NULL : strrchr(text, '@');
     if (!at) return text;
@@ -172,7 +172,7 @@ static enum host_found find_address(struct master *master, struct address *addre
 
 static void name_master(struct master *master, const char *host, int port) {
     struct address *named = &master->named;
-    if (strncmp(named->host.name, host, HOST_NAME - 1)) { /* else its last address is kept */
+    if (strncmp(named->host.name, host, HOST_NAME - 1)) { /* the same host keeps its last address */
         host_close(&named->host);
         host_open(&named->host, host, master->bell);
     }

@@ -7,8 +7,8 @@
 #include <string.h>
 
 enum {
-    DIFFERS = 2,    /* comparings that two differ in before it counts: one of them may have taken in what it refused a moment earlier */
-    DEAD = 2,       /* comparings with no word of another before it counts no more, */
+    DIFFERS = 2,    /* comparings in which two differ before it counts: one may just have taken what it refused before */
+    DEAD = 2,       /* comparings without news of a peer before it no longer counts, */
     BURIED = 60,    /* and before its digest is deleted */
     HEX_DIGITS = 16 /* of a digest */
 };
@@ -53,7 +53,7 @@ static struct peer *peer_of(struct peers *peers, const char *id) {
     return peer;
 }
 
-/* Compares a digest with the own one of the same entry; where there is none, what was found last stays. */
+/* Compares a peer's digest with the own one of the same entry. If there is none, the last result stays. */
 static void judge_digest(const struct peers *peers, struct peer *peer, const struct digest *theirs) {
     unsigned long kept = peers->own_count < OWN_DIGESTS ? peers->own_count : OWN_DIGESTS;
     for (unsigned long i = 0; i < kept; i++) {
@@ -78,7 +78,7 @@ static void compare_digest(struct peers *peers, const char *me, const char *id, 
     if (!peer->differs && strcmp(id, me) < 0) peers->is_first = false;
 }
 
-/* Forgets those whose digests are there no longer. */
+/* Forgets peers whose digests are gone. */
 static void forget_gone(struct peers *peers) {
     size_t kept = 0;
     for (size_t i = 0; i < peers->count; i++) {

@@ -1,7 +1,7 @@
 /* The other bridges of a stream, compared by digests of what they hold. Used within the library.
  *
- * Two digests say something only where both were taken when the same entries were read, and nothing else was held: so each digest goes
- * with the entry at which it was taken, and a bridge keeps some of its own for those that others took a little earlier. */
+ * Two digests can be compared only if both were taken after the same entries were read, with nothing else held. So each digest names the
+ * entry at which it was taken, and a bridge keeps some of its own for peers that took theirs a little earlier. */
 #ifndef DS_FLEET_PEERS_H
 #define DS_FLEET_PEERS_H
 
@@ -36,13 +36,13 @@ struct peers {
 
 /* Keeps a digest of one's own. */
 void peers_keep(struct peers *peers, struct digest digest);
-/* Writes the newest one as others read it. False: there is none. */
+/* Writes the newest own digest as others read it. Returns false if there is none. */
 bool peers_write(const struct peers *peers, unsigned long long beat, char text[DIGEST_TEXT]);
 /* Forgets the digests of one's own: their entries are of another stream. */
 void peers_forget_own(struct peers *peers);
-/* Reads the digests of all, a list of names and values, `me` being one's own name. */
+/* Reads the digests of all, a list of names and values. `me` is one's own name. */
 void peers_compare(struct peers *peers, const char *me, const redisReply *digests);
-/* The name of one that hasn't told a digest for a minute, so that its last one may be deleted; or NULL. */
+/* Returns the name of a peer that published no digest for a minute, whose last one may be deleted; or NULL. */
 const char *peers_gone(const struct peers *peers);
 
 #endif

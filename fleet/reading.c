@@ -27,7 +27,7 @@ enum { FETCHED_AT, FETCHED_ITEMS, FETCHED_FIELDS };
 enum { STREAM_NAME, STREAM_ENTRIES, STREAM_PARTS };
 enum { ENTRY_NAME, ENTRY_FIELDS, ENTRY_PARTS };
 
-/* The snapshot is asked for after the entries, so that none that it took the place of is missed. */
+/* The snapshot is asked for after the entries, so that no entry that it replaced meanwhile is missed. */
 void reading_ask(struct ds_fleet *fleet) {
     struct link *listener = &fleet->server.listener;
     char last[DS_FLEET_ID];

@@ -33,7 +33,7 @@ static void keep_said(struct ds_fleet *fleet, const char *words) {
     if (words != fleet->state.said) snprintf(fleet->state.said, sizeof fleet->state.said, "%s", words);
 }
 
-/* Twice as long as the pause before, and not at the same time as all others that lost the same server. */
+/* Doubles the pause. Jitter keeps bridges that lost the same server from calling it at once. */
 static void lengthen_pause(struct server *server) {
     uint64_t chance = 0;
     server->pause = server->pause ? 2 * server->pause : SOONEST;
@@ -42,7 +42,7 @@ static void lengthen_pause(struct server *server) {
     server->call_at = clock_now() + server->pause - chance % (server->pause / 2);
 }
 
-/* The same reason is logged again only once a server was of use. */
+/* The same reason is logged again only after a server was of use. */
 enum ds_fleet_word server_hang_up(struct ds_fleet *fleet, enum ds_fleet_word word, const char *why) {
     struct server *server = &fleet->server;
     if (!server->pause || strcmp(fleet->state.said, why)) {
@@ -72,8 +72,8 @@ enum ds_fleet_word server_puzzles(struct ds_fleet *fleet, const char *why) {
     return DS_FLEET_DENIED;
 }
 
-/* Whether an error says that this server can't be the right one now: a replica, one that isn't ready, or that became a replica while a
- * reading waited. Another one may have its name by now. */
+/* Whether an error says that this server isn't the master now: it is a replica, isn't ready, or became a replica while a reading waited.
+ * Another server may have its name by now. */
 static bool is_demoted(const redisReply *error) {
     static const char *const words[] = {"READONLY ", "LOADING ", "MASTERDOWN ", "UNBLOCKED "};
     for (size_t i = 0; i < sizeof words / sizeof *words; i++) {
@@ -146,8 +146,8 @@ bool server_changed_history(struct server *server, const redisReply *replication
     return is_another;
 }
 
-/* A server process that wasn't met, or that took over another one's history, may have lost its end: the bridge reads everything again, and
- * then tells what isn't there. Returns whether it is such a one. */
+/* Notes which server this is. A server that wasn't met before, or has another history, may lack the last entries: the bridge reads everything
+ * again, and then tells what isn't there. Returns whether it is such a server. */
 static bool note_server(struct ds_fleet *fleet, const redisReply *info) {
     struct server *server = &fleet->server;
     char run[DS_FLEET_ID];
@@ -180,7 +180,7 @@ static void log_meeting(struct ds_fleet *fleet, bool may_evict) {
     server->logs_meeting = false;
 }
 
-/* A replica takes no scope. If it has the right one, and no other server is known, it is met: a bridge sees what becomes of the stream. */
+/* A replica takes no scope. If it has the right one, and no other server is known, it is met all the same, and the bridge follows the stream. */
 static enum ds_fleet_word meeting_answered(struct ds_fleet *fleet) {
     struct server *server = &fleet->server;
     struct redisReply **answers = server->teller.answers, *info = answers[MEETING_INFO], *looked = answers[MEETING_EXEC];

@@ -1,4 +1,4 @@
-/* The time that no administrator sets. */
+/* The monotonic clock, which no administrator sets. */
 #ifndef SERVE_CLOCK_H
 #define SERVE_CLOCK_H
 

@@ -88,7 +88,7 @@ enum lines_word lines_answer(struct ds_handle *store, const char *line, size_t l
     return text ? lines_fetch(store, text) : LINES_ANSWERED;
 }
 
-/* What isn't listed here counts as long, whatever a store makes of it. */
+/* Any word that isn't listed counts as long. */
 bool lines_is_short(const char *line, size_t length) {
     static const char *const words[] = {"offer", "publish", "delete", "sweep", "retrieve", "nameof", "subscribe", NULL};
     const struct request it = request_of(line, length);

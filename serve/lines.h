@@ -26,8 +26,8 @@ bool read_endpoint(const char *bytes, size_t length, uint32_t *generation, uint1
  * refused for the same reason. */
 enum lines_word { LINES_ANSWERED, LINES_BAD, LINES_NOREQUEST, LINES_NOROOM };
 
-/* What else is known of a line that was answered: from which byte on a bad one can't be read; whether the answer says
- * that a change is held, which has to be in the stream first; and the bits of the subscriptions that are owed a notice. */
+/* More on a line that was answered. place: the byte at which a bad line can't be read. holds: the answer says that a
+ * change is held, so the stream has to have it first. owed: the bits of subscriptions that are owed a notice. */
 struct lines_said { uint64_t place; bool holds; uint8_t owed[16]; };
 
 /* Carries out the command of a line, given without its newline, and puts the lines of its answer after the text,

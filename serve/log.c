@@ -22,8 +22,8 @@ bool log_read_format(void *as_json, char *word) {
     return is_json || !strcmp(word, "text");
 }
 
-/* A pipe or a terminal is opened anew, not to wait: that standard error itself doesn't wait would be seen by all who
- * share it. A file is not, since it would have a place of its own to write at. */
+/* A pipe or a terminal is opened again, with O_NONBLOCK: set on standard error itself, the flag would affect all who
+ * share it. A file isn't, since it would have an offset of its own. */
 void log_open(struct log *log, bool as_json) {
     struct stat it;
     for (int standard = 0; standard <= STDERR_FILENO; standard++) {

@@ -10,7 +10,7 @@
 
 #define LOG_INFO "INFO"
 #define LOG_WARN "WARN"
-#define LOG_ERROR "ERROR" /* it ends by that */
+#define LOG_ERROR "ERROR" /* the program ends after it */
 
 enum {
     LOG_WORDS = 64,

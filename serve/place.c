@@ -24,7 +24,7 @@ static struct sockaddr_un address_of(const struct place *place) {
     return address;
 }
 
-/* Whether a process has the socket at the path: only a refused connection says that none has. */
+/* Whether a process serves the socket at the path. Only a refused connection means that none does. */
 static bool is_served(const struct place *place) {
     struct sockaddr_un address = address_of(place);
     int it = socket(AF_UNIX, SOCK_STREAM | SOCK_NONBLOCK | SOCK_CLOEXEC, 0);
@@ -55,7 +55,7 @@ static void name_lock(const struct place *place, char path[PLACE_PATH + 8]) {
     snprintf(path, PLACE_PATH + 8, "%s.lock", place->path);
 }
 
-/* Another one may remove the file between its opening and its locking: then it is made anew. */
+/* If another process removes the file between open and flock, it is made again. */
 static int open_lock(const char *path) {
     for (int tries = 0; tries < TRIES; tries++) {
         int lock = open(path, O_CREAT | O_RDWR | O_CLOEXEC | O_NOFOLLOW | O_NONBLOCK, 0600);
@@ -84,7 +84,7 @@ bool place_lock(struct place *place) {
     return true;
 }
 
-/* Nobody can connect before the socket listens, so not before it has its mode. */
+/* Called before listen(), so nobody connects before the socket has its mode. */
 static bool has_access(const struct place *place) {
     const struct place_access *access = &place->access;
     return !lchown(place->path, (uid_t)-1, access->group) && (!access->mode || !chmod(place->path, access->mode));
@@ -96,7 +96,7 @@ bool place_serve(struct place *place) {
     if (!place_lock(place)) return false;
     int listener = socket(AF_UNIX, SOCK_STREAM | SOCK_NONBLOCK | SOCK_CLOEXEC, 0);
     if (listener < 0) return place_failed(place, place->path, strerror(errno));
-    unlink(place->path); /* of one that ended without a word */
+    unlink(place->path); /* left by a process that was killed */
     bool is_bound = !bind(listener, (struct sockaddr *)&address, sizeof address);
     if (!is_bound || !has_access(place) || listen(listener, BACKLOG) || lstat(place->path, &it)) {
         const char *why = strerror(errno);
@@ -117,7 +117,7 @@ void place_keep(struct place *place) {
     name_lock(place, path);
     if (is_at(place->lock, path)) return;
     int lock = open_lock(path);
-    if (lock < 0) return; /* who has it finds that the socket is served */
+    if (lock < 0) return; /* its holder finds that the socket is served */
     close(place->lock);
     place->lock = lock;
 }

@@ -1,12 +1,11 @@
-/* What a program that serves begins with: signals from a descriptor, and a number for its run. */
+/* What a server sets up first: signals from a descriptor, and the number of its run. */
 #ifndef SERVE_SIGNALS_H
 #define SERVE_SIGNALS_H
 
 #include <stddef.h>
 #include <stdint.h>
 
-/* Lets these signals be read from a descriptor, which doesn't wait, and returns it; -1, with errno, if there is none. A write to an end that
- * hung up raises none. */
+/* Returns a descriptor from which these signals are read without waiting, or -1 with errno. Also ignores SIGPIPE. */
 int signals_open(const int signals[], size_t count);
 /* Returns another number in each run: nanoseconds of the calendar. It is a store's incarnation. */
 uint64_t run_number(void);

@@ -17,11 +17,11 @@ bool text_move(struct text *text, struct text *from);
 void text_drop(struct text *text, size_t length);
 void text_free(struct text *text);
 
-/* How many bytes the first lines have, as many as there are at most. */
+/* Returns the length of the first `lines` lines, or of all bytes if there are fewer lines. */
 size_t first_lines(const char *bytes, size_t length, unsigned lines);
 /* Whether bytes begin with a text. */
 bool text_begins(const char *bytes, size_t length, const char *front);
-/* Reads the decimal digits at the front. Returns how many there are, or 0: there are none, or the number is above `most`. */
+/* Reads the decimal digits at the front. Returns how many there are; 0 if there are none, or the number is above `most`. */
 size_t read_digits(const char *bytes, size_t length, unsigned long long most, unsigned long long *number);
 
 #endif

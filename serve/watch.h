@@ -11,7 +11,7 @@ struct watch { int file; uint32_t wanted, ready; };
 
 /* Watches a descriptor for events of epoll. Returns false, with errno, if the descriptor is negative or can't be watched. */
 bool watch_open(struct watch *watch, int epoll, int file, uint32_t wanted);
-/* Watches for other events; 0 for none at all, a hang-up included. */
+/* Watches for other events; 0 for none, not even a hang-up. */
 void watch_for(struct watch *watch, int epoll, uint32_t wanted);
 /* Stops watching, and closes the descriptor. An epoll would go on watching it as long as a child has a copy. */
 void watch_close(struct watch *watch, int epoll);

@@ -19,7 +19,7 @@ struct wire {
     uint64_t lines;               /* how many have come */
     struct text in, out;
     uint8_t owns[16];             /* the subscriptions that are its own as long as it is connected */
-    uint8_t listens[16], due[16]; /* those whose notices it wants, and those of them that it has to be sent */
+    uint8_t listens[16], due[16]; /* those whose notices it wants, and those of them whose notice is due */
 };
 
 /* Reads what has come. Returns false if memory runs out for it. */
@@ -29,7 +29,7 @@ bool wire_read(struct wire *wire, int socket);
 size_t wire_line(const struct wire *wire, size_t from, size_t *length);
 /* Whether a whole line has come. */
 bool wire_has_line(const struct wire *wire);
-/* Drops the lines that are done. Of one that is too long already no more is kept than tells that it was. */
+/* Drops the lines that are done. Of a line that is too long already, only that is kept. */
 void wire_drop_lines(struct wire *wire, size_t done);
 /* Owes it the notices of a mask to which it listens. Returns whether there are any. */
 bool wire_owe(struct wire *wire, const uint8_t owed[16]);

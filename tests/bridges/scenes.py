@@ -511,6 +511,22 @@ def ids_that_go_ahead(fleet, draw):
     assert bridge.state()["connections"] == "1", bridge.said()
 
 
+def the_last_id_there_is(fleet, draw):
+    """A stream that has used the last possible id denies each change. Once somebody deletes it, all is told again."""
+    bridge, last = fleet.start(), 2**64 - 1
+    lines = [number("a", 1, 1), number("b", 1, 1), number("c", 1, 1)]
+    offer(bridge, lines[0])
+    fleet.ask("XADD", "ds:items", f"{last}-{last}", "from", "x", "items", lines[1] + "\n")
+    shows(bridge, lines[:2])
+    with bridge.client() as client:
+        client.send(f"offer {lines[2]}")
+        assert not client.has_answer(0.5), "it was answered, and isn't in the stream"
+        until(lambda: bridge.state()["state"] == "denied" and "last possible ID" in bridge.state()["said"], "it is denied")
+        fleet.ask("DEL", "ds:items")
+        assert client.answer() == ["taken"]
+    until(lambda: set(fleet.told()) == {it.encode() for it in lines}, "all is told again", 10)
+
+
 def snapshots_of_all_kinds(fleet, draw):
     """A snapshot of the far future, one that is cut short, one without items, and none: nothing is lost, and bridges go on."""
     first, other = fleet.start(), fleet.start()
