@@ -333,12 +333,12 @@ def an_entry_that_is_deleted(fleet, draw):
 
 
 def everything_flushed(fleet, draw):
-    """Where everything is flushed while all rest, all is told again, and who comes later has it."""
+    """Where everything is flushed, or another database takes its place, while all rest, all is told again, and who comes later has it."""
     bridges = [fleet.start() for _ in range(2)]
     lines = numbers("a", 20)
     offer(bridges[0], *lines)
     shows(bridges[1], lines)
-    for meddling in (["FLUSHALL"], ["DEL", "ds:items"], ["XTRIM", "ds:items", "MAXLEN", 0]):
+    for meddling in (["FLUSHALL"], ["DEL", "ds:items"], ["XTRIM", "ds:items", "MAXLEN", 0], ["SWAPDB", 0, 1]):
         time.sleep(1.1)  # so that they have seen what is there
         fleet.ask(*meddling)
         until(lambda: set(fleet.told()) == {it.encode() for it in lines}, f"all is told again behind {meddling}", 5)
