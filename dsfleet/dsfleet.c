@@ -40,7 +40,7 @@ struct program {
 
 /* ---- a turn ---- */
 
-/* Accepts waiting clients, up to the limit. If that fails, say for want of descriptors, the listener rests: poll would
+/* Accepts waiting clients, up to the limit. If that fails, say since there are no descriptors left, the listener rests: poll would
  * report it again and again. */
 static void admit(struct program *program) {
     struct pollfd waiting = {.fd = program->place.listener, .events = POLLIN};

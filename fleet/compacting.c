@@ -106,7 +106,7 @@ static enum ds_fleet_word snapshot_written(struct ds_fleet *fleet) {
     return DS_FLEET_INSTEP;
 }
 
-/* After a watch the next round is asked at once. */
+/* After a watch the next round begins at once. */
 static enum ds_fleet_word compacting_answered(struct ds_fleet *fleet) {
     return fleet->compacting.state == COMPACTING_WATCHES ? snapshot_watched(fleet) : snapshot_written(fleet);
 }
