@@ -8,7 +8,7 @@ import os
 import unittest
 
 import support
-from pengtawis import RS, Endpoint, Items, Map, NoRoom, Store
+from pengtawis import RS, Endpoint, Items, Map, NoRoom, NotFound, Offer, Rs, Store
 
 LIBRARY = os.environ.get("PENGTAWIS_REFUSING")
 ETH = Endpoint(3, 16)
@@ -137,3 +137,26 @@ class Growth(unittest.TestCase):
                 store.subscribe(40, ".*", initial=False, overwrite=True)
                 self.assertEqual(list(store.check(40)), [])
         self.assertGreater(refused, 4)
+
+    def test_what_the_store_refuses_rs(self):
+        """RS doesn't repeat an offer or a sweep that was refused memory. Its line, as an offer, makes it."""
+        memory, refused = Memory(), {"put": 0, "event": 0}
+        for left in range(40):
+            with Rs('service = [{label = "eth0", class = "server", limit = 1}]', library=LIBRARY) as rs:
+                memory.once.value, memory.left.value = 1, left
+                try:
+                    acted = rs.up("eth0", tick=0)
+                except NoRoom:
+                    refused["event"] += 1
+                    memory.left.value = -1
+                    acted = rs.up("eth0", tick=0)
+                memory.left.value = -1
+                offer = next(it for it in acted.actions if isinstance(it, Offer))
+                if isinstance(offer.refused, NoRoom):
+                    refused["put"] += 1
+                    self.assertIsNone(rs.due)
+                    self.assertEqual(rs.tick(1).actions, [])
+                    self.assertRaises(NotFound, rs.retrieve, "eth0", Endpoint)
+                    self.assertEqual(rs.line("offer eth0 label rs 1.0 = 1/16"), "taken\n")
+                self.assertEqual(rs.retrieve("eth0", Endpoint), Endpoint(1, 16))
+        self.assertEqual([it > 0 for it in refused.values()], [True, True])
