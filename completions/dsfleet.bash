@@ -6,8 +6,8 @@ _dsfleet() {
         --log-format) mapfile -t COMPREPLY < <(compgen -W "text json" -- "$current") ;;
         --stream | --scope | --keep | --replicas | --within | --mode | --maxclients | --timeout | --client-output-buffer-limit | --maxmemory-clients) ;;
         *)
-            if [[ $before != --password-file && $current == -* ]]; then
-                mapfile -t COMPREPLY < <(compgen -W "--check --password-file --stream --scope --keep --replicas --within --mode --group --readers --maxclients --timeout --client-output-buffer-limit --maxmemory-clients --log-format --version --help" -- "$current")
+            if [[ $before != --@(password-file|cacert|cert|key) && $current == -* ]]; then
+                mapfile -t COMPREPLY < <(compgen -W "--check --cacert --cert --key --password-file --stream --scope --keep --replicas --within --mode --group --readers --maxclients --timeout --client-output-buffer-limit --maxmemory-clients --log-format --version --help" -- "$current")
             else
                 mapfile -t COMPREPLY < <(compgen -f -- "$current")
             fi

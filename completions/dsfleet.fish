@@ -1,5 +1,8 @@
 # Completions of dsfleet for fish.
 complete -c dsfleet -l check -d 'says whether a server will do'
+complete -c dsfleet -l cacert -d 'with TLS, the file of the CAs that certify the server' -r
+complete -c dsfleet -l cert -d 'with TLS, the file of the certificate that is shown' -r
+complete -c dsfleet -l key -d 'with TLS, the file of its key' -r
 complete -c dsfleet -l password-file -d 'the file with the password' -r
 complete -c dsfleet -l stream -d 'the front of the keys in redis' -x
 complete -c dsfleet -l scope -d 'what is shared' -x

@@ -97,10 +97,10 @@ static bool check_master(struct master *master, const char *stream) {
 
 bool check_server(const struct ds_fleet_options *options) {
     struct master master = {.bell = -1};
-    enum ds_fleet_word word = master_open(&master, options->url, options->password);
+    enum ds_fleet_word word = master_open(&master, options);
     bool is_good = word == DS_FLEET_INSTEP;
     if (is_good) is_good = check_master(&master, options->stream ? options->stream : "ds");
-    else report(false, fault, "address", options_explained(word));
+    else report(false, fault, "address", word == DS_FLEET_BADTLS ? master.said : options_explained(word));
     master_close(&master);
     return is_good;
 }

@@ -18,6 +18,9 @@ static const char help[] =
     "                    redis-sentinel://[[USER]:PASSWORD@]HOST[:PORT][,..]/NAME[/DATABASE]: Sentinels, asked for the master NAME;\n"
     "                    or unix://[[USER]:PASSWORD@]/PATH. `-` takes it from the environment, DSFLEET_URL\n"
     "  --check           says whether the server and its rights will do, and ends\n"
+    "                    rediss:// and rediss-sentinel:// are the same with TLS\n"
+    "  --cacert F        with TLS, the PEM file of the CAs that certify the server; else the system's\n"
+    "  --cert F, --key F with TLS, the PEM files of the certificate that is shown to the server\n"
     "  --password-file F the password is the first line of F; else that of DSFLEET_PASSWORD in the environment; else the URL's\n"
     "  --stream NAME     the front of the names of the keys in redis: ds\n"
     "  --scope 'P K'     shares what the pattern P matches whole, of the kinds K, 1 to 15; else everything\n"
@@ -118,6 +121,7 @@ int options_read(int count, char **words, struct options *it) {
     const struct option_row rows[] = {
         {"check", .flag = &it->checks}, {"stream", .text = &it->fleet.stream},
         {"password-file", .read = read_password, .context = &it->fleet.password, .fault = "the password file can't be read, or its first line is empty"},
+        {"cacert", .text = &it->fleet.ca}, {"cert", .text = &it->fleet.certificate}, {"key", .text = &it->fleet.key},
         {"scope", .read = read_scope, .context = &it->fleet, .fault = "a scope is a pattern, a space, and kinds from 1 to 15"},
         {"log-format", .read = log_read_format, .context = &it->logs_json, .fault = "a log's format is text or json"},
         {"mode", .read = read_mode, .context = &it->access.mode, .fault = "a mode is octal, 1 to 777"},
@@ -145,9 +149,12 @@ int options_read(int count, char **words, struct options *it) {
 const char *options_explained(enum ds_fleet_word word) {
     switch (word) {
     case DS_FLEET_BADURL:
-        return "an address is redis://[[USER]:PASSWORD@]HOST[:PORT][,..][/DATABASE], redis-sentinel://.../NAME or unix://[[USER]:PASSWORD@]/PATH";
+        return "an address is redis://[[USER]:PASSWORD@]HOST[:PORT][,..][/DATABASE], redis-sentinel://.../NAME or unix://[[USER]:PASSWORD@]/PATH; "
+               "rediss:// with TLS, which files of certificates are for";
     case DS_FLEET_NOTLS:
-        return "TLS isn't spoken: let a tunnel on this host speak it, such as stunnel, and give its socket, as unix:///run/dsfleet/redis";
+        return "built without OpenSSL: let a tunnel on this host speak TLS, such as stunnel, and give its socket, as unix:///run/dsfleet/redis";
+    case DS_FLEET_BADTLS:
+        return "a file of --cacert, --cert or --key can't be used";
     case DS_FLEET_BADNAME:
         return "the name of a stream is 1 to 128 printable characters of ASCII and no space; on a cluster it has a part in braces, as {ds}";
     case DS_FLEET_BADSCOPE:

@@ -53,7 +53,7 @@ void bridge_begin_anew(struct ds_fleet *fleet, const struct stock *stock) {
 /* Ends the teller's round. Compacting may have asked the next one already, and a connection that went has none. */
 static enum ds_fleet_word end_round(struct ds_fleet *fleet) {
     enum ds_fleet_word word = fleet->server.round->answered(fleet);
-    if (fleet->compacting.state == COMPACTING_WRITES || !fleet->server.teller.redis) return word;
+    if (fleet->compacting.state == COMPACTING_WRITES || !link_is_open(&fleet->server.teller)) return word;
     link_done(&fleet->server.teller);
     fleet->server.round = NULL;
     return word;
@@ -137,10 +137,10 @@ static enum ds_fleet_word turn_both(struct ds_fleet *fleet) {
 
 /* Lets the bell watch a connection, for writing if something couldn't be written yet. */
 static void watch_link(struct ds_fleet *fleet, struct link *link) {
-    uint32_t wanted = EPOLLIN | (link->writes ? (uint32_t)EPOLLOUT : 0);
+    uint32_t wanted = EPOLLIN | (link_waits_to_write(link) ? (uint32_t)EPOLLOUT : 0);
     struct epoll_event event = {.events = wanted, .data = {.ptr = link}};
-    if (!link->redis || link->watched == wanted) return;
-    epoll_ctl(fleet->bell, link->watched ? EPOLL_CTL_MOD : EPOLL_CTL_ADD, link_descriptor(link), &event);
+    if (!link_is_open(link) || link->watched == wanted) return;
+    epoll_ctl(fleet->bell, link->watched ? EPOLL_CTL_MOD : EPOLL_CTL_ADD, link->socket, &event);
     link->watched = wanted;
 }
 
@@ -266,6 +266,8 @@ static enum ds_fleet_word read_scope(struct ds_fleet *fleet, const char *pattern
 
 static enum ds_fleet_word read_options(struct ds_fleet *fleet, const struct ds_fleet_options *options) {
     const char *stream = options->stream ? options->stream : "ds";
+    fleet->items.tell = options->tell;
+    fleet->items.context = options->context;
     enum ds_fleet_word word = server_open(fleet, options);
     if (word != DS_FLEET_INSTEP) return word;
     if (!good_name(stream)) return DS_FLEET_BADNAME;
@@ -273,8 +275,6 @@ static enum ds_fleet_word read_options(struct ds_fleet *fleet, const struct ds_f
     fleet->compacting.keep = options->keep > 0 ? options->keep : DS_FLEET_KEEP;
     fleet->telling.replicas = options->replicas;
     fleet->telling.within = options->within > 0 ? options->within : DS_FLEET_WITHIN;
-    fleet->items.tell = options->tell;
-    fleet->items.context = options->context;
     return fleet->stream ? read_scope(fleet, options->pattern, options->kinds) : DS_FLEET_NOROOM;
 }
 
@@ -336,7 +336,7 @@ void ds_fleet_close(struct ds_fleet *fleet) {
 
 const char *ds_fleet_word(enum ds_fleet_word word) {
     static const char *const words[] = {"instep", "late",  "away",    "denied",   "noroom", "closed",
-                                        "badurl", "notls", "badname", "badscope", "system"};
+                                        "badurl", "notls", "badname", "badscope", "system", "badtls"};
     return words[word];
 }
 

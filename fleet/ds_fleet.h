@@ -35,7 +35,8 @@ enum ds_fleet_word {
                           keys are on one node; the step tells nothing, and a later one looks again */
     DS_FLEET_BADSCOPE, /* of ds_fleet_open: the scope can't be read. Of a step: the stream has another scope; the step tells nothing, and a
                           later one looks again */
-    DS_FLEET_SYSTEM    /* of ds_fleet_open alone; errno says why */
+    DS_FLEET_SYSTEM,   /* of ds_fleet_open alone; errno says why */
+    DS_FLEET_BADTLS    /* of ds_fleet_open alone: the files of certificates can't be used; `tell` got the reason */
 };
 
 enum { DS_FLEET_KEEP = 1000, DS_FLEET_WITHIN = 1000, DS_FLEET_ID = 48, DS_FLEET_SAID = 256 /* bytes of a text, with its zero */ };
@@ -46,7 +47,8 @@ typedef void ds_fleet_tell(void *context, const char *line);
 struct ds_fleet_options {
     const char *url;      /* redis://[[USER]:PASSWORD@]HOST[:PORT][,HOST[:PORT]..][/DATABASE]: servers, tried in order;
                              redis-sentinel://[[USER]:PASSWORD@]HOST[:PORT][,..]/NAME[/DATABASE]: Sentinels, asked for the master NAME;
-                             or unix://[[USER]:PASSWORD@]/PATH. Up to 8 hosts */
+                             or unix://[[USER]:PASSWORD@]/PATH. Up to 8 hosts. With rediss:// and rediss-sentinel:// TLS is spoken, if the
+                             library was built with -DDS_FLEET_TLS and is linked with OpenSSL */
     const char *stream;   /* the beginning of the names of its three keys, 1 to 128 bytes; NULL: "ds" */
     const char *pattern;  /* with kinds, the scope: the names that it matches whole. All on one stream need the same scope: else badscope */
     uint8_t kinds;        /* a sum of enum ds_kinds; 0: the scope is everything, and pattern may be anything */
@@ -57,12 +59,14 @@ struct ds_fleet_options {
     const char *password; /* instead of the URL's; NULL: the URL's. Less than 256 bytes */
     int replicas;         /* how many replicas have to have a change before it counts as told; 0: none */
     int within;           /* milliseconds that one round waits for them; 0: DS_FLEET_WITHIN */
+    const char *ca;       /* with TLS, PEM files, which are read at each connection: of the CAs that certify servers; NULL: the system's CAs */
+    const char *certificate, *key; /* those that are shown to the server; NULL: none */
 };
 
 /* Joins the store of the handle to a stream, without waiting: the first step connects to the server, and the first steps tell what the
  * store holds already.
- * Returns DS_FLEET_INSTEP; then close *fleet by ds_fleet_close. Else *fleet is NULL, and the word says why: CLOSED, BADURL, NOTLS, BADNAME,
- * BADSCOPE, NOROOM or SYSTEM. */
+ * Returns DS_FLEET_INSTEP; then close *fleet by ds_fleet_close. Else *fleet is NULL, and the word says why: CLOSED, BADURL, NOTLS, BADTLS,
+ * BADNAME, BADSCOPE, NOROOM or SYSTEM. */
 enum ds_fleet_word ds_fleet_open(struct ds_fleet **fleet, struct ds_handle *store, const struct ds_fleet_options *options);
 
 /* Tells what is new, and merges what others told. It waits until the store is in step, for at most `patience` milliseconds; with 0 it

@@ -1,15 +1,75 @@
 /* One connection to a redis server. See link.h. */
 #include "link.h"
-#include <fcntl.h>
+#include <errno.h>
 #include <hiredis/hiredis.h>
-#include <hiredis/sds.h>
+#include <netdb.h>
+#include <netinet/tcp.h>
 #include <stdarg.h>
 #include <stdio.h>
+#include <string.h>
+#include <sys/socket.h>
+#include <sys/un.h>
+#include <unistd.h>
 
-enum { MOST_READS = 64 /* of one turn, of 16 KB each */ };
+enum {
+    READ_AT_ONCE = 1 << 14, /* bytes; a record of TLS has no more */
+    MOST_READS = 64,        /* of one turn */
+    PORT_TEXT = 8,          /* bytes, with the zero */
+    PROBES_AFTER = 15,      /* seconds of silence; then the kernel probes the connection, */
+    PROBES_EACH = 5,        /* with these seconds between two, */
+    PROBES = 3              /* and ends it after these without an answer */
+};
 
-static void keep_words(struct link *link, const char *words) {
+/* Keeps why the connection failed. Returns false. */
+static bool link_failed(struct link *link, const char *words) {
     snprintf(link->said, sizeof link->said, "%s", words);
+    return false;
+}
+
+/* ---- the connection ---- */
+
+/* Begins to connect. */
+static bool connect_socket(struct link *link, int family, const struct sockaddr *address, socklen_t length) {
+    link->socket = socket(family, SOCK_STREAM | SOCK_NONBLOCK | SOCK_CLOEXEC, 0);
+    if (link->socket < 0) return link_failed(link, strerror(errno));
+    if (!connect(link->socket, address, length) || errno == EINPROGRESS) return true;
+    link_failed(link, strerror(errno));
+    close(link->socket);
+    return false;
+}
+
+static bool connect_local(struct link *link, const char *path) {
+    struct sockaddr_un address = {.sun_family = AF_UNIX};
+    if (strlen(path) >= sizeof address.sun_path) return link_failed(link, "the socket's path is too long");
+    memcpy(address.sun_path, path, strlen(path));
+    return connect_socket(link, AF_UNIX, (struct sockaddr *)&address, sizeof address);
+}
+
+/* The kernel notices a dead peer, while no question is under way, too. */
+static void set_up(int socket) {
+    const struct { int level, option, value; } options[] = {
+        {IPPROTO_TCP, TCP_NODELAY, 1},
+        {SOL_SOCKET, SO_KEEPALIVE, 1},
+        {IPPROTO_TCP, TCP_KEEPIDLE, PROBES_AFTER},
+        {IPPROTO_TCP, TCP_KEEPINTVL, PROBES_EACH},
+        {IPPROTO_TCP, TCP_KEEPCNT, PROBES},
+    };
+    for (size_t i = 0; i < sizeof options / sizeof *options; i++) {
+        setsockopt(socket, options[i].level, options[i].option, &options[i].value, sizeof options[i].value);
+    }
+}
+
+/* The address is in digits, so this needs no name server. */
+static bool connect_host(struct link *link, const char *host, int port) {
+    struct addrinfo hints = {.ai_flags = AI_NUMERICHOST | AI_NUMERICSERV, .ai_socktype = SOCK_STREAM}, *found = NULL;
+    char text[PORT_TEXT];
+    snprintf(text, sizeof text, "%d", port);
+    int error = getaddrinfo(host, text, &hints, &found);
+    if (error) return link_failed(link, gai_strerror(error));
+    bool is_begun = connect_socket(link, found->ai_family, found->ai_addr, found->ai_addrlen);
+    freeaddrinfo(found);
+    if (is_begun) set_up(link->socket);
+    return is_begun;
 }
 
 /* The name comes last: a server that refuses it still serves. */
@@ -23,19 +83,17 @@ static void greet(struct link *link, const struct link_call *call) {
     link->asked = 0;
 }
 
-/* Closes the descriptor in children. TCP keepalive notices a dead peer while no question is under way. */
-static void set_up(redisContext *redis, bool is_local) {
-    int flags = fcntl(redis->fd, F_GETFD);
-    if (flags >= 0) fcntl(redis->fd, F_SETFD, flags | FD_CLOEXEC);
-    if (!is_local) redisEnableKeepAlive(redis);
-}
-
 bool link_open(struct link *link, const struct link_call *call, uint64_t now) {
     link_close(link);
-    link->redis = call->path ? redisConnectUnixNonBlock(call->path) : redisConnectNonBlock(call->host, call->port);
-    if (link->redis && !link->redis->err) set_up(link->redis, call->path);
-    if (!link->redis || link->redis->err) {
-        keep_words(link, link->redis ? link->redis->errstr : "no memory");
+    bool is_begun = call->path ? connect_local(link, call->path) : connect_host(link, call->host, call->port);
+    if (!is_begun) return false;
+    link->reader = redisReaderCreate();
+    if (!link->reader) {
+        close(link->socket);
+        return link_failed(link, "no memory");
+    }
+    if (call->tls) link->session = tls_begin(call->tls, link->socket, call->server, link->said);
+    if (call->tls && !link->session) {
         link_close(link);
         return false;
     }
@@ -45,17 +103,41 @@ bool link_open(struct link *link, const struct link_call *call, uint64_t now) {
     return true;
 }
 
+void link_close(struct link *link) {
+    if (!link->reader) return;
+    link_done(link);
+    tls_end(link->session);
+    redisReaderFree(link->reader);
+    close(link->socket);
+    text_free(&link->out);
+    link->reader = NULL;
+    link->session = NULL;
+    link->greetings = 0;
+    link->writes = link->reads_first = link->quiet = false;
+}
+
+bool link_is_open(const struct link *link) { return link->reader; }
+
+bool link_waits_to_write(const struct link *link) {
+    return link->writes && !(link->reads_first && tls_is_beginning(link->session));
+}
+
+/* ---- questions and answers ---- */
+
 void link_ask(struct link *link, const char *format, ...) {
     va_list given;
+    char *question = NULL;
     va_start(given, format);
-    if (!link->redis || link->asked == LINK_MOST || redisvAppendCommand(link->redis, format, given) != REDIS_OK) {
-        if (link->redis) keep_words(link, "a question couldn't be asked");
-        link_close(link);
-    } else {
+    int length = link->reader && link->asked < LINK_MOST ? redisvFormatCommand(&question, format, given) : -1;
+    va_end(given);
+    if (length > 0 && text_put(&link->out, question, (size_t)length)) {
         link->asked++;
         link->writes = true;
+    } else if (link->reader) {
+        link_failed(link, "a question couldn't be asked");
+        link_close(link);
     }
-    va_end(given);
+    if (question) redisFreeCommand(question);
 }
 
 /* Keeps an answer of the round. An error of a greeting ends the connection, except that of the name. */
@@ -65,42 +147,65 @@ static bool keep_answer(struct link *link, redisReply *answer) {
         return true;
     }
     if (!link->greetings) {
-        keep_words(link, "the server answers what wasn't asked");
+        link_failed(link, "the server answers what wasn't asked");
         freeReplyObject(answer);
         return false;
     }
     bool is_name = link->names && link->greetings == 1;
     bool good = answer->type != REDIS_REPLY_ERROR || is_name;
-    if (!good) keep_words(link, answer->str);
+    if (!good) link_failed(link, answer->str);
     freeReplyObject(answer);
     link->greetings--;
     return good;
 }
 
-/* Keeps hiredis' words on why the connection failed. */
-static bool connection_failed(struct link *link) {
-    keep_words(link, link->redis->errstr);
-    return false;
+static enum io_word send_bytes(struct link *link, size_t *done) {
+    if (link->session) return tls_write(link->session, link->out.bytes, link->out.length, done, link->said);
+    ssize_t sent = send(link->socket, link->out.bytes, link->out.length, MSG_NOSIGNAL);
+    *done = sent > 0 ? (size_t)sent : 0;
+    if (sent >= 0) return IO_DONE;
+    if (errno == EAGAIN || errno == EINTR) return IO_WRITES_FIRST;
+    link_failed(link, strerror(errno));
+    return IO_FAILED;
+}
+
+static enum io_word receive_bytes(struct link *link, char *bytes, size_t *done) {
+    if (link->session) return tls_read(link->session, bytes, READ_AT_ONCE, done, link->said);
+    ssize_t came = recv(link->socket, bytes, READ_AT_ONCE, 0);
+    *done = came > 0 ? (size_t)came : 0;
+    if (came > 0) return IO_DONE;
+    if (came < 0 && (errno == EAGAIN || errno == EINTR)) return IO_READS_FIRST;
+    link_failed(link, came ? strerror(errno) : "Server closed the connection");
+    return IO_FAILED;
 }
 
 static bool write_some(struct link *link, uint64_t now) {
-    int done = 0;
-    if (!link->writes) return true;
-    size_t before = sdslen(link->redis->obuf);
-    if (redisBufferWrite(link->redis, &done) != REDIS_OK) return connection_failed(link);
-    if (sdslen(link->redis->obuf) < before) link->heard = now;
-    link->writes = !done;
-    return true;
+    enum io_word word = IO_DONE;
+    if (!link->writes || (link->quiet && !link_waits_to_write(link))) return true;
+    while (word == IO_DONE && link->out.length) {
+        size_t done;
+        word = send_bytes(link, &done);
+        text_drop(&link->out, done);
+        if (done) link->heard = now;
+    }
+    link->writes = word != IO_DONE;
+    link->reads_first = word == IO_READS_FIRST;
+    return word != IO_FAILED;
 }
 
 /* Reads what has arrived, up to a megabyte. A quiet link has nothing to read. */
 static bool read_bytes(struct link *link, uint64_t now) {
-    redisReader *reader = link->redis->reader;
+    char bytes[READ_AT_ONCE];
     for (int times = 0; times < MOST_READS && !link->quiet; times++) {
-        size_t before = reader->len;
-        if (redisBufferRead(link->redis) != REDIS_OK) return connection_failed(link);
-        link->quiet = reader->len < before + REDIS_READER_MAX_BUF; /* what hiredis reads at a time */
-        if (reader->len > before) link->heard = now;
+        size_t done;
+        enum io_word word = receive_bytes(link, bytes, &done);
+        if (word == IO_FAILED) return false;
+        link->quiet = word != IO_WRITES_FIRST && done < sizeof bytes;
+        link->writes |= word == IO_WRITES_FIRST;
+        if (word == IO_WRITES_FIRST) return true;
+        if (!done) continue;
+        link->heard = now;
+        if (redisReaderFeed(link->reader, bytes, done) != REDIS_OK) return link_failed(link, link->reader->errstr);
     }
     return true;
 }
@@ -109,7 +214,7 @@ static bool read_some(struct link *link, uint64_t now) {
     if (!read_bytes(link, now)) return false;
     for (;;) {
         void *answer = NULL;
-        if (redisGetReplyFromReader(link->redis, &answer) != REDIS_OK) return connection_failed(link);
+        if (redisReaderGetReply(link->reader, &answer) != REDIS_OK) return link_failed(link, link->reader->errstr);
         if (!answer) return true;
         if (!keep_answer(link, answer)) return false;
     }
@@ -118,12 +223,12 @@ static bool read_some(struct link *link, uint64_t now) {
 /* Whether answers have been missing for longer than the server may take. */
 static bool is_silent(struct link *link, uint64_t now) {
     if (now <= link->heard + link->blocks + LINK_SILENCE) return false;
-    keep_words(link, "the server answers nothing");
+    link_failed(link, "the server answers nothing");
     return true;
 }
 
 enum link_state link_turn(struct link *link, uint64_t now) {
-    if (!link->redis) return LINK_LOST;
+    if (!link->reader) return LINK_LOST;
     if (!write_some(link, now) || !read_some(link, now)) {
         link_close(link);
         return LINK_LOST;
@@ -142,13 +247,3 @@ void link_done(struct link *link) {
     for (unsigned i = 0; i < link->came; i++) freeReplyObject(link->answers[i]);
     link->asked = link->came = link->blocks = 0;
 }
-
-void link_close(struct link *link) {
-    link_done(link);
-    if (link->redis) redisFree(link->redis);
-    link->redis = NULL;
-    link->greetings = 0;
-    link->writes = link->quiet = false;
-}
-
-int link_descriptor(const struct link *link) { return link->redis ? link->redis->fd : -1; }

@@ -1,19 +1,19 @@
-/* One connection to a redis server, over hiredis: it takes rounds of questions and never waits. A server that answers nothing for
- * LINK_SILENCE is taken for gone. Used within the library. */
+/* One connection to a redis server: it takes rounds of questions and never waits. A server that answers nothing for LINK_SILENCE is taken
+ * for gone. hiredis writes the questions and parses the answers, and TLS is OpenSSL's. Used within the library. */
 #ifndef DS_FLEET_LINK_H
 #define DS_FLEET_LINK_H
 
-#include <stdbool.h>
-#include <stddef.h>
+#include "text.h"
+#include "tls.h"
 #include <stdint.h>
 
-struct redisContext;
+struct redisReader;
 struct redisReply;
 
 enum {
-    LINK_MOST = 40,      /* questions of one round */
-    LINK_WORDS = 256,    /* bytes of what a server said, with its zero */
-    LINK_SILENCE = 5000  /* milliseconds in which something of an answer has to come */
+    LINK_MOST = 40,        /* questions of one round */
+    LINK_WORDS = TLS_SAID, /* bytes of what a server said, with its zero */
+    LINK_SILENCE = 5000    /* milliseconds in which something of an answer has to come */
 };
 
 /* How a server is called. */
@@ -21,17 +21,23 @@ struct link_call {
     const char *path;                   /* its socket; NULL: */
     const char *host;                   /* its address in digits, */
     int port;                           /* and its port */
+    const struct tls_files *tls;        /* NULL: without TLS */
+    const char *server;                 /* with TLS: the name that its certificate has to be for */
     const char *user, *password, *name; /* NULL: there is none. name: of the connection, in CLIENT LIST */
     int database;
 };
 
 /* A connection, and the round that it was asked. It begins with zeros. */
 struct link {
-    struct redisContext *redis;            /* NULL: there is none */
+    struct redisReader *reader;            /* NULL: there is no connection */
+    int socket;
+    struct ssl_st *session;                /* of TLS, or NULL */
+    struct text out;                       /* questions that aren't sent yet */
     struct redisReply *answers[LINK_MOST]; /* those of this round that came */
     unsigned asked, came, greetings;       /* greetings: how many answers come before this round's */
     bool names;                            /* the last greeting is the connection's name */
-    bool writes;                           /* not all that was asked could be written yet */
+    bool writes;                           /* not all that was asked could be sent yet */
+    bool reads_first;                      /* while TLS begins: nothing can be sent before more arrives */
     bool quiet;                            /* everything that arrived is read; the bell clears it when more arrives */
     uint64_t heard;                        /* when bytes were last sent or received, or nothing was asked, in milliseconds */
     uint32_t watched;                      /* the events that the bell watches it for; 0: none yet */
@@ -56,7 +62,8 @@ enum link_state link_turn(struct link *link, uint64_t now);
 void link_done(struct link *link);
 /* Ends the connection. `said` stays. */
 void link_close(struct link *link);
-/* Its descriptor, or -1. */
-int link_descriptor(const struct link *link);
+bool link_is_open(const struct link *link);
+/* Whether it is to be watched until more can be sent. */
+bool link_waits_to_write(const struct link *link);
 
 #endif

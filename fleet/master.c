@@ -126,29 +126,49 @@ static bool read_path(struct master *master, char *text) {
     return *text == '/';
 }
 
-static enum ds_fleet_word read_url(struct master *master, const char *url) {
-    static const struct { const char *front; bool (*read)(struct master *, char *); } kinds[] = {
-        {"redis://", read_servers}, {"redis-sentinel://", read_sentinels}, {"unix://", read_path},
+/* Copies a text, if there is one. Returns whether memory was enough. */
+static bool copy_text(char **copy, const char *text) {
+    *copy = text ? strdup(text) : NULL;
+    return *copy || !text;
+}
+
+/* Reads what TLS needs. */
+static enum ds_fleet_word read_files(struct master *master, const struct ds_fleet_options *options) {
+    bool is_copied = copy_text(&master->ca, options->ca) && copy_text(&master->certificate, options->certificate);
+    if (!is_copied || !copy_text(&master->key, options->key)) return DS_FLEET_NOROOM;
+    master->files = (struct tls_files){master->ca, master->certificate, master->key};
+    master->call.tls = &master->files;
+    master->said = master->tls_said;
+    return tls_check(&master->files, master->tls_said) ? DS_FLEET_INSTEP : DS_FLEET_BADTLS;
+}
+
+static enum ds_fleet_word read_url(struct master *master, const struct ds_fleet_options *options) {
+    static const struct { const char *front; bool (*read)(struct master *, char *); bool has_tls; } kinds[] = {
+        {"redis://", read_servers, false},         {"rediss://", read_servers, true},           {"unix://", read_path, false},
+        {"redis-sentinel://", read_sentinels, false}, {"rediss-sentinel://", read_sentinels, true},
     };
-    if (text_begins(url, strlen(url), "rediss://")) return DS_FLEET_NOTLS;
+    const char *url = options->url;
+    bool has_files = options->ca || options->certificate || options->key;
     for (size_t i = 0; i < sizeof kinds / sizeof *kinds; i++) {
         if (!text_begins(url, strlen(url), kinds[i].front)) continue;
-        master->url = strdup(url);
-        if (!master->url) return DS_FLEET_NOROOM;
+        if (kinds[i].has_tls && !tls_is_built()) return DS_FLEET_NOTLS;
+        if (has_files && !kinds[i].has_tls) return DS_FLEET_BADURL;
+        if (!copy_text(&master->url, url)) return DS_FLEET_NOROOM;
         char *rest = read_user(master, master->url + strlen(kinds[i].front));
-        return rest && kinds[i].read(master, rest) ? DS_FLEET_INSTEP : DS_FLEET_BADURL;
+        if (!rest || !kinds[i].read(master, rest)) return DS_FLEET_BADURL;
+        return kinds[i].has_tls ? read_files(master, options) : DS_FLEET_INSTEP;
     }
     return DS_FLEET_BADURL;
 }
 
-enum ds_fleet_word master_open(struct master *master, const char *url, const char *password) {
-    if (!url || (password && strlen(password) > MOST_PASSWORD)) return DS_FLEET_BADURL;
+enum ds_fleet_word master_open(struct master *master, const struct ds_fleet_options *options) {
+    const char *password = options->password;
+    if (!options->url || (password && strlen(password) > MOST_PASSWORD)) return DS_FLEET_BADURL;
     master->bell = eventfd(0, EFD_NONBLOCK | EFD_CLOEXEC);
     if (master->bell < 0) return DS_FLEET_SYSTEM;
-    enum ds_fleet_word word = read_url(master, url);
+    enum ds_fleet_word word = read_url(master, options);
     if (word != DS_FLEET_INSTEP) return word;
-    master->password = password ? strdup(password) : NULL;
-    if (password && !master->password) return DS_FLEET_NOROOM;
+    if (!copy_text(&master->password, password)) return DS_FLEET_NOROOM;
     if (password) master->call.password = master->password;
     return DS_FLEET_INSTEP;
 }
@@ -167,6 +187,7 @@ static enum host_found find_address(struct master *master, struct address *addre
     if (found == HOST_UNKNOWN) return master_unknown(master, address->host.said);
     master->call.host = address->host.address;
     master->call.port = address->port;
+    master->call.server = address->host.name;
     return found;
 }
 
@@ -181,7 +202,7 @@ static void name_master(struct master *master, const char *host, int port) {
 }
 
 static enum host_found ask_sentinel(struct master *master, uint64_t now) {
-    struct link_call call = {.host = master->call.host, .port = master->call.port};
+    struct link_call call = {.host = master->call.host, .port = master->call.port, .tls = master->call.tls, .server = master->call.server};
     if (!link_open(&master->sentinel, &call, now)) return master_unknown(master, master->sentinel.said);
     link_ask(&master->sentinel, "SENTINEL get-master-addr-by-name %s", master->known_as);
     master->state = MASTER_ASKED;
@@ -250,4 +271,7 @@ void master_close(struct master *master) {
     if (master->bell >= 0) close(master->bell);
     free(master->url);
     free(master->password);
+    free(master->ca);
+    free(master->certificate);
+    free(master->key);
 }

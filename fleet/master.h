@@ -23,14 +23,18 @@ struct master {
     int bell;                                /* an eventfd, which rings when a look-up has ended; -1: there is none */
     struct link_call call;                   /* once it is found: how it is called */
     char *url, *password;                    /* copies, into which `call` and `known_as` point */
+    char *ca, *certificate, *key;            /* and of the files' names, into which `files` points */
+    struct tls_files files;
     const char *known_as;                    /* the name by which the Sentinels know it; NULL: there are none */
     const char *said;                        /* why it is unknown */
+    char tls_said[TLS_SAID];                 /* why the files can't be used */
 };
 
 /* Reads redis://[[USER]:PASSWORD@]HOST[:PORT][,HOST[:PORT]..][/DATABASE], redis-sentinel://[[USER]:PASSWORD@]HOST[:PORT][,..]/NAME[/DATABASE]
- * or unix://[[USER]:PASSWORD@]/PATH; %XX is a byte of USER and PASSWORD. A `password` replaces the URL's. Either may be NULL.
- * Returns INSTEP, BADURL, NOTLS for rediss://, NOROOM, or SYSTEM, and then errno says why. In each case it is ended by master_close. */
-enum ds_fleet_word master_open(struct master *master, const char *url, const char *password);
+ * or unix://[[USER]:PASSWORD@]/PATH, or the first two as rediss://; %XX is a byte of USER and PASSWORD. Reads the password and the files of the
+ * options, too. Returns INSTEP, BADURL, NOTLS, BADTLS and then `said` says why, NOROOM, or SYSTEM, and then errno says why. In each case it is
+ * ended by master_close. */
+enum ds_fleet_word master_open(struct master *master, const struct ds_fleet_options *options);
 /* Finds where to call, without waiting. HOST_SOUGHT: call again when the bell or the Sentinel's connection rings, or after HOST_PATIENCE. */
 enum host_found master_find(struct master *master, uint64_t now);
 /* Silences the bell. */

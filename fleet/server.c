@@ -25,7 +25,7 @@ enum {
     PATIENCE = 100 /* before another try of what was denied */
 };
 
-bool server_is_connected(const struct server *server) { return server->teller.redis && server->listener.redis; }
+bool server_is_connected(const struct server *server) { return link_is_open(&server->teller) && link_is_open(&server->listener); }
 
 /* ---- it goes, or denies ---- */
 
@@ -105,7 +105,7 @@ enum ds_fleet_word server_call(struct ds_fleet *fleet) {
     struct server *server = &fleet->server;
     uint64_t time = clock_now();
     if (server_is_connected(server)) return DS_FLEET_INSTEP;
-    const struct link *lost = server->teller.redis ? &server->listener : &server->teller;
+    const struct link *lost = link_is_open(&server->teller) ? &server->listener : &server->teller;
     if (server->state != SERVER_AWAY) return server_went(fleet, lost->said);
     if (time < server->call_at) return server->parted;
     switch (master_find(&server->master, time)) {
@@ -218,7 +218,9 @@ enum ds_fleet_word server_open(struct ds_fleet *fleet, const struct ds_fleet_opt
     server->logs_meeting = true;
     snprintf(server->name, sizeof server->name, "dsfleet-%.8s", fleet->me);
     server->master.call.name = server->name;
-    return master_open(&server->master, options->url, options->password);
+    enum ds_fleet_word word = master_open(&server->master, options);
+    if (word == DS_FLEET_BADTLS) items_say(&fleet->items, "badtls: %s", server->master.said);
+    return word;
 }
 
 void server_close(struct server *server) {

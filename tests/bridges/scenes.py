@@ -951,7 +951,8 @@ def words_of_the_command_line(fleet, draw):
         (["--scope", "eth.*", path, "redis://h"], "a scope is"), (["--scope", "eth.* 16", path, "redis://h"], "a scope is"),
         (["--keep", "0", path, "redis://h"], "keeps 1 to"), ([path, "http://h"], "badurl"), ([path, "redis://"], "badurl"),
         ([path, "redis://h:0"], "badurl"), ([path, "redis://user@h"], "badurl"), ([path, "unix://relative"], "badurl"),
-        ([path, "rediss://h"], "notls"), (["--stream", "a b", path, "redis://h"], "badname"), (["--stream", "", path, "redis://h"], "badname"),
+        (["--cacert", path, path, "rediss://h"], "tls"), (["--cacert", path, path, "redis://h"], "badurl"),
+        (["--stream", "a b", path, "redis://h"], "badname"), (["--stream", "", path, "redis://h"], "badname"),
         (["--mode", "9", path, "redis://h"], "octal"), (["--readers", "no such group", path, "redis://h"], "no such group"),
         (["--replicas", "x", path, "redis://h"], "replicas"), (["--maxclients", "513", path, "redis://h"], "1 to 512"), (["--check"], "wanted"),
         ([path, "redis-sentinel://h"], "badurl"), ([path, "redis-sentinel://h/"], "badurl"), ([path, "redis://h,"], "badurl"),
@@ -1030,7 +1031,7 @@ from history_scenes import *
 from master_scenes import *
 from right_scenes import *
 from state_scenes import *
-from tunnel_scenes import *
+from tls_scenes import *
 
 SCENES = [it for it in dict(globals()).values() if callable(it) and getattr(it, "__code__", None) and it.__code__.co_varnames[:2] == ("fleet", "draw")]
 COMPACTED = (  # with few entries kept

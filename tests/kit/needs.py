@@ -52,6 +52,7 @@ NEEDS = (
     program("redis-server", "redis-server", "dsfleet"),
     program("stunnel", "stunnel4", "dsfleet over TLS"),
     Need("hiredis", "libhiredis-dev", "dsfleet", lambda: compiles("#include <hiredis/hiredis.h>\n", "-fsyntax-only")),
+    Need("OpenSSL", "libssl-dev", "dsfleet over TLS", lambda: compiles("#include <openssl/ssl.h>\n", "-fsyntax-only")),
 )
 
 
