@@ -117,14 +117,17 @@ static bool is_in_step(const struct ds_fleet *fleet) {
     return fleet->server.state == SERVER_MET && bridge_is_at_end(fleet) && !fleet->telling.owes_all && !fleet->items.untold.length;
 }
 
-/* Goes as far as it can without waiting. If one of the two is denied, the other continues. */
+/* Goes as far as it can without waiting. If one of the two is denied, the other continues. Once the server has all news, clients wait for
+ * nothing else: then what the listener hasn't read yet, such as the same news, is left to the next step, for which the bell rings. */
 static enum ds_fleet_word turn_both(struct ds_fleet *fleet) {
     enum ds_fleet_word told = DS_FLEET_LATE, heard = DS_FLEET_LATE;
     while (told == DS_FLEET_LATE || heard == DS_FLEET_LATE) {
+        uint64_t before = fleet->telling.told;
         enum ds_fleet_word word = server_call(fleet);
         if (word != DS_FLEET_INSTEP) return word;
         told = turn_teller(fleet);
         if (!server_is_connected(&fleet->server)) return told;
+        if (fleet->telling.told > before && is_in_step(fleet) && link_is_asked(&fleet->server.listener)) return DS_FLEET_INSTEP;
         heard = turn_listener(fleet);
         if (!server_is_connected(&fleet->server)) return heard;
     }

@@ -118,6 +118,8 @@ void link_close(struct link *link) {
 
 bool link_is_open(const struct link *link) { return link->reader; }
 
+bool link_is_asked(const struct link *link) { return link->asked && !link->writes; }
+
 bool link_waits_to_write(const struct link *link) {
     return link->writes && !(link->reads_first && tls_is_beginning(link->session));
 }

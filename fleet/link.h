@@ -63,6 +63,8 @@ void link_done(struct link *link);
 /* Ends the connection. `said` stays. */
 void link_close(struct link *link);
 bool link_is_open(const struct link *link);
+/* Whether a round was sent that isn't ended. */
+bool link_is_asked(const struct link *link);
 /* Whether it is to be watched until more can be sent. */
 bool link_waits_to_write(const struct link *link);
 
