@@ -17,7 +17,7 @@ from scenes import number, numbers, offer, shows
 PLACES = 512  # clients that a bridge serves at once
 ROOM = 64 << 20  # bytes of answers that may wait for all of them
 ASK = ROOT / "dsfleet" / "ask"
-NATIVE = ("answers_that_nobody_reads", "places_are_for_clients_that_read", "few_descriptors_are_told")  # not under valgrind's memory, pace and limits
+NATIVE = ("answers_that_nobody_reads", "places_are_for_clients_that_read", "few_descriptors_are_told", "many_refused_items")  # not under valgrind's memory, pace and limits
 
 soft, hard = resource.getrlimit(resource.RLIMIT_NOFILE)
 resource.setrlimit(resource.RLIMIT_NOFILE, (hard if hard != resource.RLIM_INFINITY and hard < 8192 else 8192, hard))

@@ -671,6 +671,22 @@ def a_full_store(fleet, draw):
         until(lambda: "refused full" not in bridge.state(), "it is refused no more", 5)
 
 
+def many_refused_items(fleet, draw):
+    """Thousands of items that a full store refuses are offered again each second in which something changed, at little processor time."""
+    bridge, lines = fleet.start(), [number(f"b{it}", 1, 1) for it in range(4000)]
+    offer(bridge, *numbers("a", 4096))
+    for at in range(0, len(lines), 200):
+        fleet.ask("XADD", "ds:items", "*", "from", "x", "items", "".join(f"{it}\n" for it in lines[at : at + 200]))
+    until(lambda: bridge.state().get("refused full") == str(len(lines)), "all of them are refused")
+    time.sleep(REST)
+    before = bridge.spent()
+    for seq in range(2, 42):
+        offer(bridge, number("a0", seq, draw.randrange(100)))
+        time.sleep(0.125)
+    spent = bridge.spent() - before
+    assert spent < 0.45, f"{spent:.2f} s of processor time for 40 changes in five seconds"
+
+
 def more_than_two_stores_hold(fleet, draw):
     """What neither a store nor the one beside it has a place for isn't compacted away, until all is read once more."""
     bridge = fleet.start()
