@@ -117,9 +117,10 @@ static bool is_in_step(const struct ds_fleet *fleet) {
     return fleet->server.state == SERVER_MET && bridge_is_at_end(fleet) && !fleet->telling.owes_all && !fleet->items.untold.length;
 }
 
-/* Goes as far as it can without waiting. If one of the two is denied, the other continues. Once the server has all news, clients wait for
- * nothing else: then what the listener hasn't read yet, such as the same news, is left to the next step, for which the bell rings. */
-static enum ds_fleet_word turn_both(struct ds_fleet *fleet) {
+/* Goes as far as it can without waiting. If one of the two is denied, the other continues. A step that waits ends once the server has all
+ * news: what the listener hasn't read yet, such as the same news, is left to the next step, for which the bell rings, and which may tell
+ * other news first. A caller that doesn't wait would come back for it at once, at the cost of another turn. */
+static enum ds_fleet_word turn_both(struct ds_fleet *fleet, bool waits) {
     enum ds_fleet_word told = DS_FLEET_LATE, heard = DS_FLEET_LATE;
     while (told == DS_FLEET_LATE || heard == DS_FLEET_LATE) {
         uint64_t before = fleet->telling.told;
@@ -127,7 +128,8 @@ static enum ds_fleet_word turn_both(struct ds_fleet *fleet) {
         if (word != DS_FLEET_INSTEP) return word;
         told = turn_teller(fleet);
         if (!server_is_connected(&fleet->server)) return told;
-        if (fleet->telling.told > before && is_in_step(fleet) && link_is_asked(&fleet->server.listener)) return DS_FLEET_INSTEP;
+        bool has_told = fleet->telling.told > before && is_in_step(fleet);
+        if (waits && has_told && link_is_asked(&fleet->server.listener)) return DS_FLEET_INSTEP;
         heard = turn_listener(fleet);
         if (!server_is_connected(&fleet->server)) return heard;
     }
@@ -215,7 +217,7 @@ enum ds_fleet_word ds_fleet_step(struct ds_fleet *fleet, unsigned patience) {
     if (has_heard) hear_bell(fleet, 0);
     for (;;) {
         if (gathered != DS_FLEET_INSTEP) gathered = items_gather(&fleet->items);
-        enum ds_fleet_word word = gathered == DS_FLEET_INSTEP ? turn_both(fleet) : gathered;
+        enum ds_fleet_word word = gathered == DS_FLEET_INSTEP ? turn_both(fleet, patience) : gathered;
         set_bell(fleet, word);
         fleet->state.word = word;
         if (word == DS_FLEET_INSTEP) fleet->state.caught_up = true;

@@ -70,10 +70,10 @@ struct ds_fleet_options {
 enum ds_fleet_word ds_fleet_open(struct ds_fleet **fleet, struct ds_handle *store, const struct ds_fleet_options *options);
 
 /* Tells what is new, and merges what others told. It waits until the store is in step, for at most `patience` milliseconds; with 0 it
- * doesn't wait. A step that has just told all news leaves what arrived meanwhile to the next one, for which the bell rings. The first
- * DS_FLEET_INSTEP means that the store has caught up. Serve no client before that: a publisher that doesn't see its own earlier versions
- * would use their numbers again. DS_FLEET_BADSCOPE and DS_FLEET_BADNAME end the step at once. Call it when the bell rings, and after each
- * change of the store. */
+ * doesn't wait. A step that waits, and has just told all news, leaves what arrived meanwhile to the next one, for which the bell rings. The
+ * first DS_FLEET_INSTEP means that the store has caught up. Serve no client before that: a publisher that doesn't see its own earlier
+ * versions would use their numbers again. DS_FLEET_BADSCOPE and DS_FLEET_BADNAME end the step at once. Call it when the bell rings, and after
+ * each change of the store. */
 enum ds_fleet_word ds_fleet_step(struct ds_fleet *fleet, unsigned patience);
 
 /* Returns a descriptor that becomes readable when a step has something to do: others told something, the server answered, or a second
