@@ -64,9 +64,14 @@ pub fn floors_stand()
     ensures runs { FloorStandsOverRuns }
 {}
 
-/// A law: what each reply says about the states before and after it.
-pub fn answers_say()
+/// A law: a refusal changes nothing, and a merge that stopped has merged its first items.
+pub fn refusals_say()
     ensures refused { RefusedSays }
+    ensures stopped { MergeStoppedSays }
+{}
+
+/// A law: what each reply but a refusal says about the states before and after it.
+pub fn answers_say()
     ensures changed { ChangedSays }
     ensures found { FoundSays }
     ensures named { NamedSays }
@@ -77,7 +82,6 @@ pub fn answers_say()
     ensures snapped { SnappedSays }
     ensures paged { PagedSays }
     ensures merged { MergedSays }
-    ensures stopped { MergeStoppedSays }
 {}
 
 /// A law: each command gets only its own kinds of reply. A mask fits the subscriptions' places, and has exactly the

@@ -15,8 +15,8 @@ mod reply;
 pub use command::{Command, Scope};
 pub use laws::{
     answers_fit, answers_say, floors_stand, free_items_are_taken, given_was_accepted,
-    limits_are_kept, places_are_taken, rows_are_answered, states_are_reached, steps_are_one,
-    steps_have_effects, subscriptions_are_kept,
+    limits_are_kept, places_are_taken, refusals_say, rows_are_answered, states_are_reached,
+    steps_are_one, steps_have_effects, subscriptions_are_kept,
 };
 pub use refusal::{Cause, Refusal};
 pub use reply::Reply;

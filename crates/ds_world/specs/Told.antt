@@ -107,3 +107,7 @@ RepliesAreKept old events new =
     (mid : World) × HappenAll w before mid × (after : World) × (a : Asks mid side command (Made k) after) ×
     (slice_get new.messages k ≡ Some a.reply)
     × (late : World) × HappenAll after since late × WorldStands new late
+
+-- Whether the events' messages are the whole replies, and the existing ones stay.
+abbrev pub MessagesAreKept : WorldRecord → List (Event × Outcome) → WorldRecord → Type 0
+MessagesAreKept old events new = RepliesAreKept old events new × MessagesStay old new

@@ -9,14 +9,14 @@ ghost use Rattle.ds_replica.specs.Known.{Account, new_account};
 ghost use Rattle.ds_world.specs.World.{store_in, HasItems, WorldStands};
 ghost use Rattle.ds_world.specs.Seeds.{AreSeeds, IsSeedFault};
 ghost use Rattle.ds_world.specs.Run.{most_events, paired, EventLeads, RunLeads, IsRunFault};
-ghost use Rattle.ds_world.specs.Told.{IsTold, AreTold, RepliesAreKept, MessagesStay};
+ghost use Rattle.ds_world.specs.Told.{IsTold, AreTold, MessagesAreKept, MessagesStay};
 ghost use Rattle.ds_world.specs.Account.{IsFor, TurnsAreRun};
 ghost use Rattle.ds_world.specs.Laws.{LawsHold};
 
 use crate::events::Events;
 use crate::fault::{SeedFault, WorldFault};
 use crate::outcomes::Outcomes;
-use ds_machine::answers_say;
+use ds_machine::{answers_say, refusals_say};
 use ds_replica::{Event, Message, Outcome, Seed, Side};
 use ds_store::Store;
 use ds_submap::SubMap;
@@ -102,8 +102,7 @@ impl World {
         ensures few { OnOk result (length events ≤ most_events) }
         ensures done { IfOk result (λ outcomes. RunLeads events outcomes self.old self.new) }
         ensures told { IfOk result (λ outcomes. AreTold self.old (paired events outcomes) self.new) }
-        ensures replies { IfOk result (λ outcomes. RepliesAreKept self.old (paired events outcomes) self.new) }
-        ensures messages { IfOk result (λ outcomes. MessagesStay self.old self.new) }
+        ensures messages { IfOk result (λ outcomes. MessagesAreKept self.old (paired events outcomes) self.new) }
         ensures laws { IfOk result (λ outcomes. LawsHold self.old (paired events outcomes) self.new) }
         ensures turns { IfOk result (λ outcomes. TurnsAreRun self.old (paired events outcomes) self.new) }
         ensures refused { IfErr result (λ fault. IsRunFault fault events) }
@@ -147,6 +146,7 @@ impl World {
         ensures turns { TurnsAreRun self.old ((event, result) ∷ []) self.new }
     {
         answers_say();
+        refusals_say();
         let outcome = self.carry_out(event);
         self.maps_proof();
         outcome

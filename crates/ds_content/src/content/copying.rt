@@ -1,6 +1,6 @@
 //! Copies of what is held.
 
-ghost use Rattle.std.specs.Prelude.{◌≡◌, None, filter, is_some, slice_get, IfOk, OnOk};
+ghost use Rattle.std.specs.Prelude.{◌≡◌, ◌≤◌, None, filter, is_some, length, slice_get, IfOk, OnOk};
 ghost use Rattle.ds_entry.specs.Item.{passes};
 ghost use Rattle.ds_entry.specs.Lent.{item_lent};
 ghost use Rattle.ds_held.specs.Held.{held_items};
@@ -55,6 +55,15 @@ fn add_at<S: KeyScope>(
     Ok(true)
 }
 
+// For the prover alone: at most 4,096 changes and 64 floors are held.
+pub(super) fn few_items_proof(held: &Held)
+    ensures { length (held_items held.now) ≤ 4160 }
+{
+    let _keys = held.limits().keys();
+    let _count = held.len();
+    let _floors = held.floor_count();
+}
+
 /// Returns everything held under the scope, floors first, then changes in key order.
 pub(super) fn all_under<S: KeyScope>(
     alloc: Global,
@@ -64,9 +73,7 @@ pub(super) fn all_under<S: KeyScope>(
     ensures items { IfOk result (λ items. items ≡ filter (passes (S.keeps scope.old)) (held_items held.now)) }
     ensures scope { S.keeps scope.new ≡ S.keeps scope.old }
 {
-    let _keys = held.limits().keys();
-    let _count = held.len();
-    let _floors = held.floor_count();
+    few_items_proof(held);
     let mut items = Items::new(alloc);
     let mut index = 0;
     while add_at(alloc, held, index, scope, &mut items)? {

@@ -11,6 +11,7 @@ ghost use Rattle.ds_content.specs.Shown.{says_unseen, is_to_show, IsNext, IsToSh
 ghost use Rattle.ds_pattern.specs.Under.{is_under};
 ghost use Rattle.ds_entry.specs.Item.{passes};
 
+use crate::content::copying::few_items_proof;
 use ds_entry::ItemRef;
 use ds_held::{Held, Rows};
 use ds_index::{Indexed, Marked};
@@ -78,10 +79,7 @@ pub(super) fn next_unseen(held: &Marked<Masks>, from: usize, sub: usize) -> Opti
     requires { sub < 128 }
     ensures { IsNext (is_to_show held.now sub) (held_items held.now.held) from result }
 {
-    let content = held.held();
-    let _keys = content.limits().keys();
-    let _floors = content.floor_count();
-    let _changes = content.len();
+    few_items_proof(held.held());
     let floors = held.floor_marks();
     if let Some(index) = next_floor(floors, from, sub) {
         return Some(index);

@@ -11,7 +11,7 @@ ghost use Rattle.ds_content.specs.Stands.{ContentStands, InEachWith};
 ghost use Rattle.ds_names.specs.Limits.{last_place};
 
 use crate::content::Content;
-use crate::content::copying::copy_at;
+use crate::content::copying::{copy_at, few_items_proof};
 use crate::content::marking::{next_unseen, show_first};
 use ds_entry::Items;
 use ds_held::Held;
@@ -62,9 +62,7 @@ fn first_unseen(
         });
     }
     let content = held.held();
-    let _keys = content.limits().keys();
-    let _floors = content.floor_count();
-    let _changes = content.len();
+    few_items_proof(content);
     let mut items = Items::new(alloc);
     let mut passed = 0;
     while items.len() < max {

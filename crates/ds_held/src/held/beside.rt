@@ -74,8 +74,7 @@ impl Held {
         ensures list { OnOk result (held_changes self.new ≡ left_by_floor floor (held_changes self.old)) }
         ensures marks { OnOk result (marks.new ≡ marks_left floor (held_changes self.old) marks.old) }
         ensures count { IfOk result (λ count. count ≡ length (puts_void_by floor (held_changes self.old))) }
-        ensures same { OnErr result (self.new ≡ self.old) }
-        ensures same_marks { OnErr result (marks.new ≡ marks.old) }
+        ensures same { OnErr result ((self.new ≡ self.old) × (marks.new ≡ marks.old)) }
         ensures new { OnErr result (floor_for self.old floor.owner ≡ None) }
         ensures sound { IsSound self.new }
     {

@@ -1,6 +1,6 @@
 //! Putting marks at their places, with a change or a floor that is to be taken.
 
-ghost use Rattle.std.specs.Prelude.{◌≡◌, ◌≤◌, Ok, Err, None, length, slice_set, vec_len, vec_capacity, IfOk, OnOk, OnErr};
+ghost use Rattle.std.specs.Prelude.{◌≡◌, ◌<◌, ◌≤◌, Ok, Err, None, length, slice_set, vec_len, vec_capacity, IfOk, OnOk, OnErr};
 ghost use Rattle.std.specs.List.{insert};
 ghost use Rattle.ds_entry.specs.Change.{IsChange};
 ghost use Rattle.ds_join.specs.declared.merge.Merge.TheVariants.{Taken};
@@ -58,6 +58,15 @@ pub(super) fn set_row<M: Drop>(marks: &mut Rows<M>, index: usize, mark: M)
     }
 }
 
+// For the prover alone: there are less than 65,536 marks.
+fn few_marks_proof<M>(held: &Held, marks: &Rows<M>)
+    requires { IsBeside held.now marks.now }
+    ensures { length marks.now < 65536 }
+{
+    let _len = held.len();
+    let _most = held.limits().keys();
+}
+
 // Inserts the mark of a new key at an index.
 fn insert_mark<M: Drop>(
     held: &Held,
@@ -70,8 +79,7 @@ fn insert_mark<M: Drop>(
     ensures inserted { OnOk result (marks.new ≡ insert marks.old index mark) }
     ensures same { OnErr result (marks.new ≡ marks.old) }
 {
-    let _len = held.len();
-    let _most = held.limits().keys();
+    few_marks_proof(held, marks);
     marks.insert(index, mark)
 }
 

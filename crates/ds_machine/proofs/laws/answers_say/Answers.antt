@@ -1,14 +1,8 @@
-use Rattle.ds_machine.proofs.SaysLemmas.{refused_says, changed_says, found_says, named_says, merged_says, merge_stopped_says}
+use Rattle.ds_machine.proofs.SaysLemmas.{changed_says, found_says, named_says, merged_says}
 use Rattle.ds_machine.proofs.laws.answers_say.Goals as goal
-
-pub returns-clause-refused : goal.returns-clause-refused
-returns-clause-refused c = refused_says
 
 pub returns-clause-merged : goal.returns-clause-merged
 returns-clause-merged c = merged_says
-
-pub returns-clause-stopped : goal.returns-clause-stopped
-returns-clause-stopped c = merge_stopped_says
 
 pub returns-clause-changed : goal.returns-clause-changed
 returns-clause-changed c = changed_says

@@ -1,4 +1,4 @@
-use Rattle.std.proofs.Common.{◌≡◌, ◌<◌, ◌≤◌, ◌++◌, ◌∷◌, [], None, Bool, List, filter, length, ap, sym, ◌∙◌, arith}
+use Rattle.std.proofs.Common.{◌≡◌, ◌<◌, ◌++◌, ◌∷◌, [], None, Bool, List, filter, length, ap, sym, ◌∙◌, arith}
 use Rattle.std.specs.List.{slice_get}
 use Rattle.std.proofs.lemmas.Option.{slice_get_within}
 use Rattle.ds_names.specs.declared.key.Key.{Key}
@@ -6,7 +6,7 @@ use Rattle.ds_entry.specs.declared.item.Item.{Item}
 use Rattle.ds_entry.specs.Item.{passes}
 use Rattle.ds_held.specs.Held.{held_items}
 use Rattle.ds_content.proofs.FlagLemmas.{past_end, filter_more, all_taken}
-use Rattle.ds_content.proofs.IndexLemmas.{few_items, none_is, some_is}
+use Rattle.ds_content.proofs.IndexLemmas.{none_is, some_is}
 use Rattle.ds_content.proofs.content.copying.all_under.Goals as goal
 
 pub overflow_add-index : goal.overflow_add-index
@@ -14,10 +14,7 @@ overflow_add-index g c =
     let hs = held_items c.args.held.now in
     let i = some_is (slice_get hs c.loop-items.index) (sym c.if-branch.true ∙ c.in_ok-add_at.ensures.there) in
     let within : c.loop-items.index < length hs = slice_get_within hs c.loop-items.index i.0 i.1 in
-    let few : length hs ≤ 4160 =
-    few_items c.args.held.now c.limits.result c.len-count.result c.floor_count-floors.result c.limits.ensures c.keys-keys.ensures.limits c.len-count.ensures.count
-    c.len-count.ensures.few c.floor_count-floors.ensures.count c.floor_count-floors.ensures.few in
-    omega (arith, within, few)
+    omega (arith, within, c.few_items_proof.ensures)
 
 pub loop-items-smaller : goal.loop-items-smaller
 loop-items-smaller g c =

@@ -1,8 +1,7 @@
-use Rattle.std.proofs.Common.{◌<◌, ◌∙◌, length, refl, ap, arith}
+use Rattle.std.proofs.Common.{◌<◌, ◌≤◌, length, refl, subst, arith}
 use Rattle.std.proofs.lemmas.Option.{slice_get_within}
-use Rattle.ds_held.specs.Held.{Holding, held_count, floor_count}
+use Rattle.ds_held.specs.Held.{Holding, held_count, held_items, floor_count}
 use Rattle.ds_held.proofs.HeldLemmas.{count_is}
-use Rattle.ds_content.proofs.IndexLemmas.{few_items}
 use Rattle.ds_content.proofs.NextLemmas.{next_floor, next_change, no_change, items_counted}
 use Rattle.ds_content.proofs.content.marking.next_unseen.Goals as goal
 
@@ -20,15 +19,10 @@ overflow_add-result c =
     let next = c.in_ok-index.ensures in
     let within : c.in_ok-index.index < length c.marks.result.now = slice_get_within c.marks.result.now c.in_ok-index.index next.there.1.0 next.there.1.1 in
     let h = c.args.held.now.held in
-    let same = c.held-content.ensures.value in
-    let bound =
-    few_items h c.limits.result c.len-changes.result c.floor_count-floors.result (c.limits.ensures ∙ ap (λ (x : Holding). x.limits) same) c.keys-keys.ensures.limits
-    (c.len-changes.ensures.count ∙ ap held_count same) (omega (arith, c.len-changes.ensures.few, ap (λ (x : Holding). x.limits.keys) same))
-    (c.floor_count-floors.ensures.count ∙ ap (λ (x : Holding). floor_count x) same) c.floor_count-floors.ensures.few in
-    let all = items_counted h c.len-changes.result c.floor_count-floors.result (c.len-changes.ensures.count ∙ ap held_count same) (c.floor_count-floors.ensures.count ∙ ap (λ (x : Holding). floor_count x) same) in
-    let count = c.len-changes.ensures.count ∙ ap held_count same in
+    let few = subst (λ (x : Holding). length (held_items x) ≤ 4160) c.held.ensures.value c.few_items_proof.ensures in
+    let all = items_counted h (held_count h) (floor_count h) refl refl in
     let changes = count_is h in
-    omega (arith, within, bound, all, count, changes, c.marks.ensures.each, c.floor_marks-floors.type_inv)
+    omega (arith, within, few, all, changes, c.marks.ensures.each, c.floor_marks-floors.type_inv)
 
 pub returns : goal.returns
 returns c =

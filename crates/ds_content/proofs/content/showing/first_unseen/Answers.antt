@@ -3,15 +3,14 @@ use Rattle.std.specs.List.{list_any, slice_get}
 use Rattle.std.proofs.lemmas.Option.{slice_get_within}
 use Rattle.ds_entry.specs.declared.item.Item.{Item}
 use Rattle.ds_entry.proofs.Members.{list_any-from_Contains}
-use Rattle.ds_held.specs.Held.{Holding, held_items, held_count, floor_count}
+use Rattle.ds_held.specs.Held.{Holding, held_items}
 use Rattle.ds_watch.specs.declared.masks.Masks.{Masks}
 use Rattle.ds_content.specs.Shown.{is_to_show, AreFirst}
 use Rattle.ds_content.proofs.FlagLemmas.{index_among, filter_more, few_taken}
-use Rattle.ds_content.proofs.IndexLemmas.{few_items}
 use Rattle.ds_content.proofs.NextLemmas.{filter_past, not_pending, nothing_first}
 use Rattle.ds_content.proofs.OpenLemmas.{on_err}
 use Rattle.ds_content.proofs.content.showing.first_unseen.Goals as goal
-use Rattle.ds_content.proofs.content.showing.first_unseen.Goals.{After-len-changes}
+use Rattle.ds_content.proofs.content.showing.first_unseen.Goals.{After-few_items_proof}
 
 -- to a subscription that isn't pending, nothing is to be shown
 pub returns-then-not-is_unseen-clause-first : goal.returns-then-not-is_unseen-clause-first
@@ -32,12 +31,8 @@ returns-in_err-add_copy-clause-refused c =
     on_err c.from_residual.result (list_any (is_to_show h c.args.sub) (held_items h.held) ≡ true)
     (list_any-from_Contains (is_to_show h c.args.sub) (held_items h.held) r.0 (index_among (held_items h.held) c.in-Some.index r.0 r.1) r.2)
 
-few : (c : After-len-changes) → length (held_items c.args.held.now.held) ≤ 4160
-few c =
-    few_items c.args.held.now.held c.limits.result c.len-changes.result c.floor_count-floors.result (c.limits.ensures ∙ ap (λ (h : Holding). h.limits) c.held-content.ensures.value) c.keys-keys.ensures.limits
-    (c.len-changes.ensures.count ∙ ap held_count c.held-content.ensures.value)
-    (omega (arith, c.len-changes.ensures.few, ap (λ (h : Holding). h.limits.keys) c.held-content.ensures.value))
-    (c.floor_count-floors.ensures.count ∙ ap (λ (h : Holding). floor_count h) c.held-content.ensures.value) c.floor_count-floors.ensures.few
+few : (c : After-few_items_proof) → length (held_items c.args.held.now.held) ≤ 4160
+few c = subst (λ (h : Holding). length (held_items h) ≤ 4160) c.held-content.ensures.value c.few_items_proof.ensures
 
 -- where no more is to be shown, all of it is
 pub returns-in_default-clause-first : goal.returns-in_default-clause-first
@@ -64,7 +59,7 @@ overflow_add-passed c =
     let hs = held_items c.args.held.now.held in
     let r = c.in-Some.ensures.there.1 in
     let within : c.in-Some.index < length hs = slice_get_within hs c.in-Some.index r.0 r.1 in
-    let bound = few (goal.at.overflow_add-passed c).After-len-changes in
+    let bound = few (goal.at.overflow_add-passed c).After-few_items_proof in
     omega (arith, within, bound)
 
 pub loop-content-smaller : goal.loop-content-smaller

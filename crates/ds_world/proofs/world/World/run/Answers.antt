@@ -5,13 +5,10 @@ use Rattle.ds_world.proofs.LawLemmas.{laws_hold}
 use Rattle.ds_world.proofs.ReplyLemmas.{replies_are_kept, messages_stay}
 use Rattle.ds_world.proofs.world.World.run.Goals as goal
 
-pub returns-clause-replies : goal.returns-clause-replies
-returns-clause-replies c =
-    let ran = c.happen_all-outcomes in replies_are_kept c.args.self.now ran.new.self (paired c.args.events ran.result) ran.ensures.told
-
 pub returns-clause-messages : goal.returns-clause-messages
 returns-clause-messages c =
-    let ran = c.happen_all-outcomes in messages_stay c.args.self.now ran.new.self (paired c.args.events ran.result) ran.ensures.told
+    let ran = c.happen_all-outcomes in
+    (replies_are_kept c.args.self.now ran.new.self (paired c.args.events ran.result) ran.ensures.told, messages_stay c.args.self.now ran.new.self (paired c.args.events ran.result) ran.ensures.told)
 
 pub returns-clause-laws : goal.returns-clause-laws
 returns-clause-laws c =
