@@ -1,5 +1,5 @@
 -- The effects of a call and a take on views and on a pass's counts.
-use Rattle.std.proofs.Common.{◌≡◌, ℕ, ◌+◌, ◌-◌, ◌^◌, ◌<◌, ◌==◌, Bool, List, [], ◌∷◌, length, cond, refl, ap, sym, ◌∙◌, subst, arith, eq-eqb, ne_eqb}
+use Rattle.std.proofs.Common.{◌≡◌, ℕ, ◌+◌, ◌-◌, ◌/◌, ◌^◌, ◌<◌, ◌==◌, Bool, true, List, [], ◌∷◌, length, cond, refl, ap, sym, ◌∙◌, subst, arith, eq-eqb, ne_eqb}
 use Rattle.std.specs.Prelude.{is_some}
 use Rattle.std.specs.Int.{bit_at}
 use Rattle.std.specs.List.{AllByRecursion}
@@ -17,11 +17,10 @@ use Rattle.desk_rule.specs.History.{count_calls}
 use Rattle.desk_rule.specs.Kinds.{after_turn, LastOwes, Looks, take_of, TakesBits}
 use Rattle.desk_rule.specs.Notices.{given_by, IsOrder, IsPostAt, OwedIn, OwnNotices, raised_at, raised_by, raised_in, set_by, taken_at, taken_by, taken_in}
 use Rattle.desk_rule.specs.Passes.{add_notice, notices_of, number_of}
-use Rattle.desk_rule.specs.Seat.{HoldsTurn, SeatOf}
 use Rattle.desk_rule.proofs.OrderLemmas.{raised_elsewhere, raised_here, taken_elsewhere, taken_here}
-use Rattle.desk_rule.proofs.ListLemmas.{at_prefix, only_of, total_append}
+use Rattle.desk_rule.proofs.ListLemmas.{at_prefix, only_of, some_of, total_append}
 use Rattle.desk_rule.proofs.RuleLemmas.{no_notice_more, one_call_more}
-use Rattle.desk.specs.Sight.{TurnAt}
+use Rattle.desk_rule.specs.Steps.{TurnAt}
 use Rattle.desk.specs.Tally.{CanPost, Counts, Posts, RaisesMask, row_at, Tallies}
 use Rattle.desk.proofs.PassLemmas.{call_added, call_keeps_notices, call_number, notice_weighs, weigh_one_notices}
 
@@ -43,14 +42,20 @@ module _ {M C R : Type 0} where
   last_owes owes v w c r owed is e = let one = entry (number_of v.passes) c r in
       (v.seen, one, ap (λ (x : View M C R). x.seen) is, sym (ap (λ (x : View M C R). number_of x.passes) is ∙ call_number v.passes one), e)
 
-  pub can_post : (steps : M → C → R → M → Type 0) (u : View M C R) (place : ℕ) (p q : SeatOf M C R) (c : C) (r : R) → TurnAt steps u place p.me.0 → HoldsTurn steps p → q.me.0 ≡ after_turn p.me.0 c r → CanPost q.me.0
-  can_post steps u place p q c r turn h is =
-      let v : View M C R = p.me.0 in let w : View M C R = q.me.0 in let e = entry (number_of v.passes) c r in
-      let one = only_of v.passes h.one_pass in let short = h.short in
+  pub can_post : (steps : M → C → R → M → Type 0) (u : View M C R) (place : ℕ) (v w : View M C R) (c : C) (r : R) → TurnAt steps u place v → length u.passes ≡ 1
+      → is_some u.opening ≡ true → w ≡ after_turn v c r → CanPost w
+  can_post steps u place v w c r turn single opened is =
+      let e = entry (number_of v.passes) c r in
+      let opening : v.opening ≡ u.opening = ap (λ (x : View M C R). x.opening) turn.0.is in
+      let single_v : length v.passes ≡ 1 = ap (λ (x : View M C R). length x.passes) turn.0.is ∙ single in
+      let one = only_of v.passes single_v in
+      let m = some_of u.opening opened in
+      let at = turn.0.place m.0 m.1 in let long = turn.0.short in let below = turn.1 in
       let n : count_calls w.passes ≡ count_calls v.passes + 1 = ap (λ (x : View M C R). count_calls x.passes) is ∙ one_call_more v.passes one.0 e (λ _. 1) one.1 in record {
-        opened = ap (λ (x : View M C R). is_some x.opening) is ∙ h.opened;
-        one_pass = ap (λ (x : View M C R). length x.passes) is ∙ (call_added v.passes e h.one_pass).0;
-        few = λ s b. (let f = h.few s b in let same : raised_by w.passes s b ≡ raised_by v.passes s b = ap (λ (x : View M C R). raised_by x.passes s b) is ∙ no_notice_more v.passes e (raised_at s b) in omega arith);
+        opened = ap (λ (x : View M C R). is_some x.opening) is ∙ (ap is_some opening ∙ opened);
+        one_pass = ap (λ (x : View M C R). length x.passes) is ∙ (call_added v.passes e single_v).0;
+        few = λ s b. (let f = turn.0.few s b in
+            let same : raised_by w.passes s b ≡ raised_by v.passes s b = ap (λ (x : View M C R). raised_by x.passes s b) is ∙ no_notice_more v.passes e (raised_at s b) in omega arith);
         short = omega arith;
         found = subst (λ (x : View M C R). IsOrder x.notices) (sym is) turn.0.order;
         own = subst (λ (x : View M C R). OwnNotices x.notices x.passes) (sym is) (call_keeps_notices v.notices v.passes e turn.0.own_notices);
@@ -95,6 +100,11 @@ take_raises_nothing n s b is = dite (ℕ_discrete n.server s)
     (λ here. let r = raised_here s b n here in let none = ap (λ a. bit_at (set_by a) b) is ∙ bit_at-zero b in omega arith)
     (λ other. raised_elsewhere s b n other)
 
+-- the number that a look found is twice the first place after the history that the seat has then seen
+pub place_found : {M C R : Type 0} (steps : M → C → R → M → Type 0) (v w : View M C R) (found : ℕ) (holding : Bool) → Looks steps v found holding w → is_some v.opening ≡ true
+    → found / 2 ≡ w.first + length w.seen
+place_found {M} {C} {R} steps v w found holding l opened = let m = some_of v.opening opened in l.place m.0 m.1 ∙ ap (λ (x : View M C R). x.first + length w.seen) (sym l.is)
+
 module _ {M C R : Type 0} (owes : R → ℕ) where
   take_passes : (v w : View M C R) (server n : ℕ) → TakesBits owes v server n w → w.passes ≡ add_notice v.passes (take_of v server n)
   take_passes v w server n h = ap (λ (x : View M C R). x.passes) h.notices.is
@@ -132,3 +142,7 @@ module _ {M C R : Type 0} (owes : R → ℕ) where
   pub owed_later : (steps : M → C → R → M → Type 0) (v w x : View M C R) (server n found b : ℕ) (holding : Bool) → TakesBits owes v server n w → Looks steps w found holding x → bit_at n b ≡ 1 → OwedIn owes server b x.seen
   owed_later steps v w x server n found b holding h l set_bit = let k = h.owed b set_bit in
       (k.0, k.1, at_prefix w.seen x.seen k.0 k.1 l.seen (ap (λ (y : View M C R). get_elem? y.seen k.0) h.notices.is ∙ k.2), k.3)
+
+  pub place_taken : (steps : M → C → R → M → Type 0) (v u w : View M C R) (server n found : ℕ) (holding : Bool) → TakesBits owes v server n u → Looks steps u found holding w
+      → is_some v.opening ≡ true → found / 2 ≡ w.first + length w.seen
+  place_taken steps v u w server n found holding h l opened = place_found steps u w found holding l (ap (λ (x : View M C R). is_some x.opening) h.notices.is ∙ opened)

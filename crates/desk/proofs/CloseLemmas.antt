@@ -23,11 +23,11 @@ use Rattle.desk.specs.declared.pass.Sight.{Ghosts}
 use Rattle.desk.specs.Calls.{PassesAgree}
 use Rattle.desk.specs.Closing.{AllAgree, gathered, HasAllNoticed, HasAllSeen, IsAccount, IsRow, LeavesHistory, pending_bit, Sums, Wraps}
 use Rattle.desk.specs.Pass.{calls, history, notices, number, order, Pass}
-use Rattle.desk.specs.Sight.{rests_of}
+use Rattle.desk_rule.specs.Steps.{rests_of}
 use Rattle.desk.specs.Tally.{Tallies}
 use Rattle.desk.proofs.RowLemmas.{wraps_more}
 use Rattle.desk.proofs.PassLemmas.{own_notices_one, own_one, weigh_one, weigh_one_notices}
-use Rattle.desk.proofs.SightLemmas.{rests_facts}
+use Rattle.desk_rule.proofs.WaitLemmas.{rests_facts}
 use Rattle.history.proofs.RunLemmas.{values_run}
 
 -- a row's pending flag is the bit of the word

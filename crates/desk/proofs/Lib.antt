@@ -1,5 +1,4 @@
 pub mod SightLemmas
-pub mod TurnLemmas
 pub mod PassLemmas
 pub mod TallyLemmas
 pub mod PostLemmas

@@ -16,8 +16,8 @@ use Rattle.desk_rule.specs.Seat.{SeatOf}
 use Rattle.desk.specs.declared.pass.Sight.{Ghosts}
 use Rattle.desk.specs.Opening.{AreNewPasses, IsNewPass}
 use Rattle.desk.specs.Pass.{desk_of, Pass}
-use Rattle.desk.specs.Sight.{rests_of}
-use Rattle.desk.proofs.SightLemmas.{rests}
+use Rattle.desk_rule.specs.Steps.{rests_of}
+use Rattle.desk_rule.proofs.WaitLemmas.{rests}
 
 -- n as two more than n - 2
 pub one_back : (n : ℕ) → 1 < n → n ≡ (n - 1 - 1) + 2

@@ -13,10 +13,10 @@ use Rattle.desk_rule.specs.Passes.{add_call, calls_of, notices_of, number_of}
 use Rattle.desk_rule.specs.Kinds.{after_note, after_turn, Looks, take_of, TakesBits}
 use Rattle.desk_rule.proofs.ListLemmas.{all_map, prefix_refl, prefix_trans, prefixes_agree, some_of}
 use Rattle.desk.specs.declared.pass.Sight.{Ghosts}
-use Rattle.desk.specs.Calls.{Calls, HasSeenNote, next_place, NoteAgrees}
+use Rattle.desk.specs.Calls.{Calls, HasSeenNote, Learns, next_place, NoteAgrees}
 use Rattle.desk.specs.Calls.{PostsOwed, SameNotices, Sees, TakesPending}
-use Rattle.desk.specs.Pass.{desk_of, history, Note, number, order, order_told_by, Pass, told_by}
-use Rattle.desk.specs.Sight.{TurnAt}
+use Rattle.desk.specs.Pass.{desk_of, history, Note, notes_learnt, notes_made, number, order, order_told_by, Pass, told_by}
+use Rattle.desk_rule.specs.Steps.{TurnAt}
 use Rattle.desk.specs.Tally.{Posts}
 use Rattle.desk.proofs.CallLemmas.{turn_notices}
 use Rattle.desk.proofs.PassLemmas.{call_added, notice_added, own_notices_one, own_one}
@@ -79,6 +79,15 @@ module _ {M C R S : Type 0} {G : Ghosts (View M C R)} (stands : M → S → Type
       (subst (λ es. IsPrefix v.seen es) (sym (ap (λ (x : View M C R). x.seen) is)) (prefix_refl v.seen))
       (subst (λ ns. IsPrefix v.notices ns) (sym (ap (λ (x : View M C R). x.notices) is)) (prefix_refl v.notices))
       table (ap (λ (x : View M C R). length x.passes) is ∙ one)
+
+  -- the pass learnt the note, and then looked
+  pub learns_told : (p q : Pass M C R G) (u : View M C R) (n : Note M C R G) (found : ℕ) (holding : Bool) → u ≡ after_note p.seat.me.0 n.seat.me.0
+      → Looks (Stepped stands steps) u found holding q.seat.me.0 → desk_of q ≡ desk_of p → length p.seat.me.0.passes ≡ 1 → notes_learnt q ≡ notes_learnt p + 1
+      → notes_made q ≡ notes_made p → Learns stands steps p q n
+  learns_told p q u n found holding is l table one counted made =
+      let seen = told_seen (Stepped stands steps) p.seat.me.0 u n.seat.me.0 q.seat.me.0 found holding is l in
+      let more = sees_told p q u n.seat.me.0 found holding is l table one in
+      record { sees = more; seen = seen; agrees = note_agrees p q n more seen; counted = counted; same_made = made }
 
   -- the pass took what is pending, and then looked
   pub sees_taken : (owes : R → ℕ) (p q : Pass M C R G) (u : View M C R) (server n found : ℕ) (holding : Bool) → TakesBits owes p.seat.me.0 server n u →

@@ -9,12 +9,15 @@ use Rattle.desk_rule.specs.declared.notice.Notice.{Notice}
 use Rattle.desk_rule.specs.declared.view.View.{View}
 use Rattle.history.specs.History.{calls_by, entry, IsLegalFrom}
 use Rattle.desk_rule.specs.History.{OneBegins, total_of}
-use Rattle.desk_rule.specs.Notices.{bits_for, IsOrder, IsPostAt, notice, notices_by, pending_after, posted_at}
+use Rattle.desk_rule.specs.Notices.{bits_for, IsOrder, IsPostAt, notice, notices_by, OwedIn, pending_after, posted_at, raised_in}
+use Rattle.desk.specs.declared.desk.Answer.{Answer}
+use Rattle.desk.specs.declared.desk.Taken.{Taken}
 use Rattle.desk.specs.declared.fault.DeskFault.{DeskFault}
 use Rattle.desk.specs.declared.fault.DeskFault.TheVariants.{Worn}
 use Rattle.desk.specs.declared.pass.Sight.{Ghosts}
 use Rattle.desk.specs.Pass.{calls, desk_of, first_place, history, notes_learnt, notes_made, notices, number, opening, order, Pass}
 use Rattle.desk.specs.Pass.{Note, order_told_by, told_by}
+use Rattle.desk.specs.Tally.{RaisesMask}
 
 module _ {M C R : Type 0} {G : Ghosts (View M C R)} where
   -- Whether q is the pass p at another time.
@@ -29,6 +32,14 @@ module _ {M C R : Type 0} {G : Ghosts (View M C R)} where
 
   abbrev pub SameNotices : Pass M C R G → Pass M C R G → Type 0
   SameNotices p q = notices q ≡ notices p
+
+  -- Whether the pass is still at its desk, and made and learnt no note.
+  abbrev pub StaysAtDesk : Pass M C R G → Pass M C R G → Type 0
+  StaysAtDesk p q = (desk_of q ≡ desk_of p) × SameNotes p q
+
+  -- Whether the pass is still at its desk, and posted and took nothing.
+  abbrev pub StaysUnnoticed : Pass M C R G → Pass M C R G → Type 0
+  StaysUnnoticed p q = (desk_of q ≡ desk_of p) × SameNotices p q
 
   -- Whether the pass has seen and called the same as before.
   pub record KnowsAsMuch (p q : Pass M C R G) : Type 0 where
@@ -75,6 +86,13 @@ module _ {M C R : Type 0} {G : Ghosts (View M C R)} where
     pub exact : (s b : ℕ) → s < 16 → total_of (posted_at s b) new ≡ bit_at (bits_for owed s) b
     pub no_others : (s b : ℕ) → 16 ≤ s → total_of (posted_at s b) new ≡ 0
 
+  -- Whether the pass posted exactly what the reply of its call owes.
+  pub record PostsReply (owes : R → ℕ) (p q : Pass M C R G) (answer : Answer R) : Type 0 where
+    pub owed : answer.owed ≡ owes answer.reply
+    pub posted : PostsOwed p q answer.place answer.owed
+    -- the bits of the mask that weren't pending
+    pub raised : RaisesMask (raised_in (notices p)) (raised_in (notices q)) answer.raised
+
   -- Whether the pass's one new notice is a take of `bits`, which are all that was pending for the server. The notices before
   -- it include all that the pass had seen.
   pub record TakesPending (p q : Pass M C R G) (server bits : ℕ) : Type 0 where
@@ -86,6 +104,16 @@ module _ {M C R : Type 0} {G : Ghosts (View M C R)} where
   -- The first place after the history that the pass has seen.
   abbrev pub next_place : Pass M C R G → ℕ
   next_place p = first_place p + length (history p)
+
+  -- Whether the pass took all that was pending for the server, and then looked how far the history goes.
+  pub record Takes {S : Type 0} (stands : M → S → Type 0) (steps : S → C → R → S → Type 0) (owes : R → ℕ) (p q : Pass M C R G) (server : ℕ)
+      (taken : Taken) : Type 0 where
+    pub server_is : server < 16
+    pub sees : Sees stands steps p q
+    pub pending : TakesPending p q server taken.bits
+    -- each bit is owed by a call that the pass has now seen, below the floor
+    pub owed : (b : ℕ) → bit_at taken.bits b ≡ 1 → OwedIn owes server b (history q)
+    pub floor : taken.floor ≡ next_place q
 
   -- Whether the refusal is Worn: no place below 2 ^ 62 is left, the pass has seen that, and the history is unchanged.
   abbrev pub FindsNoPlace : {S : Type 0} → (M → S → Type 0) → (S → C → R → S → Type 0) → DeskFault → Pass M C R G → Pass M C R G → Type 0
@@ -106,3 +134,13 @@ module _ {M C R : Type 0} {G : Ghosts (View M C R)} where
   -- Like `PassesAgree`, for a note and a pass.
   abbrev pub NoteAgrees : Note M C R G → Pass M C R G → Type 0
   NoteAgrees n p = OneBegins (told_by n) (history p) × OneBegins (order_told_by n) (order p)
+
+  -- Whether the pass learnt the note, and has now seen all that it carries.
+  pub record Learns {S : Type 0} (stands : M → S → Type 0) (steps : S → C → R → S → Type 0) (p q : Pass M C R G) (note : Note M C R G)
+      : Type 0 where
+    pub sees : Sees stands steps p q
+    pub seen : HasSeenNote note q
+    -- what it carries begins or extends what the pass had seen before
+    pub agrees : NoteAgrees note p
+    pub counted : notes_learnt q ≡ notes_learnt p + 1
+    pub same_made : notes_made q ≡ notes_made p

@@ -1,20 +1,16 @@
 //! The calls of a desk.
 
-ghost use Rattle.std.specs.Prelude.{◌≡◌, ◌≤◌, ◌<◌, ◌+◌, ◌^◌, ℕ, [], ◌∷◌, ◌++◌, IfOk, OnOk, IfErr};
-ghost use Rattle.std.specs.Int.{bit_at};
-ghost use Rattle.desk_rule.specs.Notices.{OwedIn, raised_in};
+ghost use Rattle.std.specs.Prelude.{◌≡◌, ◌≤◌, ◌<◌, ◌+◌, ◌^◌, IfOk, OnOk, IfErr};
 ghost use Rattle.desk.specs.Desk.{identity};
-ghost use Rattle.desk.specs.Calls.{Calls, CarriesAll, FindsNoPlace, HasSeenNote, KnowsAsMuch, NoteAgrees};
-ghost use Rattle.desk.specs.Calls.{PostsOwed, SameNotes, SameNotices, Sees, TakesPending, next_place};
-ghost use Rattle.desk.specs.Pass.{desk_of, desk_of_note, history, notes_learnt, notes_made, notices};
-ghost use Rattle.desk.specs.Tally.{RaisesMask};
+ghost use Rattle.desk.specs.Calls.{Calls, CarriesAll, FindsNoPlace, KnowsAsMuch, Learns, PostsReply, SameNotices, Sees};
+ghost use Rattle.desk.specs.Calls.{StaysAtDesk, StaysUnnoticed, Takes, next_place};
+ghost use Rattle.desk.specs.Pass.{desk_of, desk_of_note, notes_learnt, notes_made};
 
 use crate::desk::{Answer, Desk, Taken};
 use crate::fault::{DeskFault, LearnStop};
 use crate::notice::{post_owed, tally};
 use crate::pass::{Note, NoteOf, Pass};
-use crate::turn::{run_turn, wait_turn};
-use desk_rule::{Machine, join_note, look, split_note, take};
+use desk_rule::{Machine, call_in_turn, join_note, look, split_note, take};
 use std::sync::Wait;
 
 // The most notes that a pass makes, and the most that it learns.
@@ -34,19 +30,16 @@ impl<M: Machine> Desk<M> {
     where
         M::Command: Drop,
         requires of_desk { desk_of pass.old ≡ identity self.now }
-        ensures stays { desk_of pass.new ≡ desk_of pass.old }
+        ensures same { StaysAtDesk pass.old pass.new }
         ensures called { IfOk result (λ a. Calls M.stands M.steps pass.old pass.new command a.reply a.place) }
         ensures place { IfOk result (λ a. a.place < 2 ^ 62) }
-        ensures posted { IfOk result (λ a. (a.owed ≡ M.owes a.reply) × PostsOwed pass.old pass.new a.place a.owed) }
-        ensures raised { IfOk result (λ a. RaisesMask (raised_in (notices pass.old)) (raised_in (notices pass.new)) a.raised) }
-        ensures same { SameNotes pass.old pass.new }
+        ensures posted { IfOk result (PostsReply M.owes pass.old pass.new) }
         ensures worn { IfErr result (λ fault. FindsNoPlace M.stands M.steps fault pass.old pass.new) }
     {
         let shared = &self.table.shared;
-        let Some(place) = wait_turn(rt, shared, &mut pass.seat) else {
+        let Some((place, reply)) = call_in_turn(rt, shared, &mut pass.seat, command) else {
             return Err(DeskFault::Worn);
         };
-        let reply = run_turn(shared, &mut pass.seat, command);
         let owed = M::owed(&reply);
         let raised = post_owed(shared, &mut pass.seat, &mut pass.raises, owed);
         Ok(Answer {
@@ -64,12 +57,8 @@ impl<M: Machine> Desk<M> {
     /// from 16 on as BadServer. Takes no memory and never waits.
     pub fn take(&self, pass: &mut Pass<M>, server: u32) -> Result<Taken, DeskFault>
         requires { desk_of pass.old ≡ identity self.now }
-        ensures stays { desk_of pass.new ≡ desk_of pass.old }
-        ensures sees { OnOk result ((server < 16) × Sees M.stands M.steps pass.old pass.new) }
-        ensures taken { IfOk result (λ t. TakesPending pass.old pass.new server t.bits) }
-        ensures floor { IfOk result (λ t. t.floor ≡ next_place pass.new) }
-        ensures owed { IfOk result (λ t. (b : ℕ) → bit_at t.bits b ≡ 1 → OwedIn M.owes server b (history pass.new)) }
-        ensures same { OnOk result (SameNotes pass.old pass.new) }
+        ensures same { StaysAtDesk pass.old pass.new }
+        ensures taken { IfOk result (Takes M.stands M.steps M.owes pass.old pass.new server) }
         ensures refused { IfErr result (λ fault. (fault ≡ DeskFault.BadServer) × (16 ≤ server) × (pass.new ≡ pass.old)) }
     {
         if server >= 16 {
@@ -88,10 +77,9 @@ impl<M: Machine> Desk<M> {
     /// Returns how far the history goes: the first place without a call. Takes no memory and never waits.
     pub fn front(&self, pass: &mut Pass<M>) -> u64
         requires { desk_of pass.old ≡ identity self.now }
-        ensures stays { desk_of pass.new ≡ desk_of pass.old }
+        ensures same { StaysAtDesk pass.old pass.new × SameNotices pass.old pass.new }
         ensures sees { Sees M.stands M.steps pass.old pass.new }
         ensures front { result ≡ next_place pass.new }
-        ensures same { SameNotes pass.old pass.new × SameNotices pass.old pass.new }
     {
         look(&self.table.shared, &mut pass.seat) / 2
     }
@@ -100,7 +88,6 @@ impl<M: Machine> Desk<M> {
     /// Worn after 2^62 notes. Never waits.
     pub fn note(&self, pass: &mut Pass<M>) -> Result<Note<M>, DeskFault>
         requires { desk_of pass.old ≡ identity self.now }
-        ensures stays { desk_of pass.new ≡ desk_of pass.old }
         ensures told { IfOk result (λ n. (desk_of_note n ≡ identity self.now) × CarriesAll n pass.old) }
         ensures made { OnOk result ((notes_made pass.new ≡ notes_made pass.old + 1) × (notes_learnt pass.new ≡ notes_learnt pass.old)) }
         ensures same { KnowsAsMuch pass.old pass.new × SameNotices pass.old pass.new }
@@ -120,11 +107,8 @@ impl<M: Machine> Desk<M> {
     pub fn learn(&self, pass: &mut Pass<M>, note: Note<M>) -> Result<(), LearnStop<Note<M>>>
         requires pass { desk_of pass.old ≡ identity self.now }
         requires note { desk_of_note note ≡ identity self.now }
-        ensures stays { desk_of pass.new ≡ desk_of pass.old }
-        ensures learnt { OnOk result (Sees M.stands M.steps pass.old pass.new × HasSeenNote note pass.new) }
-        ensures agree { OnOk result (NoteAgrees note pass.old) }
-        ensures counted { OnOk result ((notes_learnt pass.new ≡ notes_learnt pass.old + 1) × (notes_made pass.new ≡ notes_made pass.old)) }
-        ensures same { SameNotices pass.old pass.new }
+        ensures same { StaysUnnoticed pass.old pass.new }
+        ensures learnt { OnOk result (Learns M.stands M.steps pass.old pass.new note) }
         ensures worn { IfErr result (λ stop. (stop.fault ≡ DeskFault.Worn) × (notes_learnt pass.old ≡ 2 ^ 62) × (pass.new ≡ pass.old)) }
         ensures back { IfErr result (λ stop. stop.note ≡ note) }
     {

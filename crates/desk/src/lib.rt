@@ -16,7 +16,6 @@ mod notice;
 mod open;
 mod pass;
 mod passes;
-mod turn;
 
 pub use account::{Account, Row};
 pub use close::{CloseStop, Closed};

@@ -5,10 +5,10 @@ ghost use Rattle.std.specs.List.{AllByRecursion};
 ghost use Rattle.desk_rule.specs.Passes.{notices_of};
 ghost use Rattle.desk_rule.specs.Rule.{opening_view};
 ghost use Rattle.desk_rule.specs.Seat.{IsAtTable};
+ghost use Rattle.desk_rule.specs.Steps.{rests_of};
 ghost use Rattle.desk.specs.Desk.{identity, opened_with, pass_count, first_call};
 ghost use Rattle.desk.specs.Opening.{AreNewPasses, IsDeskFault};
 ghost use Rattle.desk.specs.Pass.{desk_of};
-ghost use Rattle.desk.specs.Sight.{rests_of};
 
 use crate::desk::{Desk, DeskOf};
 use crate::fault::DeskFault;

@@ -23,7 +23,8 @@ pub trait Sight {
 }
 
 impl<M, C, R> Sight for View<M, C, R> {
-    ghost use Rattle.desk.specs.Sight.{listens_of, raised_of, rests_of, taken_of};
+    ghost use Rattle.desk_rule.specs.Steps.{rests_of};
+    ghost use Rattle.desk.specs.Sight.{listens_of, raised_of, taken_of};
 
     ghost rests = { rests_of };
 

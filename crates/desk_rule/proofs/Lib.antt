@@ -2,6 +2,7 @@ pub mod ListLemmas
 pub mod OrderLemmas
 pub mod RuleLemmas
 pub mod TurnLemmas
+pub mod WaitLemmas
 pub mod SeatLemmas
 pub mod NoticeLemmas
 pub mod TableLemmas

@@ -5,3 +5,4 @@ pub mod Rule
 pub mod Kinds
 pub mod Seat
 pub mod Laws
+pub mod Steps

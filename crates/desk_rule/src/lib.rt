@@ -3,8 +3,8 @@
 //! A desk is a table of atomic words with one slot, which has the machine. Word 0 has the place of the next call, and one
 //! bit that says whether a thread holds the turn, like the sequence number of a sequence lock. Each of 16 servers has a
 //! word of pending notices, as MINIX 3 has a bitmap of pending notifications for each receiver. The rule relates the
-//! words, the slot and what each thread knows. Each kind of step is a function. Its contract says what the step returns,
-//! and that the step keeps the rule. The rule and its steps are this project's.
+//! words, the slot and what each thread knows. Each kind of step is a function, and so is a whole turn. Its contract says
+//! what it returns, and that it keeps the rule. The rule and its steps are this project's.
 #![tactic(auto)]
 
 mod law;
@@ -29,5 +29,5 @@ pub use table::{
     DeskRule, DeskSeat, DeskShared, DeskTable, DeskView, Home, LastCall, Opening, Slot,
     close_table, new_table,
 };
-pub use turn::{end_turn, hold, machine_back, machine_out};
+pub use turn::call_in_turn;
 pub use view::{PassLog, View};

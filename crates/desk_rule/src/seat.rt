@@ -3,7 +3,8 @@
 ghost use Rattle.std.specs.Prelude.{◌≡◌, ℕ, ◌+◌, ◌<◌, [], false};
 ghost use Rattle.desk_rule.specs.Kinds.{after_note, after_pass, note_view, one_pass, other_passes};
 ghost use Rattle.desk_rule.specs.Passes.{fresh};
-ghost use Rattle.desk_rule.specs.Seat.{IsAtTable, SameSeat};
+ghost use Rattle.desk_rule.specs.Seat.{IsAtTable};
+ghost use Rattle.desk_rule.specs.Steps.{Joins, MayJoin, Splits};
 
 use crate::play::{JoinNote, JoinPass, SplitNote, SplitPass};
 use crate::table::{DeskSeat, DeskShared};
@@ -14,9 +15,7 @@ pub fn split_pass<M: Machine>(shared: &DeskShared<M>, seat: &mut DeskSeat<M>) ->
     requires at { IsAtTable shared.now.table_id seat.old }
     requires fresh { (n : ℕ) × (seat.old.me.0.passes ≡ fresh (n + 2)) }
     requires resting { seat.old.me.0.holding ≡ false }
-    ensures same { SameSeat seat.old seat.new }
-    ensures left { seat.new.me ≡ (other_passes seat.old.me.0, seat.old.me.1) }
-    ensures right { (result.table_id ≡ seat.old.table_id) × (result.me ≡ (one_pass seat.old.me.0, [])) }
+    ensures split { Splits seat.old seat.new result (other_passes seat.old.me.0) (one_pass seat.old.me.0) }
 {
     shared.split_seat::<SplitPass>(seat)
 }
@@ -24,8 +23,7 @@ pub fn split_pass<M: Machine>(shared: &DeskShared<M>, seat: &mut DeskSeat<M>) ->
 /// Splits off a seat without a pass, which knows what this seat has seen.
 pub fn split_note<M: Machine>(shared: &DeskShared<M>, seat: &mut DeskSeat<M>) -> DeskSeat<M>
     requires { IsAtTable shared.now.table_id seat.old }
-    ensures same { SameSeat seat.old seat.new × (seat.new.me ≡ seat.old.me) }
-    ensures note { (result.table_id ≡ seat.old.table_id) × (result.me ≡ (note_view seat.old.me.0, [])) }
+    ensures split { Splits seat.old seat.new result seat.old.me.0 (note_view seat.old.me.0) }
 {
     shared.split_seat::<SplitNote>(seat)
 }
@@ -33,10 +31,9 @@ pub fn split_note<M: Machine>(shared: &DeskShared<M>, seat: &mut DeskSeat<M>) ->
 /// Lets the seat learn what a note has seen. The note is spent.
 pub fn join_note<M: Machine>(shared: &DeskShared<M>, seat: &mut DeskSeat<M>, note: DeskSeat<M>)
     requires at { IsAtTable shared.now.table_id seat.old }
-    requires note { IsAtTable shared.now.table_id note × (note.me.1 ≡ []) }
-    requires no_pass { (note.me.0.passes ≡ []) × (note.me.0.holding ≡ false) }
-    ensures same { SameSeat seat.old seat.new }
-    ensures told { seat.new.me ≡ (after_note seat.old.me.0 note.me.0, seat.old.me.1) }
+    requires note { MayJoin shared.now.table_id note }
+    requires no_pass { note.me.0.passes ≡ [] }
+    ensures joined { Joins seat.old seat.new (after_note seat.old.me.0 note.me.0) }
 {
     shared.join_seat::<JoinNote>(seat, note);
 }
@@ -45,10 +42,8 @@ pub fn join_note<M: Machine>(shared: &DeskShared<M>, seat: &mut DeskSeat<M>, not
 /// one is spent.
 pub fn join_pass<M: Machine>(shared: &DeskShared<M>, seat: &mut DeskSeat<M>, other: DeskSeat<M>)
     requires at { IsAtTable shared.now.table_id seat.old }
-    requires other { IsAtTable shared.now.table_id other × (other.me.1 ≡ []) }
-    requires resting { other.me.0.holding ≡ false }
-    ensures same { SameSeat seat.old seat.new }
-    ensures both { seat.new.me ≡ (after_pass seat.old.me.0 other.me.0, seat.old.me.1) }
+    requires other { MayJoin shared.now.table_id other }
+    ensures joined { Joins seat.old seat.new (after_pass seat.old.me.0 other.me.0) }
 {
     shared.join_seat::<JoinPass>(seat, other);
 }

@@ -1,11 +1,10 @@
 //! The steps that a seat may make at any time, with or without the turn.
 
-ghost use Rattle.std.specs.Prelude.{◌≡◌, ℕ, ◌^◌, ◌<◌, ◌≤◌, true, length, is_some};
+ghost use Rattle.std.specs.Prelude.{◌<◌, length};
 ghost use Rattle.history.specs.History.{Stepped};
-ghost use Rattle.desk_rule.specs.History.{count_calls};
-ghost use Rattle.desk_rule.specs.Kinds.{LastOwes, Looks, MakesNotice, TakesBits, TellsTurn, post_of};
-ghost use Rattle.desk_rule.specs.Notices.{bits_for, raised_by};
-ghost use Rattle.desk_rule.specs.Seat.{IsAtTable, SameSeat};
+ghost use Rattle.desk_rule.specs.Kinds.{TakesBits};
+ghost use Rattle.desk_rule.specs.Seat.{IsAtTable};
+ghost use Rattle.desk_rule.specs.Steps.{KeepsSlots, LooksAt, MayPost, PostsAt};
 
 use crate::play::{Look, PostBits, TakeBits};
 use crate::table::{DeskSeat, DeskShared};
@@ -15,10 +14,7 @@ use history::Machine;
 /// entries up to that place.
 pub fn look<M: Machine>(shared: &DeskShared<M>, seat: &mut DeskSeat<M>) -> u64
     requires { IsAtTable shared.now.table_id seat.old }
-    ensures same { SameSeat seat.old seat.new × (seat.new.me.1 ≡ seat.old.me.1) }
-    ensures looks { Looks (Stepped M.stands M.steps) seat.old.me.0 result seat.old.me.0.holding seat.new.me.0 }
-    ensures below { result ≤ 2 ^ 63 }
-    ensures turn { TellsTurn (Stepped M.stands M.steps) M.owes seat.old.me.0 result }
+    ensures { LooksAt (Stepped M.stands M.steps) M.owes seat.old result seat.new }
 {
     shared.load::<Look>(seat, 0)
 }
@@ -33,12 +29,8 @@ pub fn post<M: Machine>(
 ) -> u64
     requires at { IsAtTable shared.now.table_id seat.old }
     requires server { server < 16 }
-    requires opened { is_some seat.old.me.0.opening ≡ true }
-    requires owed { (owed : ℕ) × LastOwes M.owes seat.old.me.0 owed × (bits ≡ bits_for owed server) × (bits < 256) }
-    requires few { (b : ℕ) → raised_by seat.old.me.0.passes server b < count_calls seat.old.me.0.passes }
-    ensures same { SameSeat seat.old seat.new × (seat.new.me.1 ≡ seat.old.me.1) }
-    ensures word { result < 2 ^ 64 }
-    ensures posted { MakesNotice seat.old.me.0 (post_of seat.old.me.0 server bits result) seat.new.me.0 }
+    requires owed { MayPost M.owes seat.old.me.0 server bits }
+    ensures { PostsAt seat.old server bits result seat.new }
 {
     shared.fetch_or::<PostBits>(seat, server + 1, bits)
 }
@@ -49,7 +41,7 @@ pub fn take<M: Machine>(shared: &DeskShared<M>, seat: &mut DeskSeat<M>, server: 
     requires at { IsAtTable shared.now.table_id seat.old }
     requires server { server < 16 }
     requires some_pass { 0 < length seat.old.me.0.passes }
-    ensures same { SameSeat seat.old seat.new × (seat.new.me.1 ≡ seat.old.me.1) }
+    ensures same { KeepsSlots seat.old seat.new }
     ensures taken { TakesBits M.owes seat.old.me.0 server result seat.new.me.0 }
 {
     shared.swap::<TakeBits>(seat, server + 1, 0)

@@ -1,11 +1,10 @@
 //! The table that threads share: word 0, one pending word for each server, and a slot for the machine.
 
-ghost use Rattle.std.specs.Prelude.{◌≡◌, ◌≤◌, ◌<◌, ◌+◌, ◌^◌, ℕ, [], true, false, length, is_some, slice_index, IfSome, IfOk, IfErr};
+ghost use Rattle.std.specs.Prelude.{◌≡◌, ◌≤◌, ◌<◌, ◌+◌, ◌^◌, ℕ, true, false, length, is_some, slice_index, IfSome, IfOk, IfErr};
 ghost use Rattle.std.specs.Mem.Slots.{slots_items, slots_len, IsFull};
 ghost use Rattle.history.specs.History.{Stepped};
-ghost use Rattle.desk_rule.specs.Notices.{AreBalanced, raised_by};
-ghost use Rattle.desk_rule.specs.Rule.{opening_view};
-ghost use Rattle.desk_rule.specs.Seat.{IsAtTable, IsOpening, LeavesTable};
+ghost use Rattle.desk_rule.specs.Seat.{IsAtTable, LeavesTable};
+ghost use Rattle.desk_rule.specs.Steps.{BitsAddUp, OpensTable};
 
 use crate::view::View;
 use atomic_table::{Closed, Refused, Seat, Shared, Table, TableRule};
@@ -81,8 +80,7 @@ pub fn new_table<M: Machine>(
     first: u64,
 ) -> Result<(DeskTable<M>, DeskSeat<M>), M>
     requires { first ≤ 2 ^ 62 }
-    ensures table { IfOk result (λ t. IsOpening t.0.shared.key machine passes first) }
-    ensures seat { IfOk result (λ t. IsAtTable t.0.shared.table_id t.1 × (t.1.me ≡ (opening_view machine first passes, []))) }
+    ensures opened { IfOk result (λ t. OpensTable t.0.shared.table_id t.0.shared.key t.1 machine passes first) }
     ensures back { IfErr result (λ m. m ≡ machine) }
 {
     let opening = Opening {
@@ -139,8 +137,7 @@ pub fn close_table<M: Machine>(table: DeskTable<M>, seat: DeskSeat<M>) -> (M, [u
     requires resting { seat.me.0.holding ≡ false }
     requires all { table.shared.key.passes ≤ length seat.me.0.passes }
     ensures closed { LeavesTable (Stepped M.stands M.steps) M.owes table.shared.key seat.me.0 result.0 result.1 }
-    ensures balance { AreBalanced seat.me.0.passes result.1 }
-    ensures few { (server bit : ℕ) → server < 16 → raised_by seat.me.0.passes server bit ≤ 2 ^ 62 }
+    ensures bits { BitsAddUp seat.me.0.passes result.1 }
 {
     let mut closed = table.close_with(seat);
     let slot = closed.take(0);

@@ -1,17 +1,112 @@
-//! The steps of a turn: a seat takes the turn, takes the machine out of the slot, puts it back, and ends the turn.
+//! A turn: a seat takes the turn, takes the machine out of the slot, steps it, puts it back, and ends the turn.
 
-ghost use Rattle.std.specs.Prelude.{◌≡◌, ◌≢◌, ℕ, ◌+◌, ◌*◌, ◌^◌, ◌<◌, ◌≤◌, [], ◌∷◌, length, is_some, Some, None, true};
-ghost use Rattle.history.specs.History.{Run, Stepped};
-ghost use Rattle.desk_rule.specs.Kinds.{EntersCall, LooksAlone, TakesTurn, TellsTurn};
+ghost use Rattle.std.specs.Prelude.{◌≡◌, ◌≢◌, ℕ, ◌+◌, ◌*◌, ◌^◌, ◌<◌, ◌≤◌, [], ◌∷◌, length, Some, None, true, false};
+ghost use Rattle.std.specs.Prelude.{IfSome, IfNone};
+ghost use Rattle.history.specs.History.{IsLegal, Run, Stepped};
+ghost use Rattle.desk_rule.specs.History.{OwnCalls};
+ghost use Rattle.desk_rule.specs.Kinds.{EntersCall, Looks, LooksAlone, TakesTurn, TellsTurn, after_turn};
 ghost use Rattle.desk_rule.specs.Seat.{EndsTurn, HoldsTurn, IsAtTable, SameSeat};
+ghost use Rattle.desk_rule.specs.Steps.{FindsWorn, HoldsTurnAt, MakesCall, Rests};
 
 use crate::play::{EndTurn, Hold};
-use crate::table::{DeskSeat, DeskShared, Home};
+use crate::step::look;
+use crate::table::{DeskSeat, DeskShared, Home, LastCall};
 use history::Machine;
+use std::snapshot::Snapshot;
+use std::sync::Wait;
+use std::thread;
 
-/// Takes the turn if word 0 is `word`, which must be a word of a free turn. Returns the word before. If that is another
-/// word, the step was only a `look`.
-pub fn hold<M: Machine>(shared: &DeskShared<M>, seat: &mut DeskSeat<M>, word: u64) -> u64
+// The value of word 0 if no place is left.
+const WORN: u64 = 1 << 63;
+
+/// Waits until the turn is free and takes it, steps the machine once, and ends the turn. Returns the place of the call and the reply, or
+/// `None` if no place is left. The call becomes the last entry of the history and of its pass's calls.
+pub fn call_in_turn<M: Machine, W: Wait>(
+    rt: &W,
+    shared: &DeskShared<M>,
+    seat: &mut DeskSeat<M>,
+    command: M::Command,
+) -> Option<(u64, M::Reply)>
+where
+    M::Command: Drop,
+    requires at { IsAtTable shared.now.table_id seat.old }
+    requires rests { Rests seat.old }
+    ensures called { IfSome result (λ told. MakesCall (Stepped M.stands M.steps) seat.old command told.1 told.0 seat.new) }
+    ensures worn { IfNone result (FindsWorn (Stepped M.stands M.steps) seat.old seat.new) }
+{
+    let Some(place) = wait_turn(rt, shared, seat) else {
+        return None;
+    };
+    let reply = run_turn(shared, seat, command);
+    Some((place, reply))
+}
+
+// Waits until the turn is free, and takes it. Returns the place of the call, or `None` if no place is left.
+fn wait_turn<M: Machine, W: Wait>(
+    rt: &W,
+    shared: &DeskShared<M>,
+    seat: &mut DeskSeat<M>,
+) -> Option<u64>
+    requires at { IsAtTable shared.now.table_id seat.old }
+    requires rests { Rests seat.old }
+    ensures same { SameSeat seat.old seat.new }
+    ensures turn { IfSome result (λ place. HoldsTurnAt (Stepped M.stands M.steps) seat.old place seat.new) }
+    ensures worn { IfNone result (Looks (Stepped M.stands M.steps) seat.old.me.0 (2 ^ 63) false seat.new.me.0 × Rests seat.new) }
+{
+    for _ in rt.forever() {
+        let word = look(shared, seat);
+        if word == WORN {
+            return None;
+        }
+        if word % 2 == 0 {
+            let found = hold(shared, seat, word);
+            if found == word {
+                return Some(word / 2);
+            }
+        }
+        thread::yield_now();
+    }
+    unreachable!()
+}
+
+// Steps the machine, and ends the turn.
+fn run_turn<M: Machine>(
+    shared: &DeskShared<M>,
+    seat: &mut DeskSeat<M>,
+    command: M::Command,
+) -> M::Reply
+    requires at { IsAtTable shared.now.table_id seat.old }
+    requires holds { HoldsTurn (Stepped M.stands M.steps) seat.old }
+    ensures same { SameSeat seat.old seat.new }
+    ensures ended { seat.new.me ≡ (after_turn seat.old.me.0 command result, []) }
+    ensures own { OwnCalls seat.new.me.0.seen seat.new.me.0.passes }
+    ensures legal { (m : M) → seat.old.me.0.opening ≡ Some m → IsLegal (Stepped M.stands M.steps) m seat.new.me.0.seen }
+{
+    let Home {
+        mut machine,
+        last: _,
+    } = machine_out(shared, seat);
+    let said = Snapshot::of(&command);
+    let reply = machine.step(command);
+    let last = LastCall {
+        command: said,
+        reply: Snapshot::of(&reply),
+    };
+    machine_back(
+        shared,
+        seat,
+        Home {
+            machine,
+            last: Some(last),
+        },
+    );
+    end_turn(shared, seat);
+    reply
+}
+
+// Takes the turn if word 0 is `word`, which must be a word of a free turn. Returns the word before. If that is another
+// word, the step was only a `look`.
+fn hold<M: Machine>(shared: &DeskShared<M>, seat: &mut DeskSeat<M>, word: u64) -> u64
     requires at { IsAtTable shared.now.table_id seat.old }
     requires some_pass { 0 < length seat.old.me.0.passes }
     requires free { (n : ℕ) × (word ≡ 2 * n) × (n < 2 ^ 62) }
@@ -24,8 +119,8 @@ pub fn hold<M: Machine>(shared: &DeskShared<M>, seat: &mut DeskSeat<M>, word: u6
     shared.compare_exchange::<Hold>(seat, 0, word, word + 1)
 }
 
-/// Takes the contents out of the slot: the last call, and the machine after all entries that the seat has seen.
-pub fn machine_out<M: Machine>(
+// Takes the contents out of the slot: the last call, and the machine after all entries that the seat has seen.
+fn machine_out<M: Machine>(
     shared: &DeskShared<M>,
     seat: &mut DeskSeat<M>,
 ) -> Home<M, M::Command, M::Reply>
@@ -42,8 +137,8 @@ pub fn machine_out<M: Machine>(
     }
 }
 
-/// Puts the machine back into the slot, with the call that it answered.
-pub fn machine_back<M: Machine>(
+// Puts the machine back into the slot, with the call that it answered.
+fn machine_back<M: Machine>(
     shared: &DeskShared<M>,
     seat: &mut DeskSeat<M>,
     home: Home<M, M::Command, M::Reply>,
@@ -59,8 +154,8 @@ pub fn machine_back<M: Machine>(
     }
 }
 
-/// Ends the turn. The call becomes the last entry of the history and of its pass's calls.
-pub fn end_turn<M: Machine>(shared: &DeskShared<M>, seat: &mut DeskSeat<M>)
+// Ends the turn. The call becomes the last entry of the history and of its pass's calls.
+fn end_turn<M: Machine>(shared: &DeskShared<M>, seat: &mut DeskSeat<M>)
     requires at { IsAtTable shared.now.table_id seat.old }
     requires ends { EndsTurn (Stepped M.stands M.steps) seat.old }
     ensures same { SameSeat seat.old seat.new }

@@ -50,7 +50,7 @@ fn exchange_at<W: Wait>(
     ensures exchanged { IfOk result (HasExchanged first.old.pass first.new.pass second.old.pass second.new.pass cursor.old cursor.new) }
     ensures fault { IfErr result (IsExchangeFault first.old.pass first.new.pass second.old.pass second.new.pass) }
 {
-    match exchange_once(first, second, *cursor) {
+    match exchange_once(first.rt(), first, second, *cursor) {
         Ok(exchanged) => {
             *cursor = Some(exchanged.cursor);
             Ok(exchanged.more)

@@ -201,7 +201,7 @@ fn exchange_at<W: Wait>(
 {
     let mut here = Seat::new(rt, first, pass);
     let mut there = Seat::new(rt, second, other);
-    let told = exchange_once(&mut here, &mut there, from);
+    let told = exchange_once(rt, &mut here, &mut there, from);
     let _other = there.leave();
     let _pass = here.leave();
     told

@@ -6,7 +6,7 @@ use Rattle.desk.specs.Pass.{desk_of}
 use Rattle.desk.specs.Closing.{HasAllNoticed, HasAllSeen}
 use Rattle.desk.proofs.CloseLemmas.{all_last, gathers_more, gathers_none}
 use Rattle.desk.proofs.RowLemmas.{wraps_first}
-use Rattle.desk.proofs.SightLemmas.{rests_facts}
+use Rattle.desk_rule.proofs.WaitLemmas.{rests_facts}
 use Rattle.desk.proofs.close.gather.Goals as goal
 
 pub loop-pass-init : goal.loop-pass-init
@@ -22,17 +22,18 @@ join_pass-requires-clause-at g c = (c.loop-pass.invariant.0.same_table ∙ c.req
 pub join_pass-requires-clause-other : goal.join_pass-requires-clause-other
 join_pass-requires-clause-other g c = let i = c.loop-pass.invariant in let p = c.in-Some.pass in
     let both = all_last (λ p. desk_of p ≡ c.args.shared.now.table_id) c.pop.new.self.items c.loop-pass.others.items p c.in-Some.ensures.items i.1 in
-    ((both.1, c.requires.at.1, c.requires.at.2), nil_of _ p.nothing_out)
-
-pub join_pass-requires-clause-resting : goal.join_pass-requires-clause-resting
-join_pass-requires-clause-resting g c = (rests_facts c.in-Some.pass.seat.me.0 c.in-Some.pass.resting).0
+    record {
+      at = (both.1, c.requires.at.1, c.requires.at.2);
+      no_slot = nil_of _ p.nothing_out;
+      resting = (rests_facts p.seat.me.0 p.resting).0;
+    }
 
 pub loop-pass-preserved : goal.loop-pass-preserved
-loop-pass-preserved g c = let i = c.loop-pass.invariant in let p = c.in-Some.pass in let join = c.join_pass.ensures in
+loop-pass-preserved g c = let i = c.loop-pass.invariant in let p = c.in-Some.pass in let join = c.join_pass.ensures.joined in
     let both = all_last (λ p. desk_of p ≡ c.args.shared.now.table_id) c.pop.new.self.items c.loop-pass.others.items p c.in-Some.ensures.items i.1 in (
-      gathers_more (Stepped g.M.Machine.stands g.M.Machine.steps) _ _ _ _ _ _ p _ _ _ _ _ _ _ i.0 c.in-Some.ensures.items (c.look.ensures.same.0.0 ∙ join.same.0)
+      gathers_more (Stepped g.M.Machine.stands g.M.Machine.steps) _ _ _ _ _ _ p _ _ _ _ _ _ _ i.0 c.in-Some.ensures.items (c.look.ensures.same.0 ∙ join.same.0)
           (subst (λ m. Looks (Stepped g.M.Machine.stands g.M.Machine.steps) m.0 c.look.result m.0.holding c.look.new.seat.me.0)
-          {y = (after_pass c.loop-pass.seat.me.0 p.seat.me.0, c.loop-pass.seat.me.1)} join.both
+          {y = (after_pass c.loop-pass.seat.me.0 p.seat.me.0, c.loop-pass.seat.me.1)} join.both_is
           c.look.ensures.looks) p.raises_counted c.add_rows.ensures p.takes_counted c.add_rows-in-Some.ensures,
       both.0,
     )

@@ -1,6 +1,6 @@
 use Rattle.desk_rule.specs.Notices.{raised_at, raised_by, taken_at, taken_by}
 use Rattle.desk.proofs.OpenLemmas.{weighs_none}
-use Rattle.desk.proofs.SightLemmas.{rests_facts}
+use Rattle.desk_rule.proofs.WaitLemmas.{rests_facts}
 use Rattle.desk.proofs.TallyLemmas.{new_rows}
 use Rattle.desk.proofs.open.new_pass.Goals as goal
 

@@ -27,12 +27,13 @@ returns-clause-closed g c =
     closed_machine _ _ _ _ _ _ _ _ (final_machine _ _ _ _ _ _ _ _ _ _ _ c.close_with-closed.ensures.values.2 c.requires.resting c.requires.all c.take-slot.ensures.value
     (λ t small. c.pending_words-pending.ensures t small ∙ ap (λ w. slice_index (slots_items w) (t + 1)) c.take-slot.ensures.others.3)) c.machine_of.ensures
 
-pub returns-clause-balance : goal.returns-clause-balance
-returns-clause-balance g c server bit small = (final_notices _ _ _ _ _ _ _ _ _ c.close_with-closed.ensures.values.2 c.requires.all server bit small).0
-    ∙ ap (λ n. taken_by c.args.seat.me.0.passes server bit + bit_at n bit) (sym (c.pending_words-pending.ensures server small ∙ ap (λ w. slice_index (slots_items w) (server + 1)) c.take-slot.ensures.others.3))
-
-pub returns-clause-few : goal.returns-clause-few
-returns-clause-few g c server bit small = (final_notices _ _ _ _ _ _ _ _ _ c.close_with-closed.ensures.values.2 c.requires.all server bit small).1
+pub returns-clause-bits : goal.returns-clause-bits
+returns-clause-bits g c = record {
+  balanced = λ server bit small. (final_notices _ _ _ _ _ _ _ _ _ c.close_with-closed.ensures.values.2 c.requires.all server bit small).0
+      ∙ ap (λ n. taken_by c.args.seat.me.0.passes server bit + bit_at n bit)
+      (sym (c.pending_words-pending.ensures server small ∙ ap (λ w. slice_index (slots_items w) (server + 1)) c.take-slot.ensures.others.3));
+  few = λ server bit small. (final_notices _ _ _ _ _ _ _ _ _ c.close_with-closed.ensures.values.2 c.requires.all server bit small).1;
+}
 
 -- the one slot is empty
 pub free-requires : goal.free-requires

@@ -8,4 +8,4 @@ returns-in-Ok-clause-keeps g c =
     let old = c.args.pass.now in
     let new = c.take.new.pass in
     keeps_up_later (pass_record old) (pass_record new) c.args.follower.now
-    (sees_by_looks old new c.in-Ok.ensures.sees.1) c.requires.keeps
+    (sees_by_looks old new c.in-Ok.ensures.taken.sees) c.requires.keeps

@@ -51,4 +51,4 @@ returns-clause-account g c =
     let items = sym c.passes.view_is ∙ (c.pop.ensures.items ∙ ap (λ o. c.pop.new.self.items ++ option_to_list o) c.unwrap-last.ensures) in
     let is = all_gathered c.args.passes c.pop.new.self.items c.unwrap-last.result _ items c.gather.ensures.passes in
     let t = c.close_table-machine.ensures in let n = c.gather.ensures in
-    account_of (λ v e. e) c.gather.new.seat.me.0 c.args.passes _ _ _ _ is t.balance t.few n.counted.0 n.counted.1 c.fill_rows.ensures.long c.fill_rows.ensures.rows
+    account_of (λ v e. e) c.gather.new.seat.me.0 c.args.passes _ _ _ _ is t.bits.balanced t.bits.few n.counted.0 n.counted.1 c.fill_rows.ensures.long c.fill_rows.ensures.rows

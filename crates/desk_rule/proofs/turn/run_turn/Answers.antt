@@ -1,5 +1,5 @@
-use Rattle.desk.proofs.TurnLemmas.{ended, ends, legal_after, put_back}
-use Rattle.desk.proofs.turn.run_turn.Goals as goal
+use Rattle.desk_rule.proofs.WaitLemmas.{ended, ends, legal_after, put_back}
+use Rattle.desk_rule.proofs.turn.run_turn.Goals as goal
 
 pub end_turn-requires-clause-ends : goal.end_turn-requires-clause-ends
 end_turn-requires-clause-ends g c = let o = c.machine_out-machine.ensures in

@@ -1,5 +1,5 @@
 -- Loads of word 0 until the turn is taken or no place is left; and the effect of a turn.
-use Rattle.std.proofs.Common.{◌≡◌, ℕ, ◌+◌, ◌/◌, ◌%◌, ◌^◌, ◌≤◌, Bool, true, false, List, [], ◌∷◌, ◌++◌, length, refl, ap, sym, ◌∙◌, subst, arith, Some, None}
+use Rattle.std.proofs.Common.{◌≡◌, ℕ, ◌+◌, ◌/◌, ◌%◌, ◌^◌, ◌≤◌, ◌==◌, Bool, true, false, not, ◌&&◌, List, [], ◌∷◌, ◌++◌, length, refl, ap, sym, ◌∙◌, subst, arith, eq-eqb, eqb-true, Some, None}
 use Rattle.std.specs.Prelude.{is_some}
 use Rattle.std.specs.declared.snapshot.Snapshot.{Snapshot}
 use mathlib.Core.List.{IsPrefix}
@@ -15,10 +15,19 @@ use Rattle.desk_rule.specs.Passes.{number_of}
 use Rattle.desk_rule.specs.Kinds.{after_look, after_turn, GetsMachine, Looks, AtSeat}
 use Rattle.desk_rule.specs.Seat.{EndsTurn, HoldsTurn, SeatOf}
 use Rattle.desk_rule.proofs.ListLemmas.{nil_of, prefix_trans, some_of}
-use Rattle.desk.specs.Sight.{Rests, TurnAt}
-use Rattle.desk.proofs.SightLemmas.{rests, rests_facts}
+use Rattle.desk_rule.specs.Steps.{Rests, rests_of, TurnAt}
+use Rattle.std.proofs.lemmas.Bool.{and_parts, not-true}
 
 module _ {M C R : Type 0} where
+  pub rests_facts : (v : View M C R) → rests_of v ≡ true → (v.holding ≡ false) × (length v.passes ≡ 1) × (is_some v.opening ≡ true)
+  rests_facts v e =
+      let a = and_parts (not v.holding) ((length v.passes == 1) && is_some v.opening) e in
+      let b = and_parts (length v.passes == 1) (is_some v.opening) a.1 in
+      (not-true v.holding a.0, eqb-true (length v.passes) 1 b.0, b.1)
+
+  pub rests : (v : View M C R) → v.holding ≡ false → length v.passes ≡ 1 → is_some v.opening ≡ true → rests_of v ≡ true
+  rests v free one opened = ap (λ x. not x && ((length v.passes == 1) && is_some v.opening)) free ∙ (ap (λ x. x && is_some v.opening) (eq-eqb (length v.passes) 1 one) ∙ opened)
+
   -- w is v after some looks
   pub record Follows (v w : View M C R) : Type 0 where
     pub opening : w.opening ≡ v.opening
