@@ -21,3 +21,4 @@ pub mod Asking
 pub mod BothWays
 pub mod PairRecord
 pub mod PairLater
+pub mod Laws

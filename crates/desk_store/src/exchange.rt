@@ -1,12 +1,13 @@
-//! One exchange between the stores of two desks.
+//! One exchange between the stores of two desks, each the desk of a store or of RS and its store.
 
 ghost use Rattle.std.specs.Prelude.{None, Some, IfOk, IfErr};
 ghost use Rattle.desk_store.specs.Exchange.{Exchanges, SeatsExchangeOnly};
 ghost use Rattle.desk_store.specs.ExchangeFaults.{IsExchangeFault};
 
+use crate::client_seat::ClientSeat;
+use crate::exchange_calls::{page, since};
 use crate::exchange_fault::ExchangeFault;
 use crate::giving::give;
-use crate::seat::Seat;
 use ds_feed::{Cursor, Page, Since};
 use ds_machine::Scope;
 use ds_names::limits::MOST_ITEMS;
@@ -32,32 +33,34 @@ pub struct Exchanged {
 /// all that `a` holds, by pages of 256, and the next cursor is the first page's. The items go to `b` in Merges of at most 256. From then
 /// on `b` holds each of them, or an item that covers it. Fails with `Refused(Behind)` if the journal of `a` doesn't reach back to the
 /// cursor; the caller should then begin again without one.
-pub fn exchange_once<W: Wait>(
-    a: &mut Seat<'_, W>,
-    b: &mut Seat<'_, W>,
+pub fn exchange_once<W: Wait, A: ClientSeat, B: ClientSeat>(
+    rt: &W,
+    a: &mut A,
+    b: &mut B,
     from: Option<Cursor>,
 ) -> Result<Exchanged, ExchangeFault>
-    ensures only { SeatsExchangeOnly a.old a.new b.old b.new from }
-    ensures exchanged { IfOk result (Exchanges a.old.pass a.new.pass b.old.pass b.new.pass from) }
-    ensures fault { IfErr result (IsExchangeFault a.old.pass a.new.pass b.old.pass b.new.pass) }
+    ensures only { SeatsExchangeOnly (A.seat a.old) (A.seat a.new) (B.seat b.old) (B.seat b.new) from }
+    ensures exchanged { IfOk result (Exchanges (A.seat a.old).pass (A.seat a.new).pass (B.seat b.old).pass (B.seat b.new).pass from) }
+    ensures fault { IfErr result (IsExchangeFault (A.seat a.old).pass (A.seat a.new).pass (B.seat b.old).pass (B.seat b.new).pass) }
 {
     match from {
         Some(cursor) => exchange_since(a, b, cursor),
-        None => exchange_pages(a, b),
+        None => exchange_pages(rt, a, b),
     }
 }
 
 // Sends what took effect from the cursor on.
-fn exchange_since<W: Wait>(
-    a: &mut Seat<'_, W>,
-    b: &mut Seat<'_, W>,
+fn exchange_since<A: ClientSeat, B: ClientSeat>(
+    a: &mut A,
+    b: &mut B,
     from: Cursor,
 ) -> Result<Exchanged, ExchangeFault>
-    ensures only { SeatsExchangeOnly a.old a.new b.old b.new (Some from) }
-    ensures exchanged { IfOk result (Exchanges a.old.pass a.new.pass b.old.pass b.new.pass (Some from)) }
-    ensures fault { IfErr result (IsExchangeFault a.old.pass a.new.pass b.old.pass b.new.pass) }
+    ensures only { SeatsExchangeOnly (A.seat a.old) (A.seat a.new) (B.seat b.old) (B.seat b.new) (Some from) }
+    ensures exchanged { IfOk result
+        (Exchanges (A.seat a.old).pass (A.seat a.new).pass (B.seat b.old).pass (B.seat b.new).pass (Some from)) }
+    ensures fault { IfErr result (IsExchangeFault (A.seat a.old).pass (A.seat a.new).pass (B.seat b.old).pass (B.seat b.new).pass) }
 {
-    let Since { items, cursor } = a.since(Scope::All, from, MOST_ITEMS as u32)?;
+    let Since { items, cursor } = since(a, Scope::All, from, MOST_ITEMS as u32)?;
     let done = items.len();
     let taken = give(b, items)?;
     Ok(Exchanged {
@@ -69,24 +72,25 @@ fn exchange_since<W: Wait>(
 }
 
 // Sends all that is held, page by page.
-fn exchange_pages<W: Wait>(
-    a: &mut Seat<'_, W>,
-    b: &mut Seat<'_, W>,
+fn exchange_pages<W: Wait, A: ClientSeat, B: ClientSeat>(
+    rt: &W,
+    a: &mut A,
+    b: &mut B,
 ) -> Result<Exchanged, ExchangeFault>
-    ensures only { SeatsExchangeOnly a.old a.new b.old b.new None }
-    ensures exchanged { IfOk result (Exchanges a.old.pass a.new.pass b.old.pass b.new.pass None) }
-    ensures fault { IfErr result (IsExchangeFault a.old.pass a.new.pass b.old.pass b.new.pass) }
+    ensures only { SeatsExchangeOnly (A.seat a.old) (A.seat a.new) (B.seat b.old) (B.seat b.new) None }
+    ensures exchanged { IfOk result (Exchanges (A.seat a.old).pass (A.seat a.new).pass (B.seat b.old).pass (B.seat b.new).pass None) }
+    ensures fault { IfErr result (IsExchangeFault (A.seat a.old).pass (A.seat a.new).pass (B.seat b.old).pass (B.seat b.new).pass) }
 {
     let mut done = 0u128;
     let mut taken = 0u128;
     let mut after = None;
     let mut first = None;
-    for _ in a.rt().forever() {
+    for _ in rt.forever() {
         let Page {
             items,
             last,
             cursor,
-        } = a.page(Scope::All, after, MOST_ITEMS as u32)?;
+        } = page(a, Scope::All, after, MOST_ITEMS as u32)?;
         go_behind(&mut after, &items);
         let from = first.unwrap_or(cursor);
         let count = items.len();

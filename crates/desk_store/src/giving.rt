@@ -4,32 +4,32 @@ ghost use Rattle.std.specs.Prelude.{◌≡◌, ◌≤◌, length, take, drop, If
 ghost use Rattle.desk_store.specs.ExchangeFaults.{IsGivingFault};
 ghost use Rattle.desk_store.specs.Giving.{GivesAll, SeatGivesOnly};
 
+use crate::client_seat::ClientSeat;
 use crate::exchange_fault::ExchangeFault;
-use crate::seat::Seat;
+use crate::merging::merge;
 use ds_entry::Items;
 use ds_names::NoRoom;
 use ds_names::limits::MOST_ITEMS;
 use std::mem;
-use std::sync::Wait;
 
 /// Merges the items in order, at most 256 at a time. Returns how many of them took effect.
-pub(crate) fn give<W: Wait>(seat: &mut Seat<'_, W>, items: Items) -> Result<usize, ExchangeFault>
-    ensures only { SeatGivesOnly seat.old seat.new items }
-    ensures given { IfOk result (GivesAll seat.old.pass seat.new.pass items) }
-    ensures fault { IfErr result (IsGivingFault seat.old.pass seat.new.pass items) }
+pub(crate) fn give<S: ClientSeat>(seat: &mut S, items: Items) -> Result<usize, ExchangeFault>
+    ensures only { SeatGivesOnly (S.seat seat.old) (S.seat seat.new) items }
+    ensures given { IfOk result (GivesAll (S.seat seat.old).pass (S.seat seat.new).pass items) }
+    ensures fault { IfErr result (IsGivingFault (S.seat seat.old).pass (S.seat seat.new).pass items) }
 {
     let _most = items.len();
     let mut rest = items;
     let mut taken = 0usize;
     while rest.len() > MOST_ITEMS {
         let part = first_part(&mut rest)?;
-        let count = seat.merge(part)?;
+        let count = merge(seat, part)?;
         taken += count;
     }
     if rest.len() == 0 {
         return Ok(taken);
     }
-    let count = seat.merge(rest)?;
+    let count = merge(seat, rest)?;
     Ok(taken + count)
 }
 

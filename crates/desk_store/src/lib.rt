@@ -23,7 +23,9 @@
 
 mod call_fault;
 mod calling;
+mod client_seat;
 mod exchange;
+mod exchange_calls;
 mod exchange_fault;
 mod exchange_laws;
 mod follower;
@@ -42,12 +44,12 @@ mod seat;
 mod store_seat;
 
 pub use call_fault::CallFault;
+pub use client_seat::ClientSeat;
 pub use exchange::{Exchanged, exchange_once};
 pub use exchange_fault::ExchangeFault;
 pub use exchange_laws::exchanged_alike;
 pub use follower::Follower;
 pub use map_laws::{followers_follow, merged_items_stay};
-pub use merging::MergeFault;
 pub use pair::PairSeat;
 pub use pair_laws::pair_passes_see_more;
 pub use pass_laws::passes_see_more;

@@ -1,6 +1,6 @@
 //! Laws of followers, and of merged items.
 
-ghost use Rattle.desk_store.specs.MapLaws.{ChecksFit, FollowsAlone, FollowsCheck, FollowsFirst, FollowsOn, TellsOthers, TellsOwn};
+ghost use Rattle.desk_store.specs.Laws.{FollowersFollow};
 ghost use Rattle.desk_store.specs.Merged.{MergedStaysHeld};
 
 /// Laws of a map that follows a store by its subscriber's own Subscribe and Checks.
@@ -9,13 +9,7 @@ ghost use Rattle.desk_store.specs.Merged.{MergedStaysHeld};
 /// items than it may, the map is what the store holds under the query. Whatever commands others send, the map still follows, or the
 /// subscription has a greater stamp, which the next Check returns. The map refuses an item of a Check only if memory runs out.
 pub fn followers_follow()
-    ensures on { FollowsOn }
-    ensures alone { FollowsAlone }
-    ensures first { FollowsFirst }
-    ensures check { FollowsCheck }
-    ensures others { TellsOthers }
-    ensures own { TellsOwn }
-    ensures fit { ChecksFit }
+    ensures { FollowersFollow }
 {}
 
 /// A law: a store continues to hold the items that were merged into it, whatever commands it gets.

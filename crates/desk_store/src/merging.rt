@@ -1,4 +1,4 @@
-//! A Merge into a seat's store.
+//! A Merge into the store of a seat's desk.
 
 ghost use Rattle.std.specs.Prelude.{◌≡◌, ℕ, IfOk, IfErr};
 ghost use Rattle.ds_machine.specs.declared.command.Command.TheVariants as commands;
@@ -7,11 +7,10 @@ ghost use Rattle.desk_store.specs.Called.{MadeCall};
 ghost use Rattle.desk_store.specs.Merging.{FailsMerging};
 ghost use Rattle.desk_store.specs.Seat.{IsSameSeat};
 
-use crate::seat::Seat;
-use desk::{Answer, DeskFault};
+use crate::client_seat::ClientSeat;
+use desk::DeskFault;
 use ds_entry::Items;
 use ds_machine::{Command, Refusal, Reply};
-use std::sync::Wait;
 use thiserror::Error;
 
 /// Why a Merge didn't do all of its items.
@@ -41,25 +40,18 @@ impl From<DeskFault> for MergeFault {
     }
 }
 
-impl<W: Wait> Seat<'_, W> {
-    /// Merges at most 256 items into the store, in order. Returns how many of them took effect.
-    pub fn merge(&mut self, items: Items) -> Result<usize, MergeFault>
-        ensures same { IsSameSeat self.old self.new }
-        ensures told { IfOk result (λ taken. (done stale owed place : ℕ)
-            × MadeCall self.old.pass self.new.pass (commands.Merge items) (Merged done taken stale owed) place) }
-        ensures fault { IfErr result (FailsMerging self.old.pass self.new.pass (commands.Merge items)) }
-    {
-        let Answer {
-            reply,
-            place: _place,
-            owed: _owed,
-            raised: _raised,
-        } = self.ask(Command::Merge { items })?;
-        match reply {
-            Reply::Merged { taken, .. } => Ok(taken),
-            Reply::MergeStopped { done, fault, .. } => Err(MergeFault::Stopped { done, fault }),
-            Reply::Refused(fault) => Err(MergeFault::Stopped { done: 0, fault }),
-            _ => unreachable!(),
-        }
+/// Merges at most 256 items into the store, in order. Returns how many of them took effect.
+pub(crate) fn merge<S: ClientSeat>(seat: &mut S, items: Items) -> Result<usize, MergeFault>
+    ensures same { IsSameSeat (S.seat seat.old) (S.seat seat.new) }
+    ensures told { IfOk result (λ taken. (done stale owed place : ℕ)
+        × MadeCall (S.seat seat.old).pass (S.seat seat.new).pass (commands.Merge items) (Merged done taken stale owed) place) }
+    ensures fault { IfErr result (FailsMerging (S.seat seat.old).pass (S.seat seat.new).pass (commands.Merge items)) }
+{
+    let (reply, _place) = seat.send(Command::Merge { items })?;
+    match reply {
+        Reply::Merged { taken, .. } => Ok(taken),
+        Reply::MergeStopped { done, fault, .. } => Err(MergeFault::Stopped { done, fault }),
+        Reply::Refused(fault) => Err(MergeFault::Stopped { done: 0, fault }),
+        _ => unreachable!(),
     }
 }

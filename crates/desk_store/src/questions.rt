@@ -1,20 +1,17 @@
-//! The store's questions, each with an answer of its own type.
+//! A follower's questions, each with an answer of its own type.
 
-ghost use Rattle.std.specs.Prelude.{◌≡◌, ◌<◌, ◌≤◌, ◌^◌, ℕ, true, IfOk, IfErr, OnOk};
+ghost use Rattle.std.specs.Prelude.{◌≡◌, ◌<◌, ◌^◌, ℕ, true, IfOk, IfErr};
 ghost use Rattle.ds_machine.specs.declared.command.Command.TheVariants as commands;
-ghost use Rattle.ds_machine.specs.declared.reply.Reply.TheVariants.{Subscribed, Checked, Paged, Journaled};
+ghost use Rattle.ds_machine.specs.declared.reply.Reply.TheVariants.{Subscribed, Checked};
 ghost use Rattle.desk_store.specs.Called.{MadeCall};
 ghost use Rattle.desk_store.specs.CallFaults.{FailsAsking};
-ghost use Rattle.desk_store.specs.Record.{place_behind};
 ghost use Rattle.desk_store.specs.Seat.{IsSameSeat};
 
 use crate::call_fault::CallFault;
 use crate::seat::Seat;
 use desk::Answer;
 use ds_entry::Items;
-use ds_feed::{Cursor, Page, Since};
-use ds_machine::{Command, Reply, Scope};
-use ds_names::Key;
+use ds_machine::{Command, Reply};
 use ds_pattern::Query;
 use std::sync::Wait;
 
@@ -85,47 +82,6 @@ impl<W: Wait> Seat<'_, W> {
                 after,
                 place,
             }),
-            Reply::Refused(refusal) => Err(CallFault::from(refusal)),
-            _ => unreachable!(),
-        }
-    }
-
-    /// Returns a page of what is held under the scope: at most `max` changes after the key.
-    pub fn page(&mut self, scope: Scope, after: Option<Key>, max: u32) -> Result<Page, CallFault>
-        ensures same { IsSameSeat self.old self.new }
-        ensures told { IfOk result (λ page. (place : ℕ)
-            × MadeCall self.old.pass self.new.pass (commands.Page scope after max) (Paged page) place) }
-        ensures bound { OnOk result (place_behind self.new.pass ≤ 2 ^ 62) }
-        ensures fault { IfErr result (FailsAsking self.old.pass self.new.pass (commands.Page scope after max)) }
-    {
-        let Answer {
-            reply,
-            place: _place,
-            owed: _owed,
-            raised: _raised,
-        } = self.ask(Command::Page { scope, after, max })?;
-        match reply {
-            Reply::Paged(page) => Ok(page),
-            Reply::Refused(refusal) => Err(CallFault::from(refusal)),
-            _ => unreachable!(),
-        }
-    }
-
-    /// Returns at most `max` items of the journal that are under the scope, from the cursor on.
-    pub fn since(&mut self, scope: Scope, cursor: Cursor, max: u32) -> Result<Since, CallFault>
-        ensures same { IsSameSeat self.old self.new }
-        ensures told { IfOk result (λ since. (place : ℕ)
-            × MadeCall self.old.pass self.new.pass (commands.Since scope cursor max) (Journaled since) place) }
-        ensures fault { IfErr result (FailsAsking self.old.pass self.new.pass (commands.Since scope cursor max)) }
-    {
-        let Answer {
-            reply,
-            place: _place,
-            owed: _owed,
-            raised: _raised,
-        } = self.ask(Command::Since { scope, cursor, max })?;
-        match reply {
-            Reply::Journaled(since) => Ok(since),
             Reply::Refused(refusal) => Err(CallFault::from(refusal)),
             _ => unreachable!(),
         }

@@ -1,15 +1,14 @@
 //! Seats: a pass at its desk, for the calls of one thread.
 
-ghost use Rattle.std.specs.Prelude.{◌≡◌, ◌^◌, ◌<◌, ◌≤◌, [], IfOk, IfErr, OnOk};
+ghost use Rattle.std.specs.Prelude.{◌≡◌, ◌^◌, ◌<◌, IfOk, IfErr};
 ghost use Rattle.desk.specs.Desk.{identity};
 ghost use Rattle.desk.specs.Pass.{desk_of};
-ghost use Rattle.desk.specs.declared.fault.DeskFault.TheVariants.{BadServer};
 ghost use Rattle.ds_machine.specs.Says.{IsReplyTo};
-ghost use Rattle.desk_store.specs.Called.{FoundWorn, Made, MadeCall};
-ghost use Rattle.desk_store.specs.Record.{pass_record, place_behind};
+ghost use Rattle.desk_store.specs.Called.{FoundWorn, MadeCall};
+ghost use Rattle.desk_store.specs.Record.{pass_record};
 ghost use Rattle.desk_store.specs.Seat.{IsSameSeat, seat_of};
 
-use desk::{Answer, Desk, DeskFault, Pass, Taken};
+use desk::{Answer, Desk, DeskFault, Pass};
 use ds_machine::{Command, Reply};
 use ds_store::Store;
 use std::marker::Model;
@@ -61,28 +60,6 @@ impl<'a, W> Seat<'a, W> {
     /// Returns the runtime by which the calls wait.
     pub fn rt(&self) -> &'a W {
         self.rt
-    }
-
-    /// Takes every notice that is pending for the server. Each bit is owed by a call whose place is below `floor`. Refuses a server from 16
-    /// on as BadServer.
-    #[tactic(auto, using(crate::proofs::PassLemmas::behind_is))]
-    pub fn take(&mut self, server: u32) -> Result<Taken, DeskFault>
-        ensures same { IsSameSeat self.old self.new }
-        ensures looked { OnOk result (Made self.old.pass self.new.pass []) }
-        ensures floor { IfOk result (λ taken. taken.floor ≡ place_behind self.new.pass) }
-        ensures refused { IfErr result (λ fault. (fault ≡ BadServer) × (16 ≤ server) × (self.new ≡ self.old)) }
-    {
-        self.desk.take(self.pass, server)
-    }
-
-    /// Returns how far the history goes: the first place without a call.
-    #[tactic(auto, using(crate::proofs::PassLemmas::behind_is))]
-    pub fn front(&mut self) -> u64
-        ensures same { IsSameSeat self.old self.new }
-        ensures looked { Made self.old.pass self.new.pass [] }
-        ensures front { result ≡ place_behind self.new.pass }
-    {
-        self.desk.front(self.pass)
     }
 }
 

@@ -6,9 +6,12 @@
 //!   thread get the callers' calls in the order of their places. Every reply is compared with theirs, and each map with the store at the
 //!   map's place. Without followers, the subscriptions that are owed a notice, and stamps, are compared too.
 //! - `notice`: one pass follows labels, and RS starts a service and restarts it by another pass. The output has what each of them learns.
+//! - `exchange`: RS's store, a copy of it at a desk of another pair, and a store at its own desk exchange while RS restarts a service. The
+//!   output has the result of each exchange.
 #![tactic(auto)]
 
 mod asked;
+mod exchange;
 mod line;
 mod mark;
 mod new_pair;
@@ -16,6 +19,7 @@ mod notice;
 mod review;
 mod watch;
 
+use exchange::exchange_stores;
 use line::{Line, Sizes, read_line};
 use notice::notice_labels;
 use review::share_and_compare;
@@ -33,6 +37,7 @@ pub fn answer<R: Print + AllocGlobal + Threads + Wait + Sync>(
         match asked {
             Line::Share(sizes) => share(rt, sizes)?,
             Line::Notice => notice_labels(rt, rt.alloc())?,
+            Line::Exchange => exchange_stores(rt, rt.alloc())?,
         }
     }
     Ok(())

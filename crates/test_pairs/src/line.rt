@@ -7,6 +7,8 @@ pub(crate) enum Line {
     Share(Sizes),
     /// `notice`
     Notice,
+    /// `exchange`
+    Exchange,
 }
 
 /// The numbers of threads that call RS and its store, 1 to 32, and that follow the store, 0 to 32, and the number of calls of each.
@@ -21,6 +23,7 @@ pub(crate) struct Sizes {
 pub(crate) fn read_line(line: &str) -> Option<Line> {
     match line {
         "notice" => Some(Line::Notice),
+        "exchange" => Some(Line::Exchange),
         _ => read_sizes(line).map(Line::Share),
     }
 }

@@ -17,10 +17,15 @@ service = [
 /// The labels of the services.
 pub(crate) const LABELS: [&[u8]; 4] = [b"disk", b"eth0", b"inet", b"tty"];
 
-/// Returns RS, which hasn't begun, and an empty store. They are on the heap, since each turn takes them out of the desk's slot and puts
-/// them back. `None` if memory runs out.
+/// Returns RS, which hasn't begun, and an empty store of incarnation 1 whose journal keeps 256 items. `None` if memory runs out.
 pub(crate) fn new_pair(alloc: Global) -> Option<Box<RsStore>> {
-    let pair = RsStore::open(alloc, 1, 0, 256).ok()?;
+    pair_of(alloc, 1, 256)
+}
+
+/// Returns RS, which hasn't begun, and an empty store of this incarnation, whose journal keeps `ring` items. They are on the heap, since
+/// each turn takes them out of the desk's slot and puts them back. `None` if memory runs out.
+pub(crate) fn pair_of(alloc: Global, incarnation: u64, ring: u32) -> Option<Box<RsStore>> {
+    let pair = RsStore::open(alloc, incarnation, 0, ring).ok()?;
     Box::new(alloc, pair).ok()
 }
 

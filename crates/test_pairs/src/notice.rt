@@ -103,8 +103,8 @@ fn labels(alloc: Global) -> Option<Query> {
     })
 }
 
-// Sends a command, and prints its place and the bits that it owes and raises.
-fn call<R: Print + Wait>(
+/// Sends a command, and prints its place and the bits that it owes and raises.
+pub(crate) fn call<R: Print + Wait>(
     rt: &R,
     desk: &Desk<Box<RsStore>>,
     pass: &mut Pass<Box<RsStore>>,

@@ -9,73 +9,93 @@ use Rattle.desk_store.proofs.PageLemmas.{page_fails, page_fault, page_only, page
 use Rattle.desk_store.proofs.exchange.exchange_pages.Goals as goal
 
 pub loop-init : goal.loop-init
-loop-init g c = (tt, tt, refl, refl, pages_none c.args.a.now.pass c.args.b.now.pass)
+loop-init g c =
+    let here = g.A.ClientSeat.seat in
+    let there = g.B.ClientSeat.seat in
+    (tt, tt, refl, refl, pages_none (here c.args.a.now).pass (there c.args.b.now).pass)
 
 pub returns-in_err-items-clause-only : goal.returns-in_err-items-clause-only
 returns-in_err-items-clause-only g c =
+    let here = g.A.ClientSeat.seat in
+    let there = g.B.ClientSeat.seat in
     let l = c.loop in (
       c.in_err-items.ensures.same ∙ l.invariant.2,
       l.invariant.3,
-      page_fails c.args.a.now.pass l.a.pass c.args.b.now.pass l.b.pass c.page.new.self.pass l.after l.first l.done l.taken l.invariant.4 c.in_err-items.field-0.0 c.in_err-items.ensures.fault,
+      page_fails (here c.args.a.now).pass (here l.a).pass (there c.args.b.now).pass (there l.b).pass (here c.page.new.seat).pass l.after l.first l.done l.taken l.invariant.4 c.in_err-items.field-0.0 c.in_err-items.ensures.fault,
     )
 
 pub returns-in_err-items-clause-fault : goal.returns-in_err-items-clause-fault
 returns-in_err-items-clause-fault g c =
+    let here = g.A.ClientSeat.seat in
+    let there = g.B.ClientSeat.seat in
     let l = c.loop in
     let exit = err_from_is_err_and c.from_residual.result c.from_residual.ensures.1 in
     rw (exit.1, exit.2)
-    (page_fault c.args.a.now.pass l.a.pass c.args.b.now.pass l.b.pass c.page.new.self.pass l.after l.first l.done l.taken l.invariant.4 c.in_err-items.field-0.0 c.in_err-items.ensures.fault)
+    (page_fault (here c.args.a.now).pass (here l.a).pass (there c.args.b.now).pass (there l.b).pass (here c.page.new.seat).pass l.after l.first l.done l.taken l.invariant.4 c.in_err-items.field-0.0 c.in_err-items.ensures.fault)
 
 pub returns-in_err-given-clause-only : goal.returns-in_err-given-clause-only
 returns-in_err-given-clause-only g c =
+    let here = g.A.ClientSeat.seat in
+    let there = g.B.ClientSeat.seat in
     let l = c.loop in
     let only = c.in_err-given.ensures.only in (
       c.in_ok-items.ensures.same ∙ l.invariant.2,
       only.0 ∙ l.invariant.3,
-      page_only c.args.a.now.pass l.a.pass c.args.b.now.pass l.b.pass c.page.new.self.pass l.after l.first l.done l.taken l.invariant.4 c.give.new.seat.pass c.in_ok-items.field-0 c.in_ok-items.ensures.told only.1,
+      page_only (here c.args.a.now).pass (here l.a).pass (there c.args.b.now).pass (there l.b).pass (here c.page.new.seat).pass l.after l.first l.done l.taken l.invariant.4
+          (there c.give.new.seat).pass c.in_ok-items.field-0 c.in_ok-items.ensures.told only.1,
     )
 
 pub returns-in_err-given-clause-fault : goal.returns-in_err-given-clause-fault
 returns-in_err-given-clause-fault g c =
+    let here = g.A.ClientSeat.seat in
+    let there = g.B.ClientSeat.seat in
     let l = c.loop in
     let exit = err_from_is_err_and c.from_residual-in_err-given.result c.from_residual-in_err-given.ensures.1 in
     rw (exit.1, exit.2)
-    (page_stops c.args.a.now.pass l.a.pass c.args.b.now.pass l.b.pass c.page.new.self.pass l.after l.first l.done l.taken l.invariant.4 c.give.new.seat.pass c.in_ok-items.field-0 c.in_ok-items.ensures.told
+    (page_stops (here c.args.a.now).pass (here l.a).pass (there c.args.b.now).pass (there l.b).pass (here c.page.new.seat).pass l.after l.first l.done l.taken l.invariant.4
+    (there c.give.new.seat).pass c.in_ok-items.field-0 c.in_ok-items.ensures.told
     c.in_err-given.field-0.0 c.in_err-given.ensures.fault)
 
 pub returns-then-last-clause-only : goal.returns-then-last-clause-only
 returns-then-last-clause-only g c =
+    let here = g.A.ClientSeat.seat in
+    let there = g.B.ClientSeat.seat in
     let l = c.loop in
     let only = c.in_ok-given.ensures.only in (
       c.in_ok-items.ensures.same ∙ l.invariant.2,
       only.0 ∙ l.invariant.3,
-      page_only c.args.a.now.pass l.a.pass c.args.b.now.pass l.b.pass c.page.new.self.pass l.after l.first l.done l.taken l.invariant.4 c.give.new.seat.pass c.in_ok-items.field-0 c.in_ok-items.ensures.told only.1,
+      page_only (here c.args.a.now).pass (here l.a).pass (there c.args.b.now).pass (there l.b).pass (here c.page.new.seat).pass l.after l.first l.done l.taken l.invariant.4
+          (there c.give.new.seat).pass c.in_ok-items.field-0 c.in_ok-items.ensures.told only.1,
     )
 
 pub returns-then-last-clause-exchanged : goal.returns-then-last-clause-exchanged
 returns-then-last-clause-exchanged g c =
+    let here = g.A.ClientSeat.seat in
+    let there = g.B.ClientSeat.seat in
     let l = c.loop in
-    let p = c.args.a.now.pass in
-    let q = c.page.new.self.pass in
-    let r = c.args.b.now.pass in
-    let s = c.give.new.seat.pass in
+    let p = (here c.args.a.now).pass in
+    let q = (here c.page.new.seat).pass in
+    let r = (there c.args.b.now).pass in
+    let s = (there c.give.new.seat).pass in
     let page = c.in_ok-items.field-0 in
     let given = c.in_ok-given.given in
-    let ends = pages_end p l.a.pass r l.b.pass q l.after l.first l.done l.taken l.invariant.4 s page c.in_ok-items.ensures.told given c.in_ok-given.ensures.given c.if-last.true in
+    let ends = pages_end p (here l.a).pass r (there l.b).pass q l.after l.first l.done l.taken l.invariant.4 s page c.in_ok-items.ensures.told given c.in_ok-given.ensures.given c.if-last.true in
     subst (λ (n : ℕ). Exchanges p q r s None (record { cursor = c.unwrap_or-from.result; done = l.done + n; taken = l.taken + given; more = false })) (sym c.len-count.ensures)
     (subst (λ (x : Cursor). Exchanges p q r s None (record { cursor = x; done = l.done + length page.items; taken = l.taken + given; more = false })) (sym c.unwrap_or-from.ensures) ends)
 
 pub loop-preserved : goal.loop-preserved
 loop-preserved g c =
+    let here = g.A.ClientSeat.seat in
+    let there = g.B.ClientSeat.seat in
     let l = c.loop in
-    let p = c.args.a.now.pass in
-    let q = c.page.new.self.pass in
-    let r = c.args.b.now.pass in
-    let s = c.give.new.seat.pass in
+    let p = (here c.args.a.now).pass in
+    let q = (here c.page.new.seat).pass in
+    let r = (there c.args.b.now).pass in
+    let s = (there c.give.new.seat).pass in
     let page = c.in_ok-items.field-0 in
     let given = c.in_ok-given.given in
     let few : length page.items < 2 ^ 64 = omega (arith, c.len-count.ensures, c.len-count.type_inv) in
-    let more = pages_more p l.a.pass r l.b.pass q l.after l.first l.done l.taken l.invariant.4 s page c.in_ok-items.ensures.told given c.in_ok-given.ensures.given c.if-last.false few in (
+    let more = pages_more p (here l.a).pass r (there l.b).pass q l.after l.first l.done l.taken l.invariant.4 s page c.in_ok-items.ensures.told given c.in_ok-given.ensures.given c.if-last.false few in (
       tt,
       tt,
       c.in_ok-items.ensures.same ∙ l.invariant.2,
@@ -87,21 +107,25 @@ loop-preserved g c =
 
 pub overflow_add-done : goal.overflow_add-done
 overflow_add-done g c =
+    let here = g.A.ClientSeat.seat in
+    let there = g.B.ClientSeat.seat in
     let l = c.loop in
     let few : length c.in_ok-items.field-0.items < 2 ^ 64 = omega (arith, c.len-count.ensures, c.len-count.type_inv) in
     omega (
       arith,
       c.len-count.ensures,
-      told_few c.args.a.now.pass l.a.pass c.args.b.now.pass l.b.pass c.page.new.self.pass l.after l.first l.done l.taken l.invariant.4
-          c.give.new.seat.pass c.in_ok-items.field-0 c.in_ok-items.ensures.told c.in_ok-items.ensures.bound few,
+      told_few (here c.args.a.now).pass (here l.a).pass (there c.args.b.now).pass (there l.b).pass (here c.page.new.seat).pass l.after l.first l.done l.taken l.invariant.4
+          (there c.give.new.seat).pass c.in_ok-items.field-0 c.in_ok-items.ensures.told c.in_ok-items.ensures.bound few,
     )
 
 pub overflow_add-taken : goal.overflow_add-taken
 overflow_add-taken g c =
+    let here = g.A.ClientSeat.seat in
+    let there = g.B.ClientSeat.seat in
     let l = c.loop in
     let few : length c.in_ok-items.field-0.items < 2 ^ 64 = omega (arith, c.len-count.ensures, c.len-count.type_inv) in
     omega (
       arith,
-      taken_few c.args.a.now.pass l.a.pass c.args.b.now.pass l.b.pass c.page.new.self.pass l.after l.first l.done l.taken l.invariant.4
-          c.give.new.seat.pass c.in_ok-items.field-0 c.in_ok-items.ensures.told c.in_ok-given.given c.in_ok-given.ensures.given c.in_ok-items.ensures.bound few,
+      taken_few (here c.args.a.now).pass (here l.a).pass (there c.args.b.now).pass (there l.b).pass (here c.page.new.seat).pass l.after l.first l.done l.taken l.invariant.4
+          (there c.give.new.seat).pass c.in_ok-items.field-0 c.in_ok-items.ensures.told c.in_ok-given.given c.in_ok-given.ensures.given c.in_ok-items.ensures.bound few,
     )

@@ -1,7 +1,7 @@
 use Rattle.std.proofs.Common.{◌≡◌, ap, subst}
 use Rattle.std.proofs.lemmas.Result.{err_from_is_err_and}
 use Rattle.desk.specs.Calls.{Calls}
-use Rattle.desk.proofs.SightLemmas.{rests_facts}
+use Rattle.desk_rule.proofs.WaitLemmas.{rests_facts}
 use Rattle.desk_store.specs.Called.{FoundWorn, MadeCall}
 use Rattle.desk_store.specs.Record.{PassRecord}
 use Rattle.desk_store.specs.Seat.{SeatRecord}

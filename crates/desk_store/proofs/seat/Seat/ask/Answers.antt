@@ -1,6 +1,6 @@
 use Rattle.std.proofs.Common.{◌≡◌, IfErr, IfOk, ap, subst}
 use Rattle.std.proofs.lemmas.Result.{IfErr-weaker, IfOk-weaker}
-use Rattle.desk.proofs.SightLemmas.{rests_facts}
+use Rattle.desk_rule.proofs.WaitLemmas.{rests_facts}
 use Rattle.desk_store.specs.Called.{FoundWorn, MadeCall}
 use Rattle.desk_store.specs.Record.{PassRecord, pass_record}
 use Rattle.desk_store.specs.Seat.{SeatRecord}
