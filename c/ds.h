@@ -251,7 +251,8 @@ uint32_t ds_items(struct ds_handle *handle, size_t first, char *room, size_t roo
  * changed or freed afterwards. These are lines of one store:
  *   - offer, publish, delete, sweep, retrieve, nameof, subscribe, check, since, snapshot, page: the answer is that of ds_call for the
  *     same command; an offer is a merge of one item;
- *   - show, for the puts that are held, and all, for everything held: the answer is DS_SHOWN, or DS_REFUSED by DS_NOROOM.
+ *   - show, for the puts that are held, and all, for everything held: the answer is DS_SHOWN, or DS_REFUSED by DS_NOROOM. If nothing is
+ *     held, no memory is taken.
  * These are lines of RS, once ds_rs_open has opened it:
  *   - service, death, beat, tick: the answer is that of ds_rs_event for the same event;
  *   - settings: the answer is DS_REFUSED by DS_EXISTS.
@@ -265,8 +266,8 @@ uint32_t ds_call_line(struct ds_handle *handle, const char *line, size_t line_le
  *   - DS_WHOLE: there is no more;
  *   - DS_TOOSMALL: room is full, and the next byte is number first + length;
  *   - DS_WANTING: memory ran out, nothing was written, and the same call may be made again.
- * So nothing is lost until the next request. DS_NOREQUEST and DS_BADLINE have no text. ds_text may be called after ds_call too, and
- * ds_items after ds_call_line: the pieces are then those of ds_call, and for DS_SHOWN the lines of the items.
+ * So nothing is lost until the next request. DS_NOREQUEST and DS_BADLINE have no text, and then no memory is taken. ds_text may be called
+ * after ds_call too, and ds_items after ds_call_line: the pieces are then those of ds_call, and for DS_SHOWN the lines of the items.
  * Returns 0, or DS_ISCLOSED, and then room and given are unchanged. */
 uint32_t ds_text(struct ds_handle *handle, size_t first, char *room, size_t room_length, struct ds_given *given);
 
@@ -519,7 +520,7 @@ uint32_t ds_table_follow(struct ds_table *table, struct ds_map *map, struct ds_a
 uint32_t ds_table_submit(struct ds_table *table, struct ds_map *map, uint64_t id, uint8_t unit, struct ds_answer *answer);
 
 /* Takes the reply of a driver, at the endpoint of generation and slot, to a request. It takes no memory.
- *   - DS_MOVED: the request ends, by one move DS_MOVE_DONE;
+ *   - DS_MOVED: the request ends, by one move DS_MOVE_DONE, which needn't be fetched;
  *   - DS_NOREQUEST, if these numbers aren't an endpoint;
  *   - DS_REFUSED by DS_NOTPENDING, if there is no unanswered request of this id, and else by DS_OLDENDPOINT, if it was last sent to another
  *     endpoint. The requests are unchanged.

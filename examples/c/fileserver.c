@@ -136,7 +136,6 @@ static void carry_out_move(const struct ds_move *move) {
         sent[id] = *move;
         break;
     case DS_MOVE_HELD: printf("fs: request %lu waits for a driver\n", id); break;
-    case DS_MOVE_DONE: printf("fs: request %lu is done\n", id); break;
     default: give_up("a disk has no such move");
     }
 }
@@ -199,7 +198,10 @@ static void reply(unsigned long round) {
         if (ds_table_reply(&table, sent[id].generation, sent[id].slot, id, &answer) != 0) {
             give_up("the table is closed");
         }
-        carry_out(&answer);
+        if (answer.word != DS_MOVED) {
+            give_up(ds_refusal_text(answer.refusal));
+        }
+        printf("fs: request %lu is done\n", id); /* by the only move, DS_MOVE_DONE */
     }
 }
 

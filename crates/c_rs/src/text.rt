@@ -1,6 +1,6 @@
 //! The text of the last answer, as a script prints it.
 
-ghost use Rattle.std.specs.Prelude.{◌≡◌, IfOk};
+ghost use Rattle.std.specs.Prelude.{◌≡◌, ◌≢◌, [], IfOk, OnErr};
 ghost use Rattle.c_store.specs.Text.{GivesText};
 ghost use Rattle.c_rs.specs.Text.{text_in};
 ghost use Rattle.rs_answers.specs.Served.{served_lines};
@@ -33,8 +33,10 @@ impl RsSession {
 }
 
 // Returns the text of a reply of RS.
+#[tactic(auto, using(crate::proofs::TextLemmas::served_has_lines))]
 fn write_served(alloc: Global, reply: &RsReply) -> Result<Vec<u8>, NoRoom>
-    ensures { IfOk result (λ text. text.items ≡ served_lines AsMerge reply.now) }
+    ensures text { IfOk result (λ text. text.items ≡ served_lines AsMerge reply.now) }
+    ensures room { OnErr result (served_lines AsMerge reply.now ≢ []) }
 {
     let mut text = Vec::new(alloc);
     append_served(&mut text, Wording::AsMerge, reply)?;

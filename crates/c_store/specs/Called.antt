@@ -1,5 +1,5 @@
 -- The effects of a request, of a command and of a show on a session.
-use Rattle.std.specs.Prelude.{◌≡◌, ◌⊎◌, ℕ, Bool, true, false, List, [], length, map, Option, None, Some}
+use Rattle.std.specs.Prelude.{◌≡◌, ◌≢◌, ◌⊎◌, ℕ, Bool, true, false, List, [], length, map, Option, None, Some}
 use Rattle.ds_entry.specs.Under.{entries_of}
 use Rattle.ds_entry.specs.declared.item.Item.{Item}
 use Rattle.ds_line.specs.ItemSpelling.{item_spelling}
@@ -67,11 +67,11 @@ abbrev pub held_shown : Bool → List Item → List Item
 held_shown true items = items
 held_shown false items = entries_of items
 
--- The effect of a show: everything held, or the puts of it, or out of memory.
+-- The effect of a show: everything held, or the puts of it. If anything is held, memory may run out.
 abbrev pub ShowsIfRoom : Session → Bool → Answer → Session → Type 0
 ShowsIfRoom old all answer new =
     let items = held_shown all old.store.held in
-    Rests old (told_shown (length items)) (Shown items) answer new ⊎ RestsForRoom old answer new
+    Rests old (told_shown (length items)) (Shown items) answer new ⊎ ((old.store.held ≢ []) × RestsForRoom old answer new)
 
 -- ---- the text
 

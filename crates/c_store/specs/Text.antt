@@ -1,5 +1,5 @@
 -- The text of the last answer, as a script prints it, and the part of it that is copied to a buffer.
-use Rattle.std.specs.Prelude.{◌≡◌, ◌⊎◌, ℕ, ◌<◌, ◌≤◌, List, [], ◌++◌, length, take, drop, codes}
+use Rattle.std.specs.Prelude.{◌≡◌, ◌≢◌, ◌⊎◌, ℕ, ◌<◌, ◌≤◌, List, [], ◌++◌, length, take, drop, codes}
 use Rattle.std.specs.List.{flat_map}
 use Rattle.std.specs.Fmt.{decimal}
 use Rattle.ds_entry.specs.declared.item.Item.{Item}
@@ -35,5 +35,6 @@ pub record WantsText (old : List ℕ) (given : Given) (new : List ℕ) : Type 0 
   pub given_is : given ≡ record { count = 0; length = 0; stop = 20 }
   pub room : new ≡ old
 
+-- Whether a part of the text was copied, or memory ran out for it. An answer without a text takes no memory.
 abbrev pub GivesText : List ℕ → ℕ → List ℕ → Given → List ℕ → Type 0
-GivesText text first old given new = GivesPart text first old given new ⊎ WantsText old given new
+GivesText text first old given new = GivesPart text first old given new ⊎ ((text ≢ []) × WantsText old given new)

@@ -1,6 +1,6 @@
 //! The last answer of a session.
 
-ghost use Rattle.std.specs.Prelude.{◌≡◌, false, drop, IfOk};
+ghost use Rattle.std.specs.Prelude.{◌≡◌, ◌≢◌, [], false, drop, IfOk, OnErr};
 ghost use Rattle.ds_held.specs.Held.{held_items};
 ghost use Rattle.c_values.specs.Pieces.{GivesPieces};
 ghost use Rattle.c_store.specs.Kept.{holds_memory, reply_holds_memory};
@@ -79,10 +79,15 @@ pub(crate) fn overwrite(kept: &mut Last, last: Last)
     forget(replace(kept, last));
 }
 
-/// Copies everything held, or only the puts. Fails only if memory runs out.
+/// Copies everything held, or only the puts. It takes memory if anything is held, and fails only if that runs out.
+#[tactic(auto, using(crate::proofs::HeldLemmas::none_shown, crate::proofs::HeldLemmas::some_held))]
 pub(crate) fn held_shown(alloc: Global, held: &Held, all: bool) -> Result<Items, NoRoom>
-    ensures { IfOk result (λ items. items ≡ held_shown all (held_items held.now)) }
+    ensures items { IfOk result (λ items. items ≡ held_shown all (held_items held.now)) }
+    ensures room { OnErr result (held_items held.now ≢ []) }
 {
+    if held.item_at(0).is_none() {
+        return Ok(Items::new(alloc));
+    }
     let mut items = held.all(alloc)?;
     if !all {
         items.retain_puts();

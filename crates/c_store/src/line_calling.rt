@@ -12,7 +12,7 @@ use std::alloc::Global;
 /// Carries out the command of a line, as a single store does.
 ///
 /// A command of the store is one step of its machine. `show` and `all` copy the held items. Any other command is answered as no
-/// request. If memory runs out for an offer's list, or for shown items, the answer is a refusal. In these cases, and for a show, the
+/// request. If memory runs out for an offer's list, or for held items, the answer is a refusal. In these cases, and for a show, the
 /// store is unchanged.
 pub fn carry_out(alloc: Global, session: &mut Session, command: ScriptCommand, answer: &mut Answer)
     ensures { CarriesOut command session.old answer.new session.new }

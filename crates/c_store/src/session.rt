@@ -129,7 +129,7 @@ impl Session {
         };
     }
 
-    /// Shows everything that the store holds, or only the puts. The store is unchanged.
+    /// Shows everything that the store holds, or only the puts. It takes memory if anything is held. The store is unchanged.
     pub(crate) fn show(&mut self, alloc: Global, all: bool, answer: &mut Answer)
         ensures { ShowsIfRoom self.old all answer.new self.new }
     {

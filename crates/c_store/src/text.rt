@@ -1,6 +1,6 @@
 //! The text of the last answer, as a script prints it.
 
-ghost use Rattle.std.specs.Prelude.{◌≡◌, ◌≤◌, IfOk, drop, length};
+ghost use Rattle.std.specs.Prelude.{◌≡◌, ◌≢◌, ◌≤◌, IfOk, OnErr, [], drop, length};
 ghost use Rattle.c_store.specs.Text.{given_text, shown_text, GivesPart, GivesText};
 
 use crate::last::Last;
@@ -23,7 +23,7 @@ const NO_ROOM: u32 = 20;
 /// Copies the text of a session's last answer, as a script prints it, from the byte `first` on. Copies as many bytes as fit in the buffer.
 ///
 /// Returns the number of these bytes, and the length of the whole text. Until the next request, a later call can copy the rest. The call
-/// takes memory for the text. If it runs out, nothing is copied, and a later call may succeed.
+/// takes memory for the text, if there is one. If it runs out, nothing is copied, and a later call may succeed.
 pub fn give_text(alloc: Global, session: &Session, first: usize, room: &mut [u8]) -> Given
     ensures { GivesText (given_text session.now.last) first room.old result room.new }
 {
@@ -77,9 +77,11 @@ fn behind(text: &[u8], first: usize) -> &[u8]
     }
 }
 
-// Returns the text of an answer, as a script prints it. Fails only if memory runs out.
+// Returns the text of an answer, as a script prints it. It takes memory for a text, and fails only if that runs out.
+#[tactic(auto, using(crate::proofs::TextLemmas::reply_has_lines, crate::proofs::TextLemmas::show_has_lines))]
 fn write_text(alloc: Global, last: &Last) -> Result<Vec<u8>, NoRoom>
-    ensures { IfOk result (λ text. text.items ≡ given_text last.now) }
+    ensures text { IfOk result (λ text. text.items ≡ given_text last.now) }
+    ensures room { OnErr result (given_text last.now ≢ []) }
 {
     match last {
         Last::Nothing => Ok(Vec::new(alloc)),
