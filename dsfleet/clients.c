@@ -94,7 +94,7 @@ bool clients_drop_slowest(struct clients *clients, bool for_place) {
 
 void clients_drop_idle(struct clients *clients) {
     static const uint8_t nothing[sizeof clients->client[0]->wire.listens];
-    uint64_t now = clock_now(), limit = clients->limits.timeout * 1000;
+    uint64_t now = clock_now(), limit = clients->limits.timeout * SECOND;
     for (size_t i = clients->count; limit && i-- > 0;) {
         const struct client *client = clients->client[i];
         bool is_idle = now >= client->heard + limit && !backlog(client) && !memcmp(client->wire.listens, nothing, sizeof nothing);

@@ -40,8 +40,8 @@ struct program {
 
 /* ---- a turn ---- */
 
-/* Accepts waiting clients, up to the limit. If that fails, say since there are no descriptors left, the listener rests: poll would
- * report it again and again. */
+/* Accepts waiting clients, up to the limit. If that fails, say since there are no descriptors left, the listener rests:
+ * poll would report it again and again. */
 static void admit(struct program *program) {
     struct pollfd waiting = {.fd = program->place.listener, .events = POLLIN};
     while (poll(&waiting, 1, 0) > 0) {
@@ -55,19 +55,20 @@ static void admit(struct program *program) {
 
 /* Waits until there is something to do, and reads what clients sent. */
 static void wait_and_read(struct program *program, bool ready) {
-    struct pollfd polled[CLIENTS + 3];
+    enum { SIGNALS, BELL, LISTENER, FIRST_CLIENT };
+    struct pollfd polled[FIRST_CLIENT + CLIENTS], *clients = polled + FIRST_CLIENT;
     size_t count = program->clients.count;
     bool rests = clock_now() < program->admit_at;
-    polled[0] = (struct pollfd){.fd = program->signals, .events = POLLIN};
-    polled[1] = (struct pollfd){.fd = ds_fleet_bell(program->fleet), .events = POLLIN};
-    polled[2] = (struct pollfd){.fd = rests ? -1 : program->place.listener, .events = POLLIN};
-    for (size_t i = 0; i < count; i++) polled[i + 3] = clients_watched(&program->clients, program->clients.client[i]);
+    polled[SIGNALS] = (struct pollfd){.fd = program->signals, .events = POLLIN};
+    polled[BELL] = (struct pollfd){.fd = ds_fleet_bell(program->fleet), .events = POLLIN};
+    polled[LISTENER] = (struct pollfd){.fd = rests ? -1 : program->place.listener, .events = POLLIN};
+    for (size_t i = 0; i < count; i++) clients[i] = clients_watched(&program->clients, program->clients.client[i]);
     int patience = rests ? REST : SECOND;
-    if (poll(polled, count + 3, ready ? 0 : patience) <= 0) return;
+    if (poll(polled, FIRST_CLIENT + count, ready ? 0 : patience) <= 0) return;
     struct signalfd_siginfo signal;
-    program->ended |= polled[0].revents && read(program->signals, &signal, sizeof signal) > 0;
-    for (size_t i = 0; i < count; i++) clients_read(program->clients.client[i], polled[i + 3].revents);
-    if (polled[2].revents) admit(program);
+    program->ended |= polled[SIGNALS].revents && read(program->signals, &signal, sizeof signal) > 0;
+    for (size_t i = 0; i < count; i++) clients_read(program->clients.client[i], clients[i].revents);
+    if (polled[LISTENER].revents) admit(program);
 }
 
 /* The address without its user and password. */

@@ -1,5 +1,6 @@
 /* What dsfleet says of itself. See figures.h. */
 #include "figures.h"
+#include "clock.h"
 #include <string.h>
 
 struct count { const char *name; uint64_t count; };
@@ -51,7 +52,7 @@ static bool put_metrics(const struct clients *clients, const struct ds_fleet_sta
         {"dsfleet_server_connected", "Whether a redis server is connected that takes changes.", connected},
         {"dsfleet_entries", "Live entries that the store holds.", entries_of(clients->store)},
         {"dsfleet_changes_total", "Changes that took effect in the store.", (double)state->position},
-        {"dsfleet_lag_seconds", "How much older than the stream's newest entry the last one read is.", (double)state->behind / 1000},
+        {"dsfleet_lag_seconds", "How much older than the stream's newest entry the last one read is.", (double)state->behind / SECOND},
         {"dsfleet_untold_bytes", "Bytes of changes that the server hasn't answered for.", (double)state->untold},
         {"dsfleet_entries_told_total", "Entries that were added to the stream.", (double)state->entries_told},
         {"dsfleet_entries_read_total", "Entries of others that were read from the stream.", (double)state->entries_read},

@@ -4,7 +4,8 @@
 
 #include "clients.h"
 
-/* Puts the answer to the line `state`, or to `metrics`: these in Prometheus' text format. Returns false where memory runs out. */
+/* Puts the answer to the line `state`, or to `metrics`: these in Prometheus' text format. Returns false where memory
+ * runs out. */
 bool figures_put(const struct clients *clients, const char *line, struct text *to);
 
 #endif

@@ -16,12 +16,14 @@ static const char help[] =
     "  SOCKET            a UNIX socket, made once the store has caught up\n"
     "  REDIS-URL         redis://[[USER]:PASSWORD@]HOST[:PORT][,HOST[:PORT]..][/DATABASE]: servers, tried in order;\n"
     "                    redis-sentinel://[[USER]:PASSWORD@]HOST[:PORT][,..]/NAME[/DATABASE]: Sentinels, asked for the master NAME;\n"
-    "                    or unix://[[USER]:PASSWORD@]/PATH. `-` takes it from the environment, DSFLEET_URL\n"
+    "                    or unix://[[USER]:PASSWORD@]/PATH. Each may end with ?db=DATABASE. `-` takes it from the environment,\n"
+    "                    DSFLEET_URL\n"
     "  --check           says whether the server and its rights will do, and ends\n"
     "                    rediss:// and rediss-sentinel:// are the same with TLS\n"
     "  --cacert F        with TLS, the PEM file of the CAs that certify the server; else the system's\n"
     "  --cert F, --key F with TLS, the PEM files of the certificate that is shown to the server\n"
-    "  --password-file F the password is the first line of F; else that of DSFLEET_PASSWORD in the environment; else the URL's\n"
+    "  --password-file F the password is the first line of F; else that of DSFLEET_PASSWORD in the environment; else the URL's; else\n"
+    "                    that of REDISCLI_AUTH in the environment\n"
     "  --stream NAME     the front of the names of the keys in redis: ds\n"
     "  --scope 'P K'     shares what the pattern P matches whole, of the kinds K, 1 to 15; else everything\n"
     "  --keep N          compacts a stream of more than N entries: 1000\n"
@@ -83,17 +85,30 @@ static bool read_password(void *to, char *path) {
     return *password != '\0';
 }
 
-/* Copies the URL, and overwrites the password among the words, where `ps` shows it. */
-static bool take_url(char *word, struct options *options) {
-    char *front = strstr(word, "://"), *at = strrchr(word, '@');
-    options->url = strdup(word);
-    options->fleet.url = options->url;
+/* Returns where the password of a URL begins, or NULL if it has none. The last `@` ends it. */
+static char *password_of(char *url) {
+    char *front = strstr(url, "://"), *at = strrchr(url, '@');
     char *user = front ? front + strlen("://") : NULL;
     bool has_user = user && at && at > user && *user != '/';
     char *colon = has_user ? memchr(user, ':', (size_t)(at - user)) : NULL;
-    options->shows_password = colon && colon + 1 < at;
-    if (colon) memset(colon + 1, '*', (size_t)(at - colon - 1));
+    return colon && colon + 1 < at ? colon + 1 : NULL;
+}
+
+/* Copies the URL, and overwrites the password among the words, where `ps` shows it. */
+static bool take_url(char *word, struct options *options) {
+    options->url = strdup(word);
+    options->fleet.url = options->url;
+    char *password = password_of(word);
+    options->shows_password = password;
+    if (password) memset(password, '*', (size_t)(strrchr(password, '@') - password));
     return options->url;
+}
+
+/* Takes the password of the environment, if no file has one. That of redis-cli may be another server's, so a URL's
+ * comes before it. */
+static void find_password(struct ds_fleet_options *fleet, char *url) {
+    if (!fleet->password) fleet->password = getenv("DSFLEET_PASSWORD");
+    if (!fleet->password && !password_of(url)) fleet->password = getenv("REDISCLI_AUTH");
 }
 
 /* Reads the words that aren't options, and the environment, and sets what depends on several options. */
@@ -103,10 +118,11 @@ static int finish_options(const struct usage *usage, int count, char **words, st
     options->socket = options->checks ? "-" : words[0];
     if (strlen(options->socket) >= PLACE_PATH) return usage_refuse(usage, "the socket's path is too long");
     char *url = words[count - 1];
-    if (!strcmp(url, "-")) options->fleet.url = getenv("DSFLEET_URL");
-    else if (!take_url(url, options)) return usage_refuse(usage, "out of memory");
-    if (!options->fleet.url) return usage_refuse(usage, "DSFLEET_URL isn't set");
-    if (!options->fleet.password) options->fleet.password = getenv("DSFLEET_PASSWORD");
+    if (!strcmp(url, "-")) url = getenv("DSFLEET_URL");
+    if (!url) return usage_refuse(usage, "DSFLEET_URL isn't set");
+    find_password(&options->fleet, url);
+    options->fleet.url = url;
+    if (url == words[count - 1] && !take_url(url, options)) return usage_refuse(usage, "out of memory");
     options->fleet.keep = (long)options->keep;
     options->fleet.replicas = (int)options->replicas;
     options->fleet.within = (int)options->within;

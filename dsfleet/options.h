@@ -21,8 +21,8 @@ struct options {
     bool shows_password; /* the words have one, which other users could see */
 };
 
-/* Reads the words. Returns GO_ON, or the status to end with after it printed what is to be known. A password in a URL among the words is
- * overwritten there. */
+/* Reads the words. Returns GO_ON, or the status to end with after it printed what is to be known. A password in a URL
+ * among the words is overwritten there. */
 int options_read(int count, char **words, struct options *options);
 /* What a fault of usage is, that the carrier reports by a word. */
 const char *options_explained(enum ds_fleet_word word);

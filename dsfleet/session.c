@@ -79,7 +79,8 @@ static bool answer_check(struct turn *turn, const struct request *it) {
     return is_anothers ? refuse(turn, "notallowed") : answer_store(turn, it);
 }
 
-/* Puts `subscribe SUB ` and the rest of a line. A subscription that a client left is in the store still, so `new` becomes `over`. */
+/* Puts `subscribe SUB ` and the rest of a line. A subscription that a client left is in the store still, so `new`
+ * becomes `over`. */
 static bool rewrite(struct text *to, long sub, const struct request *query, bool is_own) {
     static const char new_one[] = " new", over[] = " over";
     size_t length = query->left, end = strlen(new_one);
@@ -88,7 +89,8 @@ static bool rewrite(struct text *to, long sub, const struct request *query, bool
     return !is_over || text_put(to, over, strlen(over));
 }
 
-/* `subscribe SUB ..`, or `subscribe ..` for a number that is free. The place of a fault is that in the client's own line. */
+/* `subscribe SUB ..`, or `subscribe ..` for a number that is free. The place of a fault is that in the client's own
+ * line. */
 static bool answer_subscribe(struct turn *turn, const struct request *it) {
     struct wire *wire = &turn->client->wire;
     struct text *held = &turn->client->held, rewritten = {0};

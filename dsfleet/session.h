@@ -6,7 +6,8 @@
 
 /* Whether a line's answer has no more than a few lines. */
 bool session_is_short(const char *line, size_t length);
-/* Puts the lines of an answer to what the client is held, and sets `holds` if they wait for the stream. Returns false if memory runs out. */
+/* Puts the lines of an answer to what the client is held, and sets `holds` if they wait for the stream. Returns false
+ * if memory runs out. */
 bool session_answer(struct clients *clients, struct client *client, const char *line, size_t length, bool *holds);
 /* Carries out a line of a client that hung up. Only lines with short answers may be changes; nobody reads the others. */
 void session_carry_out(struct clients *clients, struct client *client, const char *line, size_t length);

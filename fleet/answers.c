@@ -80,7 +80,9 @@ redisReply *field_of(const redisReply *fields, const char *name) {
 
 bool info_says(const redisReply *info, const char *line) { return is_text(info) && strstr(info->str, line); }
 
-bool info_may_evict(const redisReply *info) { return info_says(info, "maxmemory_policy:allkeys") && !info_says(info, "maxmemory:0\r"); }
+bool info_may_evict(const redisReply *info) {
+    return info_says(info, "maxmemory_policy:allkeys") && !info_says(info, "maxmemory:0\r");
+}
 
 bool info_splits(const redisReply *info, const char *stream) {
     const char *open = strchr(stream, '{'), *close = open ? strchr(open, '}') : NULL;

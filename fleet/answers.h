@@ -1,4 +1,5 @@
-/* Answers of a redis server, read strictly: a text that isn't exactly a number, or an id, counts as none. Used within the library. */
+/* Answers of a redis server, read strictly: a text that isn't exactly a number, or an id, counts as none. Used within
+ * the library. */
 #ifndef DS_FLEET_ANSWERS_H
 #define DS_FLEET_ANSWERS_H
 
@@ -9,6 +10,8 @@
 struct entry_id { unsigned long long first, second; };
 
 #define NO_ENTRY ((struct entry_id){0, 0})
+
+enum { ENTRY_ID, ENTRY_FIELDS, ENTRY_PARTS }; /* an entry, as a server answers it */
 
 bool is_above(struct entry_id a, struct entry_id b);
 bool is_same_entry(struct entry_id a, struct entry_id b);
@@ -30,7 +33,8 @@ const redisReply *error_of(struct redisReply **answers, size_t count);
 
 /* The id that an answer is, or 0-0. */
 struct entry_id id_of(const redisReply *answer);
-/* Reads a count from 0 to 2^53, which an integer or a text holds. False: the answer is something else, and the count is 0. */
+/* Reads a count from 0 to 2^53, which an integer or a text holds. False: the answer is something else, and the count is
+ * 0. */
 bool read_count(const redisReply *answer, long long *count);
 long long count_of(const redisReply *answer);
 /* The value after a name in a list of names and values, or NULL. */
@@ -39,9 +43,11 @@ redisReply *field_of(const redisReply *fields, const char *name);
 bool info_says(const redisReply *info, const char *line);
 /* Whether a server, by its INFO, deletes keys of any kind when memory is short. */
 bool info_may_evict(const redisReply *info);
-/* Whether the keys of a stream may be on several nodes of a server's cluster: a part in braces in its name decides on one. */
+/* Whether the keys of a stream may be on several nodes of a server's cluster: a part in braces in its name decides on
+ * one. */
 bool info_splits(const redisReply *info, const char *stream);
-/* Copies the hexadecimal digits after a name, as `run_id:`, of the text of an INFO; the copy is empty where there are none. */
+/* Copies the hexadecimal digits after a name, as `run_id:`, of the text of an INFO; the copy is empty where there are
+ * none. */
 void copy_hex_of(const redisReply *info, const char *name, char copy[DS_FLEET_ID]);
 
 #endif

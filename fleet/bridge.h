@@ -1,5 +1,6 @@
-/* A bridge: the parts of a fleet, each a struct and an enum of states of its own. The files of the parts begin with a table each, of what becomes
- * of a state by an event. docs/design/bridge.md says which part asks next. Used within the library.
+/* A bridge: the parts of a fleet, each a struct and an enum of states of its own. The files of the parts begin with a
+ * table each, of what becomes of a state by an event. docs/design/bridge.md says which part asks next. Used within the
+ * library.
  *
  * The parts share one connection, the teller's, for one round of questions at a time. */
 #ifndef DS_FLEET_BRIDGE_H
@@ -47,7 +48,8 @@ void server_close(struct server *server);
 bool server_is_connected(const struct server *server);
 /* Calls a server if there is none. Returns INSTEP if both connections are open, else why not. */
 enum ds_fleet_word server_call(struct ds_fleet *fleet);
-/* Opens the listener's connection anew: a reading may wait there for what comes after an entry that is no longer the last one read. */
+/* Opens the listener's connection anew: a reading may wait there for what comes after an entry that is no longer the
+ * last one read. */
 void server_reopen_listener(struct server *server);
 
 /* Both connections end. What got no answer is sent to the next server. */
@@ -121,15 +123,16 @@ struct comparing {
     struct stock stock;
     struct entry_id asked;                /* the last entry read at the comparing before */
     struct entry_id witnesses[WITNESSES]; /* in a round of comparing: those that are looked for */
-    uint64_t digest, digested;            /* the last digest, and the store's position then; NOT_DIGESTED: there is none */
+    struct digest digest;                 /* the last one, */
+    uint64_t digested;                    /* and the store's position then; not_digested: there is none */
     uint64_t digest_at;                   /* while entries come, no sooner than this */
     unsigned long long beat;              /* of the digests that are published */
     unsigned rest, wait;                  /* comparings until it tells all again to those that differ, and how many these last were */
     struct peers peers;
 };
 
-/* Another entry is about to be read. While entries come, all bridges take a digest where the second of the ids changes, so that they
- * take it at the same entry. */
+/* Another entry is about to be read. While entries come, all bridges take a digest where the second of the ids changes,
+ * so that they take it at the same entry. */
 void comparing_next(struct ds_fleet *fleet, struct entry_id next);
 /* The server, or its stream, is another one, which has this. */
 void comparing_begin_anew(struct comparing *comparing, const struct stock *stock);

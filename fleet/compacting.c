@@ -1,16 +1,17 @@
 /* Compacting: a stream that has grown long becomes a snapshot of everything held.
  *
- *   state   | event                                     | becomes, and does
- *   --------+-------------------------------------------+----------------------------------------------------------------
- *   RESTS   | it is due                                 | WATCHES: watches the snapshot, and asks for it
- *   WATCHES | good answers                              | WRITES: one transaction writes the snapshot and trims the stream
- *   WATCHES | another bridge's snapshot goes further    | WRITES: ends the watch alone
- *   WATCHES | another scope                             | RESTS: badscope
- *   WATCHES | an error, or out of memory                | WRITES: ends the watch alone; denied, or noroom
- *   WRITES  | it is written                             | RESTS
- *   WRITES  | another bridge wrote meanwhile            | RESTS: nothing was written
- *   WRITES  | an error                                  | RESTS: denied
- *   any     | the connection ends                       | RESTS */
+ *   state           | event                                  | becomes, and does
+ *   ----------------+----------------------------------------+---------------------------------------------------------
+ *   RESTS           | it is due                              | WATCHES: watches the snapshot, and asks for it
+ *   WATCHES         | good answers                           | WRITES: one transaction writes it, and trims the stream
+ *   WATCHES         | another bridge's snapshot goes further | WRITES: ends the watch alone
+ *   WATCHES         | another scope                          | RESTS: badscope
+ *   WATCHES         | an error, or out of memory             | WRITES: ends the watch alone; denied, or noroom
+ *   WRITES          | it is written                          | RESTS
+ *   WRITES          | the watch is ended                     | RESTS: nothing was written
+ *   WRITES          | another bridge wrote meanwhile         | RESTS: nothing was written
+ *   WRITES          | an error                               | RESTS: denied
+ *   WATCHES, WRITES | the connection ends                    | RESTS */
 #include "bridge.h"
 #include "clock.h"
 
@@ -39,8 +40,8 @@ static enum ds_fleet_word ask_to_watch(struct ds_fleet *fleet) {
 /* Trims the stream, and counts what went into the snapshot. */
 static const char trim[] = "return redis.call('HINCRBY', KEYS[2], 'trimmed', redis.call('XTRIM', KEYS[1], 'MINID', ARGV[1]))";
 
-/* The snapshot becomes all that the stream said up to the last entry read, and the stream is trimmed up to there: both or neither. A
- * count that isn't one begins anew, since no more could be added to it. */
+/* The snapshot becomes all that the stream said up to the last entry read, and the stream is trimmed up to there: both
+ * or neither. A count that isn't one begins anew, since no more could be added to it. */
 static void ask_to_write(struct ds_fleet *fleet, const struct text *held, bool counts_anew) {
     struct link *teller = &fleet->server.teller;
     struct entry_id last = fleet->reading.last;
@@ -48,9 +49,10 @@ static void ask_to_write(struct ds_fleet *fleet, const struct text *held, bool c
     write_entry_id(at, last);
     write_entry_id(past, last.second + 1 ? (struct entry_id){last.first, last.second + 1} : (struct entry_id){last.first + 1, 0});
     fleet->compacting.at = last;
-    const char *write = counts_anew ? "HSET %s:snapshot at %s scope %s items %b trimmed 0" : "HSET %s:snapshot at %s scope %s items %b";
+    static const char set[] = "HSET %s:snapshot at %s scope %s items %b";
+    static const char set_anew[] = "HSET %s:snapshot at %s scope %s items %b trimmed 0";
     link_ask(teller, "MULTI");
-    link_ask(teller, write, fleet->stream, at, fleet->scope, held->bytes, held->length);
+    link_ask(teller, counts_anew ? set_anew : set, fleet->stream, at, fleet->scope, held->bytes, held->length);
     link_ask(teller, "EVAL %s 2 %s:items %s:snapshot %s", trim, fleet->stream, fleet->stream, past);
     link_ask(teller, "EXEC");
 }
@@ -67,12 +69,12 @@ static enum ds_fleet_word prepare_snapshot(struct ds_fleet *fleet, struct text *
     *counts_anew = !read_count(count, &trimmed) && count->type != REDIS_REPLY_NIL;
     struct entry_id at = id_of(snapshot->element[WATCHED_AT]);
     struct entry_id generated = id_of(field_of(answers[WATCHING_STREAM], "last-generated-id"));
-    if (is_above(at, fleet->reading.last) && !is_above(at, generated)) return DS_FLEET_INSTEP; /* another one compacts, and has read more */
-    return items_all(&fleet->items, held);
+    bool has_read_more = is_above(at, fleet->reading.last) && !is_above(at, generated); /* another one, which compacts */
+    return has_read_more ? DS_FLEET_INSTEP : items_all(&fleet->items, held);
 }
 
-/* A transaction undoes nothing: if the snapshot couldn't be set, the stream would be trimmed all the same. So a key that denies anything
- * ends it here. */
+/* A transaction undoes nothing: if the snapshot couldn't be set, the stream would be trimmed all the same. So a key
+ * that denies anything ends it here. */
 static enum ds_fleet_word snapshot_watched(struct ds_fleet *fleet) {
     struct text held = {0};
     bool counts_anew = false;
@@ -97,7 +99,8 @@ static enum ds_fleet_word snapshot_written(struct ds_fleet *fleet) {
     fleet->compacting.state = COMPACTING_RESTS;
     fleet->compacting.length = 0;
     if (error) return server_denied(fleet, error);
-    if (teller->came < WRITING_QUESTIONS || done->type != REDIS_REPLY_ARRAY) return DS_FLEET_INSTEP; /* another one was faster */
+    bool is_written = teller->came == WRITING_QUESTIONS && done->type == REDIS_REPLY_ARRAY;
+    if (!is_written) return DS_FLEET_INSTEP; /* another one was faster */
     error = error_of(done->element, done->elements);
     if (error) return server_denied(fleet, error);
     write_entry_id(at, fleet->compacting.at);

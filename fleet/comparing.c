@@ -3,7 +3,7 @@
  * `stock` is what the stream had at the look before, the first one of which is that of the meeting.
  *
  *   state | event                                    | does
- *   ------+------------------------------------------+-------------------------------------------------------------------
+ *   ------+------------------------------------------+-----------------------------------------------------------------
  *   any   | good answers                             | keeps what the stream has
  *   any   | .. of a server that lost something       | reads everything again, and then tells what isn't there
  *   any   | .. with another scope                    | badscope, and the connections end
@@ -18,8 +18,8 @@ enum { LONGEST_REST = 32 /* comparings between two tellings of all to others tha
 
 static const uint64_t not_digested = UINT64_MAX;
 
-/* The questions of a comparing, in their order; up to two more come after them. One transaction looks at the stream before anything is
- * written, so that a replica is looked at, too. */
+/* The questions of a comparing, in their order; up to two more come after them. One transaction looks at the stream
+ * before anything is written, so that a replica is looked at, too. */
 enum {
     ASKED_REPLICATION, ASKED_MULTI, ASKED_LOOK,
     ASKED_ENTRIES = ASKED_LOOK + LOOK_QUESTIONS, ASKED_EXEC, ASKED_DIGESTS, ASKED_CLAIM
@@ -28,26 +28,31 @@ enum { LOOKED_ENTRIES = LOOK_QUESTIONS, LOOKED_AT };
 
 /* ---- digests ---- */
 
-/* Takes a digest of what is held at the last entry read. If own news isn't in an entry up to there, others hold something else at that
- * entry, and nothing is taken. */
+/* Takes a digest of what is held at the last entry read. If own news isn't in an entry up to there, others hold
+ * something else at that entry, and nothing is taken. */
 static enum ds_fleet_word keep_digest(struct ds_fleet *fleet) {
     struct comparing *comparing = &fleet->comparing;
     const struct reading *reading = &fleet->reading;
     struct entry_id at = is_above(reading->read_up_to, reading->last) ? reading->read_up_to : reading->last;
     enum ds_fleet_word word = items_gather(&fleet->items);
+    char entry[DS_FLEET_ID];
     if (word != DS_FLEET_INSTEP) return word;
     if (fleet->items.untold.length || is_above(fleet->telling.trail.last, at)) return DS_FLEET_INSTEP;
-    if (comparing->digested != fleet->items.position) word = items_digest(&fleet->items, &comparing->digest);
+    write_entry_id(entry, at);
+    bool is_taken = comparing->digested == fleet->items.position && is_same_entry(comparing->digest.at, at);
+    if (!is_taken) word = items_digest(&fleet->items, entry, &comparing->digest.value);
     if (word != DS_FLEET_INSTEP) return word;
     comparing->digested = fleet->items.position;
-    peers_keep(&comparing->peers, (struct digest){at, comparing->digest});
+    comparing->digest.at = at;
+    peers_keep(&comparing->peers, comparing->digest);
     return DS_FLEET_INSTEP;
 }
 
 void comparing_next(struct ds_fleet *fleet, struct entry_id next) {
     bool is_same_second = next.first / PERIOD == fleet->reading.last.first / PERIOD;
     if (!fleet->state.caught_up || is_same_second || clock_now() < fleet->comparing.digest_at) return;
-    fleet->comparing.digest_at = clock_now() + PERIOD / 2; /* a bridge that reads old entries needn't take one for each second of them */
+    /* A bridge that reads old entries needn't take one for each second of them. */
+    fleet->comparing.digest_at = clock_now() + PERIOD / 2;
     keep_digest(fleet);
 }
 
@@ -63,18 +68,22 @@ static void ask_for_witnesses(struct ds_fleet *fleet) {
     const struct entry_id ids[WITNESSES] = {told->sure, told->first, read->sure, read->first};
     memcpy(fleet->comparing.witnesses, ids, sizeof ids);
     for (int i = 0; i < WITNESSES; i++) write_entry_id(text[i], ids[i]);
-    link_ask(&fleet->server.teller, "EVAL %s 1 %s:items %s %s %s %s", presence, fleet->stream, text[0], text[1], text[2], text[3]);
+    link_ask(&fleet->server.teller, "EVAL %s 1 %s:items %s %s %s %s", presence, fleet->stream, text[0], text[1], text[2],
+             text[3]);
     trail_ask(told);
     trail_ask(read);
 }
 
-static bool is_comparing_due(const struct ds_fleet *fleet) { return bridge_is_at_end(fleet) && clock_now() >= fleet->comparing.due_at; }
+static bool is_comparing_due(const struct ds_fleet *fleet) {
+    return bridge_is_at_end(fleet) && clock_now() >= fleet->comparing.due_at;
+}
 
 static enum ds_fleet_word ask_to_compare(struct ds_fleet *fleet) {
     struct comparing *comparing = &fleet->comparing;
     struct link *teller = &fleet->server.teller;
     char digest[DIGEST_TEXT];
-    bool is_at_rest = is_same_entry(comparing->asked, fleet->reading.last); /* no entry came since the comparing before */
+    /* Whether no entry came since the comparing before. */
+    bool is_at_rest = is_same_entry(comparing->asked, fleet->reading.last);
     comparing->due_at = clock_now() + PERIOD;
     enum ds_fleet_word word = items_retry(&fleet->items);
     if (word == DS_FLEET_INSTEP && is_at_rest) word = keep_digest(fleet);
@@ -106,8 +115,8 @@ static bool lacks_witness(const struct comparing *comparing, const redisReply *t
     return false;
 }
 
-/* A stream that lost something is read again, and the bridge tells what isn't there: one of another history, one that lacks a witness, one
- * that ends before what was read, and one that has less than before. */
+/* A stream that lost something is read again, and the bridge tells what isn't there: one of another history, one that
+ * lacks a witness, one that ends before what was read, and one that has less than before. */
 static void look_for_loss(struct ds_fleet *fleet, const struct stock *stock, bool has_less) {
     struct comparing *comparing = &fleet->comparing;
     struct reading *reading = &fleet->reading;
@@ -125,7 +134,8 @@ static void look_for_loss(struct ds_fleet *fleet, const struct stock *stock, boo
     if (!is_above(stock->newest, reading->last)) reading->read_up_to = stock->generated;
 }
 
-/* Whether an entry that was in the stream a second ago hasn't arrived: the listener's connection may be dead without an error. */
+/* Whether an entry that was in the stream a second ago hasn't arrived: the listener's connection may be dead without an
+ * error. */
 static bool is_deaf(const struct ds_fleet *fleet) {
     if (fleet->reading.state != READING_END) return false;
     return is_above(fleet->comparing.stock.newest, fleet->reading.last) && clock_now() > fleet->server.listener.heard + PERIOD;
@@ -147,8 +157,8 @@ static enum ds_fleet_word look_at_stream(struct ds_fleet *fleet, struct redisRep
 
 /* ---- what others hold ---- */
 
-/* If others differ, the first of those that hold the same tells everything. If they still differ, as after a clash, it does less and less
- * often. */
+/* If others differ, the first of those that hold the same tells everything. If they still differ, as after a clash, it
+ * does less and less often. */
 static void judge_peers(struct ds_fleet *fleet, const redisReply *digests) {
     struct comparing *comparing = &fleet->comparing;
     peers_compare(&comparing->peers, fleet->me, digests);

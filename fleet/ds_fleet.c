@@ -1,8 +1,8 @@
 /* A store in step with others over a redis stream: the step, and the calls. See ds_fleet.h; bridge.h has the parts, and
  * docs/reference/fleet.md the protocol.
  *
- * Two connections: the teller asks one round of questions at a time; the listener waits for entries. A step continues both as far as it
- * can without waiting, and only then waits. */
+ * Two connections: the teller asks one round of questions at a time; the listener waits for entries. A step continues
+ * both as far as it can without waiting, and only then waits. */
 #include "bridge.h"
 #include "clock.h"
 #include <errno.h>
@@ -71,7 +71,8 @@ static enum ds_fleet_word gather_owed(struct ds_fleet *fleet) {
 
 /* Asks the first of the teller's rounds that is due. LATE: there is one. */
 static enum ds_fleet_word ask_next(struct ds_fleet *fleet) {
-    static const struct round *const rounds[] = {&meeting_round, &fetching_round, &comparing_round, &compacting_round, &telling_round};
+    static const struct round *const rounds[] = {&meeting_round, &fetching_round, &comparing_round, &compacting_round,
+                                                 &telling_round};
     if (clock_now() < fleet->server.ask_at) return DS_FLEET_DENIED;
     enum ds_fleet_word word = gather_owed(fleet);
     for (size_t i = 0; i < sizeof rounds / sizeof *rounds; i++) {
@@ -114,12 +115,14 @@ static enum ds_fleet_word turn_listener(struct ds_fleet *fleet) {
 }
 
 static bool is_in_step(const struct ds_fleet *fleet) {
-    return fleet->server.state == SERVER_MET && bridge_is_at_end(fleet) && !fleet->telling.owes_all && !fleet->items.untold.length;
+    bool has_news = fleet->telling.owes_all || fleet->items.untold.length;
+    return fleet->server.state == SERVER_MET && bridge_is_at_end(fleet) && !has_news;
 }
 
-/* Goes as far as it can without waiting. If one of the two is denied, the other continues. A step that waits ends once the server has all
- * news: what the listener hasn't read yet, such as the same news, is left to the next step, for which the bell rings, and which may tell
- * other news first. A caller that doesn't wait would come back for it at once, at the cost of another turn. */
+/* Goes as far as it can without waiting. If one of the two is denied, the other continues. A step that waits ends once
+ * the server has all news: what the listener hasn't read yet, such as the same news, is left to the next step, for
+ * which the bell rings, and which may tell other news first. A caller that doesn't wait would come back for it at once,
+ * at the cost of another turn. */
 static enum ds_fleet_word turn_both(struct ds_fleet *fleet, bool waits) {
     enum ds_fleet_word told = DS_FLEET_LATE, heard = DS_FLEET_LATE;
     while (told == DS_FLEET_LATE || heard == DS_FLEET_LATE) {
@@ -209,7 +212,8 @@ static bool has_unsent_news(const struct ds_fleet *fleet) {
     return fleet->items.untold.length && fleet->server.state == SERVER_MET && !fleet->server.round;
 }
 
-/* The bell is heard at least once, unless news is on its way: then one wait is for its answer, too, be it that of the next step. */
+/* The bell is heard at least once, unless news is on its way: then one wait is for its answer, too, be it that of the
+ * next step. */
 enum ds_fleet_word ds_fleet_step(struct ds_fleet *fleet, unsigned patience) {
     uint64_t end = clock_now() + patience;
     enum ds_fleet_word gathered = items_gather(&fleet->items);
@@ -232,12 +236,14 @@ enum ds_fleet_word ds_fleet_step(struct ds_fleet *fleet, unsigned patience) {
 
 int ds_fleet_bell(const struct ds_fleet *fleet) { return fleet->bell; }
 
-uint64_t ds_fleet_mark(struct ds_fleet *fleet) { return items_gather(&fleet->items) == DS_FLEET_INSTEP ? fleet->items.gathered + 1 : 0; }
+uint64_t ds_fleet_mark(struct ds_fleet *fleet) {
+    return items_gather(&fleet->items) == DS_FLEET_INSTEP ? fleet->items.gathered + 1 : 0;
+}
 
 bool ds_fleet_is_told(const struct ds_fleet *fleet, uint64_t mark) { return mark && fleet->telling.told + 1 >= mark; }
 
 void ds_fleet_owed(struct ds_fleet *fleet, uint8_t owed[16]) {
-    for (int i = 0; i < 16; i++) owed[i] |= fleet->items.owed[i];
+    for (size_t i = 0; i < sizeof fleet->items.owed; i++) owed[i] |= fleet->items.owed[i];
     memset(fleet->items.owed, 0, sizeof fleet->items.owed);
 }
 
@@ -259,7 +265,8 @@ static bool good_name(const char *stream) {
     return length >= 1 && length <= STREAM_NAME;
 }
 
-/* The scope, for the store, and as the stream's field has it: `PATTERN KINDS`, or a word of its own, which has no space. */
+/* The scope, for the store, and as the stream's field has it: `PATTERN KINDS`, or a word of its own, which has no
+ * space. */
 static enum ds_fleet_word read_scope(struct ds_fleet *fleet, const char *pattern, unsigned kinds) {
     if (kinds && !pattern) return DS_FLEET_BADSCOPE;
     fleet->items.kinds = (uint8_t)kinds;

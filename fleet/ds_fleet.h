@@ -1,14 +1,16 @@
-/* Keeps a store in step with those of other hosts over a redis stream: it appends to the stream what takes effect in the store, and merges
- * what others appended. In these comments, to tell is to append to the stream. docs/reference/fleet.md draws it.
+/* Keeps a store in step with those of other hosts over a redis stream: it appends to the stream what takes effect in
+ * the store, and merges what others appended. In these comments, to tell is to append to the stream.
+ * docs/reference/fleet.md draws it.
  *
- * The store behind the handle is proved; this carrier is tested. If no two changes contradict each other, stores that got the same items
- * agree, in whatever order and however often the items arrived.
+ * The store behind the handle is proved; this carrier is tested. If no two changes contradict each other, stores that
+ * got the same items agree, in whatever order and however often the items arrived.
  *
- * A fleet owns two connections, one descriptor (the bell), and the text that the server hasn't acknowledged yet. While it looks up the host
- * of its URL it has a thread, which takes no signal and only calls getaddrinfo; no call waits for that thread, and it doesn't use the
- * handle. ds_fleet_open copies its arguments, except the handle: the caller keeps that open until ds_fleet_close. At most one thread at a
- * time makes a call on the handle or its fleet. The calls of a fleet send requests to the store, so fetch the text of an answer before you
- * make one. Nothing is global, and the caller has to ignore SIGPIPE. The server is redis 7 or newer, the system Linux. */
+ * A fleet owns two connections, one descriptor (the bell), and the text that the server hasn't acknowledged yet. While
+ * it looks up the host of its URL it has a thread, which takes no signal and only calls getaddrinfo; no call waits for
+ * that thread, and it doesn't use the handle. ds_fleet_open copies its arguments, except the handle: the caller keeps
+ * that open until ds_fleet_close. At most one thread at a time makes a call on the handle or its fleet. The calls of a
+ * fleet send requests to the store, so fetch the text of an answer before you make one. Nothing is global, and the
+ * caller has to ignore SIGPIPE. The server is redis 7 or newer, the system Linux. */
 #ifndef DS_FLEET_H
 #define DS_FLEET_H
 
@@ -47,8 +49,8 @@ typedef void ds_fleet_tell(void *context, const char *line);
 struct ds_fleet_options {
     const char *url;      /* redis://[[USER]:PASSWORD@]HOST[:PORT][,HOST[:PORT]..][/DATABASE]: servers, tried in order;
                              redis-sentinel://[[USER]:PASSWORD@]HOST[:PORT][,..]/NAME[/DATABASE]: Sentinels, asked for the master NAME;
-                             or unix://[[USER]:PASSWORD@]/PATH. Up to 8 hosts. With rediss:// and rediss-sentinel:// TLS is spoken, if the
-                             library was built with -DDS_FLEET_TLS and is linked with OpenSSL */
+                             or unix://[[USER]:PASSWORD@]/PATH. Each may end with ?db=DATABASE. Up to 8 hosts. With rediss:// and
+                             rediss-sentinel:// TLS is spoken, if the library was built with -DDS_FLEET_TLS and is linked with OpenSSL */
     const char *stream;   /* the beginning of the names of its three keys, 1 to 128 bytes; NULL: "ds" */
     const char *pattern;  /* with kinds, the scope: the names that it matches whole. All on one stream need the same scope: else badscope */
     uint8_t kinds;        /* a sum of enum ds_kinds; 0: the scope is everything, and pattern may be anything */
@@ -63,30 +65,30 @@ struct ds_fleet_options {
     const char *certificate, *key; /* those that are shown to the server; NULL: none */
 };
 
-/* Joins the store of the handle to a stream, without waiting: the first step connects to the server, and the first steps tell what the
- * store holds already.
- * Returns DS_FLEET_INSTEP; then close *fleet by ds_fleet_close. Else *fleet is NULL, and the word says why: CLOSED, BADURL, NOTLS, BADTLS,
- * BADNAME, BADSCOPE, NOROOM or SYSTEM. */
+/* Joins the store of the handle to a stream, without waiting: the first step connects to the server, and the first
+ * steps tell what the store holds already. Returns DS_FLEET_INSTEP; then close *fleet by ds_fleet_close. Else *fleet is
+ * NULL, and the word says why: CLOSED, BADURL, NOTLS, BADTLS, BADNAME, BADSCOPE, NOROOM or SYSTEM. */
 enum ds_fleet_word ds_fleet_open(struct ds_fleet **fleet, struct ds_handle *store, const struct ds_fleet_options *options);
 
-/* Tells what is new, and merges what others told. It waits until the store is in step, for at most `patience` milliseconds; with 0 it
- * doesn't wait. A step that waits, and has just told all news, leaves what arrived meanwhile to the next one, for which the bell rings. The
- * first DS_FLEET_INSTEP means that the store has caught up. Serve no client before that: a publisher that doesn't see its own earlier
- * versions would use their numbers again. DS_FLEET_BADSCOPE and DS_FLEET_BADNAME end the step at once. Call it when the bell rings, and after
- * each change of the store. */
+/* Tells what is new, and merges what others told. It waits until the store is in step, for at most `patience`
+ * milliseconds; with 0 it doesn't wait. A step that waits, and has just told all news, leaves what arrived meanwhile to
+ * the next one, for which the bell rings. The first DS_FLEET_INSTEP means that the store has caught up. Serve no client
+ * before that: a publisher that doesn't see its own earlier versions would use their numbers again. DS_FLEET_BADSCOPE
+ * and DS_FLEET_BADNAME end the step at once. Call it when the bell rings, and after each change of the store. */
 enum ds_fleet_word ds_fleet_step(struct ds_fleet *fleet, unsigned patience);
 
-/* Returns a descriptor that becomes readable when a step has something to do: others told something, the server answered, or a second
- * passed. It is the same one until ds_fleet_close. Wait for it, but don't read it. */
+/* Returns a descriptor that becomes readable when a step has something to do: others told something, the server
+ * answered, or a second passed. It is the same one until ds_fleet_close. Wait for it, but don't read it. */
 int ds_fleet_bell(const struct ds_fleet *fleet);
 
 /* Returns a mark past everything that has taken effect in the store so far; 0 if memory runs out, or no store is open. */
 uint64_t ds_fleet_mark(struct ds_fleet *fleet);
-/* Returns whether the server has acknowledged everything before the mark, so that it is in the stream. So one client may get its answer
- * while others still change the store. */
+/* Returns whether the server has acknowledged everything before the mark, so that it is in the stream. So one client
+ * may get its answer while others still change the store. */
 bool ds_fleet_is_told(const struct ds_fleet *fleet, uint64_t mark);
 
-/* Sets in owed the bit of each subscription to which what others told since the last call owes a notice. Other bits are unchanged. */
+/* Sets in owed the bit of each subscription to which what others told since the last call owes a notice. Other bits are
+ * unchanged. */
 void ds_fleet_owed(struct ds_fleet *fleet, uint8_t owed[16]);
 
 /* The state of a fleet. */
@@ -111,7 +113,8 @@ void ds_fleet_state(const struct ds_fleet *fleet, struct ds_fleet_state *state);
 /* Ends both connections and frees all memory; the store is unchanged, and open. NULL is allowed. */
 void ds_fleet_close(struct ds_fleet *fleet);
 
-/* Return static texts: the word in lower case, such as `instep`; the word of a refusal of enum ds_refusal, such as `clash`. */
+/* Return static texts: the word in lower case, such as `instep`; the word of a refusal of enum ds_refusal, such as
+ * `clash`. */
 const char *ds_fleet_word(enum ds_fleet_word word);
 const char *ds_fleet_refusal(uint32_t refusal);
 

@@ -12,6 +12,8 @@
 #include <sys/socket.h>
 #include <unistd.h>
 
+enum { HOLDERS = 2 };
+
 /* A look-up that the host and its thread share. The last of the two frees it. */
 struct lookup {
     atomic_int holders;
@@ -77,7 +79,7 @@ static bool begin_lookup(struct host *host, uint64_t now) {
     if (!lookup) return false;
     memcpy(lookup->name, host->name, size);
     lookup->bell = fcntl(host->bell, F_DUPFD_CLOEXEC, 0);
-    atomic_store(&lookup->holders, 2);
+    atomic_store(&lookup->holders, HOLDERS);
     if (lookup->bell < 0 || !start_thread(lookup)) {
         if (lookup->bell >= 0) close(lookup->bell);
         free(lookup);

@@ -1,4 +1,5 @@
-/* The addresses of a host. A name is looked up by a thread, so no caller waits for a name server. Used by master.c alone. */
+/* The addresses of a host. A name is looked up by a thread, so no caller waits for a name server. Used by master.c
+ * alone. */
 #ifndef DS_FLEET_HOST_H
 #define DS_FLEET_HOST_H
 
@@ -35,7 +36,8 @@ enum host_found {
 
 /* Names the host. A longer name than fits is cut. */
 void host_open(struct host *host, const char *name, int bell);
-/* Finds an address to call. A name is looked up for each call. If no name server answers, the address that worked last is called. */
+/* Finds an address to call. A name is looked up for each call. If no name server answers, the address that worked last
+ * is called. */
 enum host_found host_find(struct host *host, uint64_t now);
 /* A server was met at the address, or wasn't. */
 void host_worked(struct host *host);

@@ -8,13 +8,20 @@
 enum {
     PIECES = 1 << 16, /* bytes of items that are fetched at a time */
     SHOWN = 400,      /* bytes of a line that are logged */
-    LOGGED = 512      /* bytes of a line of the log, with its zero */
+    LOGGED = 512,     /* bytes of a line of the log, with its zero */
+    HIGH_HALF = 32    /* bits of a hash */
 };
 
-static const uint64_t hash_seed = 14695981039346656037u; /* FNV-1a */
+/* Of FNV-1a. */
+static const uint64_t hash_seed = 14695981039346656037u, hash_prime = 1099511628211u;
 
+/* FNV-1a with one more step, by which its low bits depend on all of the seed: two texts of one hash have others from
+ * another seed on. */
 static uint64_t hashed(uint64_t hash, const char *bytes, size_t length) {
-    for (size_t i = 0; i < length; i++) hash = (hash ^ (unsigned char)bytes[i]) * 1099511628211u;
+    for (size_t i = 0; i < length; i++) {
+        hash = (hash ^ (unsigned char)bytes[i]) * hash_prime;
+        hash ^= hash >> HIGH_HALF;
+    }
     return hash;
 }
 
@@ -131,7 +138,8 @@ enum ds_fleet_word items_gather(struct items *items) {
         struct ds_answer answer;
         enum ds_fleet_word word = ask_store(items, items->store, DS_SINCE, &answer);
         if (word != DS_FLEET_INSTEP) return word;
-        if (answer.word != DS_JOURNALED) return items_gather_all(items); /* the position is older than its ring, or another store's */
+        /* Otherwise the position is older than its ring, or another store's. */
+        if (answer.word != DS_JOURNALED) return items_gather_all(items);
         if ((word = keep_untold(items, &answer)) != DS_FLEET_INSTEP || answer.pieces < ITEMS_MOST) return word;
     }
 }
@@ -190,12 +198,14 @@ void items_begin_anew(struct items *items, bool notes) {
 static enum ds_fleet_word set_aside(struct items *items, const char *entry, const char *line, size_t length, uint32_t refusal) {
     struct ds_request request = {.command = DS_MERGE, .text_length = length};
     struct ds_answer answer;
+    /* Nobody asks for its journal, so it is the shortest. */
     if (!items->has_aside && ds_open(&items->aside[items->here], 1, 0, 1)) return DS_FLEET_NOROOM;
     items->has_aside = true;
     if (ds_call(&items->aside[items->here], &request, line, length, &answer)) return DS_FLEET_CLOSED;
     if (answer.refusal == DS_NOROOM) return DS_FLEET_NOROOM;
     log_refusal(items, entry, line, length, refusal);
-    if (answer.word == DS_STOPPED && answer.refusal == DS_FULL) lose_item(items); /* otherwise it holds another item of this version */
+    /* Any other refusal says that it holds another item of this version. */
+    if (answer.word == DS_STOPPED && answer.refusal == DS_FULL) lose_item(items);
     if (answer.word == DS_STOPPED || answer.taken) {
         items->refused[refusal <= DS_NOROOM ? refusal : 0]++;
         items->news = true;
@@ -247,7 +257,8 @@ static void count_unread(struct items *items, const char *entry, const char *lin
 }
 
 /* Merges lines. `done`: the bytes that were carried out, up to and including a line that is refused. */
-static enum ds_fleet_word merge_lines(struct items *items, const char *entry, const char *lines, size_t length, bool is_one, size_t *done) {
+static enum ds_fleet_word merge_lines(struct items *items, const char *entry, const char *lines, size_t length, bool is_one,
+                                      size_t *done) {
     struct ds_request request = {.command = DS_MERGE, .text_length = length};
     struct ds_answer answer;
     *done = 0;
@@ -270,8 +281,8 @@ static enum ds_fleet_word merge_lines(struct items *items, const char *entry, co
     return word;
 }
 
-/* Merges lines, each with its newline. A refused line ends a merge, and the lines after it are parsed again. So the next merge has one line,
- * and then twice as many each time: many lines in a row may be refused. */
+/* Merges lines, each with its newline. A refused line ends a merge, and the lines after it are parsed again. So the
+ * next merge has one line, and then twice as many each time: many lines in a row may be refused. */
 static enum ds_fleet_word take_ended(struct items *items, const char *entry, const char *lines, size_t length) {
     unsigned count = ITEMS_MOST;
     while (length) {
@@ -311,13 +322,13 @@ enum ds_fleet_word items_all(struct items *items, struct text *to) {
     return word == DS_FLEET_INSTEP && items->has_aside ? put_all(items, &items->aside[items->here], to) : word;
 }
 
-enum ds_fleet_word items_digest(struct items *items, uint64_t *digest) {
+enum ds_fleet_word items_digest(struct items *items, const char *entry, unsigned long long *digest) {
     struct text room = {0};
     struct ds_answer answer;
     struct ds_given given = {0};
     enum ds_fleet_word word = ask_store(items, items->store, DS_SNAPSHOT, &answer);
     if (word == DS_FLEET_INSTEP && !text_room(&room, PIECES)) word = DS_FLEET_NOROOM;
-    *digest = hash_seed;
+    *digest = hashed(hash_seed, entry, strlen(entry));
     for (uint64_t first = 0; word == DS_FLEET_INSTEP && first < answer.pieces; first += given.count) {
         if (ds_items(items->store, first, room.bytes, room.room, &given)) word = DS_FLEET_CLOSED;
         else if (!given.count) word = DS_FLEET_NOROOM;

@@ -1,5 +1,6 @@
-/* The store's side of a fleet: what took effect in it as lines for the stream, and the lines of others merged into it. Lines are read by the
- * store alone; here their newlines are counted, and the spaces that end their key. Used within the library. */
+/* The store's side of a fleet: what took effect in it as lines for the stream, and the lines of others merged into it.
+ * Lines are read by the store alone; here their newlines are counted, and the spaces that end their key. Used within
+ * the library. */
 #ifndef DS_FLEET_ITEMS_H
 #define DS_FLEET_ITEMS_H
 
@@ -37,7 +38,8 @@ struct items {
     void *context;
 };
 
-/* These answer INSTEP where it is done, else CLOSED, NOROOM, or items_gather_all BADSCOPE, and then may be called again. */
+/* These answer INSTEP where it is done, else CLOSED, NOROOM, or items_gather_all BADSCOPE, and then may be called
+ * again. */
 
 /* Puts what took effect since to what is untold. */
 enum ds_fleet_word items_gather(struct items *items);
@@ -54,14 +56,15 @@ void items_forget_noted(struct items *items);
 void items_unread_entry(struct items *items, const char *entry);
 /* Offers what was refused again, where something changed since. */
 enum ds_fleet_word items_retry(struct items *items);
-/* Whether half of what was refused when items were lost has been taken in since: then there is room to read what was lost once more. */
+/* Whether half of what was refused when items were lost has been taken in since: then there is room to read what was
+ * lost once more. */
 bool items_may_regain(const struct items *items);
 /* All is read anew: what was lost comes again. `notes`: it is noted. */
 void items_begin_anew(struct items *items, bool notes);
 /* Appends everything held, and everything refused, to the text. */
 enum ds_fleet_word items_all(struct items *items, struct text *to);
 /* A number that differs, but for a slip in 2^64, where another store holds something else. */
-enum ds_fleet_word items_digest(struct items *items, uint64_t *digest);
+enum ds_fleet_word items_digest(struct items *items, const char *entry, unsigned long long *digest);
 void items_close(struct items *items);
 
 /* Logs a line. */

@@ -1,5 +1,6 @@
-/* One connection to a redis server: it takes rounds of questions and never waits. A server that answers nothing for LINK_SILENCE is taken
- * for gone. hiredis writes the questions and parses the answers, and TLS is OpenSSL's. Used within the library. */
+/* One connection to a redis server: it takes rounds of questions and never waits. A server that answers nothing for
+ * LINK_SILENCE is taken for gone. hiredis writes the questions and parses the answers, and TLS is OpenSSL's. Used
+ * within the library. */
 #ifndef DS_FLEET_LINK_H
 #define DS_FLEET_LINK_H
 

@@ -11,7 +11,7 @@ struct stock look_answered(struct redisReply **looked) {
     const redisReply *stream = looked[LOOK_STREAM], *newest = field_of(stream, "last-entry");
     redisReply **fields = looked[LOOK_SNAPSHOT]->element;
     struct stock stock = {.snapshot = id_of(fields[LOOK_AT]), .generated = id_of(field_of(stream, "last-generated-id"))};
-    if (is_list_of(newest, 2)) stock.newest = id_of(newest->element[0]);
+    if (is_list_of(newest, ENTRY_PARTS)) stock.newest = id_of(newest->element[ENTRY_ID]);
     stock.bytes = count_of(looked[LOOK_BYTES]);
     stock.added = count_of(field_of(stream, "entries-added"));
     stock.gone = stock.added - count_of(field_of(stream, "length")) - count_of(fields[LOOK_TRIMMED]);

@@ -1,5 +1,5 @@
-/* How a bridge notices that a server no longer has what it had: by what the server counts, and by entries that have to be there. Used within the
- * library. */
+/* How a bridge notices that a server no longer has what it had: by what the server counts, and by entries that have to
+ * be there. Used within the library. */
 #ifndef DS_FLEET_LOSS_H
 #define DS_FLEET_LOSS_H
 
@@ -21,13 +21,16 @@ struct stock {
 
 /* Asks the questions of a look, after a MULTI. */
 void look_ask(struct link *link, const char *stream);
-/* Reads what the transaction answered to them; to LOOK_SNAPSHOT a list of LOOK_FIELDS. An answer of another kind counts as none. */
+/* Reads what the transaction answered to them; to LOOK_SNAPSHOT a list of LOOK_FIELDS. An answer of another kind counts
+ * as none. */
 struct stock look_answered(struct redisReply **looked);
-/* Whether a server has less than before: the snapshot is older or smaller, entries left the stream and aren't in it, or fewer were ever added. */
+/* Whether a server has less than before: the snapshot is older or smaller, entries left the stream and aren't in it, or
+ * fewer were ever added. */
 bool has_lost(const struct stock *before, const struct stock *now);
 
-/* Entries of one origin, as those that a bridge told. While the stream is the same one, each of them is in it, or in the snapshot. A
- * stream that was replaced since it was last looked at lacks `sure` or, where no entry was there then, `first`. */
+/* Entries of one origin, as those that a bridge told. While the stream is the same one, each of them is in it, or in
+ * the snapshot. A stream that was replaced since it was last looked at lacks `sure` or, where no entry was there then,
+ * `first`. */
 struct trail {
     struct entry_id sure;  /* the last entry when the stream was last looked at */
     struct entry_id first; /* the first one since then */

@@ -1,16 +1,16 @@
 /* Where the master is. See master.h.
  *
- *   state   | event                       | becomes, and does
- *   --------+-----------------------------+--------------------------------------------------------------
- *   LISTED  | a server's address is found | LISTED: that is where it is
- *   LISTED  | a Sentinel's is found       | ASKED: asks it for the master
- *   LISTED  | no address                  | LISTED: unknown
- *   ASKED   | it names the master         | NAMED
- *   ASKED   | it knows none, or is lost   | LISTED: unknown
- *   NAMED   | the address is found        | NAMED: that is where it is
- *   NAMED   | no address                  | LISTED: unknown
- *   any     | no server was met there     | LISTED: the next address of the URL is due
- *   any     | a node names another one    | NAMED */
+ *   state         | event                       | becomes, and does
+ *   --------------+-----------------------------+--------------------------------------------------------
+ *   LISTED        | a server's address is found | LISTED: that is where it is
+ *   LISTED        | a Sentinel's is found       | ASKED: asks it for the master
+ *   LISTED        | no address                  | LISTED: unknown
+ *   ASKED         | it names the master         | NAMED
+ *   ASKED         | it knows none, or is lost   | LISTED: unknown
+ *   NAMED         | the address is found        | NAMED: that is where it is
+ *   NAMED         | no address                  | LISTED: unknown
+ *   LISTED, NAMED | no server was met there     | LISTED: the next address of the URL is due
+ *   LISTED, NAMED | a node names another one    | NAMED */
 #include "master.h"
 #include "answers.h"
 #include "text.h"
@@ -60,12 +60,12 @@ static int read_number(const char *text, int most) {
     return digits && !text[digits] ? (int)number : -1;
 }
 
-/* Cuts the text at the first slash. Returns what is after it, or NULL. */
-static char *cut_at_slash(char *text) {
-    char *slash = strchr(text, '/');
-    if (!slash) return NULL;
-    *slash = '\0';
-    return slash + 1;
+/* Cuts the text at the first such byte. Returns what is after it, or NULL. */
+static char *cut_at(char *text, char byte) {
+    char *found = strchr(text, byte);
+    if (!found) return NULL;
+    *found = '\0';
+    return found + 1;
 }
 
 /* Takes the user and the password off the front. Returns what is after the last `@`, or NULL if they can't be read. */
@@ -112,18 +112,25 @@ static bool read_database(struct master *master, const char *text) {
 }
 
 static bool read_servers(struct master *master, char *text) {
-    return read_database(master, cut_at_slash(text)) && read_addresses(master, text, SERVER_PORT);
+    return read_database(master, cut_at(text, '/')) && read_addresses(master, text, SERVER_PORT);
 }
 
 static bool read_sentinels(struct master *master, char *text) {
-    char *name = cut_at_slash(text);
+    char *name = cut_at(text, '/');
     master->known_as = name;
-    return name && read_database(master, cut_at_slash(name)) && *name && read_addresses(master, text, SENTINEL_PORT);
+    return name && read_database(master, cut_at(name, '/')) && *name && read_addresses(master, text, SENTINEL_PORT);
 }
 
 static bool read_path(struct master *master, char *text) {
     master->call.path = text;
     return *text == '/';
+}
+
+/* Reads what is after a question mark, `db=DATABASE`, if there is anything. */
+static bool read_query(struct master *master, const char *text) {
+    static const char front[] = "db=";
+    if (!text) return true;
+    return text_begins(text, strlen(text), front) && read_database(master, text + strlen(front));
 }
 
 /* Copies a text, if there is one. Returns whether memory was enough. */
@@ -154,8 +161,8 @@ static enum ds_fleet_word read_url(struct master *master, const struct ds_fleet_
         if (kinds[i].has_tls && !tls_is_built()) return DS_FLEET_NOTLS;
         if (has_files && !kinds[i].has_tls) return DS_FLEET_BADURL;
         if (!copy_text(&master->url, url)) return DS_FLEET_NOROOM;
-        char *rest = read_user(master, master->url + strlen(kinds[i].front));
-        if (!rest || !kinds[i].read(master, rest)) return DS_FLEET_BADURL;
+        char *rest = read_user(master, master->url + strlen(kinds[i].front)), *query = rest ? cut_at(rest, '?') : NULL;
+        if (!rest || !kinds[i].read(master, rest) || !read_query(master, query)) return DS_FLEET_BADURL;
         return kinds[i].has_tls ? read_files(master, options) : DS_FLEET_INSTEP;
     }
     return DS_FLEET_BADURL;
@@ -202,7 +209,8 @@ static void name_master(struct master *master, const char *host, int port) {
 }
 
 static enum host_found ask_sentinel(struct master *master, uint64_t now) {
-    struct link_call call = {.host = master->call.host, .port = master->call.port, .tls = master->call.tls, .server = master->call.server};
+    const struct link_call *at = &master->call;
+    struct link_call call = {.host = at->host, .port = at->port, .tls = at->tls, .server = at->server};
     if (!link_open(&master->sentinel, &call, now)) return master_unknown(master, master->sentinel.said);
     link_ask(&master->sentinel, "SENTINEL get-master-addr-by-name %s", master->known_as);
     master->state = MASTER_ASKED;

@@ -1,5 +1,5 @@
-/* Where the master is: one of the addresses of a URL in order, the one that a Sentinel names, or the one to which a node of a cluster
- * sends. Used by server.c and check.c. */
+/* Where the master is: one of the addresses of a URL in order, the one that a Sentinel names, or the one to which a
+ * node of a cluster sends. Used by server.c and check.c. */
 #ifndef DS_FLEET_MASTER_H
 #define DS_FLEET_MASTER_H
 
@@ -30,12 +30,14 @@ struct master {
     char tls_said[TLS_SAID];                 /* why the files can't be used */
 };
 
-/* Reads redis://[[USER]:PASSWORD@]HOST[:PORT][,HOST[:PORT]..][/DATABASE], redis-sentinel://[[USER]:PASSWORD@]HOST[:PORT][,..]/NAME[/DATABASE]
- * or unix://[[USER]:PASSWORD@]/PATH, or the first two as rediss://; %XX is a byte of USER and PASSWORD. Reads the password and the files of the
- * options, too. Returns INSTEP, BADURL, NOTLS, BADTLS and then `said` says why, NOROOM, or SYSTEM, and then errno says why. In each case it is
- * ended by master_close. */
+/* Reads redis://[[USER]:PASSWORD@]HOST[:PORT][,HOST[:PORT]..][/DATABASE],
+ * redis-sentinel://[[USER]:PASSWORD@]HOST[:PORT][,..]/NAME[/DATABASE] or unix://[[USER]:PASSWORD@]/PATH, or the first
+ * two as rediss://, with ?db=DATABASE at its end or not; %XX is a byte of USER and PASSWORD. Reads the password and the
+ * files of the options, too. Returns INSTEP, BADURL, NOTLS, BADTLS and then `said` says why, NOROOM, or SYSTEM, and
+ * then errno says why. In each case it is ended by master_close. */
 enum ds_fleet_word master_open(struct master *master, const struct ds_fleet_options *options);
-/* Finds where to call, without waiting. HOST_SOUGHT: call again when the bell or the Sentinel's connection rings, or after HOST_PATIENCE. */
+/* Finds where to call, without waiting. HOST_SOUGHT: call again when the bell or the Sentinel's connection rings, or
+ * after HOST_PATIENCE. */
 enum host_found master_find(struct master *master, uint64_t now);
 /* Silences the bell. */
 void master_hear(struct master *master);

@@ -13,6 +13,8 @@ enum {
     HEX_DIGITS = 16 /* of a digest */
 };
 
+static const char form[] = "2-"; /* how digests are made, at the front of each: those made in another way aren't compared */
+
 void peers_keep(struct peers *peers, struct digest digest) {
     struct digest *newest = peers->own_count ? &peers->own[(peers->own_count - 1) % OWN_DIGESTS] : NULL;
     if (newest && is_same_entry(newest->at, digest.at)) {
@@ -25,15 +27,17 @@ void peers_keep(struct peers *peers, struct digest digest) {
 bool peers_write(const struct peers *peers, unsigned long long beat, char text[DIGEST_TEXT]) {
     if (!peers->own_count) return false;
     const struct digest *newest = &peers->own[(peers->own_count - 1) % OWN_DIGESTS];
-    snprintf(text, DIGEST_TEXT, "%016llx-%llu-%llu-%llu", newest->value, beat, newest->at.first, newest->at.second);
+    snprintf(text, DIGEST_TEXT, "%s%016llx-%llu-%llu-%llu", form, newest->value, beat, newest->at.first, newest->at.second);
     return true;
 }
 
 void peers_forget_own(struct peers *peers) { peers->own_count = 0; }
 
-/* Reads `DIGEST-BEAT-FIRST-SECOND`. */
+/* Reads `2-DIGEST-BEAT-FIRST-SECOND`. */
 static bool read_digest(const char *text, struct digest *digest, unsigned long long *beat) {
     char hex[HEX_DIGITS + 1] = "";
+    if (!text_begins(text, strlen(text), form)) return false;
+    text += strlen(form);
     if (strspn(text, "0123456789abcdef") != HEX_DIGITS || text[HEX_DIGITS] != '-') return false;
     memcpy(hex, text, HEX_DIGITS);
     digest->value = strtoull(hex, NULL, 16);

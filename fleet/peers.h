@@ -1,7 +1,8 @@
 /* The other bridges of a stream, compared by digests of what they hold. Used within the library.
  *
- * Two digests can be compared only if both were taken after the same entries were read, with nothing else held. So each digest names the
- * entry at which it was taken, and a bridge keeps some of its own for peers that took theirs a little earlier. */
+ * Two digests can be compared only if both were taken after the same entries were read, with nothing else held. So each
+ * digest names the entry at which it was taken, and a bridge keeps some of its own for peers that took theirs a little
+ * earlier. */
 #ifndef DS_FLEET_PEERS_H
 #define DS_FLEET_PEERS_H
 

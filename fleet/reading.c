@@ -1,17 +1,16 @@
-/* Reading: the entries of others are merged into the store, and the snapshot where it has what was trimmed before it was read.
+/* Reading: the entries of others are merged into the store; so is the snapshot, if it has what was trimmed unread.
  *
- *   state  | event                                     | becomes, and does
- *   -------+-------------------------------------------+---------------------------------------------------------
- *   BEHIND | a full reading                            | BEHIND: its entries are merged
- *   BEHIND | a reading that isn't full                 | END: its entries are merged
- *   END    | entries                                   | END, or BEHIND if it is full: they are merged
- *   any    | .. and a snapshot that goes further       | GAP: they are merged, too; further than the last entry read before
- *   any    | an error, or out of memory                | BEHIND: denied, or noroom; the entries are asked for again
- *   GAP    | the snapshot is fetched                   | BEHIND: it is merged
- *   GAP    | an error, or out of memory                | GAP: denied, or noroom
- *   BEHIND, END | the connections end                  | BEHIND
- *   GAP    | the connections end                       | GAP: what was read past it hides it from the next reading
- *   any    | everything is to be read once more        | BEHIND: from the first entry on */
+ *   state            | event                              | becomes, and does
+ *   -----------------+------------------------------------+------------------------------------------------------------
+ *   BEHIND, END      | a full reading                     | BEHIND: its entries are merged
+ *   BEHIND, END      | a reading that isn't full          | END: its entries are merged
+ *   BEHIND, END      | .. and a snapshot that goes further| GAP: merged, too; it goes past the last entry read before
+ *   BEHIND, END      | an error, or out of memory         | BEHIND: denied, or noroom; the entries are asked for again
+ *   GAP              | the snapshot is fetched            | BEHIND: it is merged
+ *   GAP              | an error, or out of memory         | GAP: denied, or noroom
+ *   BEHIND, END      | the connections end                | BEHIND
+ *   GAP              | the connections end                | GAP: what was read past it hides it from the next reading
+ *   BEHIND, END, GAP | everything is to be read once more | BEHIND: from the first entry on */
 #include "bridge.h"
 #include <stdio.h>
 #include <string.h>
@@ -21,11 +20,10 @@ enum {
     ENTRIES = 64    /* of one reading */
 };
 
-enum { READING_STREAMS, READING_AT };      /* the questions of a reading */
-enum { FETCHING_STREAM, FETCHING_SNAPSHOT }; /* and of a fetching; the fields of the snapshot: */
+enum { READING_STREAMS, READING_AT, READING_QUESTIONS };
+enum { FETCHING_STREAM, FETCHING_SNAPSHOT }; /* the questions of a fetching; the fields of the snapshot: */
 enum { FETCHED_AT, FETCHED_ITEMS, FETCHED_FIELDS };
 enum { STREAM_NAME, STREAM_ENTRIES, STREAM_PARTS };
-enum { ENTRY_NAME, ENTRY_FIELDS, ENTRY_PARTS };
 
 /* The snapshot is asked for after the entries, so that no entry that it replaced meanwhile is missed. */
 void reading_ask(struct ds_fleet *fleet) {
@@ -43,10 +41,10 @@ void reading_ask(struct ds_fleet *fleet) {
 
 static enum ds_fleet_word take_entry(struct ds_fleet *fleet, const redisReply *entry) {
     struct reading *reading = &fleet->reading;
-    const redisReply *name = is_list_of(entry, ENTRY_PARTS) ? entry->element[ENTRY_NAME] : NULL;
+    const redisReply *name = is_list_of(entry, ENTRY_PARTS) ? entry->element[ENTRY_ID] : NULL;
     struct entry_id id;
     if (!is_text(name) || !read_entry_id(name->str, &id)) return server_puzzles(fleet, "no entry of a stream");
-    const redisReply *from = field_of(entry->element[ENTRY_FIELDS], "from"), *lines = field_of(entry->element[ENTRY_FIELDS], "items");
+    const redisReply *fields = entry->element[ENTRY_FIELDS], *from = field_of(fields, "from"), *lines = field_of(fields, "items");
     enum ds_fleet_word word = DS_FLEET_INSTEP;
     comparing_next(fleet, id);
     if (!is_text(lines)) {
@@ -66,15 +64,17 @@ static enum ds_fleet_word take_entry(struct ds_fleet *fleet, const redisReply *e
 
 enum ds_fleet_word reading_answered(struct ds_fleet *fleet) {
     struct reading *reading = &fleet->reading;
-    const redisReply *streams = fleet->server.listener.answers[READING_STREAMS], *at = fleet->server.listener.answers[READING_AT];
-    if (is_error(streams)) return server_denied(fleet, streams);
-    if (is_error(at)) return server_denied(fleet, at);
+    struct redisReply **answers = fleet->server.listener.answers;
+    const redisReply *streams = answers[READING_STREAMS], *at = answers[READING_AT];
+    const redisReply *error = error_of(answers, READING_QUESTIONS);
+    reading->state = READING_BEHIND;
+    if (error) return server_denied(fleet, error);
     /* Judged by the last entry before this reading, which may begin past what was trimmed. */
     bool has_gap = is_above(id_of(at), reading->last) && strcmp(at->str, reading->passed);
     const redisReply *stream = streams->type == REDIS_REPLY_ARRAY && streams->elements ? streams->element[0] : NULL;
     const redisReply *entries = is_list_of(stream, STREAM_PARTS) ? stream->element[STREAM_ENTRIES] : NULL;
     size_t count = entries && entries->type == REDIS_REPLY_ARRAY ? entries->elements : 0;
-    reading->state = has_gap ? READING_GAP : READING_BEHIND;
+    if (has_gap) reading->state = READING_GAP;
     for (size_t i = 0; i < count; i++) {
         enum ds_fleet_word word = take_entry(fleet, entries->element[i]);
         if (word != DS_FLEET_INSTEP) return word;
@@ -91,7 +91,8 @@ static enum ds_fleet_word ask_for_snapshot(struct ds_fleet *fleet) {
     return DS_FLEET_INSTEP;
 }
 
-/* Merges the snapshot, whatever entry it says that it is of. If there was such an entry, everything up to it is read then. */
+/* Merges the snapshot, whatever entry it says that it is of. If there was such an entry, everything up to it is read
+ * then. */
 static enum ds_fleet_word snapshot_fetched(struct ds_fleet *fleet) {
     struct reading *reading = &fleet->reading;
     struct entry_id generated = id_of(field_of(fleet->server.teller.answers[FETCHING_STREAM], "last-generated-id"));

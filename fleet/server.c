@@ -1,18 +1,18 @@
 /* The server comes and goes: two connections to it, and the meeting by which a bridge gets to know it.
  *
- *   state   | event                              | becomes, and does
- *   --------+------------------------------------+--------------------------------------------------------------------
- *   AWAY    | the pause is over, master found    | CALLED: opens both connections
- *   AWAY    | no master is found                 | AWAY: a longer pause
- *   CALLED  | a meeting answered, as it should   | MET
- *   CALLED  | .. by another server or history    | MET: everything is read, and then told what isn't there
- *   CALLED  | .. with another scope              | AWAY: badscope
- *   CALLED  | .. by a cluster, keys on many nodes| AWAY: badname
- *   CALLED  | .. by a replica, others are listed | AWAY: denied
- *   any     | an error                           | unchanged: denied, asked again after PATIENCE
- *   any     | an error of a demoted server       | AWAY: denied
- *   any     | MOVED                              | AWAY: denied, and the node that it names is called
- *   any     | a connection is lost, or is silent | AWAY */
+ *   state       | event                              | becomes, and does
+ *   ------------+------------------------------------+--------------------------------------------------------------
+ *   AWAY        | the pause is over, master found    | CALLED: opens both connections
+ *   AWAY        | no master is found                 | AWAY: a longer pause
+ *   CALLED      | a meeting answered, as it should   | MET
+ *   CALLED      | .. by another server or history    | MET: everything is read, and then told what isn't there
+ *   CALLED      | .. with another scope              | AWAY: badscope
+ *   CALLED      | .. by a cluster, keys on many nodes| AWAY: badname
+ *   CALLED      | .. by a replica, others are listed | AWAY: denied
+ *   CALLED, MET | an error                           | unchanged: denied, asked again after PATIENCE
+ *   CALLED, MET | an error of a demoted server       | AWAY: denied
+ *   CALLED, MET | MOVED                              | AWAY: denied, and the node that it names is called
+ *   CALLED, MET | a connection is lost, or is silent | AWAY */
 #include "bridge.h"
 #include "clock.h"
 #include <stdio.h>
@@ -72,8 +72,8 @@ enum ds_fleet_word server_puzzles(struct ds_fleet *fleet, const char *why) {
     return DS_FLEET_DENIED;
 }
 
-/* Whether an error says that this server isn't the master now: it is a replica, isn't ready, or became a replica while a reading waited.
- * Another server may have its name by now. */
+/* Whether an error says that this server isn't the master now: it is a replica, isn't ready, or became a replica while
+ * a reading waited. Another server may have its name by now. */
 static bool is_demoted(const redisReply *error) {
     static const char *const words[] = {"READONLY ", "LOADING ", "MASTERDOWN ", "UNBLOCKED "};
     for (size_t i = 0; i < sizeof words / sizeof *words; i++) {
@@ -124,7 +124,10 @@ void server_reopen_listener(struct server *server) { link_open(&server->listener
 /* ---- meeting ---- */
 
 /* The questions of a meeting, in their order. */
-enum { MEETING_INFO, MEETING_CLAIM, MEETING_MULTI, MEETING_LOOK, MEETING_EXEC = MEETING_LOOK + LOOK_QUESTIONS, MEETING_QUESTIONS };
+enum {
+    MEETING_INFO, MEETING_CLAIM, MEETING_MULTI, MEETING_LOOK,
+    MEETING_EXEC = MEETING_LOOK + LOOK_QUESTIONS, MEETING_QUESTIONS
+};
 
 static bool is_meeting_due(const struct ds_fleet *fleet) { return fleet->server.state != SERVER_MET; }
 
@@ -146,8 +149,8 @@ bool server_changed_history(struct server *server, const redisReply *replication
     return is_another;
 }
 
-/* Notes which server this is. A server that wasn't met before, or has another history, may lack the last entries: the bridge reads everything
- * again, and then tells what isn't there. Returns whether it is such a server. */
+/* Notes which server this is. A server that wasn't met before, or has another history, may lack the last entries: the
+ * bridge reads everything again, and then tells what isn't there. Returns whether it is such a server. */
 static bool note_server(struct ds_fleet *fleet, const redisReply *info) {
     struct server *server = &fleet->server;
     char run[DS_FLEET_ID];
@@ -175,12 +178,14 @@ static void log_meeting(struct ds_fleet *fleet, bool may_evict) {
     struct server *server = &fleet->server;
     if (server->logs_meeting) items_say(&fleet->items, "met: server %s", server->run);
     if (server->logs_meeting && may_evict) {
-        items_say(&fleet->items, "evicts: the server may delete the stream when memory is short: set its maxmemory-policy to noeviction");
+        items_say(&fleet->items, "evicts: the server may delete the stream when memory is short: %s",
+                  "set its maxmemory-policy to noeviction");
     }
     server->logs_meeting = false;
 }
 
-/* A replica takes no scope. If it has the right one, and no other server is known, it is met all the same, and the bridge follows the stream. */
+/* A replica takes no scope. If it has the right one, and no other server is known, it is met all the same, and the
+ * bridge follows the stream. */
 static enum ds_fleet_word meeting_answered(struct ds_fleet *fleet) {
     struct server *server = &fleet->server;
     struct redisReply **answers = server->teller.answers, *info = answers[MEETING_INFO], *looked = answers[MEETING_EXEC];
@@ -189,7 +194,8 @@ static enum ds_fleet_word meeting_answered(struct ds_fleet *fleet) {
     if (info_splits(info, fleet->stream)) {
         return server_hang_up(fleet, DS_FLEET_BADNAME, "the server is of a cluster: give the stream a name in braces, as {ds}");
     }
-    if (info_says(info, "role:slave") && master_has_others(&server->master)) return server_hang_up(fleet, DS_FLEET_DENIED, "it is a replica");
+    bool is_replica = info_says(info, "role:slave");
+    if (is_replica && master_has_others(&server->master)) return server_hang_up(fleet, DS_FLEET_DENIED, "it is a replica");
     const redisReply *error = error_of(answers + MEETING_MULTI, MEETING_QUESTIONS - MEETING_MULTI);
     if (error) return server_denied(fleet, error);
     if (!is_list_of(looked, LOOK_QUESTIONS)) return server_puzzles(fleet, "no transaction");

@@ -1,15 +1,17 @@
 /* Telling: what took effect in the store becomes entries of the stream.
  *
- *   state | event                                | becomes, and does
- *   ------+--------------------------------------+----------------------------------------------------------------------
- *   NEWS  | asked                                | NEWS: asks to add `sent` bytes of the untold, in parts
- *   NEWS  | each part was added, replicas enough | NEWS: these bytes count as told
- *   NEWS  | each part was added, too few replicas| ADDED: denied
- *   NEWS  | a part wasn't added                  | NEWS: denied, and nothing counts as told
- *   ADDED | asked                                | ADDED: asks for the replicas alone
- *   ADDED | replicas enough                      | NEWS: these bytes count as told
- *   ADDED | too few replicas, or an error        | ADDED: denied
- *   any   | the connection ends                  | NEWS: tells the next server again */
+ *   state       | event                           | becomes, and does
+ *   ------------+---------------------------------+--------------------------------------------------------------------
+ *   NEWS        | asked                           | NEWS: asks to add `sent` bytes of the untold, in parts
+ *   NEWS        | a part wasn't added             | NEWS: denied, and nothing counts as told
+ *   NEWS        | each was added, replicas enough | NEWS: these bytes count as told
+ *   NEWS        | .. too few replicas             | ADDED: denied
+ *   NEWS        | .. an error instead of replicas | ADDED: denied
+ *   ADDED       | asked                           | ADDED: asks for the replicas alone
+ *   ADDED       | replicas enough                 | NEWS: these bytes count as told
+ *   ADDED       | too few replicas                | ADDED: denied
+ *   ADDED       | an error instead of replicas    | ADDED: denied
+ *   NEWS, ADDED | the connection ends             | NEWS: tells the next server again */
 #include "bridge.h"
 #include <stdio.h>
 #include <string.h>

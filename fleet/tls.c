@@ -22,7 +22,8 @@ static void keep_reason(const char *what, char said[TLS_SAID]) {
 
 static bool read_files(SSL_CTX *context, const struct tls_files *files, char said[TLS_SAID]) {
     const char *what = files->ca ? files->ca : "the system's CAs";
-    bool is_read = files->ca ? SSL_CTX_load_verify_locations(context, files->ca, NULL) == 1 : SSL_CTX_set_default_verify_paths(context) == 1;
+    int read = files->ca ? SSL_CTX_load_verify_locations(context, what, NULL) : SSL_CTX_set_default_verify_paths(context);
+    bool is_read = read == 1;
     if (is_read && files->certificate) {
         what = files->certificate;
         is_read = SSL_CTX_use_certificate_chain_file(context, what) == 1;
@@ -44,10 +45,10 @@ static SSL_CTX *open_context(const struct tls_files *files, char said[TLS_SAID])
         return NULL;
     }
     SSL_CTX_set_min_proto_version(context, TLS1_2_VERSION);
-    SSL_CTX_set_options(context, SSL_OP_NO_RENEGOTIATION); /* so that it reads before it writes at its beginning alone */
+    SSL_CTX_set_options(context, SSL_OP_NO_RENEGOTIATION); /* so it reads before it writes at its beginning alone */
     SSL_CTX_set_verify(context, SSL_VERIFY_PEER, NULL);
     SSL_CTX_set_mode(context, SSL_MODE_ENABLE_PARTIAL_WRITE | SSL_MODE_ACCEPT_MOVING_WRITE_BUFFER);
-    SSL_CTX_set_default_passwd_cb_userdata(context, ""); /* the password of a key, which else is asked for at the terminal */
+    SSL_CTX_set_default_passwd_cb_userdata(context, ""); /* of a key; otherwise OpenSSL asks at the terminal */
     if (read_files(context, files, said)) return context;
     SSL_CTX_free(context);
     return NULL;

@@ -1,4 +1,5 @@
-/* TLS to a redis server, over OpenSSL. A build without DS_FLEET_TLS has none, and rediss:// is refused. Used by link.c and master.c. */
+/* TLS to a redis server, over OpenSSL. A build without DS_FLEET_TLS has none, and rediss:// is refused. Used by link.c
+ * and master.c. */
 #ifndef DS_FLEET_TLS_H
 #define DS_FLEET_TLS_H
 
@@ -29,8 +30,8 @@ bool tls_is_built(void);
 
 /* Whether the files can be used. */
 bool tls_check(const struct tls_files *files, char said[TLS_SAID]);
-/* Begins a session over a socket whose connection may be still under way. `name` is a name, or an address in digits: the server's
- * certificate has to be for it. Returns NULL if it can't. */
+/* Begins a session over a socket whose connection may be still under way. `name` is a name, or an address in digits:
+ * the server's certificate has to be for it. Returns NULL if it can't. */
 struct ssl_st *tls_begin(const struct tls_files *files, int socket, const char *name, char said[TLS_SAID]);
 /* Whether it and the server haven't agreed on their keys yet. */
 bool tls_is_beginning(const struct ssl_st *session);

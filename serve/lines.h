@@ -1,4 +1,5 @@
-/* The lines of a client: how their words are read, and how the store alone carries them out and answers them, as dsctl does. */
+/* The lines of a client: how their words are read, and how the store alone carries them out and answers them, as dsctl
+ * does. */
 #ifndef SERVE_LINES_H
 #define SERVE_LINES_H
 
@@ -42,7 +43,8 @@ bool lines_is_short(const char *line, size_t length);
 
 /* These put an answer, and return false where memory runs out. */
 
-/* As lines_answer, and `badline` or `norequest` for a line that isn't carried out; a line of NULL is one that was too long to be kept. */
+/* As lines_answer, and `badline` or `norequest` for a line that isn't carried out; a line of NULL is one that was too
+ * long to be kept. */
 bool lines_put(struct ds_handle *store, const struct wire *wire, const char *line, size_t length, struct text *to, struct lines_said *said);
 bool lines_put_bad(const struct wire *wire, uint64_t place, struct text *to);
 bool lines_put_refused(const char *word, struct text *to);

@@ -1,6 +1,7 @@
 /* The lines that dsfleet and dsrs write to standard error. See log.h. */
 #include "log.h"
 #include "clock.h"
+#include "text.h"
 #include <fcntl.h>
 #include <poll.h>
 #include <stdarg.h>
@@ -54,7 +55,8 @@ static bool is_due(struct log *log, const char *event, size_t length) {
     return true;
 }
 
-/* Appends a text in quotes. JSON allows no byte that isn't printable ASCII, so each of these is `\u00XX` there. Returns the line's length. */
+/* Appends a text in quotes. JSON allows no byte that isn't printable ASCII, so each of these is `\u00XX` there. Returns
+ * the line's length. */
 static size_t append_quoted(const struct log *log, char *line, size_t length, const char *text, size_t count) {
     line[length++] = '"';
     for (size_t i = 0; i < count; i++) {
@@ -85,7 +87,7 @@ void log_say(struct log *log, const char *level, const char *format, ...) {
 }
 
 void log_tell(void *log, const char *line) {
-    bool is_fine = !strncmp(line, "met:", 4) || !strncmp(line, "compacted:", 10);
+    bool is_fine = text_begins(line, strlen(line), "met:") || text_begins(line, strlen(line), "compacted:");
     log_say(log, is_fine ? LOG_INFO : LOG_WARN, "%s", line);
 }
 

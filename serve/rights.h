@@ -15,8 +15,8 @@ struct rights { gid_t writers, readers; /* readers: NO_GROUP if all who may conn
 bool rights_read_group(void *group, char *name);
 /* Returns the user of a socket's other end, or (uid_t)-1 if the kernel doesn't know it. */
 uid_t rights_user(int socket);
-/* Returns the role of a socket's other end: root, this process's user, and members of `writers` are writers; members of `readers` are
- * readers. */
+/* Returns the role of a socket's other end: root, this process's user, and members of `writers` are writers; members of
+ * `readers` are readers. */
 enum role rights_of(const struct rights *rights, int socket);
 
 #endif

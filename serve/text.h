@@ -21,7 +21,8 @@ void text_free(struct text *text);
 size_t first_lines(const char *bytes, size_t length, unsigned lines);
 /* Whether bytes begin with a text. */
 bool text_begins(const char *bytes, size_t length, const char *front);
-/* Reads the decimal digits at the front. Returns how many there are; 0 if there are none, or the number is above `most`. */
+/* Reads the decimal digits at the front. Returns how many there are; 0 if there are none, or the number is above
+ * `most`. */
 size_t read_digits(const char *bytes, size_t length, unsigned long long most, unsigned long long *number);
 
 #endif

@@ -25,8 +25,8 @@ struct usage {
     bool options_first; /* words after the first that isn't an option are none */
 };
 
-/* Reads the options, and sets `*first` to the first word that isn't one. Returns GO_ON, or the status to end with after it printed what is to be
- * known. */
+/* Reads the options, and sets `*first` to the first word that isn't one. Returns GO_ON, or the status to end with after
+ * it printed what is to be known. */
 int usage_read(const struct usage *it, int count, char **words, int *first);
 /* Says why the words can't be used. Returns USAGE. */
 int usage_refuse(const struct usage *it, const char *why);

@@ -18,7 +18,8 @@ bool watch_open(struct watch *watch, int epoll, int file, uint32_t wanted) {
 
 void watch_for(struct watch *watch, int epoll, uint32_t wanted) {
     if (wanted == watch->wanted) return;
-    watch_control(watch, epoll, !wanted ? EPOLL_CTL_DEL : watch->wanted ? EPOLL_CTL_MOD : EPOLL_CTL_ADD, wanted);
+    int change = watch->wanted ? EPOLL_CTL_MOD : EPOLL_CTL_ADD;
+    watch_control(watch, epoll, wanted ? change : EPOLL_CTL_DEL, wanted);
 }
 
 void watch_close(struct watch *watch, int epoll) {

@@ -9,7 +9,8 @@
 /* A watched descriptor; `file` is -1 where there is none. `ready` has the events that came since its owner cleared it. */
 struct watch { int file; uint32_t wanted, ready; };
 
-/* Watches a descriptor for events of epoll. Returns false, with errno, if the descriptor is negative or can't be watched. */
+/* Watches a descriptor for events of epoll. Returns false, with errno, if the descriptor is negative or can't be
+ * watched. */
 bool watch_open(struct watch *watch, int epoll, int file, uint32_t wanted);
 /* Watches for other events; 0 for none, not even a hang-up. */
 void watch_for(struct watch *watch, int epoll, uint32_t wanted);

@@ -24,8 +24,8 @@ struct wire {
 
 /* Reads what has come. Returns false if memory runs out for it. */
 bool wire_read(struct wire *wire, int socket);
-/* Returns how many bytes the next whole line from a byte on has, and its length without the newline; 0 where there is none. Bytes without a
- * newline aren't a line, even if no more can come. */
+/* Returns how many bytes the next whole line from a byte on has, and its length without the newline; 0 where there is
+ * none. Bytes without a newline aren't a line, even if no more can come. */
 size_t wire_line(const struct wire *wire, size_t from, size_t *length);
 /* Whether a whole line has come. */
 bool wire_has_line(const struct wire *wire);
@@ -33,8 +33,8 @@ bool wire_has_line(const struct wire *wire);
 void wire_drop_lines(struct wire *wire, size_t done);
 /* Owes it the notices of a mask to which it listens. Returns whether there are any. */
 bool wire_owe(struct wire *wire, const uint8_t owed[16]);
-/* Puts the notices that are due, while fewer bytes than these wait. A notice says no more than that there is something, so one of each
- * subscription is enough for an end that doesn't read. */
+/* Puts the notices that are due, while fewer bytes than these wait. A notice says no more than that there is something,
+ * so one of each subscription is enough for an end that doesn't read. */
 void wire_put_notices(struct wire *wire, size_t most);
 void wire_free(struct wire *wire);
 

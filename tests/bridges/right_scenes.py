@@ -124,7 +124,8 @@ def passwords_that_nobody_sees(fleet, draw):
         it.write("secret\nanother line\n")
     bridges = [
         fleet.start("--password-file", file, url=url), fleet.start(url=url, named={"DSFLEET_PASSWORD": "secret"}),
-        fleet.start(url=url.replace(":@", ":secret@")),
+        fleet.start(url=url.replace(":@", ":secret@")), fleet.start(url=url, named={"REDISCLI_AUTH": "secret"}),
+        fleet.start(url="-", named={"DSFLEET_URL": url.replace(":@", ":secret@"), "REDISCLI_AUTH": "another server's"}),
     ]
     offer(bridges[0], *(lines := numbers("a", 3)))
     for bridge in bridges:
@@ -132,6 +133,6 @@ def passwords_that_nobody_sees(fleet, draw):
         with open(f"/proc/{bridge.process.pid}/cmdline", "rb") as words:
             assert b"secret" not in words.read()
     warned = ["event=password" in it.said() for it in bridges]
-    assert warned == [False, False, True], warned
+    assert warned == [False, False, True, False, False], warned
     status = subprocess.run([*fleet.words, "--password-file", f"{file}.none", bridges[0].socket, url], capture_output=True, text=True, timeout=PATIENCE)
     assert status.returncode == 2 and "password file" in status.stderr, status

@@ -375,13 +375,15 @@ def ids_that_go_back(fleet, draw):
 
 def a_young_stream_that_is_replaced(fleet, draw):
     """An entry that is flushed before any comparing saw it, and has another one in its place, is told again."""
-    first, other = fleet.start(), fleet.start()
-    time.sleep(draw.uniform(0, 1))
-    offer(first, number("young", 1, 1))
+    script = Scripted(fleet.port)
+    bridge, compared = fleet.start(url=script.url()), script.asked["HGETALL ds:digests"]
+    until(lambda: script.asked["HGETALL ds:digests"] > compared, "it has just compared")
+    offer(bridge, number("young", 1, 1))
     fleet.ask("FLUSHALL")
-    offer(first, number("after", 1, 1))
+    offer(bridge, number("after", 1, 1))
     until(lambda: number("young", 1, 1).encode() in fleet.told(), "it is told again", 5)
-    shows(other, [number("young", 1, 1), number("after", 1, 1)])
+    shows(fleet.start(), [number("young", 1, 1), number("after", 1, 1)])
+    script.close()
 
 
 def a_stream_that_is_replaced(fleet, draw):
@@ -608,6 +610,23 @@ def steady_load(fleet, draw):
     assert told == 2 * count, f"{2 * count} changes are {told} entries"
 
 
+def digests_of_the_same(fleet, draw):
+    """At each entry what is held has another digest: contents made to have one digest have two at the next entry. Old digests aren't compared."""
+    first, other = fleet.start(), fleet.start()
+    offer(first, number("a", 1, 1))
+    seen = set()
+    for _ in range(3):
+        entry = fleet.ask("XADD", "ds:items", "*", "from", "x", "items", number("a", 1, 1) + "\n").decode()
+        until(lambda: sum(it.endswith(f"-{entry}".encode()) for it in fleet.ask("HVALS", "ds:digests")) == 2, "both have a digest at this entry", 10)
+        digests = {it.split(b"-")[1] for it in fleet.ask("HVALS", "ds:digests") if it.startswith(b"2-")}
+        assert len(digests) == 1 and not digests & seen, f"{digests} after {seen}"
+        seen |= digests
+    for beat in range(4):
+        fleet.ask("HSET", "ds:digests", "0", f"0123456789abcdef-{beat}-{entry}")
+        time.sleep(0.9)
+    assert (first.state()["differing"], other.state()["differing"]) == ("0", "0")
+
+
 # ---- refused ----
 
 
@@ -695,7 +714,7 @@ def more_than_two_stores_hold(fleet, draw):
         fleet.ask("XADD", "ds:items", "*", "from", "x", "items", "".join(f"{it}\n" for it in lines[at : at + 100]))
     until(lambda: "nothing is compacted" in bridge.said(), "it is full", 120)
     until(lambda: bridge.state()["state"] == "instep", "all is read", 120)
-    time.sleep(REST)
+    time.sleep(2 * REST)
     missing = {it.encode() for it in lines} - set(fleet.told())
     assert not missing, f"{len(missing)} items are compacted away"
     offer(bridge, "! a 1")
@@ -966,7 +985,7 @@ def words_of_the_command_line(fleet, draw):
         ([], "wanted"), ([path], "wanted"), ([path, "redis://h", "x"], "wanted"), (["--other", path, "redis://h"], "no such option"),
         (["--scope", "eth.*", path, "redis://h"], "a scope is"), (["--scope", "eth.* 16", path, "redis://h"], "a scope is"),
         (["--keep", "0", path, "redis://h"], "keeps 1 to"), ([path, "http://h"], "badurl"), ([path, "redis://"], "badurl"),
-        ([path, "redis://h:0"], "badurl"), ([path, "redis://user@h"], "badurl"), ([path, "unix://relative"], "badurl"),
+        ([path, "redis://h:0"], "badurl"), ([path, "redis://h?db=x"], "badurl"), ([path, "unix:///s?"], "badurl"), ([path, "redis://user@h"], "badurl"), ([path, "unix://relative"], "badurl"),
         (["--cacert", path, path, "rediss://h"], "tls"), (["--cacert", path, path, "redis://h"], "badurl"),
         (["--stream", "a b", path, "redis://h"], "badname"), (["--stream", "", path, "redis://h"], "badname"),
         (["--mode", "9", path, "redis://h"], "octal"), (["--readers", "no such group", path, "redis://h"], "no such group"),
@@ -988,19 +1007,22 @@ def passwords_and_sockets(fleet, draw):
     plain, named = fleet.start(), fleet.start(url=url)
     local = fleet.start(url=f"unix://host:p%40ss%3A%2f%25w@{fleet.home}/redis")
     other = fleet.start(url=url + "/3")
+    others = [other, fleet.start(url=url + "/1?db=3"), fleet.start(url=f"unix://{fleet.home}/redis?db=3")]
     offer(named, number("a", 1, 1))
     shows(plain, [number("a", 1, 1)])
     shows(local, [number("a", 1, 1)])
+    offer(others[0], number("b", 1, 1))
+    for bridge in others:
+        shows(bridge, [number("b", 1, 1)])
     quiet, named_so = f"{fleet.home}/quiet", {**os.environ, "DSFLEET_URL": url}
     with subprocess.Popen([*fleet.words, quiet, "-"], env=named_so, stderr=subprocess.DEVNULL) as hidden:
         until(lambda: os.path.exists(quiet), "it serves whose address only its environment has")
         hidden.terminate()
     wrong = fleet.start(url=url.replace("p%40", "q"), wait=False)
     until(lambda: "WRONGPASS" in wrong.said(), "the wrong password is told")
-    assert wrong.tries_state() is None and other.all() == ["shown 0"]
+    assert wrong.tries_state() is None and plain.all() == held([number("a", 1, 1)])
     fleet.bridges.remove(wrong)
-    fleet.bridges.remove(other)
-    assert (wrong.end(), other.end()) == (0, 0)
+    assert wrong.end() == 0
 
 
 def two_streams(fleet, draw):

@@ -37,6 +37,11 @@ class Scripted(Proxy):
             self.rules.append(rule)
         return rule
 
+    def script_first(self, question, made, times=1):
+        """Scripts answers from now on, whatever other rules say."""
+        with self.lock:
+            self.rules.insert(0, Rule(question, made, times, False))
+
     def script_and_wait(self, question, made, times=1):
         rule = self.script(question, made, times)
         until(rule.is_used, f"the answer to {question} is scripted", 10)

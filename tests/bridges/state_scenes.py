@@ -1,6 +1,7 @@
-"""The tables of fleet/, row by row: each state of a part of a bridge meets each event, over a scripted server. scenes.py lists these.
+"""The tables of fleet/, cell by cell: each state of a part of a bridge meets each event, over a scripted server. scenes.py lists these.
 
-A table has lines ` *   STATE | event | becomes, and does`. A scene names each row that it walks, and fails if the file has another one.
+A table has lines ` *   STATE, .. | event | becomes, and does`: a cell for each of the states. A scene names each cell that it walks, and fails if
+the file has another one.
 """
 import contextlib
 import re
@@ -17,25 +18,26 @@ ROW = re.compile(r"^ \*   ([A-Z, ]+|any) +\| (.+?) *\|", re.MULTILINE)
 
 
 class Walk:
-    """The rows of a table, and those of them that were walked."""
+    """The cells of a table, and those of them that were walked."""
 
     def __init__(self, name, fleet):
         self.name, self.fleet = name, fleet
-        self.rows = {f"{it[1].strip()} | {it[2]}" for it in ROW.finditer((ROOT / "fleet" / f"{name}.c").read_text())}
+        rows = ROW.finditer((ROOT / "fleet" / f"{name}.c").read_text())
+        self.cells = {f"{state} | {it[2]}" for it in rows for state in it[1].strip().split(", ")}
         self.walked = set()
 
-    def __call__(self, row):
-        assert row in self.rows, f"fleet/{self.name}.c has no row `{row}`"
-        self.walked.add(row)
+    def __call__(self, cell):
+        assert cell in self.cells, f"fleet/{self.name}.c has no cell `{cell}`"
+        self.walked.add(cell)
 
     def ends(self):
-        assert self.rows, f"fleet/{self.name}.c has no table"
-        assert self.rows == self.walked, f"fleet/{self.name}.c has rows that aren't walked: {self.rows - self.walked}"
+        assert self.cells, f"fleet/{self.name}.c has no table"
+        assert self.cells == self.walked, f"fleet/{self.name}.c has cells that aren't walked: {self.cells - self.walked}"
 
 
 @contextlib.contextmanager
 def walking(fleet, name, *options):
-    """A walk, a scripted server and a bridge of it; at the end the bridge is in step, and all rows were walked."""
+    """A walk, a scripted server and a bridge of it; at the end the bridge is in step, and all cells were walked."""
     walk, script = Walk(name, fleet), Scripted(fleet.port)
     bridge = fleet.start(*options, url=script.url())
     yield walk, script, bridge
@@ -86,7 +88,7 @@ def states_of_the_server(fleet, draw):
 
         offer(bridge, *(kept := [next(line) for _ in range(3)]))
         entries = fleet.entries()
-        script.script("INFO", lambda raw: raw.replace(b"run_id:", b"run_id:0", 1).replace(b"\r\nredis_git_sha1:00000000", b"\r\nredis_git_sha1:0000000", 1), whole=True)
+        script.script("INFO", of_another_run, whole=True)
         reconnects(bridge, script.cut)
         says(bridge, "event=met", 2)
         assert fleet.entries() == entries, "what is there is told again"
@@ -116,25 +118,44 @@ def states_of_the_server(fleet, draw):
         script.script("INFO", ERROR, whole=True)
         reconnects(bridge, script.cut)
         says(bridge, 'event=denied text="ERR scripted"')
+        walk("CALLED | an error")
         script.script_and_wait("INFO replication", ERROR)
         in_step(bridge)
-        walk("any | an error")
+        walk("MET | an error")
 
+        script.script("INFO", DEMOTED, whole=True)
+        calls = script.count
+        reconnects(bridge, script.cut)
+        assert script.count == calls + 4, "it stays with a server that is demoted while it is met"
+        walk("CALLED | an error of a demoted server")
         script.script("XADD", DEMOTED)
         reconnects(bridge, lambda: offer(bridge, kept.append(next(line)) or kept[-1]))
-        walk("any | an error of a demoted server")
+        walk("MET | an error of a demoted server")
 
+        script.script("INFO", CUT, whole=True)
+        calls = script.count
         reconnects(bridge, script.cut)
+        assert script.count == calls + 4, "it isn't called again"
+        walk("CALLED | a connection is lost, or is silent")
         script.script("XREAD", CUT)
         reconnects(bridge, lambda: fleet.ask("XADD", "ds:items", "*", "from", "x", "items", next(line) + "\n"))
-        walk("any | a connection is lost, or is silent")
+        walk("MET | a connection is lost, or is silent")
 
-        script.script("XADD", f"-MOVED 1 127.0.0.1:{fleet.port}\r\n".encode())
+        moved = f"-MOVED 1 127.0.0.1:{fleet.port}\r\n".encode()
+        script.script("XADD", moved)
         before = script.count
         reconnects(bridge, lambda: offer(bridge, kept.append(next(line)) or kept[-1]))
         assert script.count == before, "it calls the first node again"
         told(fleet, *kept, kept_by_other)
-        walk("any | MOVED")
+        walk("MET | MOVED")
+        other.end()
+        fleet.bridges.remove(other)
+        moving = Scripted(fleet.port)
+        moving.script("XINFO", moved, 1000)
+        other = fleet.start(url=moving.url())
+        assert moving.count == 2, "it calls the first node again"
+        says(other, "MOVED 1")
+        walk("CALLED | MOVED")
 
 
 def states_of_the_master(fleet, draw):
@@ -158,17 +179,23 @@ def states_of_the_master(fleet, draw):
     walk("ASKED | it knows none, or is lost")
     walk("NAMED | the address is found")
     walk("NAMED | no address")
-    walk("any | no server was met there")
-    plain = fleet.start(url=f"redis://nobody.invalid,127.0.0.1:{fleet.port}")
+    walk("NAMED | no server was met there")
+    plain = fleet.start(url=f"redis://127.0.0.1:{closed},nobody.invalid,127.0.0.1:{fleet.port}")
+    said = plain.said()
+    assert "Connection refused" in said and said.count("event=away") == 2, said
+    walk("LISTED | no server was met there")
     walk("LISTED | no address")
     walk("LISTED | a server's address is found")
-    moving = Scripted(fleet.port)
-    moving.script("HGET ds:snapshot at", f"-MOVED 1 127.0.0.1:{fleet.port}\r\n".encode())
-    moved = fleet.start(url=moving.url())
-    says(moved, "MOVED")
-    offer(moved, number("a", 1, 1))
-    shows(plain, [number("a", 1, 1)])
-    walk("any | a node names another one")
+    for state in ("LISTED", "NAMED"):
+        moving = Scripted(fleet.port)
+        moving.script("HGET ds:snapshot at", f"-MOVED 1 127.0.0.1:{fleet.port}\r\n".encode())
+        script.script_first("SENTINEL", named("127.0.0.1", moving.port_of()), 1000)
+        moved = fleet.start(url=moving.url() if state == "LISTED" else f"redis-sentinel://127.0.0.1:{script.port_of()}/ds")
+        says(moved, "MOVED")
+        offer(moved, number("a", 1, 1) if state == "LISTED" else number("b", 1, 1))
+        assert moving.count == 2, "it calls the first node again"
+        walk(f"{state} | a node names another one")
+    shows(plain, [number("a", 1, 1), number("b", 1, 1)])
     walk.ends()
     script.close()
 
@@ -181,7 +208,7 @@ def states_of_telling(fleet, draw):
         offer(bridge, *lines[:3])
         told(fleet, *lines[:3])
         walk("NEWS | asked")
-        walk("NEWS | each part was added, replicas enough")
+        walk("NEWS | each was added, replicas enough")
 
         for made in (ERROR, TYPE):
             script.script("XADD", made)
@@ -198,25 +225,36 @@ def states_of_telling(fleet, draw):
             until(lambda: fleet.entries() == entries + 1, "it is added")
             says(bridge, "0 of 1 replicas have the last change")
             assert not client.has_answer(0.3), "it is answered with too few replicas"
-            walk("NEWS | each part was added, too few replicas")
+            walk("NEWS | .. too few replicas")
             script.script_and_wait("WAIT", b":0\r\n", 2)
+            walk("ADDED | too few replicas")
             script.script_and_wait("WAIT", ERROR)
+            walk("ADDED | an error instead of replicas")
             assert fleet.entries() == entries + 1, "it is added again"
             walk("ADDED | asked")
-            walk("ADDED | too few replicas, or an error")
             script.script("WAIT", b":1\r\n")
             assert client.answer() == ["taken"]
             walk("ADDED | replicas enough")
 
         entries = fleet.entries()
         with bridge.client() as client:
+            script.script("WAIT", ERROR)
             client.send(f"offer {lines[5]}")
             until(lambda: fleet.entries() == entries + 1, "it is added")
+            script.script_and_wait("WAIT", b":0\r\n")
+            assert fleet.entries() == entries + 1, "it is added again"
+            walk("NEWS | .. an error instead of replicas")
             script.script("WAIT", CUT)
             until(lambda: fleet.entries() == entries + 2, "the next server is told again", 10)
+            walk("ADDED | the connection ends")
+            script.script("WAIT", b":1\r\n")
+            assert client.answer() == ["taken"]
+            script.script("WAIT", CUT)
+            client.send(f"offer {lines[6]}")
+            until(lambda: fleet.entries() == entries + 4, "the next server is told again", 10)
             script.script("WAIT", b":1\r\n", 1 << 30)
             assert client.answer() == ["taken"]
-        walk("any | the connection ends")
+        walk("NEWS | the connection ends")
 
 
 def states_of_reading(fleet, draw):
@@ -230,21 +268,24 @@ def states_of_reading(fleet, draw):
 
         add(3, "a")
         shows(bridge, lines)
-        walk("END | entries")
+        walk("END | a reading that isn't full")
         bridge.pause()
-        add(150, "b")
+        add(220, "b")
         bridge.resume()
         shows(bridge, lines)
+        walk("END | a full reading")
         walk("BEHIND | a full reading")
         walk("BEHIND | a reading that isn't full")
 
         for made in (ERROR, b"*1\r\n*2\r\n$8\r\nds:items\r\n*1\r\n:1\r\n"):
             before = bridge.said().count("event=denied")
-            script.script("XREAD", made)
+            rules = [script.script("XREAD COUNT 64 BLOCK", made), script.script("XREAD COUNT 64 STREAMS", made)]
             add(1, f"c{before}.")
             shows(bridge, lines)
             says(bridge, "event=denied", before + 1)
-        walk("any | an error, or out of memory")
+            assert all(it.is_used() for it in rules), "after an error it waits for more"
+        walk("END | an error, or out of memory")
+        walk("BEHIND | an error, or out of memory")
 
         def snapshot(front):
             """Somebody compacts what this bridge hasn't read."""
@@ -264,8 +305,12 @@ def states_of_reading(fleet, draw):
 
         gap("d")
         shows(bridge, lines)
-        walk("any | .. and a snapshot that goes further")
+        walk("END | .. and a snapshot that goes further")
         walk("GAP | the snapshot is fetched")
+        shows(late := fleet.start(), lines)
+        walk("BEHIND | .. and a snapshot that goes further")
+        fleet.bridges.remove(late)
+        assert late.end() == 0  # or it would tell again what the other one misses
         script.script("HMGET ds:snapshot at items", ERROR)
         gap("e")
         shows(bridge, lines)
@@ -277,12 +322,29 @@ def states_of_reading(fleet, draw):
         reconnects(bridge, script.cut)
         add(1, "g")
         shows(bridge, lines)
-        walk("BEHIND, END | the connections end")
-        asked = script.asked["XREAD COUNT"]
-        fleet.ask("DEL", "ds:items", "ds:snapshot")
+        walk("END | the connections end")
+        script.script("XREAD COUNT 64 STREAMS", CUT)
+        reconnects(bridge, script.cut)
+        add(1, "h")
+        shows(bridge, lines)
+        walk("BEHIND | the connections end")
+
+        started = script.script("XREAD COUNT 64 STREAMS ds:items 0-0", bytes, 1 << 30)
+
+        def starts_again(work, state):
+            before = started.left
+            work()
+            until(lambda: started.left < before, f"in {state} it reads from the first entry on", 10)
+            in_step(bridge)
+            walk(f"{state} | everything is to be read once more")
+
+        script.script("INFO", of_another_run, whole=True)
+        starts_again(script.cut, "BEHIND")
+        script.script("HMGET ds:snapshot at items", CUT)
+        starts_again(lambda: gap("i"), "GAP")  # the next meeting names the first run
+        shows(bridge, lines)
+        starts_again(lambda: fleet.ask("DEL", "ds:items", "ds:snapshot"), "END")
         told(fleet, *lines)
-        assert script.asked["XREAD COUNT"] > asked
-        walk("any | everything is to be read once more")
 
 
 def states_of_compacting(fleet, draw):
@@ -324,9 +386,14 @@ def states_of_compacting(fleet, draw):
         compacts()
         assert script.asked["UNWATCH"] > unwatched
         walk("WATCHES | another bridge's snapshot goes further")
-        script.script("EXEC", CUT)
+        walk("WRITES | the watch is ended")
+        script.script("HMGET ds:snapshot at scope", CUT)
         reconnects(bridge, compacts)
-        walk("any | the connection ends")
+        walk("WATCHES | the connection ends")
+        script.script("EVAL return redis.call('HINCRBY'", CUT)
+        reconnects(bridge, grow)
+        compacts()
+        walk("WRITES | the connection ends")
 
         def written_by_another(raw):
             """Another one writes the snapshot once it is watched."""
@@ -382,6 +449,11 @@ def states_of_comparing(fleet, draw):
         walk("any | an entry of a second ago hasn't come")
 
 
+def of_another_run(raw):
+    """What INFO answers, of a server with another run id."""
+    return raw.replace(b"run_id:", b"run_id:0", 1).replace(b"\r\nredis_git_sha1:00000000", b"\r\nredis_git_sha1:0000000", 1)
+
+
 def differing(bridge):
     """The digests of all, and one more that is another one at the same entry, by a beat that rises."""
     beats = iter(range(1, 1000))
@@ -391,7 +463,7 @@ def differing(bridge):
         if not texts:
             return raw
         _, _, first, second = texts[0].split(b"-")
-        text = b"0123456789abcdef-%d-%s-%s" % (next(beats), first, second)
+        text = b"2-0123456789abcdef-%d-%s-%s" % (next(beats), first, second)
         count = int(raw[1 : raw.index(b"\r\n")])
         name = b"f" * 32
         return b"*%d%s$%d\r\n%s\r\n$%d\r\n%s\r\n" % (count + 2, raw[raw.index(b"\r\n") :], len(name), name, len(text), text)
