@@ -11,7 +11,7 @@ MADE = "made by tests/dsctl/manual from the program's help"
 NO_MORE = "'*:no other argument, options begin with -: '"  # what zsh shows in place of the options where no dash is typed
 HELP = "help"  # the command whose words are those of the others
 TABBED = '"%s\\t%s\\n"'  # how fish prints each word and its text
-MANY = 16  # so many numbers aren't offered one by one
+MANY = 16  # numbers of an option, from which on they aren't offered one by one
 EXAMPLES = ("Example session", "Two replicas", "A driver that dies")  # how the paragraphs begin that show something
 OF_LINES = "new over first later label u32 str mem file net block character up down refresh help quit exit".split()  # beside the first words
 AT_A_TERMINAL = [
@@ -35,7 +35,7 @@ class Help:
     commands: List[Tuple[str, str]]  # words, and what each does
     arguments: List[Tuple[str, str]]  # as `[FILE]`, and what each is
     options: List[Tuple[str, str]]  # as `-h, --help`, and what each does
-    rest: str  # behind the options
+    rest: str  # after the options
 
 
 def said(program, *words):
@@ -53,7 +53,7 @@ def read_help(text):
 
 
 def section(title, text):
-    """The rows below a title, if it stands at the front, and what comes behind them."""
+    """The rows below a title, if the text begins with it, and what follows them."""
     if not text.startswith(f"{title}:\n"):
         return [], text
     rows, at = [], 1
@@ -76,7 +76,7 @@ def shown(text):
 
 
 def paragraphs(text):
-    """The lines of a text: rows that stand further in are shown as they are, from the margin on, since they are as wide as a terminal."""
+    """The lines of a text: indented rows are shown unchanged, from the margin on, since they are as wide as a terminal."""
     lines, plain = [], False
     for line in text.split("\n"):
         row = line.startswith("  ")
@@ -128,12 +128,12 @@ def manual(version, whole, parts):
 
 
 def words_of(rows):
-    """The single words of options, without the values behind them."""
+    """The single words of options, without the values after them."""
     return [word.split()[0] for names, _ in rows for word in names.split(", ")]
 
 
 def numbers_of(rows):
-    """What may stand in the place of each option's number, by the option: what its text names, if that is a few numbers."""
+    """The values of each option's number, by the option: those that its text names, if they are few."""
     return {word.split()[0]: few(told) for names, told in rows for word in names.split(", ") if " " in word}
 
 

@@ -7,7 +7,7 @@ SLOTS = range(900, 904)  # where RS puts none of its own services
 
 
 class Orderly(Script):
-    """RS and drivers who count on, each with names of its own, so that equal versions are equal changes.
+    """RS and drivers that never use a number twice, each with names of its own, so that equal versions are equal changes.
 
     Some drivers are started by lines, and others, of other names, by RS's own actions.
     """
@@ -18,7 +18,7 @@ class Orderly(Script):
     def __init__(self, seed):
         super().__init__(seed)
         self.generation = 0
-        self.drivers = {}  # the generation and slot of each that was started, and the number that it has come to
+        self.drivers = {}  # the generation and slot of each that was started, and its next number
         for query in QUERIES:
             self.ask(b"map " + query)
         self.services.begin()
@@ -56,7 +56,7 @@ class Orderly(Script):
         return self.chance.choice([b"delete 0/2 %s label %d.1", b"sweep 0/2 %s %d"]) % (name, generation)
 
     def put(self):
-        """A driver publishes or deletes an entry of its own; nobody but those who know its label take it."""
+        """A driver publishes or deletes an entry of its own; only a store that has its label accepts that."""
         name = self.chance.choice(DRIVERS)
         if name not in self.drivers:
             return self.start()
@@ -74,7 +74,7 @@ class Orderly(Script):
         return b"offer " + self.chance.choice(accepted)[1] if accepted else b"all"
 
     def subscriber(self):
-        """Somebody follows a query, or checks."""
+        """A subscriber follows a query, or checks."""
         sub, query = self.chance.choice([0, 1, 126, 127]), self.chance.choice(QUERIES)
         begins = [b"subscribe %d %s %s over" % (sub, query, mode) for mode in (b"first", b"later")]
         return self.chance.choice([*begins, *[b"check %d %d" % (sub, most) for most in (1, 2, 8, 256)]])
@@ -87,7 +87,7 @@ class Orderly(Script):
         return len(self.world.messages) - 1
 
     def agreement(self):
-        """Replicas that gave each other all that they hold hold the same, and so does a map that was given either."""
+        """Replicas that exchanged their snapshots hold the same items, and so does a map that got either."""
         one, other = self.chance.sample([b"a", b"b"], 2)
         self.ask(b"side " + one)
         first = self.message(b"snapshot *")
@@ -106,7 +106,7 @@ class Orderly(Script):
         self.expect(held == self.ask(b"show"), "the map of all and the store differ")
 
     def catch_up(self):
-        """A map that is given a snapshot and what came after it, in any order, holds what the store holds under its query."""
+        """A map that gets a snapshot and what followed it, in any order, holds what the store holds under its query."""
         number = self.chance.randrange(1, len(QUERIES))
         query, store = QUERIES[number], self.store()
         self.ask(b"clear %d" % number)
@@ -116,7 +116,7 @@ class Orderly(Script):
             self.ask(self.chance.choice([self.start, self.end, self.late, *[self.put] * 8])())
         while True:
             answer = self.ask(b"since %s %d %d 3" % (query, store.incarnation, position))
-            if answer == [b"refused behind"]:  # it was away for too long, and asks for pages
+            if answer == [b"refused behind"]:  # the journal is too short: it reads pages
                 messages += self.pages(query)
                 break
             messages.append(len(self.world.messages) - 1)

@@ -1,9 +1,9 @@
-"""Lines to RS and to the driver tables, drawn so that instances mostly live, time mostly goes on, and maps mostly hold something."""
+"""Lines to RS and to the driver tables, drawn so that mostly an instance lives, time advances, and a map holds something."""
 import behaviour
 from model import restarts
 
 CLASSES = ["block", "character", "network", "server"]
-# What is mostly asked of a service in each state.
+# The usual requests for a service in each state.
 SENSIBLE = {
     "down": [b"up"],
     "up": [b"refresh", b"refresh", b"down"],
@@ -14,14 +14,14 @@ FAULTY = [b"[[service", b"slots = 0", b"slot = 8", b"service = [{}]", b'service 
 
 
 class Services:
-    """Draws such lines for a script, by what its session knows. Where there are rivals, others speak of its services, too."""
+    """Draws such lines for a script, by what its session knows. If there are rivals, others write about its services, too."""
 
     def __init__(self, script, labels, rivals):
         self.script, self.chance, self.session = script, script.chance, script.session
         self.labels, self.rivals = labels, rivals
         self.now = 0
         self.started = [(1, 16)]  # endpoints that were started
-        self.numbers = {}  # of each endpoint that published, the number that it has come to
+        self.numbers = {}  # of each endpoint that published, its last number
 
     def begin(self):
         """A map of labels, some units, and mostly settings."""
@@ -35,7 +35,7 @@ class Services:
             self.script.ask(self.settings())
 
     def line(self):
-        """One more line. (Some are asked already, and lead to it.)"""
+        """The next line. (Lines that prepare it are in the script already.)"""
         to_rs = [self.time] * 5 + [self.request] * 5 + [self.death] * 5 + [self.beat] * 3 + [self.published] * 3 + [self.rival] * self.rivals
         if self.session.rs is None or self.chance.random() < 0.01:
             to_rs += [self.settings] * 8
@@ -43,7 +43,7 @@ class Services:
         return self.chance.choice(self.chance.choice([to_rs, to_tables]))()
 
     def learn(self, answer):
-        """Notes which instances an answer of RS starts, and gives them by their labels."""
+        """Notes which instances an answer of RS starts, and returns their endpoints by label."""
         starts = [it.split(b" ") for it in answer if it.startswith(b"start ")]
         found = {label: tuple(map(int, endpoint.split(b"/"))) for _, label, endpoint in starts}
         self.started += found.values()
@@ -73,7 +73,7 @@ class Services:
         return table
 
     def when(self):
-        """The time now, or, seldom, a time that is over, or one that never comes."""
+        """The time now, or, rarely, a time that is past, or one that never comes."""
         late = [max(self.now - 1, 0), max(self.now - 1, 0), 2**62 + 1, 2**64 - 1]
         return self.now if self.chance.random() < 0.94 else self.chance.choice(late)
 
@@ -88,7 +88,7 @@ class Services:
         return line
 
     def request(self):
-        """What is asked of a service, mostly what its state allows."""
+        """A request for a service, mostly one that its state allows."""
         chance = self.chance
         known = self.session.rs.services if self.session.rs else []
         if not known or chance.random() < 0.05:
@@ -98,7 +98,7 @@ class Services:
         return b"service %s %s %d" % (chance.choice(asked), label.encode(), self.when())
 
     def endpoint(self):
-        """Mostly an instance that lives, else one that was started once, or nobody's."""
+        """Mostly that of a live instance, else one that was started once, or RS's own."""
         up = [state[1] for state in self.session.rs.states.values() if state[0] == "up"] if self.session.rs else []
         drawn = self.chance.random()
         return self.chance.choice(up) if up and drawn < 0.8 else self.chance.choice(self.started[-20:]) if drawn < 0.97 else (0, 2)
@@ -111,7 +111,7 @@ class Services:
         return b"beat %d/%d %d" % (*self.endpoint(), self.when())
 
     def published(self):
-        """An instance publishes an entry under its label, and counts on; one that died does so late, under a name that no other has."""
+        """An instance publishes an entry under its label, with its next number; a dead one does so late, under a name that no other has."""
         generation, slot = self.endpoint()
         states = self.session.rs.states if self.session.rs else {}
         label = next((label for label, state in states.items() if state[1:2] == ((generation, slot),)), f"old{generation}")
@@ -121,7 +121,7 @@ class Services:
         return b"publish %d/%d over %s.%s %s %d.%d = %s" % (generation, slot, label.encode(), entry, kind, generation, number, value)
 
     def rival(self):
-        """Somebody else tells of a service, mostly of an instance that is near."""
+        """Another caller writes about a service, mostly about an instance of a near generation."""
         chance = self.chance
         label, near = chance.choice(self.labels), (self.session.rs.next if self.session.rs else 1) + chance.choice([-2, -1, -1, 0, 0, 1])
         generation, slot = max(near, 1), chance.choice([16, 17])
@@ -140,12 +140,12 @@ class Services:
         return server, self.session.tables[server]
 
     def map(self):
-        """The number of a map, mostly of the first, or, seldom, of one that there isn't."""
+        """The number of a map, mostly the first, or, rarely, of one that doesn't exist."""
         first = self.chance.random() < 0.6
         return 0 if first else self.chance.randrange(len(self.session.world.maps) or 1) + (self.chance.random() < 0.05)
 
     def assign(self):
-        """A unit for a driver; few are there, so that some are assigned twice."""
+        """A unit for a driver; there are few, so that some are assigned twice."""
         chance = self.chance
         unit, label = chance.choice([0, 1, 2, 3, 4, 255]), chance.choice([*self.labels, *self.labels, b"nobody"])
         if chance.random() < 0.4:
@@ -153,7 +153,7 @@ class Services:
         return b"assign file %d %s %s" % (unit, chance.choice([b"block", b"block", b"character"]), label)
 
     def feed(self):
-        """A map is given what a store holds or what it took last, late or at once, and then a table looks at it."""
+        """A map gets what a store holds or took last, late or at once, and then a table follows it."""
         chance, world = self.chance, self.session.world
         store = world.stores[world.current]
         since = b"since * %d %d 256" % (store.incarnation, max(len(store.accepted) - chance.randrange(1, 5), 0))
@@ -167,7 +167,7 @@ class Services:
         return b"follow %d" % self.map()
 
     def submit(self):
-        """A request, mostly for a unit that there is, and numbered above all before."""
+        """A request, mostly for a unit that exists, and with a number above all others."""
         chance, (server, table) = self.chance, self.table()
         last = max(table.requests, default=0)
         number = last + chance.choice([1, 1, 1, 2, 1000]) if chance.random() < 0.95 else chance.randrange(last + 1)
@@ -175,7 +175,7 @@ class Services:
         return b"submit %s %d %d %d" % (server, number, unit, self.map())
 
     def reply(self):
-        """An answer to a request, mostly to one that was sent, and by the endpoint that it was last sent to."""
+        """A reply to a request, mostly to one that was sent, and by the endpoint that got it last."""
         chance, (server, table) = self.chance, self.table()
         drawn = chance.random()
         pending = [it for it in table.pending() if it in table.sends]

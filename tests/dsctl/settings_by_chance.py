@@ -1,4 +1,4 @@
-"""Seeded settings texts, sound and with faults, and what the program is to say of each."""
+"""Seeded settings texts, sound and with faults, and what the program must say of each."""
 import random
 import re
 
@@ -30,7 +30,7 @@ def text_of(seed):
 
 
 def service_by_chance(chance, unit):
-    """A service, nearly always one that may stand."""
+    """A service, nearly always a sound one."""
     kind = chance.choice(restarts.CLASSES)
     service = {"label": chance.choice(LABELS), "class": kind}
     if kind != "server":

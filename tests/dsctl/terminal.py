@@ -45,7 +45,7 @@ def picture_fault(program, picture):
 
 @dataclass
 class Seen:
-    """What stood on the terminal, and the status."""
+    """What the terminal showed, and the status."""
 
     seen: bytes
     status: int

@@ -1,11 +1,11 @@
 """Seeded traces of one store, in both formats.
 
-A trace is drawn entry by entry, and the model's store answers each, so that it is legal; want of memory stands in some replies.
+A trace is drawn entry by entry, and the model's store answers each, so that the trace is legal; some replies are `refused noroom`.
 Then one line of it is changed, left out, doubled or exchanged with the next.
 """
 import random
 
-from by_chance import command_by_chance
+import by_chance
 from model import lines, traces
 
 
@@ -34,7 +34,7 @@ def crowd_by_chance(chance, trace):
 
 
 def entry_by_chance(chance, trace):
-    """The lines of one entry, whose reply is the store's or want of memory."""
+    """The lines of one entry, whose reply is the store's or `refused noroom`."""
     mark = b"> %d " % chance.randrange(64)
     if chance.random() < 0.2:
         items = [item_by_chance(chance, trace) for _ in range(chance.randrange(5))]
@@ -59,9 +59,9 @@ def merge_asked(mark, items):
 
 
 def merge_lines(mark, items, done, trace):
-    """The lines of an entry that merges these items, and where `done` isn't None is stopped behind so many of them."""
+    """The lines of an entry that merges these items. If `done` isn't None, memory runs out after `done` of them."""
     told = trace.store.merge([lines.item(it) for it in items][:done])
-    if done is not None and told[0].startswith(b"merged"):  # else what stopped it before stops the whole Merge there, too
+    if done is not None and told[0].startswith(b"merged"):  # else an earlier cause stopped it
         told[0] = b"stopped %d noroom" % done
     return merge_asked(mark, items) + [b"< " + it for it in told]
 
@@ -75,7 +75,7 @@ def sweep_by_chance(chance, trace):
 def line_by_chance(chance, trace):
     """The line of a command that a trace of the format may have."""
     while True:
-        line = command_by_chance(chance)
+        line = by_chance.command_by_chance(chance)
         if chance.random() < 0.15:
             where = b"%d %d" % (trace.store.incarnation, trace.store.first + chance.randrange(8))
             scope = chance.choice([b"*", b'"m.*|eth0" 15'])
@@ -88,8 +88,8 @@ def line_by_chance(chance, trace):
 def item_by_chance(chance, trace):
     """The line of an item that a Merge of the format may have."""
     while True:
-        command, _, line = command_by_chance(chance).partition(b" ")
-        if command == b"offer" and trace.is_carried(lines.item(line)):
+        line = by_chance.item_by_chance(chance)
+        if trace.is_carried(lines.item(line)):
             return line
 
 

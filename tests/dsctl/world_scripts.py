@@ -1,4 +1,4 @@
-"""Lines over a world, drawn so that cursors, messages and maps are mostly such as there are, and scripts of those who clash."""
+"""Lines over a world, drawn so that most cursors, messages and maps exist, and scripts of callers that clash."""
 import random
 
 import behaviour
@@ -12,7 +12,7 @@ QUERIES = [b'".*" 15', b'"eth0.*" 15', b'".*" 1', b'"[a-m].*" 14']
 
 
 class Script:
-    """Lines, and what the model answers to each."""
+    """Lines, and the model's answer to each."""
 
     def __init__(self, seed):
         self.chance = random.Random(seed)
@@ -26,7 +26,7 @@ class Script:
         self.services = Services(self, self.LABELS, self.RIVALS)
 
     def ask(self, line):
-        """Writes a line, and gives its answer."""
+        """Writes a line, and returns the model's answer."""
         self.lines.append(line)
         command, taken = model.read(line, len(self.lines) == 1)
         self.answers.append(self.session.answer(command, taken))
@@ -36,7 +36,7 @@ class Script:
         return self.answers[-1]
 
     def watch(self, command, taken, answer):
-        """No holder shows an older generation of a label than it did before, unless it began again."""
+        """Expects that no holder shows an older generation of a label than it did, unless it began again."""
         if command in (b"clear", b"restart"):
             self.newest.pop(taken[0], None)
         if command not in (b"show", b"all", b"entries"):
@@ -53,7 +53,7 @@ class Script:
             self.faults.append(f"line {len(self.lines)}: {what}")
 
     def store(self):
-        """The store that is asked now."""
+        """The store of the current side."""
         return self.world.stores[self.world.current]
 
     def text(self):
@@ -100,7 +100,7 @@ class Script:
         return b"deliver %d %s %s" % (number, chance.choice([b"a", b"b", *maps]), count)
 
     def holder(self):
-        """A line about maps, or, seldom, the restart of a store."""
+        """A line about maps, or, rarely, the restart of a store."""
         chance = self.chance
         if chance.random() < 0.1:
             last = max(it.incarnation for it in self.world.stores.values())
@@ -111,9 +111,9 @@ class Script:
 
 
 class Disorderly(Script):
-    """Callers who use numbers twice and take each other's names, at both sides, and now and then a crowd of entries.
+    """Callers that use numbers twice and take each other's names, at both sides, and now and then a crowd of entries.
 
-    They speak of RS's services, too.
+    They write about RS's services, too.
     """
 
     LABELS = [b"eth0", b"tty", b"disk", b"mfs"]
@@ -133,7 +133,7 @@ class Disorderly(Script):
             self.ask(line)
 
     def crowd(self):
-        """More changes than one Merge takes, few of which are another's, and their way to all holders."""
+        """More changes than one Merge takes, few of which are another owner's, and their delivery to all holders."""
         chance = self.chance
         odd = chance.randrange(2, 900)
         for at in range(chance.randrange(257, 700)):

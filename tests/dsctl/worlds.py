@@ -1,11 +1,11 @@
 """Seeded scripts over a world, RS and the driver tables.
 
-A script is drawn line by line, and the model answers each line at once, so that cursors, messages, maps, instances and requests
-are mostly such as there are. No holder may ever show an older generation of a driver than it did, and no table may send anything
-to an older one. Scripts of odd seeds are orderly: each change has a number of its own and each entry one owner. What holds in
-every orderly world is looked for in their answers: no delivery is stopped, replicas that exchanged their snapshots hold the same,
-and so does a map that was fed by a snapshot and what came after it, in any order. Those of each twentieth seed are of RS and of full
-driver tables alone.
+A script is drawn line by line, and the model answers each line at once, so that most cursors, messages, maps, instances and requests
+exist. No holder may ever show an older generation of a driver than it did, and no table may send anything to an older one.
+
+Scripts of odd seeds are orderly: each change has a number of its own and each entry one owner. Their answers must show what holds in every
+orderly world. No delivery is stopped. Replicas that exchanged their snapshots hold the same items, and so does a map that got a
+snapshot and what followed it, in any order. The script of every twentieth seed is about RS and full driver tables alone.
 """
 import random
 
@@ -21,7 +21,7 @@ def script_of(seed):
 
 
 def spoilt(seed, script):
-    """The script's text with some bytes outside quotes changed, left out or doubled, each in a line of its own."""
+    """The script's text with six bytes outside quotes changed, left out or doubled, each in a line that is drawn."""
     chance, lines = random.Random(seed), list(script.lines)
     for _ in range(6):
         at = chance.randrange(len(lines))
@@ -32,7 +32,7 @@ def spoilt(seed, script):
 
 
 def fault(program, seed):
-    """Says what is wrong with the program's answers to the script of a seed, and to it with bad lines, or answers None."""
+    """Returns the first fault of the program's answers to the script of a seed, as it is and with bad lines, or None."""
     script = script_of(seed)
     given = [(["replay"], script.text(), (script.wanted(), 0))]
     bad = spoilt(seed, script)

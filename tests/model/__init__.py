@@ -6,7 +6,7 @@ from .world import World
 
 
 def left_of(script):
-    """What is left of a script: of one of format 2, without its first line, the lines that are neither comments nor empty."""
+    """The lines of a script that are read: of one of format 2 those after the first that are neither comments nor empty."""
     first, newline, rest = script.partition(b"\n")
     if first != b"script 2":
         return script
@@ -15,11 +15,11 @@ def left_of(script):
 
 
 def replay(script, keep_going=False, wanting=(None, None), ends=False):
-    """Answers a script of either format: what is written, and the status. A bad line ends it, unless it is to keep going. An empty line
-    ends each answer, if that is asked for.
+    """Answers a script of either format: returns the output and the status. A bad line ends it, unless `keep_going` is set. With `ends`
+    an empty line ends each answer.
 
-    `wanting` names a line, counted from 1, for which memory is wanting, and for how many steps of it there is some (see Session);
-    None for the number of steps: the whole line asks for nothing.
+    `wanting` names a line, counted from 1, at which memory runs out, and after how many of its steps (see Session). None for the number
+    of steps: the whole line is refused.
     """
     given = left_of(script).split(b"\n")
     end = [b""] * ends

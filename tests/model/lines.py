@@ -1,7 +1,7 @@
 """The lines of a script, read in parts from left to right.
 
-A bad line is named by the byte where its first part begins that can't be read. Each reader gives what its part says, a
-value as it is spelled.
+A bad line is named by the byte where its first unreadable part begins. Each reader returns what its part says, a value as it
+is spelled.
 """
 import functools
 import re
@@ -21,9 +21,11 @@ KINDS = [b"label", b"u32", b"str", b"mem"]  # in the order of keys
 NAME = re.compile(rb"[A-Za-z0-9._-]*")
 WORD = re.compile(rb"[A-Za-z0-9]*")
 DIGITS = re.compile(rb"[0-9]*")
+NUMBER = re.compile(rb"0|[1-9][0-9]*")
 ENDPOINT = re.compile(rb"([0-9]+)/([0-9]+)|")
 HEX = re.compile(rb"[0-9a-f]*")
 QUOTED = re.compile(rb'"(?:[ !#-\[\]-~]|\\["\\])*"|')
+ESCAPED = re.compile(rb"\\(.)")
 PATTERN = re.compile(rb'"(?:[^"\\\n]|\\["\\])*"|')
 BEGINNING = re.compile(rb"-(?![A-Za-z0-9._-])(?! (?:label|u32|str|mem)(?![A-Za-z0-9]))")  # a dash that begins no name
 ALL = re.compile(rb"\*")
@@ -53,34 +55,37 @@ class Reader:
 
     def part(self, run, is_good):
         """Reads the longest run here as one part, which must be good."""
-        found = run.match(self.line, self.at)
-        if not is_good(found.group()):
+        text = run.match(self.line, self.at).group()
+        if not is_good(text):
             raise BadLine(self.at)
-        self.at = found.end()
-        return found.group()
+        self.at += len(text)
+        return text
 
     def byte(self, wanted):
         """Reads one byte, a part of its own."""
-        self.part(BYTE, lambda it: it == wanted)
+        if self.line[self.at : self.at + 1] != wanted:
+            raise BadLine(self.at)
+        self.at += 1
 
     def end(self):
-        """Reads the newline, the last part. (The line stands here without it.)"""
-        self.part(BYTE, lambda it: it == b"")
+        """Reads the newline, the last part. (The line is kept without it.)"""
+        if self.at < len(self.line):
+            raise BadLine(self.at)
 
-    def behind_space(self, read, *given):
-        """Reads a space, and then what the reader `read` reads."""
+    def after_space(self, read, *given):
+        """Reads a space, and then by the reader `read`."""
         self.byte(b" ")
         return read(self, *given)
 
 
 def is_number(text, most):
     """A decimal without leading zeros that isn't above `most`."""
-    return re.fullmatch(rb"0|[1-9][0-9]*", text) is not None and int(text) <= most
+    return NUMBER.fullmatch(text) is not None and int(text) <= most
 
 
 def numbers_of(text):
     """The generation and the slot of an endpoint's text, or None."""
-    found = re.fullmatch(rb"([0-9]+)/([0-9]+)", text)
+    found = text and ENDPOINT.fullmatch(text)
     if not found or not is_number(found[1], MOST_GENERATION) or not is_number(found[2], MOST_SLOT):
         return None
     return int(found[1]), int(found[2])
@@ -88,7 +93,7 @@ def numbers_of(text):
 
 def is_quoted(text):
     """A text in quotes, of at most 256 bytes without its backslashes."""
-    return text != b"" and len(re.sub(rb"\\(.)", rb"\1", text[1:-1])) <= MOST_TEXT
+    return text != b"" and len(ESCAPED.sub(rb"\1", text[1:-1])) <= MOST_TEXT
 
 
 def is_hex(text):
@@ -114,7 +119,7 @@ def endpoint(reader):
 
 def key(reader):
     """A name and the place of a kind."""
-    return name(reader), KINDS.index(reader.behind_space(word, *KINDS))
+    return name(reader), KINDS.index(reader.after_space(word, *KINDS))
 
 
 def version(reader):
@@ -153,47 +158,47 @@ def change(reader):
     spelled = None
     if mark == b"=":
         own = b"%d/" % epoch  # a label's generation is its epoch
-        spelled = reader.behind_space(value, kind, lambda it: not is_label or it.startswith(own))
+        spelled = reader.after_space(value, kind, lambda it: not is_label or it.startswith(own))
     return Change((entry, kind), owner, (epoch, seq), spelled)
 
 
 def floor(reader):
     """A floor."""
     reader.byte(b"!")
-    return Floor(reader.behind_space(name), reader.behind_space(number, MOST_GENERATION))
+    return Floor(reader.after_space(name), reader.after_space(number, MOST_GENERATION))
 
 
 def offer(reader):
-    """What an `offer` takes: no name begins with a floor's mark."""
+    """What an `offer` takes. No name begins with a floor's mark."""
     return (floor(reader) if reader.line.startswith(b"!", reader.at) else change(reader),)
 
 
 def put(reader):
     """What a `publish` takes."""
     caller = endpoint(reader)
-    overwrite = reader.behind_space(word, b"new", b"over") == b"over"
-    entry = reader.behind_space(key)
-    numbered = reader.behind_space(version)
+    overwrite = reader.after_space(word, b"new", b"over") == b"over"
+    entry = reader.after_space(key)
+    numbered = reader.after_space(version)
     reader.byte(b" ")
     reader.byte(b"=")
-    return caller, entry, numbered, reader.behind_space(value, entry[1]), overwrite
+    return caller, entry, numbered, reader.after_space(value, entry[1]), overwrite
 
 
 def deletion(reader):
     """What a `delete` takes."""
-    return endpoint(reader), reader.behind_space(key), reader.behind_space(version)
+    return endpoint(reader), reader.after_space(key), reader.after_space(version)
 
 
 def sweep(reader):
     """What a `sweep` takes."""
-    return endpoint(reader), reader.behind_space(name), reader.behind_space(number, MOST_GENERATION)
+    return endpoint(reader), reader.after_space(name), reader.after_space(number, MOST_GENERATION)
 
 
 def query(reader):
     """A pattern, any bytes but the newline in quotes, and a mask of kinds."""
     spelled = reader.part(PATTERN, lambda it: it != b"")
-    kinds = int(reader.behind_space(Reader.part, DIGITS, lambda it: is_number(it, 15) and it != b"0"))
-    return re.sub(rb"\\(.)", rb"\1", spelled[1:-1]), kinds
+    kinds = int(reader.after_space(Reader.part, DIGITS, lambda it: is_number(it, 15) and it != b"0"))
+    return ESCAPED.sub(rb"\1", spelled[1:-1]), kinds
 
 
 def is_at(reader, run):
@@ -210,7 +215,7 @@ def scope(reader):
 
 
 def after(reader):
-    """None for the first page, which is written `-`, or the key that it begins behind."""
+    """None for the first page, which is written `-`, or the key that it begins after."""
     if is_at(reader, BEGINNING):
         reader.byte(b"-")
         return None
@@ -220,14 +225,14 @@ def after(reader):
 def subscription(reader):
     """What a `subscribe` takes."""
     sub = number(reader, MOST_WORD)
-    asked = reader.behind_space(query)
-    initial = reader.behind_space(word, b"first", b"later") == b"first"
-    return sub, asked, initial, reader.behind_space(word, b"new", b"over") == b"over"
+    asked = reader.after_space(query)
+    initial = reader.after_space(word, b"first", b"later") == b"first"
+    return sub, asked, initial, reader.after_space(word, b"new", b"over") == b"over"
 
 
 def check(reader):
     """What a `check` takes."""
-    return number(reader, MOST_WORD), reader.behind_space(number, MOST_WORD)
+    return number(reader, MOST_WORD), reader.after_space(number, MOST_WORD)
 
 
 def ring(reader):
@@ -238,15 +243,15 @@ def ring(reader):
 def since(reader):
     """What a `since` takes: a cursor, how many items at most, and the scope, which is written first."""
     asked = scope(reader)
-    incarnation = reader.behind_space(number, MOST_LONG)
-    return incarnation, reader.behind_space(number, MOST_LONG), reader.behind_space(number, MOST_WORD), asked
+    incarnation = reader.after_space(number, MOST_LONG)
+    return incarnation, reader.after_space(number, MOST_LONG), reader.after_space(number, MOST_WORD), asked
 
 
 def page(reader):
-    """What a `page` takes: how many changes at most, what it begins behind, and the scope, which is written first."""
+    """What a `page` takes: how many changes at most, what it begins after, and the scope, which is written first."""
     asked = scope(reader)
-    behind = reader.behind_space(after)
-    return reader.behind_space(number, MOST_WORD), behind, asked
+    last = reader.after_space(after)
+    return reader.after_space(number, MOST_WORD), last, asked
 
 
 def is_holder(text):
@@ -270,12 +275,12 @@ def count(reader):
 
 def delivery(reader):
     """What a `deliver` takes."""
-    return number(reader, MOST_LONG), reader.behind_space(holder), reader.behind_space(count)
+    return number(reader, MOST_LONG), reader.after_space(holder), reader.after_space(count)
 
 
 def restart(reader):
     """What a `restart` takes."""
-    return side(reader), reader.behind_space(number, MOST_LONG)
+    return side(reader), reader.after_space(number, MOST_LONG)
 
 
 def side(reader):
@@ -289,47 +294,47 @@ def server(reader):
 
 
 def settings(reader):
-    """What a `settings` takes: all that stands behind the space."""
+    """What a `settings` takes: the rest of the line."""
     return (reader.part(REST, lambda it: True),)
 
 
 def service(reader):
-    """What a `service` takes: what RS is asked to do, of which service, and when."""
+    """What a `service` takes: what RS must do, with which service, and when."""
     asked = word(reader, b"up", b"down", b"refresh", b"restart")
-    return asked, reader.behind_space(name), reader.behind_space(number, MOST_LONG)
+    return asked, reader.after_space(name), reader.after_space(number, MOST_LONG)
 
 
 def death(reader):
     """What a `death` takes."""
-    return endpoint(reader), reader.behind_space(number, MOST_LONG), reader.behind_space(number, MOST_LONG)
+    return endpoint(reader), reader.after_space(number, MOST_LONG), reader.after_space(number, MOST_LONG)
 
 
 def beat(reader):
     """What a `beat` takes."""
-    return endpoint(reader), reader.behind_space(number, MOST_LONG)
+    return endpoint(reader), reader.after_space(number, MOST_LONG)
 
 
 def assignment(reader):
     """What an `assign` takes: whose table, the unit, its class, which none but a file server's units have, and the label."""
     table = server(reader)
-    unit = reader.behind_space(number, MOST_UNIT)
-    kind = reader.behind_space(word, b"block", b"character") if table == b"file" else b"network"
-    return table, unit, kind, reader.behind_space(name)
+    unit = reader.after_space(number, MOST_UNIT)
+    kind = reader.after_space(word, b"block", b"character") if table == b"file" else b"network"
+    return table, unit, kind, reader.after_space(name)
 
 
 def submission(reader):
     """What a `submit` takes: whose table, the request, its unit, and the map that is followed first."""
     table = server(reader)
-    request = reader.behind_space(number, MOST_LONG)
-    return table, request, reader.behind_space(number, MOST_UNIT), reader.behind_space(number, MOST_LONG)
+    request = reader.after_space(number, MOST_LONG)
+    return table, request, reader.after_space(number, MOST_UNIT), reader.after_space(number, MOST_LONG)
 
 
 def reply(reader):
     """What a `reply` takes."""
-    return server(reader), reader.behind_space(endpoint), reader.behind_space(number, MOST_LONG)
+    return server(reader), reader.after_space(endpoint), reader.after_space(number, MOST_LONG)
 
 
-# What each command takes behind its word and a space; `show` and `all` take nothing.
+# What each command takes after its word and a space; `show` and `all` take nothing.
 COMMANDS = {
     b"offer": offer,
     b"show": None,
@@ -367,13 +372,13 @@ COMMANDS = {
 def read(line, is_first=False):
     """Reads a line without its newline: its command word, and what the command takes. The first line alone may be a `ring`.
 
-    What was read last is kept: scripts repeat lines, each script is read as it is and with bad lines, and items are read from lines.
+    The last results are kept: scripts repeat lines, each script is read as it is and with bad lines, and items are read from lines.
     """
     if len(line) > LONGEST:
         raise BadLine(LONGEST)
     reader = Reader(line)
-    command = word(reader, *(it for it in COMMANDS if is_first or it != b"ring"))
-    taken = () if COMMANDS[command] is None else reader.behind_space(COMMANDS[command])
+    command = reader.part(WORD, lambda it: it in COMMANDS and (is_first or it != b"ring"))
+    taken = () if COMMANDS[command] is None else reader.after_space(COMMANDS[command])
     reader.end()
     return command, taken
 

@@ -1,4 +1,4 @@
-"""A second opinion on `dsctl record`, written from its rules: the trace of a run that an input asks for, and what is said of a bad line."""
+"""A second opinion on `dsctl record`, written from its rules: the trace of the run of an input, and the report of a bad line."""
 import re
 
 from . import lines, traces
@@ -17,7 +17,7 @@ class Bad(Exception):
 
 
 class Recording:
-    """The lines of an input, how many were gone to, the store that answers, and the trace so far."""
+    """The lines of an input, how many were read, the store that answers, and the trace so far."""
 
     def __init__(self, text, is_older, limits):
         self.lines = text.split(b"\n")
@@ -37,24 +37,24 @@ class Recording:
         mark = b"> " if line[:1].isdigit() else b"> 0 "
         if len(mark + line) > lines.LONGEST:
             raise Bad(self.at, lines.LONGEST - len(mark))
-        behind = line
+        rest = line
         if line[:1].isdigit():
-            stands = PASS.match(line)
-            if not stands or int(stands[1]) > traces.MOST_PASS:
+            mask = PASS.match(line)
+            if not mask or int(mask[1]) > traces.MOST_PASS:
                 raise Bad(self.at, 0)
-            behind = line[stands.end() :]
-        before = len(line) - len(behind)
-        if lines.WORD.match(behind)[0] == b"merge":
-            count = self.count(behind, before)
+            rest = line[mask.end() :]
+        before = len(line) - len(rest)
+        if lines.WORD.match(rest)[0] == b"merge":
+            count = self.count(rest, before)
             first = self.at
             items = [self.item() for _ in range(count)]
             asked, told = [mark + line, *self.lines[first : self.at]], self.store.merge(items)
         else:
-            asked, told = [mark + line], self.store.answer(*self.command(behind, before))
+            asked, told = [mark + line], self.store.answer(*self.command(rest, before))
         self.given += asked + [b"< " + it for it in told]
 
     def count(self, text, before):
-        """Reads how many items a Merge has, behind so many bytes of its line."""
+        """Reads how many items a Merge has; `before` bytes of its line come first."""
         digits = lines.DIGITS.match(text, 6)[0]
         if text[5:6] != b" ":
             raise Bad(self.at, before + 5)
@@ -65,7 +65,7 @@ class Recording:
         return int(digits)
 
     def command(self, text, before):
-        """Reads a command that asks a store, behind so many bytes of its line."""
+        """Reads a store's command; `before` bytes of its line come first."""
         try:
             command, taken = lines.read(text, is_first=self.at == 1 and not before)
         except lines.BadLine as bad:

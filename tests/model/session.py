@@ -1,6 +1,6 @@
 """All that a script drives: a world, the reincarnation server over it, and the tables of two servers that talk to drivers.
 
-What RS offers and sweeps is asked of the store that the script asks, in RS's name. A table learns of drivers from a map alone.
+What RS offers and sweeps are commands to the store of the current side, in RS's name. A table learns of drivers from a map alone.
 """
 import copy
 import tomllib
@@ -22,13 +22,13 @@ class Session:
         self.world = World()
         self.rs = None
         self.tables = {b"file": tables.Table("file"), b"net": tables.Table("net")}
-        self.ample = None  # how many more steps of a command find memory, before one doesn't; None: all
+        self.ample = None  # how many more steps of a command find memory before one doesn't; None: all
 
     def answer(self, command, taken, ample=None):
         """Answers a command by the lines that a script prints.
 
-        Memory may be wanting for one step of it, behind so many that are ample: something that RS asks of the store, which is
-        refused so and changes nothing; or a label of which a table learns, or a request, which end the command there.
+        Memory runs out at one step of it, after `ample` others. A step is a command that RS sends to the store, which is then refused
+        and changes nothing; or a label that a table learns, or a request, which end the command there.
         """
         if command not in OF_SERVICES:
             return self.world.answer(command, taken)
@@ -39,7 +39,7 @@ class Session:
             return [refusal(refused)]
 
     def is_wanting(self):
-        """Whether memory is wanting for this step."""
+        """Whether memory runs out at this step."""
         if self.ample is None:
             return False
         self.ample -= 1
@@ -55,23 +55,23 @@ class Session:
         return [b"services %d slots %d" % (len(self.rs.services), self.rs.slots)]
 
     def service(self, asked, label, tick):
-        """RS is asked to start a service, to stop it, to replace its instance, or to start it before its time."""
+        """RS gets a request to start a service, to stop it, to replace its instance, or to start it before its time."""
         return self.event("unknownlabel", "stop" if asked == b"down" else asked.decode(), label.decode(), tick)
 
     def death(self, endpoint, cause, tick):
-        """RS is told that an instance died."""
+        """RS learns that an instance died."""
         return self.event("oldendpoint", "death", endpoint, cause, tick)
 
     def beat(self, endpoint, tick):
-        """RS is told that an instance lives."""
+        """RS hears that an instance lives."""
         return self.event("oldendpoint", "beat", endpoint, tick)
 
     def tick(self, tick):
-        """RS is told the time."""
+        """RS learns the time."""
         return self.event(None, "tick", tick)
 
     def event(self, without, *event):
-        """The actions of an event, each with the store's answer below it, and their number. Before there are settings RS knows nobody."""
+        """The actions of an event, each with the store's answer below it, and their number. Without settings RS knows no service."""
         if self.rs is None and without:
             raise Refused(without)
         actions = self.rs.event(*event) if self.rs else []
@@ -79,7 +79,7 @@ class Session:
         return shown + [b"actions %d" % len(actions)]
 
     def asked_by(self, action):
-        """What the store answers to an action: a label is published or deleted, an owner is swept, and all else isn't the store's."""
+        """The store's answer to an action that publishes or deletes a label or sweeps an owner; nothing for any other."""
         verb, *words = action.split(b" ")
         if verb not in (b"offer", b"sweep"):
             return []
@@ -110,12 +110,12 @@ class Session:
         return counted(moves)
 
     def submit(self, table, request, unit, number):
-        """A table learns what a map holds, and then takes a request; where that is refused, what it did before stands."""
+        """A table learns what a map holds, and then takes a request. If that is refused, the table keeps what it learned."""
         table, held, moves = self.tables[table], self.world.map_of(number).held.held, []
         try:
             self.learn(table, held, moves)
             if self.ample is not None:
-                copy.deepcopy(table).submit(request, unit)  # want of memory is told last
+                copy.deepcopy(table).submit(request, unit)  # any other refusal comes first
             if self.is_wanting():
                 raise Refused("noroom")
             moves.append(table.submit(request, unit))
@@ -124,13 +124,12 @@ class Session:
         return counted(moves)
 
     def learn(self, table, held, moves):
-        """A table learns of the label of each unit, in order of assignment, what is held of it, and moves accordingly.
+        """A table learns what the map holds of each unit's label, in order of assignment, and moves accordingly.
 
-        What is older than what the table knows is passed over: a tombstone of an earlier generation, and an endpoint that is none
-        any more.
+        It ignores what is older than it knows: a tombstone of an earlier generation, and an endpoint that no longer exists.
         """
-        labels = [label for _, label in table.units.values()]
-        for label in dict.fromkeys(labels) if self.ample is None else labels:  # a second unit of a label changes nothing more
+        labels = table.units_of if self.ample is None else [label for _, label in table.units.values()]
+        for label in labels:  # a second unit of a label changes nothing more, but may find no memory
             if (label, LABEL) not in held:
                 continue
             _, (epoch, _), value = held[label, LABEL]
@@ -149,7 +148,7 @@ class Session:
 
 
 def document(text):
-    """What a settings text has at the top; Bad where it is no TOML document. An integer of more than 64 bits is none."""
+    """The top of a settings text; Bad if it isn't a TOML document. No integer in one has more than 64 bits."""
     try:
         read = tomllib.loads(text.decode())
     except (UnicodeDecodeError, tomllib.TOMLDecodeError, RecursionError):
@@ -177,5 +176,5 @@ def counted(moves):
 
 
 def refusal(refused):
-    """The line of a refusal. Of a fault of settings it tells the word alone, and not of which service."""
+    """The line of a refusal. For a fault of settings it has the word alone, without the service."""
     return b"refused " + (refused.args[0] if isinstance(refused, restarts.Bad) else str(refused)).encode()

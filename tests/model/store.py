@@ -1,6 +1,6 @@
 """A data store, as small as it can be: what it holds, and the answer to each command in the words of a script.
 
-Patterns are read by Python's `re`, so a pattern that is given here has to mean the same there.
+Python's `re` reads the patterns, so a pattern of a test must mean the same there.
 """
 import re
 
@@ -53,11 +53,10 @@ class Subscription:
 
 
 class Store:
-    """What is held: a dictionary from keys to (owner, version, value), the value being None for a tombstone.
+    """A store: `held` is a dictionary from keys to (owner, version, value), where the value of a tombstone is None.
 
-    `floors` is a dictionary from owners to generations, `subscriptions` one from numbers. `accepted` has all that took effect,
-    each with its key, a floor with None, and its line, at the positions from `first` on; `ring` says how many of the last ones a
-    cursor reaches.
+    `floors` is a dictionary from owners to generations, `subscriptions` one from numbers. `accepted` has every item that took effect, with
+    its key, None for a floor, and its line, at the positions from `first` on. A cursor reaches the last `ring` of them.
     """
 
     def __init__(self, ring=256, incarnation=1, first=0, subs=MOST_SUBSCRIPTIONS, keys=MOST_KEYS):
@@ -73,13 +72,13 @@ class Store:
         return self.first + len(self.accepted)
 
     def accept(self, key, line):
-        """One more item takes effect, if a position is left for it."""
+        """Adds an item that takes effect, if a position is left for it."""
         if self.position() >= LAST_PLACE:
             raise Refused("worn")
         self.accepted.append((key, line))
 
     def next_stamp(self):
-        """One more stamp, if one is left."""
+        """The next stamp, if one is left."""
         if self.stamp >= LAST_PLACE:
             raise Refused("worn")
         self.stamp += 1
@@ -107,7 +106,7 @@ class Store:
             return [b"stale"]
 
     def merge(self, items, is_under=lambda key: True):
-        """Merges items one after the other up to the first that is stopped; those that aren't under a query are passed over."""
+        """Merges items in order, up to the first that is stopped; those that aren't under a query are passed over."""
         done = taken = stale = owed = 0
         for item in items:
             if isinstance(item, lines.Floor) or is_under(item.key):
@@ -117,12 +116,13 @@ class Store:
                     return [b"stopped %d %s" % (done, str(fault).encode())] + self.mask_line(owed)
                 taken += told == b"taken"
                 stale += told == b"stale"
-                owed |= sum(int(it.split()[1], 16) for it in masks)
+                for mask in masks:
+                    owed |= int(mask.split()[1], 16)
             done += 1
         return [b"merged %d %d %d" % (done, taken, stale)] + self.mask_line(owed)
 
     def take(self, key, owner, version, value, overwrite=True, is_deletion=False):
-        """Takes a change over, or says what stands against it."""
+        """Takes a change over, or refuses it."""
         has = self.held.get(key)
         if has and owner != has[0]:
             raise Refused("notowner")
@@ -144,11 +144,11 @@ class Store:
         return [b"taken"] + self.owed(key)
 
     def take_floor(self, owner, generation):
-        """Takes a floor over, or says what stands against it."""
-        standing = self.floors.get(owner, -1)
-        if generation < standing:
+        """Takes a floor over, or refuses it."""
+        held = self.floors.get(owner, -1)
+        if generation < held:
             raise Stale("stale")
-        if generation == standing:
+        if generation == held:
             return [b"known"]
         self.raise_floor(owner, generation)
         return [b"taken"] + self.mask(self.subscriptions)
@@ -160,7 +160,7 @@ class Store:
         return key[1] != LABEL and version[0] <= self.floors.get(owner, -1)
 
     def raise_floor(self, owner, generation):
-        """Raises the floor of an owner, and gives how many puts it dropped: tombstones are dropped, too."""
+        """Raises the floor of an owner, and returns how many puts it dropped. It drops tombstones, too."""
         if owner not in self.floors and len(self.floors) == MOST_FLOORS:
             raise Refused("full")
         self.accept(None, b"! %s %d" % (owner, generation))
@@ -168,7 +168,7 @@ class Store:
         dropped = [key for key, (of, version, _) in self.held.items() if self.is_void(key, of, version)]
         return sum(self.held.pop(key)[2] is not None for key in dropped)
 
-    # ---- changes that a caller asks for ----
+    # ---- changes by a caller ----
 
     def publish(self, caller, key, version, value, overwrite):
         """Puts a value in the caller's name."""
@@ -179,7 +179,7 @@ class Store:
         return self.take(key, self.owner(caller, key, version, None), version, None, is_deletion=True)
 
     def owner(self, caller, key, version, value):
-        """The owner of what a caller asks for: the caller's name."""
+        """The owner of a caller's change: the caller's name."""
         epoch, seq = version
         if key[1] == LABEL:
             is_good = seq == 1 if value is None else seq == 0 and lines.numbers_of(value)[0] == epoch
@@ -202,7 +202,7 @@ class Store:
         return min((name for (name, kind), (_, _, value) in self.held.items() if kind == LABEL and value == spelled), default=None)
 
     def sweep(self, caller, owner, generation):
-        """Raises the floor of a dead owner, where that isn't as high already."""
+        """Raises the floor of a dead owner, unless it is as high already."""
         if caller != RS:
             raise Refused("notallowed")
         if generation <= self.floors.get(owner, -1):
@@ -250,7 +250,7 @@ class Store:
     # ---- readers, whose scope is None for all keys, or a pattern and kinds ----
 
     def since(self, incarnation, position, most, scope):
-        """What took effect under the scope from a cursor on, and the cursor behind it."""
+        """The items that took effect under the scope from a cursor on, and the next cursor."""
         is_under = asked_under(scope, most)
         end = self.position()
         if incarnation != self.incarnation:
@@ -274,7 +274,7 @@ class Store:
         return given + [b"snapshot %d %d %d" % (len(given), self.incarnation, self.position())]
 
     def page(self, most, after, scope):
-        """The first changes that are held under the scope behind a key; behind None all floors too."""
+        """The first changes that are held under the scope after a key; if that is None, all floors too."""
         is_under = asked_under(scope, most)
         left = [key for key in sorted(self.held) if is_under(key) and (after is None or key > after)]
         given = (self.floor_lines() if after is None else []) + [line_of(key, *self.held[key]) for key in left[:most]]
@@ -320,7 +320,7 @@ class Store:
 
 
 class Stale(Refused):
-    """An item that is older than what is held: an offer of it is no fault."""
+    """An item that is older than what is held: an offer of it isn't refused."""
 
 
 def line_of(key, owner, version, value):
@@ -330,7 +330,7 @@ def line_of(key, owner, version, value):
 
 
 def asked_under(scope, most=1):
-    """Whether a key is under a scope, of which so many items are asked for; None is a floor's, which is under each."""
+    """Whether a key is under a scope, for a call of at most `most` items; None is a floor's, which is under every scope."""
     if not 1 <= most <= MOST_CHECKED:
         raise Refused("toomany")
     query = scope and Query(*scope)
@@ -343,7 +343,7 @@ def counted(shown):
 
 
 def answered(asked, command, taken):
-    """What `asked` answers to a command by the lines that a script prints, a refusal too."""
+    """The answer of `asked` to a command, by the lines that a script prints, a refusal too."""
     try:
         return getattr(asked, command.decode())(*taken)
     except Refused as refused:

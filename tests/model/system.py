@@ -1,5 +1,5 @@
 """A system, driven by one list of events: RS, the numbers that its services draw, a world with a map of labels for each of two servers,
-and their tables. It is asked and tells by lines, as the section `system` of the program for tests is.
+and their tables. It reads and writes the lines of the section `system` of the program for tests.
 """
 import copy
 
@@ -8,9 +8,9 @@ from .store import LABEL, LAST_PLACE, Query, Refused, Store
 from .world import GIVING, MOST_MESSAGES, Map
 
 MOST_EVENTS = 65536
-BARRED = (b"offer", b"publish", b"delete", b"sweep")  # what only RS and the services may ask of a store
-TOLD_LAST = (b"again", b"service", b"death", b"beat", b"tick", b"retrieve")  # they want memory only where nothing else stands against them
-WANTING = (b"map", b"subscribe", *GIVING)  # they may want memory before another cause is looked for
+BARRED = (b"offer", b"publish", b"delete", b"sweep")  # only RS and the services may send these to a store
+TOLD_LAST = (b"again", b"service", b"death", b"beat", b"tick", b"retrieve")  # for them any other refusal comes before noroom
+WANTING = (b"map", b"subscribe", *GIVING)  # for them noroom may come before another refusal
 
 
 class System(session.Session):
@@ -40,10 +40,10 @@ class System(session.Session):
             self.tables[b"net" if kind == "network" else b"file"].assign(unit, kind, label)
 
     def happen(self, line, ample=None):
-        """The lines that tell what came of an event.
+        """The lines of an event's outcome.
 
-        Memory may be wanting for one step of it, behind so many that are ample: something that RS or a service asks of a store, an
-        item of a delivery, a label of which a table learns, or a request.
+        Memory runs out at one step of it, after `ample` others. A step is a command that RS or a service sends to a store, an item of a
+        delivery, a label that a table learns, or a request.
         """
         word, *taken = line.split(b" ")
         self.ample = ample
@@ -59,14 +59,14 @@ class System(session.Session):
         return self.world.answer(command, taken)
 
     def refusing(self, answer, *taken):
-        """What is answered, or by what it is refused."""
+        """The answer, or the refusal."""
         try:
             return answer(*taken)
         except session.REFUSALS as refused:
             return [session.refusal(refused)]
 
     def may_be_refused(self, line):
-        """Whether an event as a whole may be refused for want of memory: no turn of a table is, and no delivery."""
+        """Whether memory may run out for an event as a whole: never for a turn of a table, nor for a delivery."""
         word, *taken = line.split(b" ")
         if word in (b"put", b"remove"):
             return self.refusing(self.judge, *taken[:3], None if word == b"remove" else taken[3])[0] == "judged"
@@ -84,7 +84,7 @@ class System(session.Session):
         return super().asked_by(action)
 
     def judge(self, label, name, kind, word):
-        """What stands against a change of a service, by the first cause, or the place of its kind, its value and its endpoint."""
+        """Refuses a change of a service by the first cause, or returns the place of its kind, its value and its endpoint."""
         kind, service = lines.KINDS.index(kind), self.rs.services.get(label.decode())
         if service is None:
             raise Refused("unknownlabel")
@@ -107,7 +107,7 @@ class System(session.Session):
         return self.write(label, name, kind, None)
 
     def write(self, label, name, kind, word):
-        """A service's change is numbered and made, and the store is asked for it; the number stays spent if that refuses it."""
+        """A service's change gets a number and is sent to the store. If the store refuses it, the number stays spent."""
         _, kind, value, endpoint = self.judge(label, name, kind, word)
         generation, number = self.numbers.get(label, (0, 0))
         version = (endpoint[0], number if generation == endpoint[0] else 0)
@@ -118,7 +118,7 @@ class System(session.Session):
         return self.ask(b"publish", (endpoint, (name, kind), version, value, True))
 
     def ask(self, command, taken):
-        """What the store of the side answers, want of memory last."""
+        """The answer of the side's store, where noroom is the last refusal."""
         if self.ample is not None and copy.deepcopy(self.world).answer(command, taken)[0] != b"taken":
             self.ample = None
         return [session.NO_ROOM] if self.is_wanting() else self.world.answer(command, taken)
@@ -130,7 +130,7 @@ class System(session.Session):
         return self.world.answer(b"offer", (self.made[int(number)],))
 
     def deliver_some(self, number, holder, count):
-        """A delivery that is stopped for want of memory behind so many items as are ample, if so many are delivered."""
+        """A delivery that memory stops after `ample` items, if it has more."""
         given = len(self.world.messages[number]) if number < len(self.world.messages) and count is None else count
         done, *masks = copy.deepcopy(self.world).answer(b"deliver", (number, holder, self.ample))
         if given is None or self.ample >= given or not done.startswith(b"merged "):
@@ -141,14 +141,14 @@ class System(session.Session):
     # ---- what the servers do ----
 
     def follow(self, _number):
-        """Both servers look at their maps, the file server first, and the other one where nothing ended that."""
+        """Both servers look at their maps: the file server first, and then the other one, if nothing ended that."""
         rounds, fault = [], None
         for number, table in enumerate(self.tables.values()):
             fault = fault or self.look(number, table, rounds)
         return moved(rounds, None, fault)
 
     def submit(self, server, request, unit, _number):
-        """A server looks at its map, and takes a request, want of memory last."""
+        """A server looks at its map, and takes a request. Noroom is the last refusal."""
         table, rounds, own = self.tables[server], [], None
         fault = self.look([*self.tables].index(server), table, rounds)
         try:
@@ -168,9 +168,9 @@ class System(session.Session):
             return moved([], None, str(refused).encode())
 
     def look(self, number, table, rounds):
-        """A table learns of the label of each unit what its map holds, a round of moves for each. What ended that, if anything did.
+        """A table learns what its map holds of each unit's label, a round of moves for each. Returns what ended that, or None.
 
-        What is older than what the table knows has no round, and takes no memory.
+        What is older than the table knows has no round, and takes no memory.
         """
         held = self.world.maps[number].held.held
         for _, label in [*table.units.values()]:
@@ -201,7 +201,7 @@ def moved(rounds, own, fault):
 
 
 class Part:
-    """A part of an input: how a system begins, and the events' lines, each with its side."""
+    """A part of an input: the beginning of a system, and the events' lines, each with its side."""
 
     def __init__(self, text):
         first, _, rest = text.partition(b"\n")
@@ -217,10 +217,10 @@ class Part:
                 self.events += [(side, repeated)] * int(count or 1)
 
     def answers(self, wanting=(None, None)):
-        """The lines that tell what came of each event, and then of what the maps hold; or why there is none of that.
+        """The lines of each event's outcome, and then of what the maps hold; or the refusal of the beginning.
 
-        `wanting` names an event, from 0 on, for which memory is wanting, and for how many steps of it there is some; None for the number
-        of steps: the whole event is refused, if it may be.
+        `wanting` names an event, counted from 0, at which memory runs out, and after how many of its steps. None for the number of steps:
+        the whole event is refused, if it may be.
         """
         try:
             system = System(*self.begun)

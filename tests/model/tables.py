@@ -14,7 +14,8 @@ class Table:
     def __init__(self, server):
         self.server = server
         self.units = {}  # each unit with its class and its label, in order of assignment
-        self.states = {}  # each label that has a unit with its endpoints, None where it had none, in order
+        self.units_of = {}  # each label with its units, in this order
+        self.states = {}  # each label that has a unit with its states in order: an endpoint, or None
         self.requests = {}  # each id with its unit, in order of submission
         self.sends = {}  # each id with the endpoints that it was sent to
         self.answers = {}  # each id with its answer
@@ -26,8 +27,8 @@ class Table:
         return self.states.get(label, [None])[-1]
 
     def newest(self, label):
-        """The greatest generation that a label had."""
-        return max((endpoint[0] for endpoint in self.states.get(label, []) if endpoint), default=None)
+        """The generation of a label's last endpoint, which is the greatest that it had: an older one is refused."""
+        return next((endpoint[0] for endpoint in reversed(self.states.get(label, [])) if endpoint), None)
 
     def pending(self):
         return [id for id in self.requests if id not in self.answers]
@@ -38,17 +39,15 @@ class Table:
         if unit in self.units:
             raise Refused("assigned")
         self.units[unit] = (kind, label)
+        self.units_of.setdefault(label, []).append(unit)
 
     def changed(self, label, state):
-        units = [unit for unit, (_, it) in self.units.items() if it == label]
-        if not units:
+        units, newest = self.units_of.get(label, []), self.newest(label)
+        if not units or state == self.now(label):
             return []
-        now, newest = self.now(label), self.newest(label)
-        if state and newest is not None and (state[0] < newest or state[0] == newest and state != now):
+        if state and newest is not None and state[0] <= newest:
             raise Refused("oldendpoint")
         self.states.setdefault(label, []).append(state)
-        if state == now:
-            return []
         moves = [("start", unit, state) for unit in units] if state and self.server == "net" else []
         for id in self.pending():
             if self.requests[id] in units:

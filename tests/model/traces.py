@@ -16,7 +16,7 @@ NO_ROOM = [b"refused noroom"]
 
 
 class Wrong(Exception):
-    """The line of this number is the first that isn't as it should be; `word` says what has to stand there."""
+    """The line of this number is the first that is wrong; `word` says whether it is unreadable or illegal."""
 
     def __init__(self, word, number):
         super().__init__(word)
@@ -44,7 +44,7 @@ class OlderStore(Store):
         return functools.reduce(int.__or__, (owed for _, owed in swept), 0)
 
     def merges(self):
-        """The Merges that the tombstones of the last sweep are, each by its lines behind `> PASS `."""
+        """The last sweep's tombstones as Merges, each by its lines after `> PASS `."""
         for at in range(0, len(self.swept), MOST_ITEMS):
             part = self.swept[at : at + MOST_ITEMS]
             yield [b"merge %d" % len(part)] + [b"+ " + line for line, _ in part] + [
@@ -67,7 +67,7 @@ class Trace:
         self.at = 0
 
     def next(self, word):
-        """The next line, where something has to stand that `word` names."""
+        """The next line; `word` is the fault if there is none."""
         self.at += 1
         if self.at > len(self.lines) or len(self.lines[self.at - 1]) > lines.LONGEST:
             raise Wrong(word, self.at)
@@ -122,7 +122,7 @@ class Trace:
         return not (self.is_older and isinstance(item, lines.Floor))
 
     def merge(self, items):
-        """Judges the reply to a Merge, which may be stopped for want of memory behind some of its items."""
+        """Judges the reply to a Merge, which memory may stop after some of its items."""
         if self.is_noroom():
             return
         stop = re.fullmatch(rb"< stopped (0|[1-9][0-9]{0,2}) noroom", self.peek())
@@ -139,13 +139,13 @@ class Trace:
         return self.lines[self.at] if self.at < len(self.lines) else b""
 
     def is_noroom(self):
-        """Whether the reply is for want of memory; then it is passed over."""
+        """Whether the reply is `refused noroom`; then it is passed over."""
         is_so = self.peek() == b"< " + NO_ROOM[0]
         self.at += is_so
         return is_so
 
     def replies(self, wanted):
-        """The lines of the reply have to stand there."""
+        """The next lines must be those of the reply."""
         for line in wanted:
             if self.next("illegal") != b"< " + line:
                 raise Wrong("illegal", self.at)
@@ -161,7 +161,7 @@ class Trace:
 
 
 def verify(text):
-    """What `dsctl verify` says of a trace, and its status."""
+    """The output of `dsctl verify` for a trace, and its status."""
     trace, count = Trace(text), 0
     try:
         trace.header()
@@ -174,7 +174,7 @@ def verify(text):
 
 
 def upgrade(text):
-    """What `dsctl upgrade` writes of a trace, what it says of it on standard error, and its status."""
+    """The output of `dsctl upgrade` for a trace, its standard error, and its status."""
     trace, given = Trace(text), []
     try:
         trace.header()

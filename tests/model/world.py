@@ -1,6 +1,6 @@
 """A world: two stores, a and b, the maps of subscribers, and the messages that carry items from the stores to any of them.
 
-A message is the list of the lines of its items, and whoever is given it reads them again: each item has one spelling.
+A message is the list of the lines of its items, and each holder that gets it reads them again: each item has one spelling.
 """
 from . import lines
 from .store import Query, Refused, Store, answered
@@ -12,18 +12,18 @@ GIVING = (b"check", b"since", b"snapshot", b"page")  # the commands whose items 
 
 
 class Map:
-    """What a subscriber keeps of what it is given: what is under its query, and all floors."""
+    """A subscriber's copy of the items that it gets: those under its query, and all floors."""
 
     def __init__(self, query):
         self.query = query
-        self.held = Store()  # which nobody asks, and which has no subscriptions
+        self.held = Store()  # which gets no commands, and has no subscriptions
 
     def merge(self, items):
         return self.held.merge(items, self.query.admits)
 
 
 class World:
-    """The stores by their sides, the side that is asked, the maps and the messages."""
+    """The stores by their sides, the current side, the maps and the messages."""
 
     def __init__(self):
         self.stores = {b"a": Store(incarnation=1), b"b": Store(incarnation=2)}
@@ -37,29 +37,29 @@ class World:
         if command in GIVING and len(self.messages) == MOST_MESSAGES:
             return [b"refused messagesfull"]
         answer = self.stores[self.current].answer(command, taken)
-        if command in GIVING and not answer[-1].startswith(b"refused "):  # no item stands last
+        if command in GIVING and not answer[-1].startswith(b"refused "):  # an item is never the last line
             self.messages.append(answer[:-1])
         return answer
 
     def ring(self, most):
-        """How many of the last changes the journals keep. (It is asked before all else.)"""
+        """Sets how many of the last changes the journals keep. (It is the first command.)"""
         for store in self.stores.values():
             store.ring = most
         return [b"ring %d" % most]
 
     def side(self, side):
-        """Asks this store from now on."""
+        """Makes this side the current one."""
         self.current = side
         return [b"side " + side]
 
     def restart(self, side, incarnation):
-        """Begins a store again with nothing, as an incarnation above all that there were."""
+        """Begins a store again with nothing, as an incarnation above all others."""
         if incarnation <= max(store.incarnation for store in self.stores.values()):
             raise Refused("oldincarnation")
         return self.stores[side].restart(incarnation)
 
     def deliver(self, number, holder, count):
-        """Gives the first items of a message, or all, to a side or a map."""
+        """Delivers the first items of a message, or all, to a side or a map."""
         if number >= len(self.messages):
             raise Refused("nomessage")
         given_to = self.stores[holder] if holder in self.stores else self.map_of(holder)
@@ -86,6 +86,6 @@ class World:
         return self.map_of(number).held.show()
 
     def clear(self, number):
-        """Takes all that a map holds away."""
+        """Empties a map."""
         self.maps[number] = Map(self.map_of(number).query)
         return [b"cleared"]

@@ -1,7 +1,7 @@
-"""A store behind its C calls, asked by the lines of scripts, for tests/programs/c.
+"""A store by its C calls, which are made from the lines of scripts, for tests/programs/c.
 
-The library is loaded as a shared one. A line becomes a request, and the answer with its text the lines that a script would
-print, so that the model of tests/model/store.py can say what they must be.
+The library is loaded as a shared one. A line becomes a request, and the answer with its text becomes the lines that a script would
+print, which tests/model/store.py answers too.
 """
 import ctypes
 import re
@@ -92,7 +92,7 @@ class Map:
 
 
 class Session:
-    """A store behind a handle, asked by lines; its texts are fetched into a room of so many bytes at a time."""
+    """A store behind a handle, called by lines; its texts are fetched into a room of that many bytes at a time."""
 
     def __init__(self, library, room):
         self.library, self.room = library, room
@@ -151,13 +151,13 @@ class Session:
 
 
 class Runs(Session):
-    """The same, whose requests are asked by one call for many."""
+    """The same, where one call makes many requests."""
 
     def ask(self, command, line, taken):
         return self.answers([line], 2)[0]
 
     def answers(self, lines, places, is_script=True):
-        """What a script prints for the lines, each of a request; so many answers have a place at a time. Else, an offer is a merge of one."""
+        """What a script prints for the lines, each a request, with `places` answers at a time. Without `is_script` an offer is a merge of one."""
         requests, text = (Request * len(lines))(), b""
         commands = [model.read(line) for line in lines]
         for request, line, (command, taken) in zip(requests, lines, commands):

@@ -25,7 +25,7 @@ def copy(library, shared, root):
 
 
 def run(library, shared, root):
-    """Runs the lines, and compares what the programs print with what stands beside them."""
+    """Runs the lines, and compares what the programs print with the text beside them."""
     first, *lines = shown()
     assert first == MAKES_THE_LIBRARY, f"the library is made by `{first}`"
     copy(library, shared, root)

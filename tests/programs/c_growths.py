@@ -156,7 +156,7 @@ def blocks(lines):
 
 
 def reading(block):
-    """How many growths the library asks for to read a command, before a store or a map is asked.
+    """How many growths the library asks for to read a command, before it calls a store or a map.
 
     A text, memory and a pattern are copied once, and a list of items grows to 4 places, then to twice as many each time.
     """
@@ -169,7 +169,7 @@ def reading(block):
 
 
 def growths_of_list(count):
-    """How many growths a list asks for until it has so many items."""
+    """How many growths a list asks for until it has `count` items."""
     return 0 if count == 0 else sum(1 for power in range(2, 64) if count > (1 << power)) + 1
 
 

@@ -1,4 +1,4 @@
-"""Stores that are asked by the lines of scripts themselves, for tests/programs/c: what they print is the text of their answers."""
+"""Stores that read the lines of scripts themselves, for tests/programs/c: they print the text of their answers."""
 import ctypes
 import pathlib
 import re
@@ -15,7 +15,7 @@ BY_RS = re.compile(rb"(?:publish|delete|sweep) 0/2 ")
 
 
 class Session(c_calls.Session):
-    """A store behind a handle; the text of its answers is fetched into a room of so many bytes at a time."""
+    """A store behind a handle; the text of its answers is fetched into a room of that many bytes at a time."""
 
     def ask(self, command, line, taken):
         self.call_line(line)
@@ -43,7 +43,7 @@ class Session(c_calls.Session):
 
 
 class Stores(c_worlds.Stores):
-    """Two stores and maps, whose stores are asked by the lines themselves."""
+    """Two stores and maps, whose stores read the lines themselves."""
 
     session = Session
 

@@ -7,7 +7,7 @@ import tempfile
 import time
 
 PATIENCE = 60  # seconds
-NAMES = 300  # so many that an answer has more bytes than the server's buffer
+NAMES = 300  # enough for an answer with more bytes than the server's buffer
 CLIENTS = 64  # that it serves at once
 
 

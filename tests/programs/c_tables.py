@@ -1,4 +1,4 @@
-"""A driver table behind its C calls, over a map, for tests/programs/c: drawn calls are answered as tests/model says.
+"""A driver table by its C calls, over a map, for tests/programs/c: drawn calls are answered as tests/model says.
 
 The model has a map and a table too. What a table learns from a map is the model's `Session.learn`.
 """
@@ -28,7 +28,7 @@ class Move(ctypes.Structure):
 
 
 class Table:
-    """A driver table and a map of all labels, behind their handles."""
+    """A driver table and a map of all labels, each behind a handle."""
 
     def __init__(self, library, server, chance):
         self.library, self.chance, self.answer = library, chance, c_calls.Answer()

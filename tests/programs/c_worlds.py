@@ -1,7 +1,7 @@
 """The scripts of one world typed as C calls, for tests/programs/c.
 
-Its two stores and its maps stand behind handles of their own. What is the world's own, which side is asked, the messages and their
-numbers, is kept here, as whoever calls from C would keep it.
+Its two stores and its maps have handles of their own. This module keeps what a caller in C would keep: the current side, the messages and
+their numbers.
 """
 import re
 
@@ -133,7 +133,7 @@ class Stores:
 
 
 class Runs(Stores):
-    """The same, whose requests are asked by the call for many."""
+    """The same, by the call for many requests."""
 
     session = c_calls.Runs
 

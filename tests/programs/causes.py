@@ -1,10 +1,11 @@
 """Each refusal of each command to a store, with lines that lead there, for tests/programs/store.
 
-A case ends with one command, and several causes stand against it, as far as one command can have several: the answer is
-the first in the order of docs/reference/refusals.md, so it was written down by that page, and not by what a store answers. With no
-memory at all for the store the answer is the same, but for what a pattern needs. Beside them stand commands that aren't refused: those
-that take no memory are answered as ever, the others `noroom`. No change of a held number or label, no void change and no higher floor of
-an owner who has one takes memory, however much the floor drops.
+A case ends with one command that has several causes to be refused, as far as one command can: the answer is the first in the order of
+docs/reference/refusals.md. It was worked out from that page, and not from a store's answer. With no memory at all for the store the answer is
+the same, but for what a pattern needs.
+
+Other cases have commands that aren't refused. Without memory, those that take none have the usual answer, and the others `noroom`. No change
+of a held number or label, no void change and no higher floor of an owner that has one takes memory, however much the floor drops.
 """
 from dataclasses import dataclass, replace
 from typing import List, Tuple
@@ -22,7 +23,7 @@ class Case:
     before: List[str]
     command: List[str]
     ample: List[str]
-    without: Tuple[List[str], ...]  # each answer that may come where memory is wanting
+    without: Tuple[List[str], ...]  # each answer that may come without memory
 
 
 def case(name, before, command, ample, *without):
@@ -40,7 +41,7 @@ def store(first=0, ring=256):
 
 
 def begins(left, ring=256):
-    """A store with so many positions left."""
+    """The beginning of a store with that many positions left."""
     return store(LAST - left, ring)
 
 
@@ -52,7 +53,7 @@ def full(keys=MOST_KEYS):
 
 
 def floors(count):
-    """The floors of so many owners, at generation 1."""
+    """The floors of `count` owners, at generation 1."""
     return "".join(f"offer ! o{n} 1\n" for n in range(count))
 
 
@@ -321,7 +322,7 @@ COMMANDS = {
 
 
 def opened(lines):
-    """The lines behind the one that opens a store."""
+    """The lines after the one that opens a store."""
     return lines if lines and lines[0].startswith("store ") else store().splitlines() + lines
 
 

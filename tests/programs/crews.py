@@ -1,12 +1,12 @@
 """What tests/programs/desk asks of threads: crews of them at one desk, over a counter or a store, and refused growths of memory.
 
-The program compares every reply with that of one thread that is given the history, and the account with what the threads
-counted. In 16 calls of a store each command is asked; every fourth call is followed by a take, every eighth by a note that
-another thread learns. Each line that it is given, `counter THREADS CALLS` or `store THREADS CALLS`, is answered by one line,
-the same however the threads take turns. Where the n-th growth is refused, the run ends as `noroom`, behind the lines that it
-had printed; or one call of a store is answered so, which is one entry of the history and changes nothing, or stopped so, a
-Merge, of which the items in front of that stand, and all others are answered as ever; or a thread couldn't be made, and all is
-as with ample memory.
+The program compares every reply with that of one thread that gets the history, and the account with what the threads counted. In 16 calls
+a store gets each command; a take follows every fourth call, and a note that another thread learns follows every eighth. Each line of input,
+`counter THREADS CALLS` or `store THREADS CALLS`, is answered by one line, which is the same in whatever order the threads run.
+
+If the n-th growth is refused, one of these happens. The run ends as `noroom`, after the lines that it had printed. Or one call of a store is
+answered so: it is an entry of the history and changes nothing, or it is a Merge that is stopped and keeps the items before that; all other
+calls have their usual answers. Or a thread couldn't be made, and everything is as with ample memory.
 """
 import pathlib
 
@@ -53,7 +53,7 @@ class Crews:
         return None
 
     def small_case(self, room, threads, calls):
-        """A crew of one thread and one call, and one of so many, as a case in a file of its own."""
+        """A crew of one thread and one call, and one of these sizes, as a case in a file of its own."""
         given = pathlib.Path(room) / f"{self.shared}_{threads}_{calls}"
         given.write_bytes(self.asked(1, 1) + self.asked(threads, calls))
         return harness.Case(given.name, [], given, self.lines_of(1, 1)[0] + self.lines_of(threads, calls)[0])
@@ -69,7 +69,7 @@ class Crews:
         return None
 
     def growths(self, refuser, room, threads, calls):
-        """Refuses each growth of one crew in turn. Says what was wrong with the first bad answer, or answers None."""
+        """Refuses each growth of one crew, one a run. Returns what is wrong with the first bad answer, or None."""
         case = self.small_case(room, threads, calls)
         ended = answered = 0
 

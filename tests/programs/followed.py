@@ -1,10 +1,11 @@
 """What tests/programs/followers asks of threads: writers change a store at a desk, and followers of it are refreshed meanwhile.
 
 The program gives one store the writers' calls in the order of their places, and compares each map that was brought up to a place with
-what that store then holds. Each line, `WRITERS FOLLOWERS CALLS`, is answered by one line, the same however the threads take turns. Where
-the n-th growth is refused, the run ends as `noroom`; or one call of a writer was refused so, which changed nothing; or a refresh failed,
-behind which the follower begins again, so that its next map is compared as ever; or a thread couldn't be made, and all is as with
-ample memory.
+what that store then holds. Each line, `WRITERS FOLLOWERS CALLS`, is answered by one line, which is the same in whatever order the threads run.
+
+If the n-th growth is refused, one of these happens. The run ends as `noroom`. Or one call of a writer is refused so, and changes nothing. Or
+a refresh fails, and the follower begins again, so that its next map is compared as usual. Or a thread couldn't be made, and everything is as
+with ample memory.
 """
 import pathlib
 
@@ -22,7 +23,7 @@ def asked(writers, followers, calls):
 
 
 def shared_out(threads):
-    """So many threads as writers and followers, at least one of each."""
+    """Shares threads out as writers and followers, at least one of each."""
     return max(1, (threads + 1) // 2), max(1, threads // 2)
 
 
@@ -48,7 +49,7 @@ def refused_fault(ran):
 
 
 def growths(refuser, room, sizes):
-    """Refuses each growth of one crew in turn. Says what was wrong with the first bad answer, or answers None."""
+    """Refuses each growth of one crew, one a run. Returns what is wrong with the first bad answer, or None."""
     ended = []
 
     def refused(ran):

@@ -33,7 +33,7 @@ class Script(demos.Script):
         return any(it.startswith("actions ") and it != "actions 0" for it in ample)
 
     def settings(self, most):
-        """RS begins with up to so many services, some of them with few slots or few generations left."""
+        """RS begins with up to that many services, some of them with few slots or few generations left."""
         count = self.random.randint(1, most)
         slots = self.random.choice([None, 1008, count, max(1, count - 1), 1])
         services = [self.service(n) for n in range(count)]
@@ -128,7 +128,7 @@ def short_script(seed):
 
 
 def last_script():
-    """What no seed is sure to draw: the last tick, the last numbers, and settings that are refused, after which RS goes on."""
+    """What no seed is sure to draw: the last tick, the last numbers, and settings that are refused, after which RS continues."""
     script = Script(0)
     script.ask("tick", 0)
     script.ask("settings", 1, {"service": [{"label": "eth0", "class": "network", "unit": 0}]})
@@ -163,7 +163,7 @@ def slots_script(slots):
 
 
 def faults():
-    """Scripts of settings with one to three things wrong, so that the first fault has to be told."""
+    """Scripts of settings with one to three faults, the first of which must be reported."""
     scripts = []
     for seed in range(FAULTS):
         script = Script(5000 + seed)

@@ -1,10 +1,12 @@
 """What tests/programs/sharers asks of threads: callers share RS and its store at a desk, and followers of that store are refreshed meanwhile.
 
 The program gives RS and a store of one thread the callers' calls in the order of their places, and compares each reply, and each map that
-was brought up to a place with what that store then holds. Each line, `CALLERS FOLLOWERS CALLS`, is answered by one line, the same however
-the threads take turns. Where the n-th growth is refused, the run ends as `noroom`; or one call was refused so, which changed nothing; or a
-refresh failed, behind which the follower begins again, so that its next map is compared as ever; or a thread couldn't be made, and all is as
-with ample memory.
+was brought up to a place with what that store then holds. Each line, `CALLERS FOLLOWERS CALLS`, is answered by one line, which is the same
+in whatever order the threads run.
+
+If the n-th growth is refused, one of these happens. The run ends as `noroom`. Or one call is refused so, and changes nothing. Or a refresh
+fails, and the follower begins again, so that its next map is compared as usual. Or a thread couldn't be made, and everything is as with ample
+memory.
 """
 import pathlib
 
@@ -25,7 +27,7 @@ def answer(callers, _followers, calls):
 
 
 def shared_out(threads, chance):
-    """So many threads as callers and followers: at least one caller, and in every third crew no follower."""
+    """Shares threads out as callers and followers: at least one caller, and in every third crew no follower."""
     callers = max(1, min(32, threads // 2 + chance % 3))
     return callers, 0 if chance % 3 == 0 else max(1, min(32, threads - callers))
 
@@ -59,7 +61,7 @@ def refused_fault(ran, sizes):
 
 
 def growths(refuser, room, sizes):
-    """Refuses each growth of one crew in turn. Says what was wrong with the first bad answer, or answers None."""
+    """Refuses each growth of one crew, one a run. Returns what is wrong with the first bad answer, or None."""
     ended = []
 
     def refused(ran):

@@ -1,8 +1,8 @@
-"""A store that is asked drawn commands, for tests/programs/store and c.
+"""A store that gets drawn commands, for tests/programs/store and c.
 
-They are answered by the store and by tests/model/store.py, which must agree. Which commands may be refused memory is told here: no
-change of a held key is but for a copied text or blob, no tombstone, no floor of an owner who has one, no question for a
-label or a number, no restart, and no command that is refused for another reason, but for what a pattern needs.
+The store and tests/model/store.py answer them, and must agree. This module also says which commands may run out of memory. These may not: a
+change of a held key, but for a copied text or blob; a tombstone; a floor of an owner that has one; a question for a label or a number; a
+restart; and a command that is refused for another reason, but for what a pattern needs.
 """
 import behaviour
 import causes

@@ -1,7 +1,7 @@
 """Systems and their events, drawn by a seed, for tests/programs/system.
 
-Services mostly live, and say what they may; both servers' maps are fed now and then, late or at once, so that requests come before a driver
-is known, while it lives, and behind its end. What a service says is drawn for either store, and comes again.
+Services mostly live, and publish what they may. Both servers' maps are fed now and then, late or at once, so that requests come before a
+driver is known, while it lives, and after its end. A service's change is drawn for either store, and comes again.
 """
 import random
 
@@ -52,7 +52,7 @@ class Drawn:
         self.model.happen(line)
 
     def line(self):
-        """One more event; some are asked already, and lead to it."""
+        """The next event. (Events that prepare it are in the list already.)"""
         kinds = [self.service_event] * 6 + [self.written] * 6 + [self.again] * 2 + [self.fed] * 5 + [self.submit] * 4 + [self.reply] * 3
         return self.chance.choice([*kinds, self.follow, self.question, self.of_world])()
 
@@ -86,7 +86,7 @@ class Drawn:
         return b"service %s %s %d" % (chance.choice([b"up", b"up", b"down", b"refresh", b"restart"]), self.label(), self.now)
 
     def written(self):
-        """A service's put, or its remove, mostly of what it declares, to the store that is asked, or now and then to the other one."""
+        """A service's put, or its remove, mostly of what it declares, to the current store, or now and then to the other one."""
         chance, label = self.chance, self.living()
         if chance.random() < 0.1:
             self.side = b"b" if self.side == b"a" else b"a"
@@ -154,5 +154,5 @@ class Drawn:
 
 
 def text_of(seed, count):
-    """A part of so many lines, of a seed."""
+    """A part with that many lines, of a seed."""
     return Drawn(seed, count).text()

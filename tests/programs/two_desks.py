@@ -1,8 +1,9 @@
 """What tests/programs/exchanges asks of a follower of one desk's store, and of exchanges with the store at another desk.
 
-The rows are those of crates/test_threads, each in new stores, and the model below answers them too. Memory may be wanting at one point of a
-row. A call that is refused for it is an entry of its desk's history and changes nothing; a follower that met it is lost, its map as far as
-it came, and begins again with its next refresh; an exchange that met it ends, what it merged stands, and the next one gives all once more.
+The rows are those of crates/test_threads, each in new stores, and the model below answers them too. Memory may run out at one point of a row.
+A call that is refused for that is an entry of its desk's history and changes nothing. A follower that meets it is lost: it keeps the part of
+the map that it had, and begins again with its next refresh. An exchange that meets it ends and keeps what it merged, and the next one
+exchanges everything once more.
 """
 import functools
 import re
@@ -51,7 +52,7 @@ ROWS = [
 
 
 class Wanting(Exception):
-    """Memory is wanting; where a store was asked that can say how far it came, so many items were done."""
+    """Memory runs out, after `done` items if the store reports how many."""
 
     def __init__(self, done=None):
         super().__init__(done)
@@ -74,7 +75,7 @@ class Desk:
 
 
 class Playing:
-    """A row as it goes. Memory is wanting at a point of a step, if one is named: (step, point)."""
+    """A row that is being played. Memory runs out at a point of a step, if one is named: (step, point)."""
 
     def __init__(self, row, fault=(None, None)):
         self.row, self.fault, self.lines, self.points, self.begun = row, fault, [], [], []
@@ -89,14 +90,14 @@ class Playing:
         self.lines.append(word if number is None else f"{word} {number}")
 
     def is_wanting(self, *point):
-        """Whether memory is wanting at this point."""
+        """Whether memory runs out at this point."""
         self.points.append((self.step, point))
         return (self.step, point) == self.fault
 
     # ---- calls ----
 
     def ask(self, verb, *given, desk=None, number=0):
-        """A desk's store is asked, which mostly prints nothing."""
+        """Calls a desk's store, which mostly prints nothing."""
         desk = desk or self.first
         if self.is_wanting("asked", number):
             desk.place += 1
@@ -152,7 +153,7 @@ class Playing:
         self.say("keys", len(self.map.held.held))
 
     def called(self, limit):
-        """So many calls at most. The place up to which the map is, None where it isn't yet."""
+        """Makes at most `limit` calls. Returns the place that the map has reached, or None if there is none yet."""
         for number in range(limit):
             place = self.subscribe(number) if self.stamp is None else self.check(number)
             if place:
@@ -197,7 +198,7 @@ class Playing:
         self.exchange(self.second, self.first, None)
 
     def exchange(self, one, other, cursor):
-        """Gives what the one store has to the other. From where the next exchange asks, None behind a fault."""
+        """Delivers what one store has to the other. Returns where the next exchange begins, or None after a fault."""
         try:
             done, taken, more, cursor = self.given(one, other, cursor)
         except Wanting as wanting:
@@ -223,7 +224,7 @@ class Playing:
         return done, taken, False, first
 
     def asked(self, desk, number, command, taken):
-        """The items of a question, and the words behind them."""
+        """The items that a store returns, and the words after them."""
         if self.is_wanting("asked", number):
             desk.place += 1
             raise Wanting
@@ -279,7 +280,7 @@ def all_played():
 
 
 def likely(row, played, local, rest):
-    """The points of a row at which memory may have been wanting, the likeliest first: its text differs from this line on."""
+    """The points of a row at which memory may have run out, the likeliest first: its text differs from this line on."""
     asking = rest.startswith(b"refused: ")
     told = re.match(rb"stopped after (\d+) |.*\nkeys (\d+)\n", rest)
     number = int(told[1] or told[2]) if told else None
@@ -288,7 +289,7 @@ def likely(row, played, local, rest):
 
 
 def judged(output):
-    """Says what is wrong with an output of all rows in one of which memory was wanting, or None; and at what point, and of which step."""
+    """Returns what is wrong with an output of all rows, in one of which memory ran out, or None; and at what point, and of which step."""
     played = all_played()
     lines, ample, at = output.splitlines(True), texts(played).splitlines(True), 0
     differs = next((it for it, (one, other) in enumerate(zip(lines, ample)) if one != other), min(len(lines), len(ample)))
@@ -297,8 +298,8 @@ def judged(output):
         at += len(played[number].lines)
         if differs < at:
             break
-    before, behind = texts(played[:number]), texts(played[number + 1 :])
+    before, after = texts(played[:number]), texts(played[number + 1 :])
     for step, point in likely(row, played[number], local, b"".join(lines[differs:])):
-        if before + texts([Playing(row, (step, point))]) + behind == output:
+        if before + texts([Playing(row, (step, point))]) + after == output:
             return None, (row.steps[step][0], point[0])
     return f"as if memory were wanting nowhere: line {differs + 1} is {lines[differs : differs + 1]}, row {number + 1}", None

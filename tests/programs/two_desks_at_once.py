@@ -1,7 +1,7 @@
 """What tests/programs/live and tests/soak ask of `dsctl live`: threads at two desks, one of which exchanges what their stores hold.
 
-Whatever turns the threads take, the report of some sizes is one. Where memory or a thread is wanting, the run ends by a word and
-prints nothing, or nothing came of it.
+The report of some sizes is the same in whatever order the threads run. If a growth or a thread is refused, the run ends by a word and prints
+nothing, or the report is the usual one.
 """
 import pathlib
 
@@ -9,11 +9,11 @@ import harness
 
 DEFAULTS = (2, 2, 3)  # publishers, subscribers, and the turns of each worker
 MOST_EACH, MOST_TURNS = 8, 1000
-ENDS = (b"noroom\n", b"nothread\n", b"stopped\n")  # how a run may end for want of memory
+ENDS = (b"noroom\n", b"nothread\n", b"stopped\n")  # how a run may end if memory or a thread is refused
 
 
 def words_of(sizes):
-    """The words that ask for so many publishers, subscribers and turns; none for the defaults."""
+    """The arguments for these numbers of publishers, subscribers and turns; none for the defaults."""
     publishers, subscribers, changes = map(str, sizes)
     options = ["--publishers", publishers, "--subscribers", subscribers, "--changes", changes]
     return ["live"] + (options if sizes != DEFAULTS else [])

@@ -1,9 +1,9 @@
-"""What tests/programs/desk asks of two passes of one desk that call a store in turn.
+"""What tests/programs/desk asks of two passes of one desk that call a store alternately.
 
-The rows are answered by the program and by the model below, which must agree. Then each row runs under tests/kit/refuse.c with
-its n-th growth refused, for n = 1, 2, .. up to the last: the run ends as `noroom`, behind the lines that it had printed; or one
-call is answered so, which is one entry of the history and changes nothing, and the calls behind it are answered as ever; or a
-close is refused so, and the desk stays open; or a library did without.
+The program and the model below answer the rows, and must agree. Then each row runs under tests/kit/refuse.c with its n-th growth refused, for
+n = 1, 2, .. up to the last. The run ends as `noroom`, after the lines that it had printed; or one call is answered so, which is one entry of
+the history and changes nothing, and later calls have their usual answers; or a close is refused so, and the desk stays open; or a library did
+without.
 """
 import pathlib
 
@@ -12,7 +12,7 @@ import harness
 END = 2**62  # the first place, and the first position, that there isn't
 WANTED = ("refused: out of memory, owed 0, raised 0", "refused by the desk: out of memory")
 
-# What each row does, in turn: `refuse PASSES PLACE`, `open PLACE POSITION`, `follow SUB`, `start`, `front`, `take SERVER`, `stop CAUSE`, `close SUB`, which prints the row of SUB.
+# What each row does, in order: `refuse PASSES PLACE`, `open PLACE POSITION`, `follow SUB`, `start`, `front`, `take SERVER`, `stop CAUSE`, `close SUB`, which prints the row of SUB.
 ROWS = {
     "notice": [
         ("open", 0, 0), ("follow", 0), ("start",), ("start",), ("take", 0), ("take", 0),
@@ -27,11 +27,11 @@ ROWS = {
     ],
     "none": [("refuse", 0, 0), ("refuse", 65, END + 1), ("refuse", 1, END + 1)],
 }
-CALLED_ON = ("notice", "bits")  # rows that call a desk again behind a call that may be refused memory
+CALLED_ON = ("notice", "bits")  # rows that call a desk again after a call that may run out of memory
 
 
 class Row:
-    """A desk over a store, and the lines that its calls print; `wanting` has the numbers of those that want memory."""
+    """A desk over a store, and the lines that its calls print; `wanting` has the numbers of those without memory."""
 
     def __init__(self, steps, wanting=()):
         self.lines, self.wanting = [], wanting
@@ -64,7 +64,7 @@ class Row:
             rows[sub] += bits >> sub & 1
 
     def asks(self, worn):
-        """Whether the store is asked, and has room and numbers for it; where not, the call is answered here."""
+        """Whether the store is called, and has room and numbers for it; if not, the call is answered here."""
         if self.place == END:
             self.say("refused by the desk: worn out")
         elif self.is_wanting():
@@ -120,7 +120,7 @@ def row_fault(program, name):
 
 
 def input_faults(program):
-    """A line that can't be read ends the program with status 1, behind the answers to those before it."""
+    """A line that can't be read ends the program with status 1, after the answers to those before it."""
     for line in (b"Notice\n", b"notice \n", b"2 3\n", b"\n"):
         ran = harness.run([program], b"bits\n" + line + b"bits\n")
         if (ran.status, ran.output) != (1, text(Row(ROWS["bits"]).lines)):
@@ -144,7 +144,7 @@ def goes_on(lines):
 
 
 def growths(refuser, room, name):
-    """Refuses each growth of a row in turn. Says what was wrong with the first bad answer, or answers None."""
+    """Refuses each growth of a row, one a run. Returns what is wrong with the first bad answer, or None."""
     given = pathlib.Path(room) / name
     given.write_bytes(text([name]))
     case = harness.Case(name, [], given, text(Row(ROWS[name]).lines))

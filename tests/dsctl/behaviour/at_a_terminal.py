@@ -20,7 +20,7 @@ def greets_and_prompts(program):
 
 
 def points_at_the_place(program):
-    """At a terminal a line that can't be read stands above what was expected, with a caret; without one it doesn't."""
+    """At a terminal the sentence about an unreadable line shows that line with a caret; elsewhere it doesn't."""
     line = b'map "a" 16\n'
     told = b"dsctl: line 1, byte 8: KINDS was expected, 1 to 15 (label 1, u32 2, str 4, mem 8); `16` was found\n"
     ran = terminal.session(program, [], [line])
@@ -186,7 +186,7 @@ def takes_a_line_in_two_pieces(program):
 
 
 def ends_at_one_end(program):
-    """One ^D where a read begins ends the program, also behind a text without a newline: the terminal isn't asked once more."""
+    """One ^D where a read begins ends the program, also after a text without a newline: the terminal isn't read once more."""
     for words, of_nothing, of_show in ((), 0, 0), (("settings",), 0, 1), (("verify",), 1, 1), (("upgrade",), 1, 1), (("record",), 0, 1):
         for typed, status in ([], of_nothing), ([b"show", b"\x04"], of_show):
             ran = terminal.pieces(program, typed, words)
@@ -194,7 +194,7 @@ def ends_at_one_end(program):
 
 
 def names_the_keys_of_a_terminal(program):
-    """The bytes of a cursor key are told by its name, wherever they stand, and end nothing."""
+    """The bytes of a cursor key are reported by its name, anywhere in a line, and end nothing."""
     for bytes_, name, place in ((b"\x1b[A", b"Up", 0), (b"\x1bOB", b"Down", 0), (b"show\x1b[C", b"Right", 4), (b"nameof 3/1\x1b[D", b"Left", 10)):
         ran = terminal.session(program, [], [bytes_ + b"\n", b"show\n"])
         told = b"dsctl: line 1, byte %d: the %s key was found: `rlwrap dsctl` adds history and editing\n> show\nshown 0\n> \n" % (place, name)
@@ -202,13 +202,13 @@ def names_the_keys_of_a_terminal(program):
 
 
 def greets_who_types_settings(program):
-    """Somebody who types settings is told what is waited for."""
+    """A user who types settings sees what the program waits for."""
     ran = terminal.session(program, ["settings"], [], prompt=b"ends\n")
     assert (ran.seen, ran.status) == (b"dsctl: a TOML text, as in dsctl settings --help, ^D ends\nservices 0 slots 64\n", 0), f"{ran}"
 
 
 def greets_who_types_a_trace(program):
-    """Somebody who types a trace is told what is waited for, and sees no prompt, which would look like the beginning of an entry."""
+    """A user who types a trace sees what the program waits for, and no prompt, which would look like the beginning of an entry."""
     for word, header in (("verify", b"trace 2 INCARNATION FIRST RING SUBS KEYS"), ("upgrade", b"trace 1 INCARNATION FIRST RING")):
         ran = terminal.session(program, [word], [], prompt=b"ends\n")
         told = b"dsctl: a trace, as in dsctl verify --help, ^D ends\nbadline 1\n" + NO_HEADER % header
@@ -243,13 +243,13 @@ def takes_back_a_line_that_a_control_character_ends(program):
 
 
 def greets_who_types_commands(program):
-    """Somebody who types commands to be recorded is told what is waited for, and sees the trace and no prompt."""
+    """A user who types commands to be recorded sees what the program waits for, and the trace, and no prompt."""
     ran = terminal.session(program, ["record"], [], prompt=b"ends\n")
     assert (ran.seen, ran.status) == (b"dsctl: a command a line, as in dsctl record --help, ^D or a bad line ends\ntrace 2 1 0 256 128 4096\n", 0), f"{ran}"
 
 
 def says_why(program):
-    """After `readfault` and `writefault` the system's reason is told, at a terminal and elsewhere; a reader that went away is told nothing."""
+    """After `readfault` and `writefault` the system's reason follows, at a terminal and elsewhere; for a reader that went away nothing does."""
     unread = b"readfault\ndsctl: the input can't be read: Is a directory (os error 21)\n"
     unwritten = b"writefault\ndsctl: the answers can't be written: No space left on device (os error 28)\n"
     for word in ("", "settings", "verify", "upgrade", "record"):

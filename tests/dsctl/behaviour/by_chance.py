@@ -34,6 +34,15 @@ def value_by_chance(chance):
     return chance.choice([(b"u32", b"0"), (b"u32", b"1500"), (b"str", b'""'), (b"str", b'"a\\"b"'), (b"mem", b""), (b"mem", b"00ff")])
 
 
+def item_by_chance(chance):
+    """A floor or a change of one of three drivers, as `command_by_chance` offers it."""
+    driver, generation = chance.choice([b"eth0", b"tty", b"disk"]), chance.randrange(1, 4)
+    if chance.random() < 0.3:
+        return b"! %s %d" % (driver, generation - (chance.random() < 0.9))
+    kind, value = value_by_chance(chance)
+    return b"%s %s %s %d.%d = %s" % (chance.choice([b"mtu", b"mac", b"id"]), kind, driver, generation, chance.randrange(6), value)
+
+
 def command_by_chance(chance):
     """A line of a script over three drivers, of few generations and slots each."""
     driver = chance.choice([b"eth0", b"tty", b"disk"])

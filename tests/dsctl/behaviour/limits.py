@@ -35,7 +35,7 @@ def a_million_lines(program):
 
 
 def as_many_checks_as_there_may_be(program):
-    """65,536 checks that show something, one after the other, in little memory, though each is kept as a message."""
+    """65,536 checks that show something, in little memory, though each is kept as a message."""
     turns = range(1, 65537)
     with tempfile.TemporaryFile() as script:
         script.write(b'subscribe 0 "k" 2 later new\n' + b"".join(b"offer k u32 o 1.%d = 0\ncheck 0 1\n" % at for at in turns))
@@ -69,7 +69,7 @@ def a_long_show(program):
 
 
 def a_pattern_that_is_too_large(program):
-    """A pattern beyond the limit of `regex` on its size, which no refused growth is behind, and another one after it."""
+    """A pattern beyond the limit of `regex` on its size, which isn't a refused growth, and another one after it."""
     large = b'"(?:\\\\w{1000}){1000}" 15'
     script = b"map %s\nsubscribe 0 %s first new\nmap \"a\" 15\n" % (large, large)
     expect(end(begin(program, limit=MEMORY), script), b"refused noroom\nrefused noroom\nmap 0\n", 0)
@@ -133,13 +133,13 @@ def a_reader_behind_the_longest_ring(program):
 def pieces(told, first, last):
     """The lines by which a reader asks for what follows the position, 256 at a time, and their answers."""
     for at in range(first, last, 256):
-        behind = min(at + 256, last)
-        items = b"".join(told[place] for place in range(at + 1, behind + 1))
-        yield b"since * 1 %d 256\n" % at, items + b"since %d 1 %d\n" % (behind - at, behind)
+        end = min(at + 256, last)
+        items = b"".join(told[place] for place in range(at + 1, end + 1))
+        yield b"since * 1 %d 256\n" % at, items + b"since %d 1 %d\n" % (end - at, end)
 
 
 def as_many_messages_as_there_may_be(program):
-    """65,536 messages: what would make another one is refused, on both sides and before all else, and the rest goes on."""
+    """65,536 messages: a command that would make another one is refused, on both sides and before any other cause, and others are answered."""
     last = 65535
     readings = [b"since * 1 0 1", b'since "(" 15 9 9 0', b"snapshot *", b'snapshot "(" 15', b"page * - 1", b'page "(" 15 - 0']
     readings += [b"check 0 1", b"check 128 0"]
@@ -188,7 +188,7 @@ def a_million_items_in_messages(program):
 
 
 def holders_that_begin_again(program):
-    """A map that is cleared and a store that is restarted, each a thousand times behind 256 items, in little memory."""
+    """A map that is cleared and a store that is restarted, each a thousand times after 256 items, in little memory."""
     items = b"".join(b"k%03d mem o 1.0 = %s\n" % (at, b"7f" * 256) for at in range(256))
     script = b'map ".*" 15\n' + b"".join(b"offer " + it + b"\n" for it in items.splitlines()) + b"snapshot *\n"
     told = b"map 0\n" + b"taken\n" * 256 + items + b"snapshot 256 1 256\n"
@@ -201,7 +201,7 @@ def holders_that_begin_again(program):
 
 
 def hostile_patterns(program):
-    """The patterns of bench/hostile_patterns are taken up or refused for want of room, and the store goes on."""
+    """The patterns of bench/hostile_patterns are accepted or refused by `noroom`, and the store continues."""
     patterns = (harness.TESTS.parent / "bench" / "hostile_patterns").read_bytes().splitlines()
     quoted = [pattern.replace(b"\\", b"\\\\").replace(b'"', b'\\"') for pattern in patterns]
     subscribes = b"".join(b'subscribe %d "%s" 15 later new\n' % (at, pattern) for at, pattern in enumerate(quoted))

@@ -58,7 +58,7 @@ def prompted(script, environment, typed):
 
 
 def prints_settings_as_a_line(program):
-    """`settings --line` prints a line of at most 4096 bytes, by which a script's RS has the services of the text; slots beside them are told."""
+    """`settings --line` prints a line of at most 4096 bytes, by which a script's RS has the services of the text; standard error names slots beside them."""
     cases = [it for it in harness.all_cases() if it.args == ["settings"] and not it.status]
     assert len(cases) > 10, cases
     for case in cases:

@@ -36,7 +36,7 @@ def every_byte_dropped_or_doubled(program):
 
 
 def lines_of_traces(program):
-    """A line that only a trace has is a bad line at its first byte, also behind a good line."""
+    """A line that only a trace has is a bad line at its first byte, also after a good line."""
     for line in OF_TRACES.splitlines():
         expect(harness.run([program], PUT + b"\n" + line + b"\n"), b"taken\nbadline 2 0\n", 1)
 

@@ -32,7 +32,7 @@ def answers_each_line_before_the_next(program):
 
 
 def records_each_entry_before_the_next(program):
-    """Over a pipe, each entry of a trace that is recorded is written before the next command is, and one of a merge behind its items."""
+    """Over a pipe, each entry of a trace that is recorded is written before the next command is, and one of a merge after its items."""
     steps = [
         (b"ring 8\n7 " + PUT, b"trace 2 1 0 8 128 4096\n", b"> 7 " + PUT + b"\n", b"< taken\n"),
         (b"merge 1\n+ " + TOMBSTONE[6:], b"> 0 merge 1\n", b"+ " + TOMBSTONE[6:] + b"\n", b"< merged 1 1 0\n"),
@@ -121,7 +121,7 @@ def reads_a_file_by_its_name(program):
 
 
 def a_file_that_cannot_be_opened(program):
-    """A file that isn't there is told by its name and the system's reason, with status 2, and a word like a subcommand by that, too."""
+    """A file that doesn't exist is reported by its name and the system's reason, with status 2; a word like a subcommand by that, too."""
     rows = [([], "none.ds", b"dsctl: `none.ds` can't be opened: No such file or directory (os error 2)\n")]
     rows += [(["verify"], "no/such.trace", b"dsctl: `no/such.trace` can't be opened: No such file or directory (os error 2)\n")]
     rows += [([], "repaly", b"dsctl: `repaly` is neither a command, the nearest is `replay`, nor a file: No such file or directory (os error 2)\n")]
@@ -149,7 +149,7 @@ def a_reader_that_is_closed(program):
 
 
 def a_writer_that_is_full(program):
-    """Output that takes no bytes; a bad line can't be told there either."""
+    """Output that takes no bytes; a bad line can't be reported there either."""
     for script in (PUT + b"\n", b"show\n", b"bad\n", b"show"):
         with open("/dev/full", "wb") as full:
             expect(end(begin(program, stdout=full), script), None, 3, b"writefault\n")

@@ -98,7 +98,7 @@ def does_as_its_help_shows(program):
 
 
 def rows_below(title, text):
-    """The rows of a text that stand below the one that begins so, without the two spaces before each."""
+    """The rows of a text below the one that begins so, without the two spaces before each."""
     found = re.search(rf"^{title}.*:\n((?:  .*\n)*)", text, re.MULTILINE)
     return [row[2:] for row in found[1].splitlines()] if found else []
 
@@ -122,7 +122,7 @@ def reminds_in_rows_of_eighty_columns(program):
 
 
 def explains_each_refusal(program):
-    """`--help` has a row for each word that stands behind `refused`."""
+    """`--help` has a row for each word that follows `refused`."""
     document = (harness.DOCUMENTS / "reference" / "refusals.md").read_text()
     told = re.findall(r"`(\w+)`", "".join(re.findall("^## .*$", document, re.MULTILINE)))
     help_ = harness.run([program, "--help"], b"").output.decode()
@@ -131,7 +131,7 @@ def explains_each_refusal(program):
 
 
 def says_what_is_wrong_with_its_words(program):
-    """Who names two files, gives `live` one, or gives an option of `replay` without it, is told so; others aren't."""
+    """Two files, one for `live`, or an option of `replay` without that word: standard error says so, and only then."""
     tips = [(["a.ds", "b.ds"], b"dsctl: one file is read"), (["verify", "a.trace", "b.trace"], b"dsctl: one file is read")]
     tips += [(["live", "script.ds"], b"dsctl: live reads nothing")]
     tips += [([near, "a.trace"], b"dsctl: the nearest command is `verify`") for near in ("verfy", "Verify")]
@@ -147,7 +147,7 @@ def says_what_is_wrong_with_its_words(program):
 
 
 def shows_help_by_a_word(program):
-    """`dsctl help` and `dsctl help WORD` print what --help prints; of a word that is none usage is told."""
+    """`dsctl help` and `dsctl help WORD` print what --help prints; for an unknown word they report usage."""
     for words in ([], *([name] for name in NAMES)):
         asked, wanted = harness.run([program, "help", *words], b"bad\n"), harness.run([program, *words, "--help"], b"")
         assert (asked.status, asked.output, asked.error) == (0, wanted.output, b"") and wanted.output, f"{words}: {asked}"
