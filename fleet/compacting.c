@@ -4,7 +4,7 @@
  *   ----------------+----------------------------------------+---------------------------------------------------------
  *   RESTS           | it is due                              | WATCHES: watches the snapshot, and asks for it
  *   WATCHES         | good answers                           | WRITES: one transaction writes it, and trims the stream
- *   WATCHES         | another bridge's snapshot goes further | WRITES: ends the watch alone
+ *   WATCHES         | another has more, or items were lost   | WRITES: ends the watch alone
  *   WATCHES         | another scope                          | RESTS: badscope
  *   WATCHES         | an error, or out of memory             | WRITES: ends the watch alone; denied, or noroom
  *   WRITES          | it is written                          | RESTS
@@ -70,7 +70,8 @@ static enum ds_fleet_word prepare_snapshot(struct ds_fleet *fleet, struct text *
     struct entry_id at = id_of(snapshot->element[WATCHED_AT]);
     struct entry_id generated = id_of(field_of(answers[WATCHING_STREAM], "last-generated-id"));
     bool has_read_more = is_above(at, fleet->reading.last) && !is_above(at, generated); /* another one, which compacts */
-    return has_read_more ? DS_FLEET_INSTEP : items_all(&fleet->items, held);
+    bool has_all = !fleet->items.lost; /* since it was due, it may have read what no store here can hold */
+    return has_all && !has_read_more ? items_all(&fleet->items, held) : DS_FLEET_INSTEP;
 }
 
 /* A transaction undoes nothing: if the snapshot couldn't be set, the stream would be trimmed all the same. So a key

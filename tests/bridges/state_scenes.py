@@ -385,7 +385,7 @@ def states_of_compacting(fleet, draw):
         script.script("HMGET ds:snapshot at scope", goes_further)
         compacts()
         assert script.asked["UNWATCH"] > unwatched
-        walk("WATCHES | another bridge's snapshot goes further")
+        walk("WATCHES | another has more, or items were lost")
         walk("WRITES | the watch is ended")
         script.script("HMGET ds:snapshot at scope", CUT)
         reconnects(bridge, compacts)
