@@ -1,10 +1,8 @@
 -- A trace of format 1 in format 2, entry by entry.
-use Rattle.std.proofs.Common.{◌≡◌, ℕ, ◌+◌, List, [], ◌∷◌, ◌++◌, length, Option, Result, inl, inr, refl, sym, ap, subst, ◌∙◌, arith, append_assoc, append-nil, length-append}
+use Rattle.std.proofs.Common.{◌≡◌, ℕ, ◌+◌, List, [], ◌∷◌, ◌++◌, length, Option, inl, inr, refl, sym, ap, subst, ◌∙◌, arith, append_assoc, append-nil, length-append}
 use Rattle.std.specs.List.{flat_map}
 use Rattle.std.specs.Io.KnownBytes.{Appends}
-use Rattle.std.specs.Result.{IfErr, IsErrAnd}
 use Rattle.std.proofs.KnownBytes.{Appends-nil, Appends-trans}
-use Rattle.std.proofs.lemmas.Result.{err_from_is_err_and}
 use Rattle.line_io.specs.Lines.{HasLines, joined}
 use Rattle.line_io.specs.Reading.{LinesContent}
 use Rattle.line_io.proofs.InputLemmas.{has_lines}
@@ -22,17 +20,12 @@ use Rattle.trace_walk.specs.declared.fault.WalkFault.{WalkFault}
 use Rattle.trace_walk.specs.declared.fault.WalkFault.TheVariants as walks
 use Rattle.trace_walk.specs.declared.passed.Passed.{Passed}
 use Rattle.trace_walk.specs.declared.passed.Passed.TheVariants.{AsItStands, Swept}
-use Rattle.trace_check.specs.declared.upgrading.UpgradeFault.{UpgradeFault}
 use Rattle.trace_walk.specs.declared.walk.Walk.{Walk}
 use Rattle.trace_walk.specs.Passing.{HasPassed, IsWrittenAs}
 use Rattle.trace_walk.specs.Steps.{WalksAt, EndsThere, first_spot}
 use Rattle.trace_check.specs.Upgrading.{BeginsWithTwo, Refuses, Upgrades, upgrade_fault}
 use Rattle.trace_walk.specs.Walking.{Spot, IsAt, IsFault, Walks, spot_behind}
 use Rattle.trace_check.proofs.LastLemmas.{none_longer}
-
--- what the exit of a `?` hands on
-pub handed_on : {T : Type 0} (r : Result T UpgradeFault) (e : UpgradeFault) (P : UpgradeFault → Type 0) → IsErrAnd r (λ f. f ≡ e) → P e → IfErr r P
-handed_on r e P is p = let exit = err_from_is_err_and r is in rw (exit.1, exit.2) p
 
 -- a fault of a walk explains why the input isn't written whole, if the first lines were passed and written
 module _ (bytes start output : List ℕ) (before after : List (List ℕ)) (lines : HasLines bytes (before ++ after)) (is : start ≡ joined before) (written : IsUpgradeOf before output) where
@@ -163,7 +156,7 @@ module _ (b : Spot) (before : List ℕ) (h : Header) (w : Walk) (from had has : 
           now = next;
           same = u.same;
           header = p.header;
-          walks = subst (λ (g : Header). Walks next new.lines new.store g to) (sym p.header) p.walks;
+          walks = subst (λ (g : Header). Walks next new.entry.lines new.store g to) (sym p.header) p.walks;
           more = u.more ++ text;
           appends = Appends-trans had has then u.more text u.appends appends;
           upgrades = subst (λ (n : ℕ). Upgrades next h (before ++ (u.more ++ text)) n) (sym is_sum) (subst (λ (l : List ℕ). Upgrades next h l (count + k)) (append_assoc before u.more text) on);
@@ -177,7 +170,7 @@ module _ (b : Spot) (before : List ℕ) (h : Header) (w : Walk) (from had has : 
         let all = subst (λ (l : List ℕ). IsUpgraded next.front l (count + k)) whole (is_upgraded next h ((before ++ u.more) ++ text) (count + k) on) in (
           u.more ++ sent,
           Appends-trans had has then u.more sent u.appends appends,
-          part_of b.bytes next new.lines to u.same p.walks.at (before ++ (u.more ++ sent)) left (count + k) all,
+          part_of b.bytes next new.entry.lines to u.same p.walks.at (before ++ (u.more ++ sent)) left (count + k) all,
         )
 
 -- ---- the header
@@ -203,6 +196,6 @@ module _ (bytes : List ℕ) (w : Walk) (from : Option (List ℕ)) (walks : Walks
 
   pub stops_in_header : w.header.format ≡ One → (sent left : List ℕ) → header_text (upgraded w.header) ≡ sent ++ left → IsUpgradedInPart bytes sent
   stops_in_header one sent left split =
-      part_of bytes (first_spot bytes w.header) w.lines from refl walks.at sent left 0
+      part_of bytes (first_spot bytes w.header) w.entry.lines from refl walks.at sent left 0
       (subst (λ (l : List ℕ). IsUpgraded (header_text w.header) l 0) split
       (is_upgraded (first_spot bytes w.header) w.header (header_text (upgraded w.header)) 0 (header_upgrades one)))

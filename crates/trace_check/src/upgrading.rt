@@ -104,7 +104,7 @@ fn upgrade_behind_header<R: Source, W: Sink>(
 ) -> Result<u64, UpgradeFault>
     ensures upgraded { IfOk result (EndsBehindHeader walk.old (R.remaining reader.old) (W.contents writer.old) (W.contents writer.new)) }
     ensures stopped { IfErr result (StopsBehindHeader walk.old (R.remaining reader.old) (W.contents writer.old) (W.contents writer.new)) }
-    ensures cause { IfErr result (BlamesUpgradeOn R.Source W.Sink walk.old.lines.reads reader.old reader.new writer.new) }
+    ensures cause { IfErr result (BlamesUpgradeOn R.Source W.Sink walk.old.entry.lines.reads reader.old reader.new writer.new) }
 {
     let header = walk.header();
     match header.format {
@@ -139,7 +139,7 @@ fn upgrade_entries<R: Source, W: Sink>(
 ) -> Result<u64, UpgradeFault>
     ensures all { IfOk result (EndsUpgraded walk.old (R.remaining reader.old) (W.contents writer.old) (W.contents writer.new)) }
     ensures part { IfErr result (StopsUpgrading walk.old (R.remaining reader.old) (W.contents writer.old) (W.contents writer.new)) }
-    ensures cause { IfErr result (BlamesUpgradeOn R.Source W.Sink walk.old.lines.reads reader.old reader.new writer.new) }
+    ensures cause { IfErr result (BlamesUpgradeOn R.Source W.Sink walk.old.entry.lines.reads reader.old reader.new writer.new) }
 {
     let mut text = Vec::new(alloc);
     let mut written: u64 = 0;

@@ -47,7 +47,7 @@ pub fn judge<R: Source>(alloc: Global, reader: &mut R) -> Judged
 fn walk_through<R: Source>(walk: &mut Walk, reader: &mut R) -> Verdict
     ensures ends { EndsWith walk.old (R.remaining reader.old) result }
     ensures wanted { EndsWanting walk.old (R.remaining reader.old) walk.new result }
-    ensures cause { IsWalkedCause R.Source result walk.old.lines.reads reader.old reader.new }
+    ensures cause { IsWalkedCause R.Source result walk.old.entry.lines.reads reader.old reader.new }
 {
     for length in 0..u64::MAX {
         match walk.next(reader) {

@@ -1,16 +1,17 @@
 -- Which line is the first bad one.
-use Rattle.std.proofs.Common.{◌≡◌, ℕ, suc, ◌<◌, List, [], ◌∷◌, ◌++◌, length, Option, inl, inr, refl, sym, ap, subst, ◌∙◌, arith, append_assoc, append-nil, length-append}
+use Rattle.std.proofs.Common.{◌≡◌, ℕ, List, [], ◌∷◌, ◌++◌, length, Option, inl, inr, refl, sym, ap, ◌∙◌, arith, append_assoc, append-nil, length-append}
 use Rattle.std.specs.List.{flat_map}
-use Rattle.line_io.specs.Lines.{HasLines, joined, with_newline}
+use Rattle.line_io.specs.Lines.{joined, with_newline}
 use Rattle.line_io.specs.Reading.{LinesContent}
-use Rattle.trace_walk.specs.Walking.{HasLine, IsLong, IsRead, IsShort}
+use Rattle.trace_walk.specs.Walking.{HasLine, IsLong}
 use Rattle.trace_walk.specs.declared.asked.Head.TheVariants as heads
 use Rattle.trace_walk.specs.declared.header.Format.{Format}
+use Rattle.trace_walk.specs.Entry.{LacksOne}
 use Rattle.trace_walk.specs.Head.{IsHeadOf}
 use Rattle.trace_walk.specs.Text.{plus_text}
-use Rattle.trace_record.specs.Asking.{AsksNothing, AsksNothingAt, IsAtLimit, IsFirstLines, IsNoItem, IsPlaceOfLine, IsRingLine, asked_by}
+use Rattle.trace_walk.proofs.FaultLemmas.{not_short}
+use Rattle.trace_record.specs.Asking.{AsksNothing, AsksNothingAt, IsAtLimit, IsFirstLines, IsPlaceOfLine, IsRingLine, asked_by}
 use Rattle.trace_record.specs.Reading.{IsAtLine}
-use Rattle.trace_record.specs.Steps.{LacksNext, LacksOne}
 use Rattle.trace_record.proofs.AskingLemmas.{asked_longer, asked_behind, some_line}
 use Rattle.trace_record.proofs.RingLemmas.{long_no_ring}
 
@@ -36,9 +37,6 @@ asks_nothing format bytes front line l to number place h none no_ring e at =
       at = λ whole. at;
     }
 
-not_short : (line : List ℕ) → 4096 < length line → IsShort (with_newline line) → ⊥
-not_short line long short = omega (arith, long, short, length-append line (10 ∷ []))
-
 pub long_asks_nothing : (format : Format) (bytes front : List ℕ) (number place : ℕ) → IsLong bytes front number → IsAtLimit place → AsksNothingAt format bytes front number place
 long_asks_nothing format bytes front number place l limit =
     record {
@@ -55,16 +53,6 @@ long_asks_nothing format bytes front number place l limit =
     }
 
 -- ---- a line that must be an item's
-
-pub lacks_line : (format : Format) (bytes front line : List ℕ) (l : LinesContent) (to : Option (List ℕ)) (number : ℕ)
-    → HasLine bytes front line l to → IsNoItem format (with_newline line) → number ≡ l.count → LacksNext format bytes front number
-lacks_line format bytes front line l to number h none e = record { before = h.before; rest = line ∷ h.more; lines = h.lines; behind = h.front_is; counted = e ∙ h.counted; lacks = none }
-
-pub lacks_long : (format : Format) (bytes front : List ℕ) (number : ℕ) → IsLong bytes front number → LacksNext format bytes front number
-lacks_long format bytes front number l = record { before = l.before; rest = l.line ∷ l.more; lines = l.lines; behind = l.front_is; counted = l.counted; lacks = λ i may short is. not_short l.line l.long short }
-
-pub lacks_all : (format : Format) (bytes front : List ℕ) (count number : ℕ) → IsRead bytes front count → number ≡ suc count → LacksNext format bytes front number
-lacks_all format bytes front count number r e = record { before = r.0; rest = []; lines = subst (HasLines bytes) (sym (append-nil r.0)) r.1; behind = r.2; counted = e ∙ ap suc r.3; lacks = tt }
 
 some_behind : (front line items : List ℕ) → front ++ (with_newline line ++ items) ≡ [] → ⊥
 some_behind front line items none = omega (arith, ap length none, length-append front (with_newline line ++ items), length-append (with_newline line) items, some_line line)

@@ -3,11 +3,14 @@ use Rattle.std.proofs.Common.{◌≡◌, ℕ, inl, inr, ◌⊎◌, sym, subst}
 use Rattle.line_io.specs.Streams.{HasFailedWrite}
 use Rattle.line_io.specs.declared.streams.Source.{Ghosts as Reader}
 use Rattle.line_io.specs.declared.streams.Sink.{Ghosts as Writer}
+use Rattle.trace_walk.specs.Reads.{BlamesLines}
+use Rattle.trace_walk.specs.declared.entry.EntryFault.{EntryFault}
+use Rattle.trace_walk.specs.declared.entry.EntryFault.TheVariants as entries
 use Rattle.trace_record.specs.declared.fault.RecordFault.{RecordFault}
 use Rattle.trace_record.specs.declared.fault.RecordFault.TheVariants.{BadLine, ReadFault, WriteFault, NoRoom}
 use Rattle.trace_record.specs.declared.recorder.Recorder.{Recorder}
 use Rattle.trace_record.specs.Causes.{IsToBlame, IsCausedOn, IsReadCause, SettlesBy}
-use Rattle.trace_record.specs.Reading.{IsOfInput}
+use Rattle.trace_record.specs.Reading.{IsOfInput, of_lines}
 use Rattle.trace_record.specs.Steps.{FailsAtHead}
 
 -- a first line that isn't read blames nobody
@@ -20,6 +23,12 @@ unread_cause r w new WriteFault old made f = absurd f.0
 -- nor does out of memory
 pub room_cause : {R : Type 0} (r : Reader R) (fault : RecordFault) (old new : R) (made : ℕ) → fault ≡ NoRoom → IsCausedOn r fault old new made
 room_cause r fault old new made e = subst (λ (f : RecordFault). IsCausedOn r f old new made) (sym e) (λ first led. tt)
+
+-- the fault of lines keeps its cause
+pub lines_cause : {R : Type 0} (r : Reader R) (fault : EntryFault) (place : ℕ) (old new : R) → BlamesLines r fault old new → IsReadCause r (of_lines fault place) old new
+lines_cause r (entries.BadLine number) place old new c = tt
+lines_cause r entries.ReadFault place old new c = c
+lines_cause r entries.NoRoom place old new c = tt
 
 -- a fault of the input is the reader's
 pub input_cause : {R W : Type 0} (r : Reader R) (w : Writer W) (fault : RecordFault) (old new : R) (writer : W) → IsOfInput fault → IsReadCause r fault old new → IsToBlame r w fault old new writer

@@ -1,9 +1,9 @@
 -- Where a command's line is bad.
-use Rattle.std.proofs.Common.{◌≡◌, ◌≢◌, ℕ, zero, suc, ◌+◌, ◌-◌, ◌<◌, ◌≤◌, ◌^◌, ◌⊎◌, Bool, true, false, min, Result, Ok, Err, List, ◌∷◌, ◌++◌, length, codes, inl, inr, refl, sym, ap, subst, arith, length-append}
+use Rattle.std.proofs.Common.{◌≡◌, ◌≢◌, ℕ, zero, suc, ◌+◌, ◌-◌, ◌<◌, ◌≤◌, ◌^◌, min, Result, Ok, Err, List, ◌∷◌, ◌++◌, length, inl, inr, refl, sym, ap, subst, arith, length-append}
 use Rattle.std.specs.Result.{IfErr, IfOk}
 use Rattle.std.specs.Fmt.{decimal}
 use Rattle.std.proofs.lemmas.Fmt.{length-decimal-le}
-use Rattle.script_commands.specs.Command.{IsFaultAmong, ReadsAs, ReadsCommand, command_parts}
+use Rattle.script_commands.specs.Command.{IsFaultAmong, ReadsAs, ReadsCommand}
 use Rattle.script_commands.specs.Later.{ReadsLater}
 use Rattle.script_commands.specs.declared.command.ScriptCommand.{ScriptCommand}
 use Rattle.script_commands.specs.declared.command.ScriptCommand.TheVariants.{Offer}

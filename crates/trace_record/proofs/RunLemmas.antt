@@ -4,11 +4,13 @@ use Rattle.std.specs.Io.KnownBytes.{Appends}
 use Rattle.std.proofs.KnownBytes.{Appends-nil, Appends-trans}
 use Rattle.ds_content.specs.Content.{ContentRecord}
 use Rattle.ds_content.specs.Stands.{ContentStands}
-use Rattle.line_io.specs.Lines.{HasLines}
+use Rattle.line_io.specs.Lines.{EndsLine, HasLines}
 use Rattle.line_io.specs.Reading.{LinesContent}
 use Rattle.line_io.specs.Transfer.{SendsFront, WritesPart}
 use Rattle.ds_machine.specs.State.{State}
-use Rattle.trace_walk.specs.Walking.{IsAt}
+use Rattle.trace_walk.specs.Walking.{IsAt, IsLongFault, IsRead, IsShort}
+use Rattle.trace_walk.specs.declared.entry.EntryFault.{EntryFault}
+use Rattle.trace_walk.specs.declared.entry.EntryFault.TheVariants as entries
 use Rattle.trace_walk.proofs.BeginLemmas.{by_known}
 use Rattle.trace_walk.specs.declared.header.Format.{Format}
 use Rattle.trace_walk.specs.declared.header.Header.{Header}
@@ -18,8 +20,8 @@ use Rattle.trace_record.specs.declared.fault.RecordFault.TheVariants.{BadLine, R
 use Rattle.trace_record.specs.declared.form.Form.{Form}
 use Rattle.trace_record.specs.declared.form.Form.TheVariants as forms
 use Rattle.trace_record.specs.declared.recorder.Recorder.{Recorder}
-use Rattle.trace_record.specs.Asking.{IsFirstLines, IsAllLines, OpensWith}
-use Rattle.trace_record.specs.Reading.{Comes, ComesToNext, GoesToNoRing, IsAtLine, IsOfInput, IsReady}
+use Rattle.trace_record.specs.Asking.{IsAtLimit, IsFirstLines, IsAllLines, OpensWith}
+use Rattle.trace_record.specs.Reading.{Comes, ComesToNext, GoesToNoRing, IsAtLine, IsOfInput, IsReady, of_lines}
 use Rattle.trace_record.specs.Record.{IsRecord, IsBeforeFault, Records, StopsRecording, WritesBy, format_of, header_of}
 use Rattle.trace_record.specs.Running.{HasFailed, HasRun, Runs, RunsTo, WritesRest}
 use Rattle.trace_record.specs.Steps.{AddsEntry, FailsInEntry, OpensAs, Recorded}
@@ -30,6 +32,21 @@ use Rattle.trace_record.proofs.EntryLemmas.{recorded_none}
 
 pub front_at : (bytes front : List ℕ) (l : LinesContent) (from : Option (List ℕ)) → IsAt bytes front l from → IsFirstLines bytes front
 front_at bytes front l from at = (at.before, at.after, at.lines, at.front_is)
+
+-- the next one comes, or none, or it can't be read
+pub comes_there : (bytes front : List ℕ) (l : LinesContent) (to : Option (List ℕ)) (there : Bool) → (there ≡ true → IsAtLine bytes front l to) → (there ≡ false → IsRead bytes front l.count) → ComesToNext bytes front l to (Ok there)
+comes_there bytes front l to true line none = line refl
+comes_there bytes front l to false line none = none refl
+
+pub comes_not : (bytes front : List ℕ) (l : LinesContent) (to : Option (List ℕ)) (fault : EntryFault) (place : ℕ)
+    → IsFirstLines bytes front → IsLongFault bytes front fault → IsAtLimit place → ComesToNext bytes front l to (Err (of_lines fault place))
+comes_not bytes front l to (entries.BadLine number) place whole long limit = (long, limit)
+comes_not bytes front l to entries.ReadFault place whole long limit = whole
+comes_not bytes front l to entries.NoRoom place whole long limit = whole
+
+pub ready_there : (l : LinesContent) (there : Bool) → (there ≡ true → EndsLine l.line × IsShort l.line) → IsReady l (Ok there)
+ready_there l true ready = ready refl
+ready_there l false ready = tt
 
 -- whatever the result of reading it
 pub front_comes : (bytes front : List ℕ) (l : LinesContent) (to : Option (List ℕ)) (next : Result Bool RecordFault) → ComesToNext bytes front l to next → IsFirstLines bytes front
@@ -69,20 +86,20 @@ module _ (known : Option (List ℕ)) (first : List ℕ) (had : Option (List ℕ)
         state = r.state;
         written = r.written;
         recorded = r.recorded;
-        input = λ bytes k. let c = subst (ComesToNext bytes (first ++ r.asking) w.lines from) e (r.comes bytes k) in (c.0, c.1, c.2);
+        input = λ bytes k. let c = subst (ComesToNext bytes (first ++ r.asking) w.entry.lines from) e (r.comes bytes k) in (c.0, c.1, c.2);
       }
 
   -- it can't be read
-  pub run_stops : (next : Result Bool RecordFault) (fault : RecordFault) → Runs known first had h w from has next count → next ≡ Err fault → IsReady w.lines next → RunsTo known first had h w.output.items has (Err fault)
+  pub run_stops : (next : Result Bool RecordFault) (fault : RecordFault) → Runs known first had h w from has next count → next ≡ Err fault → IsReady w.entry.lines next → RunsTo known first had h w.output.items has (Err fault)
   run_stops next fault r e ready =
-      runs_to_fault known first had h w.output.items has count fault (subst (IsReady w.lines) e ready)
+      runs_to_fault known first had h w.output.items has count fault (subst (IsReady w.entry.lines) e ready)
       (record {
         sent = r.sent;
         asking = r.asking;
         state = r.state;
         written = r.written;
         recorded = r.recorded;
-        input = λ bytes k. up_to h.format bytes (first ++ r.asking) w.lines from fault (subst (ComesToNext bytes (first ++ r.asking) w.lines from) e (r.comes bytes k));
+        input = λ bytes k. up_to h.format bytes (first ++ r.asking) w.entry.lines from fault (subst (ComesToNext bytes (first ++ r.asking) w.entry.lines from) e (r.comes bytes k));
       })
 
   -- no more entries are counted
@@ -95,7 +112,7 @@ module _ (known : Option (List ℕ)) (first : List ℕ) (had : Option (List ℕ)
       state = r.state;
       written = r.written;
       recorded = r.recorded;
-      input = λ bytes k. front_comes bytes (first ++ r.asking) w.lines from next (r.comes bytes k);
+      input = λ bytes k. front_comes bytes (first ++ r.asking) w.entry.lines from next (r.comes bytes k);
     },
   )
 
@@ -117,13 +134,13 @@ pub record IsBehind (known : Option (List ℕ)) (first : List ℕ) (had : Option
   pub written : Appends had has sent
   pub recorded : Recorded h (sent ++ w.output.items) asking state count
   pub stands : ContentStands w.store state
-  pub at : (bytes : List ℕ) → known ≡ Some bytes → IsAt bytes (first ++ asking) w.lines from
+  pub at : (bytes : List ℕ) → known ≡ Some bytes → IsAt bytes (first ++ asking) w.entry.lines from
   pub some : first ++ asking ≢ []
 
 module _ (known : Option (List ℕ)) (first : List ℕ) (had : Option (List ℕ)) (h : Header) (w new : Recorder) (from to has : Option (List ℕ))
     (next : Result Bool RecordFault) (count : ℕ) (r : Runs known first had h w from has next count) (there : next ≡ Ok true) where
-  abbrev at_line : (bytes : List ℕ) → known ≡ Some bytes → IsAtLine bytes (first ++ r.asking) w.lines from
-  at_line bytes k = subst (ComesToNext bytes (first ++ r.asking) w.lines from) there (r.comes bytes k)
+  abbrev at_line : (bytes : List ℕ) → known ≡ Some bytes → IsAtLine bytes (first ++ r.asking) w.entry.lines from
+  at_line bytes k = subst (ComesToNext bytes (first ++ r.asking) w.entry.lines from) there (r.comes bytes k)
 
   pub entry_added : AddsEntry w from new to → IsBehind known first had h new to has (suc count)
   entry_added added =
@@ -138,7 +155,7 @@ module _ (known : Option (List ℕ)) (first : List ℕ) (had : Option (List ℕ)
         recorded =
             subst (λ (z : Header). Recorded z (r.sent ++ new.output.items) (r.asking ++ a.more) a.new_state (suc count)) r.header (subst (λ (t : List ℕ). Recorded w.header t (r.asking ++ a.more) a.new_state (suc count)) text a.recorded);
         stands = a.stands;
-        at = λ bytes k. subst (λ (f : List ℕ). IsAt bytes f new.lines to) (append_assoc first r.asking a.more) (a.over bytes (first ++ r.asking) (at_line bytes k));
+        at = λ bytes k. subst (λ (f : List ℕ). IsAt bytes f new.entry.lines to) (append_assoc first r.asking a.more) (a.over bytes (first ++ r.asking) (at_line bytes k));
         some = some_more first r.asking a.more a.some;
       }
 
@@ -166,12 +183,12 @@ module _ (known : Option (List ℕ)) (first : List ℕ) (had : Option (List ℕ)
         count = count;
         recorded = b.recorded;
         written = part_more had has now b.sent w.output.items b.written p;
-        input = λ bytes k. front_at bytes (first ++ b.asking) w.lines from (b.at bytes k);
+        input = λ bytes k. front_at bytes (first ++ b.asking) w.entry.lines from (b.at bytes k);
       }
 
   -- it is written, or waits, and the next line is read
-  pub entry_written : (new : Recorder) (waits : List ℕ) (lines : LinesContent) (to : Option (List ℕ)) (next : Result Bool RecordFault) → new.header ≡ w.header → new.store ≡ w.store → new.output.items ≡ waits → new.lines ≡ lines →
-      SendsFront has now w.output.items waits → Comes w.lines from lines to next → Runs known first had h new to now next count
+  pub entry_written : (new : Recorder) (waits : List ℕ) (lines : LinesContent) (to : Option (List ℕ)) (next : Result Bool RecordFault) → new.header ≡ w.header → new.store ≡ w.store → new.output.items ≡ waits → new.entry.lines ≡ lines →
+      SendsFront has now w.output.items waits → Comes w.entry.lines from lines to next → Runs known first had h new to now next count
   entry_written new waits lines to next header store output there s comes =
       let text : b.sent ++ w.output.items ≡ (b.sent ++ s.0) ++ new.output.items = ap (λ (l : List ℕ). b.sent ++ l) (s.1 ∙ ap (λ (l : List ℕ). s.0 ++ l) (sym output)) ∙ sym (append_assoc b.sent s.0 new.output.items) in
       record {
@@ -203,7 +220,7 @@ runs_first known first had form ring lines w from next o comes no_ring =
       written = Appends-nil had;
       recorded = subst (λ (t : List ℕ). Recorded (header_of form ring) t [] (opened_by (header_of form ring)) 0) (sym o.output_is) (recorded_none (header_of form ring) o.is_header);
       stands = o.stands;
-      comes = λ bytes k. subst (λ (f : List ℕ). ComesToNext bytes f w.lines from next) (sym (append-nil first)) (subst (λ (l : LinesContent). ComesToNext bytes first l from next) (sym o.lines_are) (comes bytes k));
+      comes = λ bytes k. subst (λ (f : List ℕ). ComesToNext bytes f w.entry.lines from next) (sym (append-nil first)) (subst (λ (l : LinesContent). ComesToNext bytes first l from next) (sym o.lines_are) (comes bytes k));
       no_ring = λ none. subst (λ (l : LinesContent). GoesToNoRing l next) (sym o.lines_are) (no_ring (sym (append-nil first) ∙ none));
     }
 

@@ -12,6 +12,7 @@ use Rattle.script_commands.specs.Command.{IsCommand, IsFaultAmong, command_parts
 use Rattle.script_commands.specs.Later.{IsLater}
 use Rattle.script_commands.specs.declared.command.ScriptCommand.{ScriptCommand}
 use Rattle.script_commands.specs.declared.command.ScriptCommand.TheVariants.{Offer, Ring}
+use Rattle.trace_walk.specs.Entry.{BeginsNoItem}
 use Rattle.trace_walk.specs.Walking.{IsShort}
 use Rattle.trace_walk.specs.declared.asked.Head.{Head}
 use Rattle.trace_walk.specs.declared.header.Format.{Format}
@@ -114,10 +115,6 @@ BeginsBadAt number (line ∷ lines) place = IsPlaceOfLine number (with_newline l
 abbrev pub AsksNothing : Format → List ℕ → Type 0
 AsksNothing format line = (pass : ℕ) (head : Head) → IsShort (asked_by line) → ¬ IsHeadOf format pass head (asked_by line)
 
--- Whether the line isn't an item's, or is too long.
-abbrev pub IsNoItem : Format → List ℕ → Type 0
-IsNoItem format line = (i : Item) → MayMerge format i → IsShort line → ¬ (line ≡ plus_text i)
-
 -- Whether the first of the lines isn't a command.
 abbrev pub BeginsNoEntry : Format → List (List ℕ) → Type 0
 BeginsNoEntry format [] = ⊥
@@ -127,11 +124,6 @@ BeginsNoEntry format (line ∷ lines) = AsksNothing format (with_newline line)
 abbrev pub BeginsNoRing : List (List ℕ) → Type 0
 BeginsNoRing [] = Unit {0}
 BeginsNoRing (line ∷ lines) = ¬ IsRingLine (with_newline line)
-
--- Whether the first of the lines isn't an item's, or there is none.
-abbrev pub BeginsNoItem : Format → List (List ℕ) → Type 0
-BeginsNoItem format [] = Unit {0}
-BeginsNoItem format (line ∷ lines) = IsNoItem format (with_newline line)
 
 -- Whether the part is a Merge's first line and some of its items, and the next item is missing.
 pub record LacksItem (format : Format) (part : List ℕ) (rest : List (List ℕ)) : Type 0 where

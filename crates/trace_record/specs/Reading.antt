@@ -4,17 +4,29 @@ use Rattle.line_io.specs.Lines.{EndsLine, with_newline}
 use Rattle.line_io.specs.Reading.{LinesContent}
 use Rattle.trace_walk.specs.Walking.{IsAt, IsRead, IsLong, HasLine, IsShort}
 use Rattle.trace_walk.specs.declared.asked.Head.{Head}
+use Rattle.trace_walk.specs.declared.entry.EntryFault.{EntryFault}
+use Rattle.trace_walk.specs.declared.entry.EntryFault.TheVariants as entries
 use Rattle.trace_walk.specs.declared.header.Format.{Format}
 use Rattle.trace_walk.specs.Head.{IsHeadOf}
 use Rattle.trace_record.specs.declared.begin.Beginning.{Beginning}
 use Rattle.trace_record.specs.declared.fault.RecordFault.{RecordFault}
-use Rattle.trace_record.specs.declared.fault.RecordFault.TheVariants.{BadLine, WriteFault, NoRoom}
+use Rattle.trace_record.specs.declared.fault.RecordFault.TheVariants.{BadLine, ReadFault, WriteFault, NoRoom}
 use Rattle.trace_record.specs.Asking.{OpensWith, IsAtLimit, IsFirstLines, IsPlaceOfLine, IsRingLine, AsksNothing, ring_text}
 
 -- Whether the fault is one of the input, or out of memory.
 abbrev pub IsOfInput : RecordFault → Type 0
 IsOfInput WriteFault = ⊥
 IsOfInput _ = Unit {0}
+
+-- The fault of lines that can't be read on, of which a bad one is bad at the place.
+abbrev pub of_lines : EntryFault → ℕ → RecordFault
+of_lines (entries.BadLine number) place = BadLine number place
+of_lines entries.ReadFault place = ReadFault
+of_lines entries.NoRoom place = NoRoom
+
+-- Like `of_lines`, for some place.
+abbrev pub IsOfLines : EntryFault → RecordFault → Type 0
+IsOfLines fault told = (place : ℕ) × (told ≡ of_lines fault place)
 
 -- Whether the lines are at the line after the front.
 abbrev pub IsAtLine : (bytes front : List ℕ) → LinesContent → Option (List ℕ) → Type 0

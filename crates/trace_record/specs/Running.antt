@@ -26,8 +26,8 @@ pub record Runs (known : Option (List ℕ)) (first : List ℕ) (had : Option (Li
   pub written : Appends had has sent
   pub recorded : Recorded h (sent ++ w.output.items) asking state count
   pub stands : ContentStands w.store state
-  pub comes : (bytes : List ℕ) → known ≡ Some bytes → ComesToNext bytes (first ++ asking) w.lines from next
-  pub no_ring : first ++ asking ≡ [] → GoesToNoRing w.lines next
+  pub comes : (bytes : List ℕ) → known ≡ Some bytes → ComesToNext bytes (first ++ asking) w.entry.lines from next
+  pub no_ring : first ++ asking ≡ [] → GoesToNoRing w.entry.lines next
 
 -- Whether a front of the entries of some lines is written, and the rest waits.
 pub record HasRun (known : Option (List ℕ)) (first : List ℕ) (had : Option (List ℕ)) (h : Header) (waits : List ℕ)

@@ -1,9 +1,6 @@
 -- The parts of a recording, for all inputs and places. `from` and `to` are what the reader has before and after each.
-use Rattle.std.specs.Prelude.{◌≡◌, ◌≢◌, ℕ, suc, ◌<◌, List, [], ◌∷◌, ◌++◌, length, Option, Some}
-use Rattle.std.specs.List.{All, flat_map}
+use Rattle.std.specs.Prelude.{◌≡◌, ◌≢◌, ℕ, suc, List, [], ◌++◌, length, Option, Some}
 use Rattle.ds_content.specs.Stands.{ContentStands}
-use Rattle.ds_entry.specs.declared.item.Item.{Item}
-use Rattle.line_io.specs.Lines.{HasLines, joined}
 use Rattle.line_io.specs.Reading.{LinesContent}
 use Rattle.ds_machine.specs.State.{State}
 use Rattle.ds_machine.specs.declared.command.Command.{Command}
@@ -13,19 +10,15 @@ use Rattle.script_answers.specs.declared.wording.Wording.{Wording}
 use Rattle.trace_walk.specs.Walking.{IsAt, IsShort}
 use Rattle.trace_walk.specs.declared.asked.Asked.{Asked}
 use Rattle.trace_walk.specs.declared.asked.Head.{Head}
-use Rattle.trace_walk.specs.declared.asked.Head.TheVariants as heads
-use Rattle.trace_walk.specs.declared.header.Format.{Format}
 use Rattle.trace_walk.specs.declared.header.Header.{Header}
 use Rattle.trace_walk.specs.Head.{IsHeadOf}
 use Rattle.trace_walk.specs.Legal.{IsTrace, StepOf, opened_by}
 use Rattle.trace_walk.specs.OneReply.{IsTraced}
-use Rattle.trace_walk.specs.Text.{TraceEntry, IsHeader, MayAsk, MayMerge, asked_text, command_asked}
-use Rattle.trace_walk.specs.Text.{header_text, marked, plus_text, worded_as}
+use Rattle.trace_walk.specs.Text.{TraceEntry, IsHeader, command_asked, header_text, marked, worded_as}
 use Rattle.trace_record.specs.declared.fault.RecordFault.{RecordFault}
-use Rattle.trace_record.specs.declared.fault.RecordFault.TheVariants.{BadLine, WriteFault}
 use Rattle.trace_record.specs.declared.form.Form.{Form}
 use Rattle.trace_record.specs.declared.recorder.Recorder.{Recorder}
-use Rattle.trace_record.specs.Asking.{AskAll, BeginsNoItem, IsRingLine, asked_by}
+use Rattle.trace_record.specs.Asking.{AskAll, IsRingLine, asked_by}
 use Rattle.trace_record.specs.Reading.{IsAtLine, IsBadHead, IsOfInput}
 use Rattle.trace_record.specs.Record.{IsBeforeFault, header_of}
 
@@ -39,15 +32,11 @@ KeepsOutput old new = (new.header ≡ old.header) × (new.output.items ≡ old.o
 abbrev pub KeepsRun : Recorder → Recorder → Type 0
 KeepsRun old new = (new.header ≡ old.header) × (new.output.items ≡ old.output.items) × (new.store ≡ old.store)
 
--- Whether the lines of `more` were passed.
-abbrev pub GoesOver : LinesContent → Option (List ℕ) → List ℕ → LinesContent → Option (List ℕ) → Type 0
-GoesOver old from more new to = (bytes front : List ℕ) → IsAt bytes front old from → IsAt bytes (front ++ more) new to
-
 -- ---- the beginning
 
 -- Whether the store is the one that the header opens, and the header waits.
 pub record OpensAs (lines : LinesContent) (form : Form) (ring : ℕ) (w : Recorder) : Type 0 where
-  pub lines_are : w.lines ≡ lines
+  pub lines_are : w.entry.lines ≡ lines
   pub header_is : w.header ≡ header_of form ring
   pub is_header : IsHeader (header_of form ring)
   pub output_is : w.output.items ≡ header_text (header_of form ring)
@@ -58,102 +47,25 @@ pub record OpensAs (lines : LinesContent) (form : Form) (ring : ℕ) (w : Record
 -- Whether the line is read, and its text begun.
 pub record HeadsFrom (old new : Recorder) (head : Head) : Type 0 where
   pub pass : ℕ
-  pub is : IsHeadOf old.header.format pass head (asked_by old.lines.line)
-  pub short : IsShort (asked_by old.lines.line)
-  pub begun : new.entry.items ≡ asked_by old.lines.line
+  pub is : IsHeadOf old.header.format pass head (asked_by old.entry.lines.line)
+  pub short : IsShort (asked_by old.entry.lines.line)
+  pub begun : new.entry.text.items ≡ asked_by old.entry.lines.line
   pub keeps : KeepsRun old new
-  pub stays : new.lines ≡ old.lines
+  pub stays : new.entry.lines ≡ old.entry.lines
 
 -- Whether the line isn't the first of an entry, and this is the fault. The waiting entries and the store are
 -- unchanged.
 abbrev pub FailsAtHead : Recorder → Recorder → RecordFault → Type 0
-FailsAtHead old new fault = IsBadHead old.header.format old.lines.line old.lines.count fault × KeepsRun old new
-
--- ---- items
-
--- Whether one more item is read, and added to the text.
-pub record AddsItem (old : Recorder) (from : Option (List ℕ)) (before : List Item)
-    (new : Recorder) (to : Option (List ℕ)) (after : List Item) : Type 0 where
-  pub item : Item
-  pub after_is : after ≡ before ++ item ∷ []
-  pub may : MayMerge old.header.format item
-  pub text : new.entry.items ≡ old.entry.items ++ plus_text item
-  pub over : GoesOver old.lines from (plus_text item) new.lines to
-  pub keeps : KeepsRun old new
-
--- Whether no item's line follows the front.
-pub record LacksNext (format : Format) (bytes front : List ℕ) (number : ℕ) : Type 0 where
-  pub before : List (List ℕ)
-  pub rest : List (List ℕ)
-  pub lines : HasLines bytes (before ++ rest)
-  pub behind : front ≡ joined before
-  pub counted : number ≡ suc (length before)
-  pub lacks : BeginsNoItem format rest
-
-abbrev pub IsLackingNext : Format → (bytes front : List ℕ) → RecordFault → Type 0
-IsLackingNext format bytes front (BadLine number place) = LacksNext format bytes front number
-IsLackingNext format bytes front WriteFault = ⊥
-IsLackingNext format bytes front _ = Unit {0}
-
-abbrev pub MissesItem : Recorder → Option (List ℕ) → Recorder → RecordFault → Type 0
-MissesItem old from new fault =
-    IsOfInput fault × KeepsRun old new ×
-    ((bytes front : List ℕ) → IsAt bytes front old.lines from → IsLackingNext old.header.format bytes front fault)
-
--- Whether `count` items are read.
-pub record AddsItems (old : Recorder) (from : Option (List ℕ)) (count : ℕ) (new : Recorder)
-    (to : Option (List ℕ)) (items : List Item) : Type 0 where
-  pub counted : length items ≡ count
-  pub may : All (MayMerge old.header.format) items
-  pub text : new.entry.items ≡ old.entry.items ++ flat_map plus_text items
-  pub over : GoesOver old.lines from (flat_map plus_text items) new.lines to
-  pub keeps : KeepsRun old new
-
--- Whether, after fewer of them, no item's line follows.
-pub record LacksOne (format : Format) (bytes front : List ℕ) (count number : ℕ) : Type 0 where
-  pub items : List Item
-  pub may : All (MayMerge format) items
-  pub less : length items < count
-  pub lacks : LacksNext format bytes (front ++ flat_map plus_text items) number
-
-abbrev pub IsLackingOne : Format → (bytes front : List ℕ) → ℕ → RecordFault → Type 0
-IsLackingOne format bytes front count (BadLine number place) = LacksOne format bytes front count number
-IsLackingOne format bytes front count WriteFault = ⊥
-IsLackingOne format bytes front count _ = Unit {0}
-
-abbrev pub MissesItems : Recorder → Option (List ℕ) → ℕ → Recorder → RecordFault → Type 0
-MissesItems old from count new fault =
-    IsOfInput fault × KeepsRun old new ×
-    ((bytes front : List ℕ) → IsAt bytes front old.lines from → IsLackingOne old.header.format bytes front count fault)
-
--- ---- the whole command
-
--- Whether the rest of the command, after its first line, is read.
-pub record AddedLines (old : Recorder) (from : Option (List ℕ)) (pass : ℕ) (new : Recorder)
-    (to : Option (List ℕ)) (asked : Asked) : Type 0 where
-  pub more : List ℕ
-  pub may : MayAsk old.header.format pass asked
-  pub whole : asked_text pass asked ≡ old.entry.items ++ more
-  pub text : new.entry.items ≡ old.entry.items ++ more
-  pub over : GoesOver old.lines from more new.lines to
-  pub keeps : KeepsRun old new
-
-abbrev pub AddsLines : Recorder → Option (List ℕ) → Head → Recorder → Option (List ℕ) → Asked → Type 0
-AddsLines old from head new to asked =
-    (pass : ℕ) → IsHeadOf old.header.format pass head old.entry.items → IsShort old.entry.items → AddedLines old from pass new to asked
-
--- Whether the rest of the command isn't read, because an item of a Merge is missing.
-abbrev pub MissesLines : Recorder → Option (List ℕ) → Head → Recorder → RecordFault → Type 0
-MissesLines old from head new fault = (count : ℕ) × (head ≡ heads.Merge count) × MissesItems old from count new fault
+FailsAtHead old new fault = IsBadHead old.header.format old.entry.lines.line old.entry.lines.count fault × KeepsRun old new
 
 -- ---- the reply
 
 -- Whether the entry waits with this reply, in this wording.
 pub record AddsReply (wording : Wording) (reply : Reply) (old new : Recorder) : Type 0 where
   pub header : new.header ≡ old.header
-  pub lines : new.lines ≡ old.lines
+  pub lines : new.entry.lines ≡ old.entry.lines
   pub store : new.store ≡ old.store
-  pub output : new.output.items ≡ old.output.items ++ (old.entry.items ++ marked (reply_lines wording reply old.header.limits))
+  pub output : new.output.items ≡ old.output.items ++ (old.entry.text.items ++ marked (reply_lines wording reply old.header.limits))
 
 -- Whether the store takes the step of the entry's command, and the entry waits with its reply.
 pub record AnswersIn (old : Recorder) (asked : Asked) (new : Recorder) (s : State) : Type 0 where
@@ -163,11 +75,12 @@ pub record AnswersIn (old : Recorder) (asked : Asked) (new : Recorder) (s : Stat
   pub asks : command_asked asked ≡ Some command
   pub step : StepOf old.header.format s command reply new_state
   pub stands : ContentStands new.store new_state
-  pub output : new.output.items ≡ old.output.items ++ (old.entry.items ++ marked (reply_lines (worded_as asked) reply old.header.limits))
+  pub output : new.output.items ≡
+      old.output.items ++ (old.entry.text.items ++ marked (reply_lines (worded_as asked) reply old.header.limits))
 
 abbrev pub AnswersAsked : Recorder → Asked → Recorder → Type 0
 AnswersAsked old asked new =
-    (new.header ≡ old.header) × (new.lines ≡ old.lines) ×
+    (new.header ≡ old.header) × (new.entry.lines ≡ old.entry.lines) ×
     ((s : State) → ContentStands old.store s → IsTraced old.header.format s → AnswersIn old asked new s)
 
 -- ---- entries
@@ -190,7 +103,7 @@ pub record AddedEntry (old : Recorder) (from : Option (List ℕ)) (new : Recorde
   pub recorded : Recorded old.header (text ++ added) (asking ++ more) new_state (suc count)
   pub stands : ContentStands new.store new_state
   pub output : new.output.items ≡ old.output.items ++ added
-  pub over : (bytes front : List ℕ) → IsAtLine bytes front old.lines from → IsAt bytes (front ++ more) new.lines to
+  pub over : (bytes front : List ℕ) → IsAtLine bytes front old.entry.lines from → IsAt bytes (front ++ more) new.entry.lines to
 
 abbrev pub AddsEntry : Recorder → Option (List ℕ) → Recorder → Option (List ℕ) → Type 0
 AddsEntry old from new to =
@@ -202,5 +115,5 @@ AddsEntry old from new to =
 abbrev pub FailsInEntry : Recorder → Option (List ℕ) → Recorder → RecordFault → Type 0
 FailsInEntry old from new fault =
     IsOfInput fault × KeepsOutput old new ×
-    ((bytes front : List ℕ) → IsAtLine bytes front old.lines from → (front ≡ [] → ¬ IsRingLine old.lines.line) →
+    ((bytes front : List ℕ) → IsAtLine bytes front old.entry.lines from → (front ≡ [] → ¬ IsRingLine old.entry.lines.line) →
     IsBeforeFault old.header.format fault bytes front)

@@ -5,8 +5,7 @@ ghost use Rattle.trace_record.specs.Causes.{ReadsOn};
 ghost use Rattle.trace_record.specs.Reading.{BeginsInput, IsReady};
 
 use crate::fault::RecordFault;
-use crate::line::next_line;
-use crate::place::Wanted;
+use crate::line::next_command;
 use crate::ring::{RING, ring_of};
 use ds_names::NoRoom;
 use line_io::{Lines, Source};
@@ -29,10 +28,10 @@ pub(crate) fn begin<R: Source>(
     ensures ready { IfOk result (λ begin. IsReady lines.new begin.next) }
     ensures reads { IfOk result (λ begin. ReadsOn R.Source begin.next reader.old reader.new lines.old.reads lines.new.reads) }
 {
-    let next = next_line(lines, reader, Wanted::Command);
+    let next = next_command(lines, reader);
     let Some(ring) = ring_of(alloc, next, lines.line())? else {
         return Ok(Beginning { ring: RING, next });
     };
-    let next = next_line(lines, reader, Wanted::Command);
+    let next = next_command(lines, reader);
     Ok(Beginning { ring, next })
 }

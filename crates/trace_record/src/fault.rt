@@ -1,9 +1,13 @@
 //! Why a recording ends early.
 
+ghost use Rattle.std.specs.Prelude.{◌≡◌};
+ghost use Rattle.trace_record.specs.Reading.{of_lines};
+
 use ds_names::NoRoom;
 use line_io::WriteFailed;
 use std::alloc::AllocError;
 use thiserror::Error;
+use trace_walk::EntryFault;
 
 /// Why a recording ended before its input did.
 #[derive(Clone, Copy, Debug, PartialEq, Eq, Error)]
@@ -21,6 +25,19 @@ pub enum RecordFault {
     /// Out of memory for a line, for its command, or for the text of the reply.
     #[error("out of memory")]
     NoRoom,
+}
+
+impl RecordFault {
+    /// Returns the fault of lines that can't be read on. A bad line is bad at this byte.
+    pub(crate) fn of_lines(fault: EntryFault, place: usize) -> RecordFault
+        ensures { result ≡ of_lines fault place }
+    {
+        match fault {
+            EntryFault::BadLine(line) => RecordFault::BadLine { line, place },
+            EntryFault::ReadFault => RecordFault::ReadFault,
+            EntryFault::NoRoom => RecordFault::NoRoom,
+        }
+    }
 }
 
 impl From<WriteFailed> for RecordFault {

@@ -4,6 +4,7 @@
 //! trace, as `trace_walk` defines it, whatever the input is and however the recording ends. This project's.
 #![tactic(auto)]
 
+mod asking;
 mod begin;
 mod fault;
 mod form;

@@ -7,31 +7,27 @@ ghost use Rattle.trace_record.specs.Causes.{ReadsOn};
 ghost use Rattle.trace_record.specs.Reading.{Comes, IsBadHead, IsHeadBehind, IsReady};
 
 use crate::fault::RecordFault;
-use crate::place::{Wanted, longest, place_of_command, place_of_long};
-use line_io::{LONGEST_LINE, Lines, Pulled, Source};
+use crate::place::{longest, place_of_command, place_of_long};
+use line_io::{LONGEST_LINE, Lines, Source};
 use std::alloc::Global;
-use trace_walk::{AskedFault, Format, Head, read_head};
+use trace_walk::{AskedFault, Format, Head, next_line, read_head};
 
-/// Reads the next line, where a line of this sort must follow, and returns whether there is one.
-pub(crate) fn next_line<R: Source>(
+/// Reads the next line, where a command must follow, and returns whether there is one.
+pub(crate) fn next_command<R: Source>(
     lines: &mut Lines,
     reader: &mut R,
-    wanted: Wanted,
 ) -> Result<bool, RecordFault>
     ensures comes { Comes lines.old (R.remaining reader.old) lines.new (R.remaining reader.new) result }
     ensures ready { IsReady lines.new result }
     ensures reads { ReadsOn R.Source result reader.old reader.new lines.old.reads lines.new.reads }
 {
     let before = lines.count();
-    match lines.pull(reader) {
-        Pulled::Line => Ok(true),
-        Pulled::End => Ok(false),
-        Pulled::Long => Err(RecordFault::BadLine {
-            line: before + 1,
-            place: place_of_long(lines, before, wanted),
-        }),
-        Pulled::ReadFault => Err(RecordFault::ReadFault),
-        Pulled::NoRoom => Err(RecordFault::NoRoom),
+    match next_line(lines, reader) {
+        Ok(there) => Ok(there),
+        Err(fault) => {
+            let place = place_of_long(lines, before);
+            Err(RecordFault::of_lines(fault, place))
+        }
     }
 }
 

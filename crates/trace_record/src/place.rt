@@ -12,15 +12,6 @@ use line_io::{LONGEST_LINE, Lines};
 use script_commands::{CommandFault, ScriptCommand, read_line_behind};
 use std::alloc::Global;
 
-/// The sort of line that must follow.
-#[derive(Clone, Copy, Debug, PartialEq, Eq)]
-pub(crate) enum Wanted {
-    /// A command, or `merge N`.
-    Command,
-    /// An item of a Merge.
-    Item,
-}
-
 /// Returns the most bytes that the line may have, without its newline: with its mark, a trace's line has at most 4096.
 pub(crate) fn longest(line: &[u8]) -> usize
     ensures { IsAtLimit result }
@@ -30,13 +21,13 @@ pub(crate) fn longest(line: &[u8]) -> usize
 
 /// Returns where the line after `before` others, which `Lines::pull` found too long, becomes too long for a trace. If its newline was
 /// read, it is the current line; otherwise it is in the front.
-pub(crate) fn place_of_long(lines: &Lines, before: u64, wanted: Wanted) -> usize
+pub(crate) fn place_of_long(lines: &Lines, before: u64) -> usize
     ensures { IsAtLimit result }
 {
-    match wanted {
-        Wanted::Command if lines.count() > before => longest(lines.line()),
-        Wanted::Command => longest(lines.front()),
-        Wanted::Item => LONGEST_LINE,
+    if lines.count() > before {
+        longest(lines.line())
+    } else {
+        longest(lines.front())
     }
 }
 
@@ -105,8 +96,21 @@ fn place_of_merge(text: &[u8]) -> Option<usize>
     Some(text.len().saturating_sub(rest.len()))
 }
 
-/// Returns where a line that isn't an item's is bad. `line` has its newline.
-pub(crate) fn place_of_item(alloc: Global, line: &[u8]) -> usize {
+/// Returns where the line of this number, which must be an item's, is bad: at its first byte if there is none. It is the
+/// last line that was read, or the one after it.
+pub(crate) fn place_of_missing(alloc: Global, lines: &Lines, number: u64) -> usize {
+    let is_front = number > lines.count();
+    if is_front && lines.front().is_empty() {
+        return 0;
+    }
+    if is_front || lines.line().len() > LONGEST_LINE + 1 {
+        return LONGEST_LINE;
+    }
+    place_of_item(alloc, lines.line())
+}
+
+// Returns where a line that isn't an item's is bad. `line` has its newline.
+fn place_of_item(alloc: Global, line: &[u8]) -> usize {
     if !line.starts_with(b"+ ") {
         return 0;
     }

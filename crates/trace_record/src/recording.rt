@@ -9,8 +9,7 @@ ghost use Rattle.trace_record.specs.Running.{RecordsAll, RunsOn, StopsBefore, Wr
 use crate::begin::begin;
 use crate::fault::RecordFault;
 use crate::form::Form;
-use crate::line::next_line;
-use crate::place::Wanted;
+use crate::line::next_command;
 use crate::recorder::Recorder;
 use crate::waiting::send_waiting;
 use line_io::{Lines, Sink, Source, write_out};
@@ -53,10 +52,10 @@ fn record_all<R: Source, W: Sink>(
     writer: &mut W,
     first: Result<bool, RecordFault>,
 ) -> Result<u64, RecordFault>
-    requires { IsReady recorder.old.lines first }
+    requires { IsReady recorder.old.entry.lines first }
     ensures whole { IfOk result (RecordsAll recorder.old (R.remaining reader.old) (W.contents writer.old) first (W.contents writer.new)) }
     ensures stops { IfErr result (StopsBefore recorder.old (R.remaining reader.old) (W.contents writer.old) first (W.contents writer.new)) }
-    ensures cause { IfErr result (RunIsCaused R.Source W.Sink first reader.old reader.new recorder.old.lines.reads writer.new) }
+    ensures cause { IfErr result (RunIsCaused R.Source W.Sink first reader.old reader.new recorder.old.entry.lines.reads writer.new) }
 {
     match run(recorder, reader, writer, first) {
         Ok(count) => {
@@ -74,9 +73,9 @@ fn run<R: Source, W: Sink>(
     writer: &mut W,
     first: Result<bool, RecordFault>,
 ) -> Result<u64, RecordFault>
-    requires { IsReady recorder.old.lines first }
+    requires { IsReady recorder.old.entry.lines first }
     ensures runs { RunsOn recorder.old (R.remaining reader.old) (W.contents writer.old) first recorder.new (W.contents writer.new) result }
-    ensures cause { IfErr result (RunIsCaused R.Source W.Sink first reader.old reader.new recorder.old.lines.reads writer.new) }
+    ensures cause { IfErr result (RunIsCaused R.Source W.Sink first reader.old reader.new recorder.old.entry.lines.reads writer.new) }
 {
     let mut next = first;
     for count in 0..u64::MAX {
@@ -86,8 +85,8 @@ fn run<R: Source, W: Sink>(
             Err(fault) => return Err(fault),
         }
         recorder.entry(reader)?;
-        send_waiting(writer, &mut recorder.output, recorder.lines.front())?;
-        next = next_line(&mut recorder.lines, reader, Wanted::Command);
+        send_waiting(writer, &mut recorder.output, recorder.entry.lines.front())?;
+        next = next_command(&mut recorder.entry.lines, reader);
     }
     // No input has this many lines: 2^32 reads bring fewer.
     Err(RecordFault::NoRoom)

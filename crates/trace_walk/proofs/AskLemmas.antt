@@ -32,7 +32,6 @@ use Rattle.trace_walk.proofs.OneReplyLemmas.{none_of, older_plain}
 use Rattle.trace_walk.proofs.PlaceLemmas.{reply_places, within_replies, wants_step, asks_some}
 use Rattle.trace_walk.specs.declared.fault.WalkFault.{WalkFault}
 use Rattle.trace_walk.specs.declared.fault.WalkFault.TheVariants.{IllegalAt, BadLineAt, ReadFault, NoRoom}
-use Rattle.trace_walk.specs.declared.place.Place.TheVariants.{Reply}
 use Rattle.trace_walk.specs.declared.passed.Passed.{Passed}
 use Rattle.trace_walk.specs.declared.walk.Walk.{Walk}
 use Rattle.trace_walk.specs.Passing.{BecomesBy, HasPassed}
@@ -106,7 +105,7 @@ module _ (b : Spot) (old : LinesContent) (store : ContentRecord) (h : Header) (f
         }
 
     -- and that is one more entry
-    pub passes : (w : Walk) (to : Option (List ℕ)) (passed : Passed) → Walks (spot_behind b h.limits entry t) w.lines w.store h to → w.header ≡ h → w.asked.items ≡ kept → w.reply.items ≡ text →
+    pub passes : (w : Walk) (to : Option (List ℕ)) (passed : Passed) → Walks (spot_behind b h.limits entry t) w.entry.lines w.store h to → w.header ≡ h → w.entry.text.items ≡ kept → w.reply.items ≡ text →
         (h.format ≡ One → BecomesBy b.state h.limits entry passed) → HasPassed b h w to passed
     passes w to passed walks header asked_is reply_is becomes =
         record { entry = entry; state = t; is = is_entry; leads = leads; walks = walks; header = header; asked = asked_is ∙ x.kept_is; reply = reply_is; becomes = becomes }
@@ -123,12 +122,12 @@ module _ (b : Spot) (old : LinesContent) (store : ContentRecord) (h : Header) (f
 
     -- and is after one more entry
     pub passes_said : (before w : Walk) (to : Option (List ℕ)) (passed : Passed) (said : List ℕ)
-        → said ≡ text → HasSaid before from said w to → before.lines ≡ old → before.header ≡ h → before.asked.items ≡ kept
+        → said ≡ text → HasSaid before from said w to → before.entry.lines ≡ old → before.header ≡ h → before.entry.text.items ≡ kept
         → ContentStands before.store t →
         (h.format ≡ One → BecomesBy b.state h.limits entry passed) → HasPassed b h w to passed
     passes_said before w to passed said is s lines header asked_is stands becomes =
-        let goes = subst (λ (l : LinesContent). SaysAll l from w.lines to said) lines s.says in
-        let walks = answered_goes said is w.lines to w.store goes (subst (λ (k : ContentRecord). ContentStands k t) (sym s.store) stands) in
+        let goes = subst (λ (l : LinesContent). SaysAll l from w.entry.lines to said) lines s.says in
+        let walks = answered_goes said is w.entry.lines to w.store goes (subst (λ (k : ContentRecord). ContentStands k t) (sym s.store) stands) in
         passes w to passed walks (s.header ∙ header) (s.asked ∙ asked_is) (s.reply ∙ is) becomes
 
     pub answered_fails : (said : List ℕ) → said ≡ text → (fault : WalkFault) →
@@ -144,7 +143,8 @@ module _ (b : Spot) (old : LinesContent) (store : ContentRecord) (h : Header) (f
   unfolding marked_from
   noroom_marked = refl
 
-  pub passed_over : old.line ≡ noroom_line → (w : Walk) (passed : Passed) → w.lines ≡ old → w.store ≡ store → w.header ≡ h → w.asked.items ≡ kept → w.reply.items ≡ reply_lines (worded_as asked) (Refused refusals.NoRoom) h.limits →
+  pub passed_over : old.line ≡ noroom_line → (w : Walk) (passed : Passed)
+      → w.entry.lines ≡ old → w.store ≡ store → w.header ≡ h → w.entry.text.items ≡ kept → w.reply.items ≡ reply_lines (worded_as asked) (Refused refusals.NoRoom) h.limits →
       (h.format ≡ One → BecomesBy b.state h.limits (record { pass = pass; asked = asked; reply = Refused refusals.NoRoom }) passed) → HasPassed b h w from passed
   passed_over is w passed lines_is store_is header asked_is reply_is becomes =
       let c = asks_some h.format pass asked x.may in
@@ -152,7 +152,7 @@ module _ (b : Spot) (old : LinesContent) (store : ContentRecord) (h : Header) (f
       let walks = walks_on c.0 c.1 (Refused refusals.NoRoom) b.state step old from store
       (subst (λ (l : List ℕ). IsAt b.bytes (base ++ l) old from) (sym x.line_is ∙ is ∙ sym noroom_marked) x.here.then) x.stands in
       let next : Spot = spot_behind b h.limits (record { pass = pass; asked = asked; reply = Refused refusals.NoRoom }) b.state in
-      let there : Walks next w.lines w.store h from = subst (λ (k : ContentRecord). Walks next w.lines k h from) (sym store_is) (subst (λ (k : LinesContent). Walks next k store h from) (sym lines_is) walks) in
+      let there : Walks next w.entry.lines w.store h from = subst (λ (k : ContentRecord). Walks next w.entry.lines k h from) (sym store_is) (subst (λ (k : LinesContent). Walks next k store h from) (sym lines_is) walks) in
       passes c.0 c.1 (Refused refusals.NoRoom) b.state step w from passed there header asked_is reply_is becomes
 
   -- the store's own reply
@@ -177,8 +177,8 @@ module _ (b : Spot) (old : LinesContent) (store : ContentRecord) (h : Header) (f
 
   pub stop_fails : (fault : WalkFault) (number : ℕ) → IsStopFault b.state items done number fault → number ≡ old.count → IsFault b.front b.bytes fault
   stop_fails (IllegalAt n) number k e =
-      (wrong_there Reply b.front b.bytes (b.front ++ asked_text pass (askeds.Merge items)) x.line old from n (MayReply h.format h.limits b.state (askeds.Merge items)) x.here (place b old store h from pass (askeds.Merge items) kept x)
-      (λ m. k.1 (stop_told h.format h.limits pass b.state items done (with_newline x.line) x.behind.traced x.may less (sym x.line_is ∙ is) m)) (k.0 ∙ e)).0
+      wrong_there b.front b.bytes (b.front ++ asked_text pass (askeds.Merge items)) x.line old from n (MayReply h.format h.limits b.state (askeds.Merge items)) x.here (place b old store h from pass (askeds.Merge items) kept x)
+      (λ m. k.1 (stop_told h.format h.limits pass b.state items done (with_newline x.line) x.behind.traced x.may less (sym x.line_is ∙ is) m)) (k.0 ∙ e)
   stop_fails (BadLineAt n) number k e = absurd k
   stop_fails ReadFault number k e = tt
   stop_fails NoRoom number k e = tt

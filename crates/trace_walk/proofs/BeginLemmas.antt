@@ -19,10 +19,11 @@ use Rattle.trace_walk.proofs.HeaderLemmas.{few_limits}
 use Rattle.trace_walk.proofs.WalkLemmas.{header_behind, bad_header}
 use Rattle.trace_walk.specs.declared.fault.WalkFault.{WalkFault}
 use Rattle.trace_walk.specs.declared.fault.WalkFault.TheVariants as faults
-use Rattle.trace_walk.specs.declared.place.Place.TheVariants.{Form}
+use Rattle.trace_walk.specs.declared.entry.EntryFault.{EntryFault}
+use Rattle.trace_walk.specs.declared.entry.EntryFault.TheVariants as entries
 use Rattle.trace_walk.specs.declared.wrong_line.Wanted.TheVariants.{Header as AHeader}
 use Rattle.trace_walk.specs.Wanting.{IsWanted}
-use Rattle.trace_walk.specs.Walking.{Spot, Walks, IsAt, IsRead, IsLongFault, HasLine, IsFault, verdict_of}
+use Rattle.trace_walk.specs.Walking.{Spot, Walks, IsAt, IsRead, IsLongFault, HasLine, IsFault, of_entry, verdict_of}
 use Rattle.trace_walk.proofs.FaultLemmas.{none_here}
 
 -- a fault of a walk is its verdict
@@ -131,11 +132,10 @@ input_empty bytes number r =
     let wrong : IsWrongAt bytes 1 [] = record { before = []; rest = []; lines = subst (HasLines bytes) none r.1; behind = refl; counted = refl; begins = nothing_begins; fails = nothing_illegal } in
     (([], wrong, no_reply_first, none_here []), ([], wrong, refl))
 
-pub first_fails : (bytes : List ℕ) (fault : WalkFault) → IsLongFault Form bytes [] fault → WantsHeader bytes fault
-first_fails bytes (faults.BadLineAt number) l = wrong_first bytes l.line number l.before l.more l.lines l.front_is l.counted l.whole (long_none l.line l.long)
-first_fails bytes (faults.IllegalAt number) l = absurd l
-first_fails bytes faults.ReadFault l = (tt, tt)
-first_fails bytes faults.NoRoom l = (tt, tt)
+pub first_fails : (bytes : List ℕ) (fault : EntryFault) → IsLongFault bytes [] fault → WantsHeader bytes (of_entry fault)
+first_fails bytes (entries.BadLine number) l = wrong_first bytes l.line number l.before l.more l.lines l.front_is l.counted l.whole (long_none l.line l.long)
+first_fails bytes entries.ReadFault l = (tt, tt)
+first_fails bytes entries.NoRoom l = (tt, tt)
 
 -- at the beginning nothing was passed
 pub at_start : (bytes : List ℕ) (l : LinesContent) (from : Option (List ℕ)) → l ≡ no_lines → from ≡ Some bytes → IsAt bytes [] l from

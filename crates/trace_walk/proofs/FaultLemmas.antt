@@ -5,14 +5,14 @@ use Rattle.std.proofs.lemmas.Result.{err_from_is_err_and}
 use Rattle.line_io.specs.Lines.{HasLines, IsUnbroken, EndsLine, with_newline, joined}
 use Rattle.line_io.specs.Reading.{LinesContent}
 use Rattle.trace_walk.specs.Text.{marked, marked_from}
-use Rattle.trace_walk.specs.Verdict.{Fails, IsWrongAt}
+use Rattle.trace_walk.specs.Verdict.{Fails}
 use Rattle.trace_walk.specs.Walk.{IsPlaceInEntry, NoneEnds}
 use Rattle.trace_walk.proofs.MarkLemmas.{marked_line, marked_append}
 use Rattle.trace_walk.specs.declared.fault.WalkFault.{WalkFault}
-use Rattle.trace_walk.specs.declared.fault.WalkFault.TheVariants.{IllegalAt, BadLineAt, ReadFault, NoRoom}
-use Rattle.trace_walk.specs.declared.place.Place.{Place}
-use Rattle.trace_walk.specs.declared.place.Place.TheVariants.{Form, Reply}
-use Rattle.trace_walk.specs.Walking.{IsAt, IsRead, IsLong, IsLongFault, HasLine, IsFault, IsWrongBy, line_fault, is_reply, IsShort, IsEnded, IsThere, IsSaid}
+use Rattle.trace_walk.specs.declared.fault.WalkFault.TheVariants.{IllegalAt, NoRoom}
+use Rattle.trace_walk.specs.declared.entry.EntryFault.{EntryFault}
+use Rattle.trace_walk.specs.declared.entry.EntryFault.TheVariants as entries
+use Rattle.trace_walk.specs.Walking.{IsAt, IsRead, IsLongFault, HasLine, IsFault, of_reply, IsShort, IsEnded, IsThere, IsSaid}
 
 -- ---- faults at a place
 
@@ -24,55 +24,39 @@ is_nothing (b ∷ part) e = absurd (omega (arith, e))
 pub none_here : (start : List ℕ) → NoneEnds start start
 none_here start part left n e legal = is_nothing part (omega (arith, ap length e, length-append (start ++ part) left, length-append start part))
 
--- the verdict is at the line after the front
-abbrev pub IsFaultAt : (start bytes front : List ℕ) → WalkFault → Type 0
-IsFaultAt start bytes front fault = IsFault start bytes fault × IsWrongBy bytes front fault
-
-at_place : (place : Place) (start bytes front : List ℕ) (number : ℕ) (May : List ℕ → Type 0) (before rest : List (List ℕ))
-    → IsPlaceInEntry start front (is_reply place) May → HasLines bytes (before ++ rest) → front ≡ joined before
-    → number ≡ suc (length before) → Fails front rest
-    → IsFaultAt start bytes front (line_fault place number)
-at_place Form start bytes front number May before rest p lines behind counted fails =
-    let wrong : IsWrongAt bytes number front = record { before = before; rest = rest; lines = lines; behind = behind; counted = counted; begins = p.begins; fails = fails } in
-    ((front, wrong, p.wants, p.none), wrong)
-at_place Reply start bytes front number May before rest p lines behind counted fails =
-    ((front, record { before = before; rest = rest; lines = lines; behind = behind; counted = counted; begins = p.begins; fails = fails }, p.wants, p.none), tt)
+-- the verdict is at the line after the front, where a reply line must follow
+at_place : (start bytes front : List ℕ) (number : ℕ) (May : List ℕ → Type 0) (before rest : List (List ℕ))
+    → IsPlaceInEntry start front true May → HasLines bytes (before ++ rest) → front ≡ joined before → number ≡ suc (length before) → Fails front rest
+    → IsFault start bytes (IllegalAt number)
+at_place start bytes front number May before rest p lines behind counted fails =
+    (front, record { before = before; rest = rest; lines = lines; behind = behind; counted = counted; begins = p.begins; fails = fails }, p.wants, p.none)
 
 -- no line is there
-pub missing : (place : Place) (start bytes front : List ℕ) (count number : ℕ) (May : List ℕ → Type 0)
-    → IsRead bytes front count → IsPlaceInEntry start front (is_reply place) May → number ≡ suc count
-    → IsFaultAt start bytes front (line_fault place number)
-missing place start bytes front count number May r p e = at_place place start bytes front number May r.0 [] p (subst (HasLines bytes) (sym (append-nil r.0)) r.1) r.2 (e ∙ ap suc r.3) p.ends
+pub missing : (start bytes front : List ℕ) (count number : ℕ) (May : List ℕ → Type 0)
+    → IsRead bytes front count → IsPlaceInEntry start front true May → number ≡ suc count
+    → IsFault start bytes (IllegalAt number)
+missing start bytes front count number May r p e = at_place start bytes front number May r.0 [] p (subst (HasLines bytes) (sym (append-nil r.0)) r.1) r.2 (e ∙ ap suc r.3) p.ends
 
 -- the line that is there is wrong
-pub wrong_there : (place : Place) (start bytes front line : List ℕ) (l : LinesContent) (to : Option (List ℕ)) (number : ℕ)
-    (May : List ℕ → Type 0)
-    → HasLine bytes front line l to → IsPlaceInEntry start front (is_reply place) May → ¬ May (with_newline line) → number ≡ l.count
-    → IsFaultAt start bytes front (line_fault place number)
-wrong_there place start bytes front line l to number May h p none e = at_place place start bytes front number May h.before (line ∷ h.more) p h.lines h.front_is (e ∙ h.counted) (p.wrong line h.more h.whole none)
+pub wrong_there : (start bytes front line : List ℕ) (l : LinesContent) (to : Option (List ℕ)) (number : ℕ) (May : List ℕ → Type 0)
+    → HasLine bytes front line l to → IsPlaceInEntry start front true May → ¬ May (with_newline line) → number ≡ l.count
+    → IsFault start bytes (IllegalAt number)
+wrong_there start bytes front line l to number May h p none e = at_place start bytes front number May h.before (line ∷ h.more) p h.lines h.front_is (e ∙ h.counted) (p.wrong line h.more h.whole none)
 
-not_short : (line : List ℕ) → 4096 < length line → ¬ IsShort (with_newline line)
+pub not_short : (line : List ℕ) → 4096 < length line → ¬ IsShort (with_newline line)
 not_short line long short = omega (arith, long, short, length-append line (10 ∷ []))
 
-long_there : (place : Place) (start bytes front : List ℕ) (number : ℕ) → IsLong bytes front number → IsPlaceInEntry start front (is_reply place) IsShort → IsFaultAt start bytes front (line_fault place number)
-long_there place start bytes front number l p = at_place place start bytes front number IsShort l.before (l.line ∷ l.more) p l.lines l.front_is l.counted (p.wrong l.line l.more l.whole (not_short l.line l.long))
-
-pub too_long : (place : Place) (start bytes front : List ℕ) (fault : WalkFault) → IsLongFault place bytes front fault → IsPlaceInEntry start front (is_reply place) IsShort → IsFaultAt start bytes front fault
-too_long Form start bytes front (BadLineAt number) l p = long_there Form start bytes front number l p
-too_long Form start bytes front (IllegalAt number) l p = absurd l
-too_long Form start bytes front ReadFault l p = (tt, tt)
-too_long Form start bytes front NoRoom l p = (tt, tt)
-too_long Reply start bytes front (IllegalAt number) l p = long_there Reply start bytes front number l p
-too_long Reply start bytes front (BadLineAt number) l p = absurd l
-too_long Reply start bytes front ReadFault l p = (tt, tt)
-too_long Reply start bytes front NoRoom l p = (tt, tt)
+pub too_long : (start bytes front : List ℕ) (fault : EntryFault) → IsLongFault bytes front fault → IsPlaceInEntry start front true IsShort → IsFault start bytes (of_reply fault)
+too_long start bytes front (entries.BadLine number) l p = at_place start bytes front number IsShort l.before (l.line ∷ l.more) p l.lines l.front_is l.counted (p.wrong l.line l.more l.whole (not_short l.line l.long))
+too_long start bytes front entries.ReadFault l p = tt
+too_long start bytes front entries.NoRoom l p = tt
 
 -- out of memory isn't a verdict
 pub no_room : (start bytes : List ℕ) (fault : WalkFault) → fault ≡ NoRoom → IsFault start bytes fault
 no_room start bytes fault e = subst (IsFault start bytes) (sym e) tt
 
 -- what the exit of a `?` hands on
-pub carried : {T : Type 0} (r : Result T WalkFault) (e : WalkFault) (P : WalkFault → Type 0) → IsErrAnd r (λ f. f ≡ e) → P e → IfErr r P
+pub carried : {T E : Type 0} (r : Result T E) (e : E) (P : E → Type 0) → IsErrAnd r (λ f. f ≡ e) → P e → IfErr r P
 carried r e P is p = let exit = err_from_is_err_and r is in rw (exit.1, exit.2) p
 
 -- what holds of the value

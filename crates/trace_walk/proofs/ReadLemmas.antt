@@ -9,10 +9,10 @@ use Rattle.trace_walk.specs.declared.asked.AskedFault.{AskedFault}
 use Rattle.trace_walk.specs.declared.asked.AskedFault.TheVariants as badly
 use Rattle.trace_walk.specs.declared.fault.WalkFault.{WalkFault}
 use Rattle.trace_walk.specs.declared.fault.WalkFault.TheVariants.{IllegalAt, BadLineAt, ReadFault, NoRoom}
-use Rattle.trace_walk.specs.declared.place.Place.{Place}
-use Rattle.trace_walk.specs.declared.place.Place.TheVariants.{Form, Reply}
-use Rattle.trace_walk.specs.Reads.{Advances, ReadsFurther, IsBlameless, BlamesReader}
-use Rattle.trace_walk.specs.Walking.{line_fault, of_line}
+use Rattle.trace_walk.specs.declared.entry.EntryFault.{EntryFault}
+use Rattle.trace_walk.specs.declared.entry.EntryFault.TheVariants as entries
+use Rattle.trace_walk.specs.Reads.{Advances, ReadsFurther, IsBlameless, BlamesLines, BlamesReader}
+use Rattle.trace_walk.specs.Walking.{of_entry, of_line, of_reply}
 
 -- nothing was read
 pub stays : {R : Type 0} (r : Reader R) (l : LinesContent) (x : R) → ReadsFurther r l x l x
@@ -30,8 +30,8 @@ on_then r (Ok v) a b c x y z f g = on_and_on r a b c x y z f g
 on_then r (Err fault) a b c x y z f g = λ first led. g first (f.0 first led)
 
 -- what the exit of a `?` hands on
-pub carried_as : {T : Type 0} (r : Result T WalkFault) (e : WalkFault) (P : Result T WalkFault → Type 0) → IsErrAnd r (λ f. f ≡ e) → P (Err e) → P r
-carried_as {T} r e P is p = let exit = err_from_is_err_and r is in subst P (sym (exit.1 ∙ ap (λ (x : WalkFault). Err x) exit.2)) p
+pub carried_as : {T E : Type 0} (r : Result T E) (e : E) (P : Result T E → Type 0) → IsErrAnd r (λ f. f ≡ e) → P (Err e) → P r
+carried_as {T} {E} r e P is p = let exit = err_from_is_err_and r is in subst P (sym (exit.1 ∙ ap (λ (x : E). Err x) exit.2)) p
 
 -- from the beginning
 pub none_read : {R : Type 0} (r : Reader R) (l : LinesContent) (x : R) → l ≡ no_lines → CallsLead r.reads l.reads x x
@@ -48,9 +48,16 @@ no_cause r NoRoom old new is = tt
 pub room_blames : (fault : WalkFault) → fault ≡ NoRoom → IsBlameless fault
 room_blames fault e = subst IsBlameless (sym e) tt
 
-pub line_blames : (place : Place) (number : ℕ) (fault : WalkFault) → fault ≡ line_fault place number → IsBlameless fault
-line_blames Form number fault e = subst IsBlameless (sym e) tt
-line_blames Reply number fault e = subst IsBlameless (sym e) tt
+-- the fault of an entry's lines keeps its cause
+pub blames_walk : {R : Type 0} (r : Reader R) (fault : EntryFault) (old new : R) → BlamesLines r fault old new → BlamesReader r (of_entry fault) old new
+blames_walk r (entries.BadLine number) old new c = tt
+blames_walk r entries.ReadFault old new c = c
+blames_walk r entries.NoRoom old new c = tt
+
+pub blames_reply : {R : Type 0} (r : Reader R) (fault : EntryFault) (old new : R) → BlamesLines r fault old new → BlamesReader r (of_reply fault) old new
+blames_reply r (entries.BadLine number) old new c = tt
+blames_reply r entries.ReadFault old new c = c
+blames_reply r entries.NoRoom old new c = tt
 
 pub asked_blames : (asked : AskedFault) (number : ℕ) (fault : WalkFault) → fault ≡ of_line asked number → IsBlameless fault
 asked_blames badly.BadLine number fault e = subst IsBlameless (sym e) tt

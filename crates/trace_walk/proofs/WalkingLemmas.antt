@@ -4,14 +4,12 @@ use Rattle.std.specs.List.{All}
 use Rattle.std.specs.Io.KnownBytes.{Consumes, IsAtEnd}
 use Rattle.std.proofs.lemmas.Grind.{flat_map-append}
 use Rattle.std.proofs.lemmas.List.{append_cancel_right}
-use Rattle.std.proofs.lemmas.List.Elements.{All-nil}
+use Rattle.std.proofs.lemmas.List.Elements.{All-nil, All-cons, All-append}
 use Rattle.line_io.specs.Lines.{IsUnbroken, EndsLine, with_newline, joined, unended, HasLines}
 use Rattle.line_io.specs.Reading.{LinesContent}
 use Rattle.line_io.specs.Pulling.{left, ComesNext, StandsFirst}
 use Rattle.trace_walk.proofs.SplitLemmas.{split_same}
-use Rattle.trace_walk.specs.Walking.{IsAt, HasLine, IsRead, IsLong, IsLongFault, line_fault}
-use Rattle.trace_walk.specs.declared.place.Place.{Place}
-use Rattle.trace_walk.specs.declared.place.Place.TheVariants.{Form, Reply}
+use Rattle.trace_walk.specs.Walking.{IsAt, HasLine, IsRead, IsLong}
 
 -- ---- the lines of what is left
 
@@ -54,6 +52,19 @@ some_unended (b ∷ bs) some = refl
 
 pub no_lines_left : HasLines [] []
 no_lines_left = record { front = []; last = []; text = refl; unbroken = All-nil IsUnbroken; unbroken_last = All-nil (λ (b : ℕ). b ≢ 10); all = refl }
+
+-- every line is without a newline
+unended_whole : (last : List ℕ) → IsUnbroken last → All IsUnbroken (unended last)
+unended_whole [] whole = All-nil IsUnbroken
+unended_whole (b ∷ bs) whole = All-cons IsUnbroken (b ∷ bs) [] whole (All-nil IsUnbroken)
+
+whole_in : (line : List ℕ) (before more : List (List ℕ)) → All IsUnbroken (before ++ line ∷ more) → IsUnbroken line
+whole_in line [] more all = all 0 line (omega arith)
+whole_in line (y ∷ ys) more all = whole_in line ys more (tail_of y (ys ++ line ∷ more) all)
+
+pub whole_line : (bytes line : List ℕ) (before more : List (List ℕ)) → HasLines bytes (before ++ line ∷ more) → IsUnbroken line
+whole_line bytes line before more h =
+    whole_in line before more (subst (λ (l : List (List ℕ)). All IsUnbroken l) (sym h.all) (All-append IsUnbroken h.front (unended h.last) h.unbroken (unended_whole h.last h.unbroken_last)))
 
 -- ---- one more line
 
@@ -165,7 +176,3 @@ long_comes bytes front old from f number at first whole long count =
       front_is = at.front_is;
       counted = count ∙ ap suc at.counted;
     }
-
-pub long_fault : (place : Place) (bytes front : List ℕ) (number : ℕ) → IsLong bytes front number → IsLongFault place bytes front (line_fault place number)
-long_fault Form bytes front number long = long
-long_fault Reply bytes front number long = long

@@ -13,6 +13,6 @@ pub mod Merging
 pub mod Walking
 pub mod Passing
 pub mod Reads
+pub mod Entry
 pub mod Steps
-pub mod Asking
 pub mod Wanting

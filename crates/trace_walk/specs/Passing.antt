@@ -36,13 +36,13 @@ pub record HasPassed (b : Spot) (h : Header) (w : Walk) (to : Option (List ℕ))
   pub state : State
   pub is : IsEntry h.format entry
   pub leads : EntryLeads h.format b.state entry state
-  pub walks : Walks (spot_behind b h.limits entry state) w.lines w.store h to
+  pub walks : Walks (spot_behind b h.limits entry state) w.entry.lines w.store h to
   pub header : w.header ≡ h
-  pub asked : w.asked.items ≡ asked_text entry.pass entry.asked
+  pub asked : w.entry.text.items ≡ asked_text entry.pass entry.asked
   pub reply : w.reply.items ≡ reply_lines (worded_as entry.asked) entry.reply h.limits
   pub becomes : h.format ≡ One → BecomesBy b.state h.limits entry passed
 
 -- What was appended for an entry that a walk passed, and how many entries that is.
 abbrev pub IsWrittenAs : Walk → Passed → List ℕ → List ℕ → ℕ → Type 0
-IsWrittenAs w AsItStands before after count = (after ≡ before ++ (w.asked.items ++ marked w.reply.items)) × (count ≡ 1)
+IsWrittenAs w AsItStands before after count = (after ≡ before ++ (w.entry.text.items ++ marked w.reply.items)) × (count ≡ 1)
 IsWrittenAs w (Swept merges) before after count = (after ≡ before ++ merges.text.items) × (count ≡ merges.count)

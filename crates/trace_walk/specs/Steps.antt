@@ -1,5 +1,5 @@
 -- The parts of a walk, for all inputs and places. `from` and `to` are what the reader has before and after each.
-use Rattle.std.specs.Prelude.{◌≡◌, ◌≢◌, ℕ, suc, ◌<◌, ◌≤◌, Bool, true, List, [], ◌∷◌, ◌++◌, length, Option, IfSome}
+use Rattle.std.specs.Prelude.{◌≡◌, ◌≢◌, ℕ, ◌<◌, ◌≤◌, true, List, [], ◌∷◌, ◌++◌, length, Option, IfSome}
 use Rattle.ds_content.specs.Content.{ContentRecord}
 use Rattle.ds_content.specs.Stands.{ContentStands}
 use Rattle.ds_entry.specs.declared.item.Item.{Item}
@@ -25,13 +25,13 @@ use Rattle.trace_walk.specs.Legal.{opened_by}
 use Rattle.trace_walk.specs.Noroom.{stopped_line}
 use Rattle.trace_walk.specs.Text.{header_text, marked}
 use Rattle.trace_walk.specs.Walk.{IsPlaceInEntry}
+use Rattle.trace_walk.specs.declared.entry.EntryFault.{EntryFault}
 use Rattle.trace_walk.specs.declared.fault.WalkFault.{WalkFault}
 use Rattle.trace_walk.specs.declared.passed.Passed.{Passed}
-use Rattle.trace_walk.specs.declared.place.Place.{Place}
 use Rattle.trace_walk.specs.declared.sweep.Sweep.{Sweep}
 use Rattle.trace_walk.specs.declared.walk.Walk.{Walk}
 use Rattle.trace_walk.specs.Passing.{HasPassed, IsRefusedAs}
-use Rattle.trace_walk.specs.Walking.{Spot, IsAt, HasLine, IsRead, IsLongFault, IsShort, IsWrongBy, Walks, IsFault, Heads, Lists}
+use Rattle.trace_walk.specs.Walking.{Spot, IsAt, HasLine, IsRead, IsLongFault, IsShort, Walks, IsFault, Heads}
 use Rattle.trace_walk.specs.Walking.{HasAsked, Hears, IsEnded, IsThere, GoesOnSaying, IsToBeSaid, IsStopFault, IsForStore}
 
 -- ---- lines
@@ -42,18 +42,17 @@ ComesToLine old from new to =
     (bytes front : List ℕ) → IsAt bytes front old from → (line : List ℕ) × (new.line ≡ with_newline line) × HasLine bytes front line new to
 
 -- Whether the next line is too long, or can't be read.
-abbrev pub ComesToLong : Place → LinesContent → Option (List ℕ) → WalkFault → Type 0
-ComesToLong place old from fault = (bytes front : List ℕ) → IsAt bytes front old from → IsLongFault place bytes front fault
+abbrev pub ComesToLong : LinesContent → Option (List ℕ) → EntryFault → Type 0
+ComesToLong old from fault = (bytes front : List ℕ) → IsAt bytes front old from → IsLongFault bytes front fault
 
 -- Whether there is no next line.
 abbrev pub FindsNone : LinesContent → Option (List ℕ) → ℕ → Type 0
 FindsNone old from number = (bytes front : List ℕ) → IsAt bytes front old from → IsRead bytes front number
 
--- Whether a line of this sort must follow, and none does.
-abbrev pub MissesLine : Bool → LinesContent → Option (List ℕ) → WalkFault → Type 0
-MissesLine is_reply old from fault =
-    (start bytes front : List ℕ) → IsAt bytes front old from → IsPlaceInEntry start front is_reply IsShort →
-    IsFault start bytes fault × IsWrongBy bytes front fault
+-- Whether a reply line must follow, and none does.
+abbrev pub MissesLine : LinesContent → Option (List ℕ) → WalkFault → Type 0
+MissesLine old from fault =
+    (start bytes front : List ℕ) → IsAt bytes front old from → IsPlaceInEntry start front true IsShort → IsFault start bytes fault
 
 -- ---- the text of a reply
 
@@ -94,7 +93,7 @@ MissesSaid lines line fault =
 
 -- Whether the walk is at the spot.
 abbrev pub WalksAt : Spot → Walk → Option (List ℕ) → Type 0
-WalksAt b w remaining = Walks b w.lines w.store w.header remaining
+WalksAt b w remaining = Walks b w.entry.lines w.store w.header remaining
 
 -- The spot after a header.
 abbrev pub first_spot : List ℕ → Header → Spot
@@ -124,19 +123,15 @@ FailsFrom old from fault = (b : Spot) → WalksAt b old from → IsFault b.front
 
 -- Whether the walk is after the first line of an entry.
 abbrev pub HeadsAt : Spot → Walk → Option (List ℕ) → ℕ → Head → Type 0
-HeadsAt b w remaining pass head = Heads b w.lines w.store w.header remaining pass head w.asked.items
-
--- Whether the walk is after some items of a Merge.
-abbrev pub ListsAt : Spot → Walk → Option (List ℕ) → (pass most : ℕ) → List Item → Type 0
-ListsAt b w remaining pass most items = Lists b w.lines w.store w.header remaining pass most items w.asked.items
+HeadsAt b w remaining pass head = Heads b w.entry.lines w.store w.header remaining pass head w.entry.text.items
 
 -- Whether the walk is after an entry's command.
 abbrev pub AsksAt : Spot → Walk → Option (List ℕ) → ℕ → Asked → Type 0
-AsksAt b w remaining pass asked = HasAsked b w.lines w.store w.header remaining pass asked w.asked.items
+AsksAt b w remaining pass asked = HasAsked b w.entry.lines w.store w.header remaining pass asked w.entry.text.items
 
 -- Whether the walk is at the first line of the reply.
 abbrev pub HearsAt : Spot → Walk → Option (List ℕ) → ℕ → Asked → Type 0
-HearsAt b w remaining pass asked = Hears b w.lines w.store w.header remaining pass asked w.asked.items
+HearsAt b w remaining pass asked = Hears b w.entry.lines w.store w.header remaining pass asked w.entry.text.items
 
 -- Whether the walk read the first line of the next entry.
 abbrev pub ReadsHead : Walk → Option (List ℕ) → Walk → Option (List ℕ) → ℕ × Head → Type 0
@@ -150,26 +145,6 @@ ReadsAsked old from head new to asked =
 abbrev pub FailsBehindHead : Walk → Option (List ℕ) → Head → WalkFault → Type 0
 FailsBehindHead old from head fault = (b : Spot) (pass : ℕ) → HeadsAt b old from pass head → IsFault b.front b.bytes fault
 
--- Whether all items of a Merge are read.
-abbrev pub ReadsItems : Walk → Option (List ℕ) → ℕ → Walk → Option (List ℕ) → List Item → Type 0
-ReadsItems old from most new to items =
-    (new.header ≡ old.header) ×
-    ((b : Spot) (pass : ℕ) → ListsAt b old from pass most [] → (length items ≡ most) × ListsAt b new to pass most items)
-
-abbrev pub FailsInItems : Walk → Option (List ℕ) → ℕ → WalkFault → Type 0
-FailsInItems old from most fault = (b : Spot) (pass : ℕ) → ListsAt b old from pass most [] → IsFault b.front b.bytes fault
-
--- Whether one more item is read.
-abbrev pub AddsOne : Walk → Option (List ℕ) → List Item → Walk → Option (List ℕ) → List Item → Type 0
-AddsOne old from before new to after =
-    (new.header ≡ old.header) ×
-    ((b : Spot) (pass most : ℕ) → length before < most → ListsAt b old from pass most before →
-    (length after ≡ suc (length before)) × ListsAt b new to pass most after)
-
-abbrev pub FailsAtItem : Walk → Option (List ℕ) → List Item → WalkFault → Type 0
-FailsAtItem old from before fault =
-    (b : Spot) (pass most : ℕ) → length before < most → ListsAt b old from pass most before → IsFault b.front b.bytes fault
-
 -- ---- the reply
 
 -- A sweep as an entry's command.
@@ -179,10 +154,10 @@ swept_line swept = askeds.Line (commands.Store (machine.Sweep swept.caller swept
 -- Whether all lines of the text are there, the first of which was reached already. The walk keeps the text, and is
 -- otherwise unchanged.
 pub record HasSaid (old : Walk) (from : Option (List ℕ)) (text : List ℕ) (new : Walk) (to : Option (List ℕ)) : Type 0 where
-  pub says : SaysAll old.lines from new.lines to text
+  pub says : SaysAll old.entry.lines from new.entry.lines to text
   pub store : new.store ≡ old.store
   pub header : new.header ≡ old.header
-  pub asked : new.asked.items ≡ old.asked.items
+  pub asked : new.entry.text.items ≡ old.entry.text.items
   pub reply : new.reply.items ≡ text
 
 -- Like `HasSaid`, for the text of a reply.
@@ -190,14 +165,14 @@ abbrev pub SaysReply : Wording → Reply → Walk → Option (List ℕ) → Walk
 SaysReply wording reply old from new to = HasSaid old from (reply_lines wording reply old.header.limits) new to
 
 abbrev pub FailsToSay : Wording → Reply → Walk → Option (List ℕ) → WalkFault → Type 0
-FailsToSay wording reply old from fault = MissesReply old.lines from (reply_lines wording reply old.header.limits) fault
+FailsToSay wording reply old from fault = MissesReply old.entry.lines from (reply_lines wording reply old.header.limits) fault
 
 -- Whether the walk keeps the reply for out of memory, and is otherwise unchanged; `passed` is the entry in format 2.
 pub record HasRefused (old : Walk) (asked : Asked) (new : Walk) (passed : Passed) : Type 0 where
-  pub lines : new.lines ≡ old.lines
+  pub lines : new.entry.lines ≡ old.entry.lines
   pub store : new.store ≡ old.store
   pub header : new.header ≡ old.header
-  pub asked_is : new.asked.items ≡ old.asked.items
+  pub asked_is : new.entry.text.items ≡ old.entry.text.items
   pub reply : new.reply.items ≡ refused_noroom
   pub becomes : IsRefusedAs old.header.format asked passed
 
@@ -243,13 +218,13 @@ FailsAtMerge old from items fault = (b : Spot) (pass : ℕ) → HearsAt b old fr
 abbrev pub PassesFor : Wording → Command → Walk → Option (List ℕ) → Walk → Option (List ℕ) → Passed → Type 0
 PassesFor wording command old from new to passed =
     (b : Spot) (pass : ℕ) (asked : Asked) →
-    IsForStore old.header.format asked wording command old.lines.line → HearsAt b old from pass asked →
+    IsForStore old.header.format asked wording command old.entry.lines.line → HearsAt b old from pass asked →
     HasPassed b old.header new to passed
 
 abbrev pub FailsFor : Wording → Command → Walk → Option (List ℕ) → WalkFault → Type 0
 FailsFor wording command old from fault =
     (b : Spot) (pass : ℕ) (asked : Asked) →
-    IsForStore old.header.format asked wording command old.lines.line → HearsAt b old from pass asked →
+    IsForStore old.header.format asked wording command old.entry.lines.line → HearsAt b old from pass asked →
     IsFault b.front b.bytes fault
 
 -- ---- a Merge that is stopped

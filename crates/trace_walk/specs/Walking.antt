@@ -1,6 +1,5 @@
 -- The place of a walk in its input.
-use Rattle.std.specs.Prelude.{◌≡◌, ◌≢◌, ℕ, suc, ◌<◌, ◌≤◌, Bool, true, false, List, [], ◌∷◌, ◌++◌, length, take, Option, Some, None}
-use Rattle.std.specs.List.{All, flat_map}
+use Rattle.std.specs.Prelude.{◌≡◌, ◌≢◌, ℕ, suc, ◌<◌, ◌≤◌, true, List, [], ◌∷◌, ◌++◌, length, take, Option, Some, None}
 use Rattle.ds_content.specs.Content.{ContentRecord}
 use Rattle.ds_content.specs.Stands.{ContentStands}
 use Rattle.ds_entry.specs.declared.item.Item.{Item}
@@ -8,7 +7,6 @@ use Rattle.ds_held.specs.Limits.{LimitsRecord}
 use Rattle.line_io.specs.Lines.{HasLines, IsUnbroken, EndsLine, with_newline, joined}
 use Rattle.line_io.specs.Reading.{LinesContent}
 use Rattle.line_io.specs.Pulling.{left}
-use Rattle.ds_names.specs.Limits.{most_items}
 use Rattle.ds_machine.specs.Machine.{Step}
 use Rattle.ds_machine.specs.Merging.{course}
 use Rattle.ds_machine.specs.State.{State}
@@ -28,15 +26,15 @@ use Rattle.trace_walk.specs.declared.verdict.Verdict.TheVariants as verdicts
 use Rattle.trace_walk.specs.Head.{MayHead, head_text}
 use Rattle.trace_walk.specs.Legal.{StepOf}
 use Rattle.trace_walk.specs.Noroom.{noroom_line, stopped_line}
-use Rattle.trace_walk.specs.Text.{TraceEntry, MayAsk, MayMerge, asked_text, command_asked, entry_text}
-use Rattle.trace_walk.specs.Text.{marked, merge_text, pass_text, plus_text, worded_as}
+use Rattle.trace_walk.specs.Text.{TraceEntry, MayAsk, asked_text, command_asked, entry_text}
+use Rattle.trace_walk.specs.Text.{marked, worded_as}
 use Rattle.trace_walk.specs.Upgrade.{BecomesAs}
 use Rattle.trace_walk.specs.Verdict.{IsWrongAt, WantsReply}
 use Rattle.trace_walk.specs.Walk.{IsBehind, IsPlaceInEntry, NoneEnds}
 use Rattle.trace_walk.specs.declared.fault.WalkFault.{WalkFault}
 use Rattle.trace_walk.specs.declared.fault.WalkFault.TheVariants.{IllegalAt, BadLineAt, ReadFault, NoRoom}
-use Rattle.trace_walk.specs.declared.place.Place.{Place}
-use Rattle.trace_walk.specs.declared.place.Place.TheVariants.{Form, Reply}
+use Rattle.trace_walk.specs.declared.entry.EntryFault.{EntryFault}
+use Rattle.trace_walk.specs.declared.entry.EntryFault.TheVariants as entries
 
 -- Whether the walk passed the lines of the front, and the other lines are left.
 pub record IsAt (bytes front : List ℕ) (l : LinesContent) (remaining : Option (List ℕ)) : Type 0 where
@@ -74,11 +72,6 @@ IsFault start bytes (BadLineAt number) = (front : List ℕ) × IsWrongAt bytes n
 IsFault start bytes ReadFault = Unit {0}
 IsFault start bytes NoRoom = Unit {0}
 
--- Whether a bad line's fault is at the line after the front, which is the first wrong one.
-abbrev pub IsWrongBy : (bytes front : List ℕ) → WalkFault → Type 0
-IsWrongBy bytes front (BadLineAt number) = IsWrongAt bytes number front
-IsWrongBy bytes front _ = Unit {0}
-
 -- Whether the line is the first after the front, and the walk just passed it.
 pub record HasLine (bytes front line : List ℕ) (l : LinesContent) (remaining : Option (List ℕ)) : Type 0 where
   pub before : List (List ℕ)
@@ -104,18 +97,21 @@ pub record IsLong (bytes front : List ℕ) (number : ℕ) : Type 0 where
   pub front_is : front ≡ joined before
   pub counted : number ≡ suc (length before)
 
--- Why no line was reached, where a line of this sort must follow.
-abbrev pub IsLongFault : Place → List ℕ → List ℕ → WalkFault → Type 0
-IsLongFault Form bytes front (BadLineAt number) = IsLong bytes front number
-IsLongFault Form bytes front (IllegalAt number) = ⊥
-IsLongFault Reply bytes front (IllegalAt number) = IsLong bytes front number
-IsLongFault Reply bytes front (BadLineAt number) = ⊥
-IsLongFault place bytes front _ = Unit {0}
+-- Why no line was reached.
+abbrev pub IsLongFault : List ℕ → List ℕ → EntryFault → Type 0
+IsLongFault bytes front (entries.BadLine number) = IsLong bytes front number
+IsLongFault bytes front _ = Unit {0}
 
--- The fault of a line of this sort.
-abbrev pub line_fault : Place → ℕ → WalkFault
-line_fault Form number = BadLineAt number
-line_fault Reply number = IllegalAt number
+-- The fault of lines that can't be read on, before a reply and within one.
+abbrev pub of_entry : EntryFault → WalkFault
+of_entry (entries.BadLine number) = BadLineAt number
+of_entry entries.ReadFault = ReadFault
+of_entry entries.NoRoom = NoRoom
+
+abbrev pub of_reply : EntryFault → WalkFault
+of_reply (entries.BadLine number) = IllegalAt number
+of_reply entries.ReadFault = ReadFault
+of_reply entries.NoRoom = NoRoom
 
 -- The fault of a line that can't be read.
 abbrev pub of_line : AskedFault → ℕ → WalkFault
@@ -128,11 +124,6 @@ verdict_of (IllegalAt number) = verdicts.IllegalAt number
 verdict_of (BadLineAt number) = verdicts.BadLineAt number
 verdict_of ReadFault = verdicts.ReadFault
 verdict_of NoRoom = verdicts.NoRoom
-
--- Whether a reply line must follow.
-abbrev pub is_reply : Place → Bool
-is_reply Form = false
-is_reply Reply = true
 
 -- Whether the line has at most 4096 bytes before its newline.
 abbrev pub IsShort : List ℕ → Type 0
@@ -150,17 +141,6 @@ pub record Heads (b : Spot) (l : LinesContent) (store : ContentRecord) (h : Head
   pub may : MayHead h.format head
   pub short : IsShort (head_text pass head)
   pub kept_is : kept ≡ head_text pass head
-
--- Whether the walk is after some of the items of a Merge.
-pub record Lists (b : Spot) (l : LinesContent) (store : ContentRecord) (h : Header) (remaining : Option (List ℕ))
-    (pass most : ℕ) (items : List Item) (kept : List ℕ) : Type 0 where
-  pub at : IsAt b.bytes (b.front ++ (pass_text pass (merge_text most) ++ flat_map plus_text items)) l remaining
-  pub stands : ContentStands store b.state
-  pub behind : IsBehind b.front h b.state b.count
-  pub pass_few : pass ≤ 63
-  pub few : most ≤ most_items
-  pub may : All (MayMerge h.format) items
-  pub kept_is : kept ≡ pass_text pass (merge_text most) ++ flat_map plus_text items
 
 -- Whether the walk is after an entry's command.
 pub record HasAsked (b : Spot) (l : LinesContent) (store : ContentRecord) (h : Header) (remaining : Option (List ℕ))

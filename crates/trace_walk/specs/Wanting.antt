@@ -7,12 +7,10 @@ use Rattle.trace_walk.specs.Verdict.{IsLegal, IsWrongAt, WantsReply}
 use Rattle.trace_walk.specs.declared.asked.Head.{Head}
 use Rattle.trace_walk.specs.declared.fault.WalkFault.{WalkFault}
 use Rattle.trace_walk.specs.declared.fault.WalkFault.TheVariants.{BadLineAt}
-use Rattle.trace_walk.specs.declared.place.Place.{Place}
-use Rattle.trace_walk.specs.declared.place.Place.TheVariants as places
 use Rattle.trace_walk.specs.declared.walk.Walk.{Walk}
 use Rattle.trace_walk.specs.declared.wrong_line.Wanted.{Wanted}
 use Rattle.trace_walk.specs.declared.wrong_line.Wanted.TheVariants.{Header, Entry, Item as AnItem, Reply}
-use Rattle.trace_walk.specs.Steps.{HeadsAt, ListsAt, WalksAt}
+use Rattle.trace_walk.specs.Steps.{HeadsAt, WalksAt}
 use Rattle.trace_walk.specs.Walking.{Spot}
 
 -- Whether the lines are a legal trace, and then the first line of a Merge and fewer items than it has.
@@ -59,19 +57,7 @@ abbrev pub WantsBehindHead : Walk → Option (List ℕ) → Head → Walk → Wa
 WantsBehindHead old from head new fault =
     (b : Spot) (pass : ℕ) → HeadsAt b old from pass head → IsWanted b.bytes (wanted_in new.in_items) fault
 
-abbrev pub WantsInItems : Walk → Option (List ℕ) → ℕ → Walk → WalkFault → Type 0
-WantsInItems old from most new fault =
-    (b : Spot) (pass : ℕ) → ListsAt b old from pass most [] → IsWanted b.bytes (wanted_in new.in_items) fault
-
-abbrev pub WantsAtItem : Walk → Option (List ℕ) → List Item → Walk → WalkFault → Type 0
-WantsAtItem old from before new fault =
-    (b : Spot) (pass most : ℕ) → length before < most → ListsAt b old from pass most before →
-    IsWanted b.bytes (wanted_in new.in_items) fault
-
--- Whether the fault may come where a line of this sort must follow: no bad line comes in place of a reply line.
-abbrev pub IsOfPlace : Place → WalkFault → Type 0
-IsOfPlace place (BadLineAt number) = place ≡ places.Form
-IsOfPlace place _ = Unit {0}
-
+-- Whether the fault may come where a reply line must follow: no bad line does.
 abbrev pub IsOfReply : WalkFault → Type 0
-IsOfReply fault = IsOfPlace places.Reply fault
+IsOfReply (BadLineAt number) = ⊥
+IsOfReply _ = Unit {0}

@@ -108,7 +108,7 @@ fn may_carry(item: &Item, format: Format) -> bool
 }
 
 /// Reads `+ ITEM`, given with its newline.
-pub fn read_plus(alloc: Global, line: &[u8], format: Format) -> Result<Item, AskedFault>
+pub(crate) fn read_plus(alloc: Global, line: &[u8], format: Format) -> Result<Item, AskedFault>
     ensures found { IfOk result (λ item. MayMerge format item × (line.now ≡ plus_text item)) }
     ensures none { IfErr result (λ fault. fault ≡ AskedFault.BadLine → (item : AnItem) → MayMerge format item → line.now ≢ plus_text item) }
 {

@@ -2,13 +2,27 @@
 
 ghost use Rattle.std.specs.Prelude.{◌≡◌, ◌∷◌, IfOk, IfErr};
 ghost use Rattle.trace_walk.specs.Reads.{Advances, IsBlameless};
-ghost use Rattle.trace_walk.specs.Steps.{SaysAll, MissesReply, SaysRest, MissesRest, MissesSaid};
+ghost use Rattle.trace_walk.specs.Steps.{ComesToLine, MissesLine, SaysAll, MissesReply, SaysRest, MissesRest, MissesSaid};
 ghost use Rattle.trace_walk.specs.Wanting.{IsOfReply};
 
+use crate::entry::next_line;
 use crate::fault::WalkFault;
-use crate::place::{Place, wanted_line};
 use crate::replies::is_marked;
 use line_io::{Lines, Source, split_line};
+
+/// Reads the next line, where one of a reply must follow.
+pub(crate) fn reply_line<R: Source>(lines: &mut Lines, reader: &mut R) -> Result<(), WalkFault>
+    ensures there { IfOk result (λ u. ComesToLine lines.old (R.remaining reader.old) lines.new (R.remaining reader.new)) }
+    ensures fails { IfErr result (MissesLine lines.old (R.remaining reader.old)) }
+    ensures kind { IfErr result IsOfReply }
+    ensures reads { Advances R.Source result lines.old reader.old lines.new reader.new }
+{
+    match next_line(lines, reader) {
+        Ok(true) => Ok(()),
+        Ok(false) => Err(WalkFault::IllegalAt(lines.count() + 1)),
+        Err(fault) => Err(WalkFault::of_reply(fault)),
+    }
+}
 
 /// Compares a reply with the trace, from the line that was reached last.
 pub(crate) fn expect<R: Source>(
@@ -37,7 +51,7 @@ fn further<R: Source>(lines: &mut Lines, reader: &mut R, text: &[u8]) -> Result<
 {
     let mut rest = text;
     while let Some((line, more)) = split_line(rest) {
-        wanted_line(lines, reader, Place::Reply)?;
+        reply_line(lines, reader)?;
         said(lines, line)?;
         rest = more;
     }

@@ -1,9 +1,10 @@
 //! Why a walk through a trace ends early.
 
 ghost use Rattle.std.specs.Prelude.{◌≡◌};
-ghost use Rattle.trace_walk.specs.Walking.{of_line, verdict_of};
+ghost use Rattle.trace_walk.specs.Walking.{of_line, of_reply, verdict_of};
 
 use crate::asked::AskedFault;
+use crate::entry::EntryFault;
 use crate::verdict::Verdict;
 use ds_names::NoRoom;
 use std::alloc::AllocError;
@@ -32,6 +33,17 @@ impl WalkFault {
         }
     }
 
+    /// Returns the fault of an entry's lines where a reply line must follow.
+    pub(crate) fn of_reply(fault: EntryFault) -> WalkFault
+        ensures { result ≡ of_reply fault }
+    {
+        match fault {
+            EntryFault::BadLine(number) => WalkFault::IllegalAt(number),
+            EntryFault::ReadFault => WalkFault::ReadFault,
+            EntryFault::NoRoom => WalkFault::NoRoom,
+        }
+    }
+
     /// Returns the verdict for the fault.
     pub fn verdict(self) -> Verdict
         ensures { result ≡ verdict_of self }
@@ -41,6 +53,21 @@ impl WalkFault {
             WalkFault::BadLineAt(number) => Verdict::BadLineAt(number),
             WalkFault::ReadFault => Verdict::ReadFault,
             WalkFault::NoRoom => Verdict::NoRoom,
+        }
+    }
+}
+
+impl From<EntryFault> for WalkFault {
+    ghost use Rattle.std.specs.Prelude.{◌≡◌};
+    ghost use Rattle.trace_walk.specs.Walking.{of_entry};
+
+    ghost from_gives = { λ fault given. given ≡ of_entry fault };
+
+    fn from(fault: EntryFault) -> WalkFault {
+        match fault {
+            EntryFault::BadLine(number) => WalkFault::BadLineAt(number),
+            EntryFault::ReadFault => WalkFault::ReadFault,
+            EntryFault::NoRoom => WalkFault::NoRoom,
         }
     }
 }

@@ -11,7 +11,7 @@
 #![tactic(auto)]
 
 mod asked;
-mod asking;
+mod entry;
 mod expected;
 mod fault;
 mod header;
@@ -19,7 +19,6 @@ mod laws;
 mod merges;
 mod number;
 mod passed;
-mod place;
 mod replies;
 mod stopping;
 mod sweep;
@@ -28,8 +27,8 @@ mod walk;
 mod writing;
 mod wrong_line;
 
-pub use asked::{Asked, AskedFault, Head, read_head, read_plus};
-pub use asking::{Answer, ask_store};
+pub use asked::{Asked, AskedFault, Head, read_head};
+pub use entry::{EntryFault, EntryReader, next_line};
 pub use fault::WalkFault;
 pub use header::{Format, Header};
 pub use laws::{
@@ -38,6 +37,7 @@ pub use laws::{
     upgraded_traces_are_legal,
 };
 pub use passed::{Passed, append_passed};
+pub use sweep::{Sweep, older, sweep_older};
 pub use verdict::Verdict;
 pub use walk::Walk;
 pub use writing::{append_header, append_marked};

@@ -25,7 +25,7 @@ pub fn append_passed(text: &mut Vec<u8>, walk: &Walk, passed: &Passed) -> Result
 {
     match passed {
         Passed::AsItStands => {
-            append_all(text, &[walk.asked.as_slice()])?;
+            append_all(text, &[walk.entry.text.as_slice()])?;
             append_marked(text, walk.reply.as_slice())?;
             Ok(1)
         }

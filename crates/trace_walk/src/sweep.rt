@@ -20,14 +20,14 @@ use std::alloc::Global;
 
 /// A sweep that RS sends.
 #[derive(Clone, Copy, Debug)]
-pub(crate) struct Sweep {
+pub struct Sweep {
     pub caller: Endpoint,
     pub owner: Name,
     pub generation: Generation,
 }
 
 /// Returns the sweep of format 1 that the command is, if it is one.
-pub(crate) fn older(command: &ScriptCommand, format: Format) -> Option<Sweep>
+pub fn older(command: &ScriptCommand, format: Format) -> Option<Sweep>
     ensures { result ≡ older_of format command.now }
 {
     match (format, command) {
@@ -52,7 +52,7 @@ pub(crate) fn older(command: &ScriptCommand, format: Format) -> Option<Sweep>
 /// Sweeps as in format 1: each live entry of an owner up to a generation, labels aside, gets a tombstone of that
 /// generation with the last sequence number. Returns the store's reply, and the sweep as entries of format 2 for a pass
 /// and a store of these limits.
-pub(crate) fn sweep_older(
+pub fn sweep_older(
     alloc: Global,
     store: &mut Store,
     pass: u64,

@@ -1,21 +1,19 @@
 //! A walk through a trace, entry by entry.
 
-ghost use Rattle.std.specs.Prelude.{◌≡◌, ◌++◌, ◌∷◌, [], IfOk, IfErr, IfSome, IfNone, OnOk};
+ghost use Rattle.std.specs.Prelude.{◌≡◌, IfOk, IfErr, IfSome, IfNone};
 ghost use Rattle.trace_walk.specs.Reads.{Advances, BeginsReading, CountsOn};
-ghost use Rattle.trace_walk.specs.Steps.{BeginsKnown, IsFaultOfKnown, GoesPast, EndsThere, FailsFrom, ReadsHead, ReadsAsked};
-ghost use Rattle.trace_walk.specs.Steps.{FailsBehindHead, ReadsItems, FailsInItems, AddsOne, FailsAtItem};
-ghost use Rattle.trace_walk.specs.Wanting.{IsWantedOfKnown, WantsFrom, WantsBehindHead, WantsInItems, WantsAtItem};
+ghost use Rattle.trace_walk.specs.Steps.{BeginsKnown, IsFaultOfKnown, GoesPast, EndsThere, FailsFrom, ReadsHead};
+ghost use Rattle.trace_walk.specs.Steps.{ReadsAsked, FailsBehindHead};
+ghost use Rattle.trace_walk.specs.Wanting.{IsWantedOfKnown, WantsFrom, WantsBehindHead};
 ghost use Rattle.trace_walk.specs.declared.wrong_line.Wanted.TheVariants as wanteds;
 
 mod judging;
 
-use crate::asked::{Asked, Head, read_head, read_plus};
+use crate::asked::{Asked, Head, read_head};
+use crate::entry::{EntryReader, next_line};
 use crate::fault::WalkFault;
 use crate::header::{Header, read_header};
 use crate::passed::Passed;
-use crate::place::{Place, next_line, wanted_line};
-use ds_entry::{Item, Items};
-use ds_names::NoRoom;
 use ds_store::Store;
 use line_io::{Lines, Source};
 use std::alloc::Global;
@@ -27,11 +25,10 @@ use std::alloc::Global;
 #[derive(Drop)]
 pub struct Walk {
     alloc: Global,
-    pub(crate) lines: Lines,
+    pub(crate) entry: EntryReader,
     store: Store,
     header: Header,
     pub(crate) in_items: bool,
-    pub(crate) asked: Vec<u8>,
     pub(crate) reply: Vec<u8>,
     pub(crate) first: u64,
 }
@@ -45,10 +42,8 @@ impl Walk {
         ensures reads { BeginsReading R.Source result reader.old reader.new }
     {
         let mut lines = Lines::new(alloc)?;
-        match next_line(&mut lines, reader, Place::Form) {
-            Ok(true) => {}
-            Ok(false) => return Err(WalkFault::BadLineAt(1)),
-            Err(fault) => return Err(fault),
+        if !next_line(&mut lines, reader)? {
+            return Err(WalkFault::BadLineAt(1));
         }
         let Some(header) = read_header(lines.line()) else {
             return Err(WalkFault::BadLineAt(1));
@@ -65,11 +60,13 @@ impl Walk {
         };
         Ok(Walk {
             alloc,
-            lines,
+            entry: EntryReader {
+                lines,
+                text: Vec::new(alloc),
+            },
             store,
             header,
             in_items: false,
-            asked: Vec::new(alloc),
             reply: Vec::new(alloc),
             first: 0,
         })
@@ -88,8 +85,8 @@ impl Walk {
         ensures ends { IfOk result (λ o. IfNone o (EndsThere self.old (R.remaining reader.old))) }
         ensures fails { IfErr result (λ fault. FailsFrom self.old (R.remaining reader.old) fault) }
         ensures wanted { IfErr result (WantsFrom self.old (R.remaining reader.old) self.new) }
-        ensures reads { Advances R.Source result self.old.lines reader.old self.new.lines reader.new }
-        ensures counts { IfOk result (λ o. IfSome o (λ p. CountsOn self.old.lines self.new.lines)) }
+        ensures reads { Advances R.Source result self.old.entry.lines reader.old self.new.entry.lines reader.new }
+        ensures counts { IfOk result (λ o. IfSome o (λ p. CountsOn self.old.entry.lines self.new.entry.lines)) }
     {
         let Some((pass, head)) = self.head(reader)? else {
             return Ok(None);
@@ -107,23 +104,21 @@ impl Walk {
         ensures none { IfOk result (λ o. IfNone o (EndsThere self.old (R.remaining reader.old))) }
         ensures fails { IfErr result (λ fault. FailsFrom self.old (R.remaining reader.old) fault) }
         ensures wanted { IfErr result (WantsFrom self.old (R.remaining reader.old) self.new) }
-        ensures reads { Advances R.Source result self.old.lines reader.old self.new.lines reader.new }
-        ensures counts { IfOk result (λ o. IfSome o (λ p. CountsOn self.old.lines self.new.lines)) }
+        ensures reads { Advances R.Source result self.old.entry.lines reader.old self.new.entry.lines reader.new }
+        ensures counts { IfOk result (λ o. IfSome o (λ p. CountsOn self.old.entry.lines self.new.entry.lines)) }
     {
         self.in_items = false;
-        match next_line(&mut self.lines, reader, Place::Form) {
-            Ok(true) => {}
-            Ok(false) => return Ok(None),
-            Err(fault) => return Err(fault),
+        if !next_line(&mut self.entry.lines, reader)? {
+            return Ok(None);
         }
-        match read_head(self.alloc, self.lines.line(), self.header.format) {
+        match read_head(self.alloc, self.entry.lines.line(), self.header.format) {
             Ok(read) => {
-                self.asked.clear();
-                self.asked.extend_from_slice(self.lines.line())?;
+                self.entry.text.clear();
+                self.entry.text.extend_from_slice(self.entry.lines.line())?;
                 self.reply.clear();
                 Ok(Some(read))
             }
-            Err(fault) => Err(WalkFault::of_line(fault, self.lines.count())),
+            Err(fault) => Err(WalkFault::of_line(fault, self.entry.lines.count())),
         }
     }
 
@@ -132,52 +127,12 @@ impl Walk {
         ensures goes { IfOk result (ReadsAsked self.old (R.remaining reader.old) head self.new (R.remaining reader.new)) }
         ensures fails { IfErr result (FailsBehindHead self.old (R.remaining reader.old) head) }
         ensures wanted { IfErr result (WantsBehindHead self.old (R.remaining reader.old) head self.new) }
-        ensures reads { Advances R.Source result self.old.lines reader.old self.new.lines reader.new }
-    {
-        match head {
-            Head::Line(command) => Ok(Asked::Line(command)),
-            Head::Merge(count) => Ok(Asked::Merge(self.items(reader, count)?)),
-        }
-    }
-
-    // Reads the items of a Merge.
-    fn items<R: Source>(&mut self, reader: &mut R, most: u64) -> Result<Items, WalkFault>
-        ensures goes { IfOk result (ReadsItems self.old (R.remaining reader.old) most self.new (R.remaining reader.new)) }
-        ensures fails { IfErr result (FailsInItems self.old (R.remaining reader.old) most) }
-        ensures wanted { IfErr result (WantsInItems self.old (R.remaining reader.old) most self.new) }
-        ensures reads { Advances R.Source result self.old.lines reader.old self.new.lines reader.new }
-    {
-        let mut items = Items::new(self.alloc);
-        for _index in 0..most {
-            self.item(reader, &mut items)?;
-        }
-        Ok(items)
-    }
-
-    // Reads one more item.
-    fn item<R: Source>(&mut self, reader: &mut R, items: &mut Items) -> Result<(), WalkFault>
-        ensures goes { IfOk result (λ u. AddsOne self.old (R.remaining reader.old) items.old self.new (R.remaining reader.new) items.new) }
-        ensures fails { IfErr result (FailsAtItem self.old (R.remaining reader.old) items.old) }
-        ensures wanted { IfErr result (WantsAtItem self.old (R.remaining reader.old) items.old self.new) }
-        ensures reads { Advances R.Source result self.old.lines reader.old self.new.lines reader.new }
+        ensures reads { Advances R.Source result self.old.entry.lines reader.old self.new.entry.lines reader.new }
     {
         self.in_items = true;
-        wanted_line(&mut self.lines, reader, Place::Form)?;
-        match read_plus(self.alloc, self.lines.line(), self.header.format) {
-            Ok(item) => {
-                push(items, item)?;
-                self.asked.extend_from_slice(self.lines.line())?;
-                Ok(())
-            }
-            Err(fault) => Err(WalkFault::of_line(fault, self.lines.count())),
-        }
+        let asked = self
+            .entry
+            .asked(self.alloc, reader, self.header.format, head)?;
+        Ok(asked)
     }
-}
-
-// Adds an item at the end, or nothing.
-fn push(items: &mut Items, item: Item) -> Result<(), NoRoom>
-    ensures { OnOk result (items.new ≡ items.old ++ item ∷ []) }
-{
-    items.push(item)?;
-    Ok(())
 }

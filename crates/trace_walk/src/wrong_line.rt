@@ -65,9 +65,9 @@ impl Walk {
         WrongLine {
             number,
             wanted,
-            asked: first_line(self.asked.as_slice()),
+            asked: first_line(self.entry.text.as_slice()),
             reply: nth_line(self.reply.as_slice(), number.saturating_sub(self.first)),
-            stands: standing(&self.lines, number),
+            stands: standing(&self.entry.lines, number),
         }
     }
 }

@@ -13,12 +13,11 @@ ghost use Rattle.trace_walk.specs.Wanting.{IsOfReply};
 
 use super::Walk;
 use crate::asked::Asked;
-use crate::expected::expect;
+use crate::expected::{expect, reply_line};
 use crate::fault::WalkFault;
 use crate::header::Format;
 use crate::merges::Merges;
 use crate::passed::Passed;
-use crate::place::{Place, wanted_line};
 use crate::replies::is_noroom;
 use crate::stopping::{stop_of, stopped, wants_room};
 use crate::sweep::{Sweep, older, sweep_older};
@@ -40,11 +39,11 @@ impl Walk {
         ensures goes { IfOk result (GoesBehind self.old (R.remaining reader.old) pass asked self.new (R.remaining reader.new)) }
         ensures fails { IfErr result (FailsBehind self.old (R.remaining reader.old) pass asked) }
         ensures kind { IfErr result IsOfReply }
-        ensures reads { Advances R.Source result self.old.lines reader.old self.new.lines reader.new }
+        ensures reads { Advances R.Source result self.old.entry.lines reader.old self.new.entry.lines reader.new }
     {
-        match wanted_line(&mut self.lines, reader, Place::Reply) {
+        match reply_line(&mut self.entry.lines, reader) {
             Ok(()) => {
-                self.first = self.lines.count();
+                self.first = self.entry.lines.count();
                 self.answered(reader, pass, asked)
             }
             Err(fault) => Err(fault),
@@ -61,9 +60,9 @@ impl Walk {
         ensures goes { IfOk result (GoesPastReply self.old (R.remaining reader.old) pass asked self.new (R.remaining reader.new)) }
         ensures fails { IfErr result (FailsAtReply self.old (R.remaining reader.old) pass asked) }
         ensures kind { IfErr result IsOfReply }
-        ensures reads { Advances R.Source result self.old.lines reader.old self.new.lines reader.new }
+        ensures reads { Advances R.Source result self.old.entry.lines reader.old self.new.entry.lines reader.new }
     {
-        if is_noroom(self.lines.line()) {
+        if is_noroom(self.entry.lines.line()) {
             return self.judge_noroom(&asked);
         }
         match asked {
@@ -89,11 +88,11 @@ impl Walk {
         pass: u64,
         command: ScriptCommand,
     ) -> Result<Passed, WalkFault>
-        requires { self.old.lines.line ≢ noroom_line }
+        requires { self.old.entry.lines.line ≢ noroom_line }
         ensures goes { IfOk result (PassesLine self.old (R.remaining reader.old) pass command self.new (R.remaining reader.new)) }
         ensures fails { IfErr result (FailsAtReply self.old (R.remaining reader.old) pass (askeds.Line command)) }
         ensures kind { IfErr result IsOfReply }
-        ensures reads { Advances R.Source result self.old.lines reader.old self.new.lines reader.new }
+        ensures reads { Advances R.Source result self.old.entry.lines reader.old self.new.entry.lines reader.new }
     {
         match older(&command, self.header.format) {
             Some(swept) => self.judge_sweep(reader, pass, swept),
@@ -107,12 +106,12 @@ impl Walk {
         reader: &mut R,
         command: ScriptCommand,
     ) -> Result<Passed, WalkFault>
-        requires line { self.old.lines.line ≢ noroom_line }
+        requires line { self.old.entry.lines.line ≢ noroom_line }
         requires plain { older_of self.old.header.format command ≡ None }
         ensures goes { IfOk result (PassesPlain self.old (R.remaining reader.old) command self.new (R.remaining reader.new)) }
         ensures fails { IfErr result (FailsAtPlain self.old (R.remaining reader.old) command) }
         ensures kind { IfErr result IsOfReply }
-        ensures reads { Advances R.Source result self.old.lines reader.old self.new.lines reader.new }
+        ensures reads { Advances R.Source result self.old.entry.lines reader.old self.new.entry.lines reader.new }
     {
         let wording = command.wording();
         match command.into_store_command(self.alloc)? {
@@ -123,13 +122,13 @@ impl Walk {
 
     // Judges the reply to a Merge.
     fn judge_merge<R: Source>(&mut self, reader: &mut R, items: Items) -> Result<Passed, WalkFault>
-        requires { self.old.lines.line ≢ noroom_line }
+        requires { self.old.entry.lines.line ≢ noroom_line }
         ensures goes { IfOk result (PassesMerge self.old (R.remaining reader.old) items self.new (R.remaining reader.new)) }
         ensures fails { IfErr result (FailsAtMerge self.old (R.remaining reader.old) items) }
         ensures kind { IfErr result IsOfReply }
-        ensures reads { Advances R.Source result self.old.lines reader.old self.new.lines reader.new }
+        ensures reads { Advances R.Source result self.old.entry.lines reader.old self.new.entry.lines reader.new }
     {
-        match stop_of(self.lines.line(), items.len()) {
+        match stop_of(self.entry.lines.line(), items.len()) {
             Some(done) => self.judge_stopped(reader, &items, done),
             None => self.ask(reader, Wording::AsMerge, Command::Merge { items }),
         }
@@ -143,13 +142,13 @@ impl Walk {
         done: usize,
     ) -> Result<Passed, WalkFault>
         requires few { done < length items.now }
-        requires line { self.old.lines.line ≡ stopped_line done }
+        requires line { self.old.entry.lines.line ≡ stopped_line done }
         ensures goes { IfOk result (PassesMerge self.old (R.remaining reader.old) items.now self.new (R.remaining reader.new)) }
         ensures fails { IfErr result (FailsAtMerge self.old (R.remaining reader.old) items.now) }
         ensures kind { IfErr result IsOfReply }
-        ensures reads { Advances R.Source result self.old.lines reader.old self.new.lines reader.new }
+        ensures reads { Advances R.Source result self.old.entry.lines reader.old self.new.entry.lines reader.new }
     {
-        let number = self.lines.count();
+        let number = self.entry.lines.count();
         let reply = stopped(self.alloc, &mut self.store, items, done, number)?;
         self.says(reader, Wording::AsMerge, &reply, Passed::AsItStands)
     }
@@ -161,12 +160,12 @@ impl Walk {
         pass: u64,
         swept: Sweep,
     ) -> Result<Passed, WalkFault>
-        requires line { self.old.lines.line ≢ noroom_line }
+        requires line { self.old.entry.lines.line ≢ noroom_line }
         requires format { self.old.header.format ≡ Format.One }
         ensures goes { IfOk result (PassesSweep self.old (R.remaining reader.old) pass swept self.new (R.remaining reader.new)) }
         ensures fails { IfErr result (FailsAtReply self.old (R.remaining reader.old) pass (swept_line swept)) }
         ensures kind { IfErr result IsOfReply }
-        ensures reads { Advances R.Source result self.old.lines reader.old self.new.lines reader.new }
+        ensures reads { Advances R.Source result self.old.entry.lines reader.old self.new.entry.lines reader.new }
     {
         let (reply, merges) = sweep_older(
             self.alloc,
@@ -188,7 +187,7 @@ impl Walk {
         ensures goes { IfOk result (PassesFor wording command self.old (R.remaining reader.old) self.new (R.remaining reader.new)) }
         ensures fails { IfErr result (FailsFor wording command self.old (R.remaining reader.old)) }
         ensures kind { IfErr result IsOfReply }
-        ensures reads { Advances R.Source result self.old.lines reader.old self.new.lines reader.new }
+        ensures reads { Advances R.Source result self.old.entry.lines reader.old self.new.entry.lines reader.new }
     {
         let reply = self.store.apply(command);
         if wants_room(&reply) {
@@ -209,11 +208,11 @@ impl Walk {
             × SaysReply wording reply.now self.old (R.remaining reader.old) self.new (R.remaining reader.new)) }
         ensures fails { IfErr result (FailsToSay wording reply.now self.old (R.remaining reader.old)) }
         ensures kind { IfErr result IsOfReply }
-        ensures reads { Advances R.Source result self.old.lines reader.old self.new.lines reader.new }
+        ensures reads { Advances R.Source result self.old.entry.lines reader.old self.new.entry.lines reader.new }
     {
         self.reply.clear();
         append_reply(&mut self.reply, wording, reply, self.header.limits)?;
-        match expect(&mut self.lines, reader, self.reply.as_slice()) {
+        match expect(&mut self.entry.lines, reader, self.reply.as_slice()) {
             Ok(()) => Ok(passed),
             Err(fault) => Err(fault),
         }

@@ -6,7 +6,8 @@ use Rattle.trace_walk.specs.declared.header.Header.{Header}
 use Rattle.trace_walk.specs.Text.{header_text}
 use Rattle.trace_walk.specs.Upgrade.{upgraded}
 use Rattle.trace_walk.specs.Steps.{first_spot}
-use Rattle.trace_check.proofs.UpgradingLemmas.{begins_two, handed_on, header_upgrades, nothing_yet, stops_in_header}
+use Rattle.trace_walk.proofs.FaultLemmas.{carried}
+use Rattle.trace_check.proofs.UpgradingLemmas.{begins_two, header_upgrades, nothing_yet, stops_in_header}
 use Rattle.trace_check.proofs.upgrading.upgrade_behind_header.Goals as goal
 
 pub returns-in-Two-clause-stopped : goal.returns-in-Two-clause-stopped
@@ -16,7 +17,7 @@ returns-in-Two-clause-stopped g c bytes walks =
 
 pub returns-in_err-append_header-clause-stopped : goal.returns-in_err-append_header-clause-stopped
 returns-in_err-append_header-clause-stopped g c =
-    handed_on c.from_residual.result _ _ c.from_residual.ensures.1 (λ bytes walks. ([], Appends-nil (g.W.Sink.contents c.args.writer.now), nothing_yet bytes))
+    carried c.from_residual.result _ _ c.from_residual.ensures.1 (λ bytes walks. ([], Appends-nil (g.W.Sink.contents c.args.writer.now), nothing_yet bytes))
 
 pub returns-in_err-write_out-clause-stopped : goal.returns-in_err-write_out-clause-stopped
 returns-in_err-write_out-clause-stopped g c =
@@ -25,7 +26,7 @@ returns-in_err-write_out-clause-stopped g c =
     let header = c.upgraded.ensures ∙ ap (λ (h : Header). upgraded h) c.header-header.ensures in
     let text = c.as_slice.ensures.value ∙ c.in_ok-append_header.ensures ∙ ap (λ (l : List ℕ). l ++ header_text c.upgraded.result) c.new-text.ensures.items ∙ ap (λ (h : Header). header_text h) header in
     let e = c.in_err-write_out.ensures.err in
-    handed_on c.from_residual-in_err-write_out.result _ _ c.from_residual-in_err-write_out.ensures.1
+    carried c.from_residual-in_err-write_out.result _ _ c.from_residual-in_err-write_out.ensures.1
     (λ bytes walks. (e.0, e.3, stops_in_header bytes w (g.R.Source.remaining c.args.reader.now) walks one e.0 e.1 (sym text ∙ e.2)))
 
 pub returns-clause-upgraded : goal.returns-clause-upgraded
@@ -65,8 +66,8 @@ returns-clause-stopped g c =
     c.upgrade_entries.ensures.part
 
 pub returns-in_err-append_header-clause-cause : goal.returns-in_err-append_header-clause-cause
-returns-in_err-append_header-clause-cause g c = handed_on c.from_residual.result _ _ c.from_residual.ensures.1 (λ first led. tt)
+returns-in_err-append_header-clause-cause g c = carried c.from_residual.result _ _ c.from_residual.ensures.1 (λ first led. tt)
 
 pub returns-in_err-write_out-clause-cause : goal.returns-in_err-write_out-clause-cause
 returns-in_err-write_out-clause-cause g c =
-    handed_on c.from_residual-in_err-write_out.result _ _ c.from_residual-in_err-write_out.ensures.1 (λ first led. c.in_err-write_out.ensures.cause)
+    carried c.from_residual-in_err-write_out.result _ _ c.from_residual-in_err-write_out.ensures.1 (λ first led. c.in_err-write_out.ensures.cause)

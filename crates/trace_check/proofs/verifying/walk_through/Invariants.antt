@@ -9,7 +9,7 @@ abbrev pub invariant-loop-length : goal.invariant-loop-length
 invariant-loop-length g l = record {
   walks : (b : Spot) → WalksAt b l.fn.walk (g.R.Source.remaining l.fn.reader) → b.count ≡ 0 →
       (now : Spot) × (now.bytes ≡ b.bytes) × (now.count ≡ l.length) × WalksAt now l.walk (g.R.Source.remaining l.reader);
-  reads : ReadsFurther g.R.Source l.fn.walk.lines l.fn.reader l.walk.lines l.reader;
-  counted : l.length ≤ l.walk.lines.count;
+  reads : ReadsFurther g.R.Source l.fn.walk.entry.lines l.fn.reader l.walk.entry.lines l.reader;
+  counted : l.length ≤ l.walk.entry.lines.count;
   few : l.length ≤ 2 ^ 49 + 1;
 }

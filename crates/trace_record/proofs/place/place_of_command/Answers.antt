@@ -1,4 +1,4 @@
-use Rattle.std.proofs.Common.{◌+◌, ◌-◌, ◌++◌, ◌∙◌, Bool, List, ℕ, ap, arith, inl, inr, refl, subst}
+use Rattle.std.proofs.Common.{◌-◌, ◌++◌, ◌∙◌, Bool, List, ℕ, ap, arith, inl, inr, refl, subst}
 use Rattle.std.specs.Fmt.{decimal}
 use Rattle.trace_walk.proofs.NumberLemmas.{none_behind}
 use Rattle.trace_record.specs.Asking.{IsLineBadAt}

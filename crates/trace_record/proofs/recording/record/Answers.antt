@@ -6,21 +6,21 @@ use Rattle.trace_walk.proofs.BeginLemmas.{at_start}
 use Rattle.trace_record.specs.Reading.{IsReady}
 use Rattle.trace_record.specs.declared.fault.RecordFault.TheVariants.{NoRoom}
 use Rattle.trace_record.specs.Causes.{ReadsLead}
-use Rattle.trace_record.proofs.StepLemmas.{handed_on}
+use Rattle.trace_walk.proofs.FaultLemmas.{carried}
 use Rattle.trace_record.proofs.RunLemmas.{nothing_recorded, runs_first}
 use Rattle.trace_record.proofs.recording.record.Goals as goal
 
 pub returns-in_err-lines-clause-stopped : goal.returns-in_err-lines-clause-stopped
 returns-in_err-lines-clause-stopped g c =
-    handed_on c.from_residual.result NoRoom _ c.from_residual.ensures.1 (nothing_recorded c.args.form (g.R.Source.remaining c.args.reader.now) (g.W.Sink.contents c.args.writer.now) NoRoom refl)
+    carried c.from_residual.result NoRoom _ c.from_residual.ensures.1 (nothing_recorded c.args.form (g.R.Source.remaining c.args.reader.now) (g.W.Sink.contents c.args.writer.now) NoRoom refl)
 
 pub returns-in_err-beginning-clause-stopped : goal.returns-in_err-beginning-clause-stopped
 returns-in_err-beginning-clause-stopped g c =
-    handed_on c.from_residual-in_err-beginning.result NoRoom _ c.from_residual-in_err-beginning.ensures.1 (nothing_recorded c.args.form (g.R.Source.remaining c.args.reader.now) (g.W.Sink.contents c.args.writer.now) NoRoom refl)
+    carried c.from_residual-in_err-beginning.result NoRoom _ c.from_residual-in_err-beginning.ensures.1 (nothing_recorded c.args.form (g.R.Source.remaining c.args.reader.now) (g.W.Sink.contents c.args.writer.now) NoRoom refl)
 
 pub returns-in_err-recorder-clause-stopped : goal.returns-in_err-recorder-clause-stopped
 returns-in_err-recorder-clause-stopped g c =
-    handed_on c.from_residual-in_err-recorder.result c.in_err-recorder.field-0.0 _ c.from_residual-in_err-recorder.ensures.1
+    carried c.from_residual-in_err-recorder.result c.in_err-recorder.field-0.0 _ c.from_residual-in_err-recorder.ensures.1
     (nothing_recorded c.args.form (g.R.Source.remaining c.args.reader.now) (g.W.Sink.contents c.args.writer.now) c.in_err-recorder.field-0.0 c.in_err-recorder.ensures.fault)
 
 pub record_all-requires : goal.record_all-requires

@@ -5,7 +5,7 @@ use Rattle.trace_record.specs.declared.fault.RecordFault.TheVariants.{WriteFault
 use Rattle.trace_record.specs.Record.{header_of}
 use Rattle.trace_record.specs.Running.{WritesRest}
 use Rattle.trace_record.proofs.CauseLemmas.{settled_caused}
-use Rattle.trace_record.proofs.StepLemmas.{handed_on}
+use Rattle.trace_walk.proofs.FaultLemmas.{carried}
 use Rattle.trace_record.proofs.RunLemmas.{fault_settled, settled_whole, whole_unwritten}
 use Rattle.trace_record.proofs.recording.record_all.Goals as goal
 
@@ -25,7 +25,7 @@ returns-in_err-write_out-in-Ok-clause-stops g c =
     let mid = g.W.Sink.contents c.run.new.writer in
     let has = g.W.Sink.contents c.write_out.new.writer in
     let waits = c.run.new.recorder.output.items in
-    handed_on c.from_residual.result WriteFault _ c.from_residual.ensures.1
+    carried c.from_residual.result WriteFault _ c.from_residual.ensures.1
     (λ form ring known first opens runs.
     whole_unwritten form ring known first had mid has waits opens c.in-Ok.count
     (c.in-Ok.ensures.runs known first had (header_of form ring) runs)
@@ -41,7 +41,7 @@ returns-in-Err-clause-stops g c form ring known first opens runs =
     (subst (λ (l : List ℕ). WritesRest c.in-Err.fault mid has l c.settled.result) c.as_slice-in-Err.ensures.value c.settled.ensures.settles)
 
 pub returns-in_err-write_out-in-Ok-clause-cause : goal.returns-in_err-write_out-in-Ok-clause-cause
-returns-in_err-write_out-in-Ok-clause-cause g c = handed_on c.from_residual.result WriteFault _ c.from_residual.ensures.1 (λ first led. c.in_err-write_out-in-Ok.ensures.cause)
+returns-in_err-write_out-in-Ok-clause-cause g c = carried c.from_residual.result WriteFault _ c.from_residual.ensures.1 (λ first led. c.in_err-write_out-in-Ok.ensures.cause)
 
 pub returns-in-Err-clause-cause : goal.returns-in-Err-clause-cause
 returns-in-Err-clause-cause g c first led = settled_caused g.R.Source g.W.Sink c.in-Err.fault c.settled.result first c.run.new.reader c.run.new.writer c.settled.new.writer (c.in-Err.ensures.cause first led) c.settled.ensures.cause

@@ -6,7 +6,8 @@ use Rattle.trace_record.specs.Causes.{IsToBlame, ReadsLead}
 use Rattle.trace_record.specs.Reading.{IsReady}
 use Rattle.trace_record.specs.Running.{Runs, RunsTo}
 use Rattle.trace_record.proofs.CauseLemmas.{input_cause}
-use Rattle.trace_record.proofs.StepLemmas.{handed_as, handed_on}
+use Rattle.trace_walk.proofs.FaultLemmas.{carried}
+use Rattle.trace_walk.proofs.ReadLemmas.{carried_as}
 use Rattle.trace_record.proofs.RunLemmas.{entry_added, entry_fails, entry_unwritten, entry_written, run_ends, run_full, run_stops}
 use Rattle.trace_record.proofs.recording.run.Goals as goal
 
@@ -26,7 +27,7 @@ returns-in-Err-clause-runs g c known first had h r =
 pub entry-requires : goal.entry-requires
 entry-requires g c =
     let l = c.loop-count in
-    let ready = subst (IsReady l.recorder.lines) (c.in-Ok-true.is ∙ ap (λ (b : Bool). Ok b) c.in-Ok-true.field-0-test) l.invariant.0 in
+    let ready = subst (IsReady l.recorder.entry.lines) (c.in-Ok-true.is ∙ ap (λ (b : Bool). Ok b) c.in-Ok-true.field-0-test) l.invariant.0 in
     ready.0
 
 pub returns-in_err-entry-clause-runs : goal.returns-in_err-entry-clause-runs
@@ -36,7 +37,7 @@ returns-in_err-entry-clause-runs g c =
     let has = g.W.Sink.contents c.args.writer.now in
     let now = g.W.Sink.contents l.writer in
     let w : Recorder = c.entry.new.self in
-    handed_as c.from_residual.result c.in_err-entry.field-0.0
+    carried_as c.from_residual.result c.in_err-entry.field-0.0
     (λ (ran : Result ℕ RecordFault). (known : Option (List ℕ)) (first : List ℕ) (had : Option (List ℕ)) (h : Header) → Runs known first had h c.args.recorder.now from has c.args.first 0 → RunsTo known first had h w.output.items now ran)
     c.from_residual.ensures.1
     (λ known first had h r.
@@ -52,7 +53,7 @@ returns-in_err-send_waiting-clause-runs g c =
     let now = g.W.Sink.contents c.send_waiting.new.writer in
     let w : Recorder = c.entry.new.self in
     let waits : List ℕ = c.send_waiting.new.output.items in
-    handed_as c.from_residual-in_err-send_waiting.result c.in_err-send_waiting.field-0.0
+    carried_as c.from_residual-in_err-send_waiting.result c.in_err-send_waiting.field-0.0
     (λ (ran : Result ℕ RecordFault). (known : Option (List ℕ)) (first : List ℕ) (had : Option (List ℕ)) (h : Header) → Runs known first had h c.args.recorder.now from has c.args.first 0 → RunsTo known first had h waits now ran)
     c.from_residual-in_err-send_waiting.ensures.1
     (λ known first had h r.
@@ -65,28 +66,28 @@ returns-in_err-send_waiting-clause-runs g c =
 
 pub loop-count-preserved : goal.loop-count-preserved
 loop-count-preserved g c = (
-  c.next_line-next.ensures.ready,
+  c.next_command-next.ensures.ready,
   λ known first had h r.
       let l = c.loop-count in
       let w : Recorder = c.entry.new.self in
-      let new : Recorder = record w { lines = c.next_line-next.new.lines; output = c.send_waiting.new.output } in
-      let to = g.R.Source.remaining c.next_line-next.new.reader in
+      let new : Recorder = record w { entry = record w.entry { lines = c.next_command-next.new.lines }; output = c.send_waiting.new.output } in
+      let to = g.R.Source.remaining c.next_command-next.new.reader in
       let now = g.W.Sink.contents c.send_waiting.new.writer in
       let b =
       entry_added known first had h l.recorder w (g.R.Source.remaining l.reader) (g.R.Source.remaining c.entry.new.reader)
       (g.W.Sink.contents l.writer) l.next l.count (l.invariant.1 known first had h r)
       (c.in-Ok-true.is ∙ ap (λ (b : Bool). Ok b) c.in-Ok-true.field-0-test) c.in_ok-entry.ensures.goes in
       let more : suc l.count ≡ l.count + 1 = omega arith in
-      subst (λ (n : ℕ). Runs known first had h new to now c.next_line-next.result n) more
+      subst (λ (n : ℕ). Runs known first had h new to now c.next_command-next.result n) more
       (entry_written known first had h w (g.R.Source.remaining c.entry.new.reader) (g.W.Sink.contents l.writer) now (suc l.count) b new
-      c.send_waiting.new.output.items c.next_line-next.new.lines to c.next_line-next.result refl refl refl refl
-      c.in_ok-send_waiting.ensures.ok c.next_line-next.ensures.comes),
+      c.send_waiting.new.output.items c.next_command-next.new.lines to c.next_command-next.result refl refl refl refl
+      c.in_ok-send_waiting.ensures.ok c.next_command-next.ensures.comes),
   λ first led.
       let l = c.loop-count in
-      c.next_line-next.ensures.reads first
+      c.next_command-next.ensures.reads first
       (c.in_ok-entry.ensures.led first
       (subst
-      (λ (r : Result Bool RecordFault). ReadsLead g.R.Source r first l.reader l.recorder.lines.reads)
+      (λ (r : Result Bool RecordFault). ReadsLead g.R.Source r first l.reader l.recorder.entry.lines.reads)
       (c.in-Ok-true.is ∙ ap (λ (b : Bool). Ok b) c.in-Ok-true.field-0-test) (l.invariant.2 first led))),
 )
 
@@ -98,23 +99,23 @@ returns-clause-runs g c known first had h r =
 pub returns-in-Err-clause-cause : goal.returns-in-Err-clause-cause
 returns-in-Err-clause-cause g c first led =
     let l = c.loop-count in
-    input_cause g.R.Source g.W.Sink c.in-Err.fault first l.reader l.writer (subst (IsReady l.recorder.lines) c.in-Err.is l.invariant.0)
+    input_cause g.R.Source g.W.Sink c.in-Err.fault first l.reader l.writer (subst (IsReady l.recorder.entry.lines) c.in-Err.is l.invariant.0)
     (subst
-    (λ (r : Result Bool RecordFault). ReadsLead g.R.Source r first l.reader l.recorder.lines.reads) c.in-Err.is
+    (λ (r : Result Bool RecordFault). ReadsLead g.R.Source r first l.reader l.recorder.entry.lines.reads) c.in-Err.is
     (l.invariant.2 first led))
 
 pub returns-in_err-entry-clause-cause : goal.returns-in_err-entry-clause-cause
 returns-in_err-entry-clause-cause g c =
-    handed_on c.from_residual.result c.in_err-entry.field-0.0 _ c.from_residual.ensures.1
+    carried c.from_residual.result c.in_err-entry.field-0.0 _ c.from_residual.ensures.1
     (λ first led.
     let l = c.loop-count in
     input_cause g.R.Source g.W.Sink c.in_err-entry.field-0.0 first c.entry.new.reader l.writer c.in_err-entry.ensures.fails.0
     (c.in_err-entry.ensures.cause first
     (subst
-    (λ (r : Result Bool RecordFault). ReadsLead g.R.Source r first l.reader l.recorder.lines.reads)
+    (λ (r : Result Bool RecordFault). ReadsLead g.R.Source r first l.reader l.recorder.entry.lines.reads)
     (c.in-Ok-true.is ∙ ap (λ (b : Bool). Ok b) c.in-Ok-true.field-0-test) (l.invariant.2 first led))))
 
 pub returns-in_err-send_waiting-clause-cause : goal.returns-in_err-send_waiting-clause-cause
 returns-in_err-send_waiting-clause-cause g c =
-    handed_on c.from_residual-in_err-send_waiting.result c.in_err-send_waiting.field-0.0 _ c.from_residual-in_err-send_waiting.ensures.1
+    carried c.from_residual-in_err-send_waiting.result c.in_err-send_waiting.field-0.0 _ c.from_residual-in_err-send_waiting.ensures.1
     (λ first led. subst (λ (f : RecordFault). IsToBlame g.R.Source g.W.Sink f first c.entry.new.reader c.send_waiting.new.writer) (sym c.in_err-send_waiting.ensures.fault) c.in_err-send_waiting.ensures.cause)

@@ -15,5 +15,5 @@ returns-clause-adds c =
           c.in_ok-append_all.ensures.written
           ∙ ap (λ (l : List ℕ). old.output.items ++ l)
           (append-nil c.as_slice-2.result.now ∙ c.as_slice-2.ensures.value ∙ c.in_ok-append_marked.ensures
-          ∙ ap (λ (l : List ℕ). old.entry.items ++ marked l) lines);
+          ∙ ap (λ (l : List ℕ). old.entry.text.items ++ marked l) lines);
     }

@@ -24,7 +24,7 @@ returns-clause-goes c =
             asks = q.2;
             step = q.3;
             stands = subst (λ (k : ContentRecord). ContentStands k q.1) (sym a.store) q.4;
-            output = a.output ∙ ap (λ (w : Wording). old.output.items ++ (old.entry.items ++ marked (reply_lines w answer.reply old.header.limits))) c.in_ok-answer.ensures.wording;
+            output = a.output ∙ ap (λ (w : Wording). old.output.items ++ (old.entry.text.items ++ marked (reply_lines w answer.reply old.header.limits))) c.in_ok-answer.ensures.wording;
           },
     ))
     c.add_reply.ensures.adds

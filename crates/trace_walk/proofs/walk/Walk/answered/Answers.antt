@@ -16,8 +16,8 @@ returns-then-is_noroom-clause-goes g c =
     let from = g.R.Source.remaining c.args.reader.now in
     IfOk-weaker c.judge_noroom.result _ _
     (λ passed r b x.
-    let text = r.reply ∙ sym (noroom_text b old.lines old.store old.header from c.args.pass c.args.asked old.asked.items x) in
-    passed_over b old.lines old.store old.header from c.args.pass c.args.asked old.asked.items x (sym c.line.ensures ∙ c.if-is_noroom.ensures.0 refl) w passed r.lines r.store r.header r.asked_is text
+    let text = r.reply ∙ sym (noroom_text b old.entry.lines old.store old.header from c.args.pass c.args.asked old.entry.text.items x) in
+    passed_over b old.entry.lines old.store old.header from c.args.pass c.args.asked old.entry.text.items x (sym c.line.ensures ∙ c.if-is_noroom.ensures.0 refl) w passed r.lines r.store r.header r.asked_is text
     (λ one. r.becomes one b.state old.header.limits c.args.pass))
     c.judge_noroom.ensures.goes
 
@@ -49,7 +49,7 @@ returns-in-Merge-clause-fails g c =
 
 pub returns-then-is_noroom-clause-reads : goal.returns-then-is_noroom-clause-reads
 returns-then-is_noroom-clause-reads g c =
-    refused_there g.R.Source c.judge_noroom.result c.args.self.now.lines c.judge_noroom.new.self.lines c.args.reader.now
+    refused_there g.R.Source c.judge_noroom.result c.args.self.now.entry.lines c.judge_noroom.new.self.entry.lines c.args.reader.now
     (IfOk-weaker c.judge_noroom.result _ _ (λ passed r. r.lines) c.judge_noroom.ensures.goes) c.judge_noroom.ensures.fault
 
 pub returns-then-is_noroom-clause-kind : goal.returns-then-is_noroom-clause-kind

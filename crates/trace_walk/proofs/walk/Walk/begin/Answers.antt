@@ -2,26 +2,29 @@ use Rattle.std.proofs.Common.{◌≡◌, List, [], ℕ, refl, sym, subst, ◌∙
 use Rattle.line_io.specs.Lines.{with_newline}
 use Rattle.trace_walk.specs.Text.{HasNoHeader, header_text}
 use Rattle.trace_walk.proofs.WalkLemmas.{header_behind}
-use Rattle.trace_walk.specs.Walking.{IsAt}
+use Rattle.trace_walk.specs.Reads.{BeginsReading}
+use Rattle.trace_walk.specs.Walking.{IsAt, of_entry}
 use Rattle.trace_walk.proofs.BeginLemmas.{first_fails, input_empty, line_wrong, at_start, by_known}
-use Rattle.trace_walk.proofs.ReadLemmas.{none_read}
+use Rattle.trace_walk.proofs.FaultLemmas.{carried}
+use Rattle.trace_walk.proofs.ReadLemmas.{blames_walk, carried_as, none_read}
 use Rattle.trace_walk.proofs.walk.Walk.begin.Goals as goal
 
-pub returns-in-Ok-false-clause-fails : goal.returns-in-Ok-false-clause-fails
-returns-in-Ok-false-clause-fails g c =
+pub returns-then-not-branch-clause-fails : goal.returns-then-not-branch-clause-fails
+returns-then-not-branch-clause-fails g c =
     by_known (g.R.Source.remaining c.args.reader.now) _
-    (λ bytes known. (input_empty bytes _ (c.in-Ok-false.ensures.none c.in-Ok-false.field-0-test bytes [] (at_start bytes c.in_ok-lines.lines (g.R.Source.remaining c.args.reader.now) c.in_ok-lines.ensures known))).0)
+    (λ bytes known. (input_empty bytes _ (c.in_ok-next_line.ensures.none c.if-not-branch.true bytes [] (at_start bytes c.in_ok-lines.lines (g.R.Source.remaining c.args.reader.now) c.in_ok-lines.ensures known))).0)
 
-pub returns-in-Err-clause-fails : goal.returns-in-Err-clause-fails
-returns-in-Err-clause-fails g c =
-    by_known (g.R.Source.remaining c.args.reader.now) _
-    (λ bytes known. (first_fails bytes c.in-Err.fault (c.in-Err.ensures.long bytes [] (at_start bytes c.in_ok-lines.lines (g.R.Source.remaining c.args.reader.now) c.in_ok-lines.ensures known))).0)
+pub returns-in_err-next_line-clause-fails : goal.returns-in_err-next_line-clause-fails
+returns-in_err-next_line-clause-fails g c =
+    carried c.from_residual-in_err-next_line.result (of_entry c.in_err-next_line.field-0.0) _ c.from_residual-in_err-next_line.ensures.1
+    (by_known (g.R.Source.remaining c.args.reader.now) _
+    (λ bytes known. (first_fails bytes c.in_err-next_line.field-0.0 (c.in_err-next_line.ensures.long bytes [] (at_start bytes c.in_ok-lines.lines (g.R.Source.remaining c.args.reader.now) c.in_ok-lines.ensures known))).0))
 
 pub returns-in_default-clause-fails : goal.returns-in_default-clause-fails
 returns-in_default-clause-fails g c =
     by_known (g.R.Source.remaining c.args.reader.now) _
     (λ bytes known.
-    let l = c.in-Ok-true.ensures.there c.in-Ok-true.field-0-test bytes [] (at_start bytes c.in_ok-lines.lines (g.R.Source.remaining c.args.reader.now) c.in_ok-lines.ensures known) in
+    let l = c.in_ok-next_line.ensures.there c.if-not-branch.false bytes [] (at_start bytes c.in_ok-lines.lines (g.R.Source.remaining c.args.reader.now) c.in_ok-lines.ensures known) in
     (line_wrong bytes l.0 1 c.next_line.new.lines (g.R.Source.remaining c.next_line.new.reader) l.2 refl
     (subst HasNoHeader (c.line.ensures ∙ l.1) c.in_default.ensures.none)).0)
 
@@ -29,7 +32,7 @@ pub returns-clause-begins : goal.returns-clause-begins
 returns-clause-begins g c =
     by_known (g.R.Source.remaining c.args.reader.now) _
     (λ bytes known.
-    let l = c.in-Ok-true.ensures.there c.in-Ok-true.field-0-test bytes [] (at_start bytes c.in_ok-lines.lines (g.R.Source.remaining c.args.reader.now) c.in_ok-lines.ensures known) in
+    let l = c.in_ok-next_line.ensures.there c.if-not-branch.false bytes [] (at_start bytes c.in_ok-lines.lines (g.R.Source.remaining c.args.reader.now) c.in_ok-lines.ensures known) in
     let h = c.in-Some.header in
     let text : header_text h ≡ with_newline l.0 = sym c.in-Some.ensures.found.1 ∙ c.line.ensures ∙ l.1 in
     record {
@@ -40,28 +43,32 @@ returns-clause-begins g c =
 
 -- ---- the line that must be there
 
-pub returns-in-Ok-false-clause-wanted : goal.returns-in-Ok-false-clause-wanted
-returns-in-Ok-false-clause-wanted g c =
+pub returns-then-not-branch-clause-wanted : goal.returns-then-not-branch-clause-wanted
+returns-then-not-branch-clause-wanted g c =
     by_known (g.R.Source.remaining c.args.reader.now) _
-    (λ bytes known. (input_empty bytes _ (c.in-Ok-false.ensures.none c.in-Ok-false.field-0-test bytes [] (at_start bytes c.in_ok-lines.lines (g.R.Source.remaining c.args.reader.now) c.in_ok-lines.ensures known))).1)
+    (λ bytes known. (input_empty bytes _ (c.in_ok-next_line.ensures.none c.if-not-branch.true bytes [] (at_start bytes c.in_ok-lines.lines (g.R.Source.remaining c.args.reader.now) c.in_ok-lines.ensures known))).1)
 
-pub returns-in-Err-clause-wanted : goal.returns-in-Err-clause-wanted
-returns-in-Err-clause-wanted g c =
-    by_known (g.R.Source.remaining c.args.reader.now) _
-    (λ bytes known. (first_fails bytes c.in-Err.fault (c.in-Err.ensures.long bytes [] (at_start bytes c.in_ok-lines.lines (g.R.Source.remaining c.args.reader.now) c.in_ok-lines.ensures known))).1)
+pub returns-in_err-next_line-clause-wanted : goal.returns-in_err-next_line-clause-wanted
+returns-in_err-next_line-clause-wanted g c =
+    carried c.from_residual-in_err-next_line.result (of_entry c.in_err-next_line.field-0.0) _ c.from_residual-in_err-next_line.ensures.1
+    (by_known (g.R.Source.remaining c.args.reader.now) _
+    (λ bytes known. (first_fails bytes c.in_err-next_line.field-0.0 (c.in_err-next_line.ensures.long bytes [] (at_start bytes c.in_ok-lines.lines (g.R.Source.remaining c.args.reader.now) c.in_ok-lines.ensures known))).1))
 
 pub returns-in_default-clause-wanted : goal.returns-in_default-clause-wanted
 returns-in_default-clause-wanted g c =
     by_known (g.R.Source.remaining c.args.reader.now) _
     (λ bytes known.
-    let l = c.in-Ok-true.ensures.there c.in-Ok-true.field-0-test bytes [] (at_start bytes c.in_ok-lines.lines (g.R.Source.remaining c.args.reader.now) c.in_ok-lines.ensures known) in
+    let l = c.in_ok-next_line.ensures.there c.if-not-branch.false bytes [] (at_start bytes c.in_ok-lines.lines (g.R.Source.remaining c.args.reader.now) c.in_ok-lines.ensures known) in
     (line_wrong bytes l.0 1 c.next_line.new.lines (g.R.Source.remaining c.next_line.new.reader) l.2 refl
     (subst HasNoHeader (c.line.ensures ∙ l.1) c.in_default.ensures.none)).1)
 
 -- ---- reads
 
-pub returns-in-Err-clause-reads : goal.returns-in-Err-clause-reads
-returns-in-Err-clause-reads g c = c.in-Err.ensures.reads c.args.reader.now (none_read g.R.Source c.in_ok-lines.lines c.args.reader.now c.in_ok-lines.ensures)
+pub returns-in_err-next_line-clause-reads : goal.returns-in_err-next_line-clause-reads
+returns-in_err-next_line-clause-reads g c =
+    carried_as c.from_residual-in_err-next_line.result (of_entry c.in_err-next_line.field-0.0) (λ r. BeginsReading g.R.Source r c.args.reader.now c.next_line.new.reader) c.from_residual-in_err-next_line.ensures.1
+    (blames_walk g.R.Source c.in_err-next_line.field-0.0 c.args.reader.now c.next_line.new.reader
+    (c.in_err-next_line.ensures.reads c.args.reader.now (none_read g.R.Source c.in_ok-lines.lines c.args.reader.now c.in_ok-lines.ensures)))
 
 pub returns-clause-reads : goal.returns-clause-reads
-returns-clause-reads g c = c.in-Ok-true.ensures.reads.0 c.args.reader.now (none_read g.R.Source c.in_ok-lines.lines c.args.reader.now c.in_ok-lines.ensures)
+returns-clause-reads g c = c.in_ok-next_line.ensures.reads.0 c.args.reader.now (none_read g.R.Source c.in_ok-lines.lines c.args.reader.now c.in_ok-lines.ensures)

@@ -34,12 +34,12 @@ returns-in-Ok-clause-goes g c b w =
 
 pub returns-in_err-pass-clause-reads : goal.returns-in_err-pass-clause-reads
 returns-in_err-pass-clause-reads g c =
-    carried_as c.from_residual.result c.in_err-pass.field-0.0 (λ r. Advances g.R.Source r c.args.self.now.lines c.args.reader.now c.head.new.self.lines c.head.new.reader) c.from_residual.ensures.1
+    carried_as c.from_residual.result c.in_err-pass.field-0.0 (λ r. Advances g.R.Source r c.args.self.now.entry.lines c.args.reader.now c.head.new.self.entry.lines c.head.new.reader) c.from_residual.ensures.1
     (λ first led. c.in_err-pass.ensures.reads first led)
 
 pub returns-in_err-asked-clause-reads : goal.returns-in_err-asked-clause-reads
 returns-in_err-asked-clause-reads g c =
-    carried_as c.from_residual-in_err-asked.result c.in_err-asked.field-0.0 (λ r. Advances g.R.Source r c.args.self.now.lines c.args.reader.now c.asked.new.self.lines c.asked.new.reader) c.from_residual-in_err-asked.ensures.1
+    carried_as c.from_residual-in_err-asked.result c.in_err-asked.field-0.0 (λ r. Advances g.R.Source r c.args.self.now.entry.lines c.args.reader.now c.asked.new.self.entry.lines c.asked.new.reader) c.from_residual-in_err-asked.ensures.1
     (λ first led. c.in_err-asked.ensures.reads first (c.in_ok-pass.ensures.reads.0 first led))
 
 pub returns-in-Err-clause-reads : goal.returns-in-Err-clause-reads
@@ -48,14 +48,14 @@ returns-in-Err-clause-reads g c = λ first led. c.in-Err.ensures.reads first (c.
 pub returns-in-Ok-clause-reads : goal.returns-in-Ok-clause-reads
 returns-in-Ok-clause-reads g c =
     let r = g.R.Source in
-    let old = c.args.self.now.lines in
+    let old = c.args.self.now.entry.lines in
     let x = c.args.reader.now in
-    on_and_on r old c.asked.new.self.lines c.judge.new.self.lines x c.asked.new.reader c.judge.new.reader
-    (on_and_on r old c.head.new.self.lines c.asked.new.self.lines x c.head.new.reader c.asked.new.reader c.in_ok-pass.ensures.reads c.in_ok-asked.ensures.reads) c.in-Ok.ensures.reads
+    on_and_on r old c.asked.new.self.entry.lines c.judge.new.self.entry.lines x c.asked.new.reader c.judge.new.reader
+    (on_and_on r old c.head.new.self.entry.lines c.asked.new.self.entry.lines x c.head.new.reader c.asked.new.reader c.in_ok-pass.ensures.reads c.in_ok-asked.ensures.reads) c.in-Ok.ensures.reads
 
 pub returns-in-Ok-clause-counts : goal.returns-in-Ok-clause-counts
 returns-in-Ok-clause-counts g c =
-    let k = some_at c.in_ok-pass.field-0 (c.in-Some.pass, c.in-Some.head) (λ p. CountsOn c.args.self.now.lines c.head.new.self.lines) c.in-Some.is c.in_ok-pass.ensures.counts in
+    let k = some_at c.in_ok-pass.field-0 (c.in-Some.pass, c.in-Some.head) (λ p. CountsOn c.args.self.now.entry.lines c.head.new.self.entry.lines) c.in-Some.is c.in_ok-pass.ensures.counts in
     (k.0, omega (arith, k.1, c.in_ok-asked.ensures.reads.1, c.in-Ok.ensures.reads.1))
 
 -- ---- the line that must be there

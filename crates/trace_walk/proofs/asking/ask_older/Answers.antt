@@ -1,4 +1,0 @@
-use Rattle.trace_walk.proofs.asking.ask_older.Goals as goal
-
-pub returns-clause-step : goal.returns-clause-step
-returns-clause-step c = c.in_ok-reply.ensures.0
