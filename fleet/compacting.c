@@ -4,7 +4,8 @@
  *   ----------------+----------------------------------------+---------------------------------------------------------
  *   RESTS           | it is due                              | WATCHES: watches the snapshot, and asks for it
  *   WATCHES         | good answers                           | WRITES: one transaction writes it, and trims the stream
- *   WATCHES         | another has more, or items were lost   | WRITES: ends the watch alone
+ *   WATCHES         | another bridge's snapshot goes further | WRITES: ends the watch alone
+ *   WATCHES         | what was read since is overfull        | WRITES: ends the watch alone
  *   WATCHES         | another scope                          | RESTS: badscope
  *   WATCHES         | an error, or out of memory             | WRITES: ends the watch alone; denied, or noroom
  *   WRITES          | it is written                          | RESTS

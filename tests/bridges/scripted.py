@@ -86,12 +86,13 @@ class Scripted(Proxy):
             shut(it)
 
     def scripted(self, raw, words):
+        """The answer that the first rule for the question makes. A rule that waits holds up its own connection alone."""
         with self.lock:
-            for rule in self.rules:
-                if rule.concerns(words):
-                    rule.left -= 1
-                    return rule.made(raw) if callable(rule.made) else rule.made
-        return raw
+            rule = next((it for it in self.rules if it.concerns(words)), None)
+            if rule is None:
+                return raw
+            rule.left -= 1
+        return rule.made(raw) if callable(rule.made) else rule.made
 
 
 def line_of(stream):

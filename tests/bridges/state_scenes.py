@@ -385,7 +385,7 @@ def states_of_compacting(fleet, draw):
         script.script("HMGET ds:snapshot at scope", goes_further)
         compacts()
         assert script.asked["UNWATCH"] > unwatched
-        walk("WATCHES | another has more, or items were lost")
+        walk("WATCHES | another bridge's snapshot goes further")
         walk("WRITES | the watch is ended")
         script.script("HMGET ds:snapshot at scope", CUT)
         reconnects(bridge, compacts)
@@ -408,6 +408,28 @@ def states_of_compacting(fleet, draw):
         grow()
         says(bridge, "event=denied", denied + 1)
         walk("WRITES | an error")
+        compacts()
+        many = numbers("m", 2 * 4096)
+
+        def overfills(raw):
+            """More than two stores hold is read between the question and its answer."""
+            for at in range(0, len(many), 256):
+                fleet.ask("XADD", "ds:items", "*", "from", "x", "items", "".join(f"{it}\n" for it in many[at : at + 256]))
+            says(bridge, "event=overfull")
+            return raw
+
+        def ended():
+            """How many watches and transactions have ended."""
+            return script.asked["UNWATCH"] + int(bridge.state()["compactions"])
+
+        before, unwatched = ended(), script.asked["UNWATCH"]
+        script.script("HMGET ds:snapshot at scope", overfills)
+        grow()
+        until(lambda: ended() > before, "the compaction ends", 10)
+        time.sleep(REST)
+        told(fleet, *lines, *many)
+        assert script.asked["UNWATCH"] > unwatched
+        walk("WATCHES | what was read since is overfull")
 
 
 def states_of_comparing(fleet, draw):
