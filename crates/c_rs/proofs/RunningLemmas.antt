@@ -13,7 +13,6 @@ use Rattle.ds_store.specs.Turns.{Turn}
 use Rattle.c_values.specs.declared.request.Request.{Request}
 use Rattle.c_values.specs.declared.answer.Answer.{Answer}
 use Rattle.c_values.specs.Asked.{request_text}
-use Rattle.c_store.specs.declared.session.Session.{Session}
 use Rattle.c_store.specs.Called.{Called}
 use Rattle.c_rs.specs.declared.session.RsSession.{RsSession}
 use Rattle.c_rs.specs.Requests.{CallsRs, CallsUnlessBarred, is_for_rs_alone}

@@ -1,5 +1,5 @@
 -- Each reply of RS has a text.
-use Rattle.std.proofs.Common.{◌≢◌, List, [], length}
+use Rattle.std.proofs.Common.{◌≢◌, [], length}
 use Rattle.ds_held.specs.Limits.{larger}
 use Rattle.ds_machine.specs.declared.refusal.Refusal.TheVariants.{NotAllowed}
 use Rattle.ds_machine.specs.declared.reply.Reply.TheVariants as store_replies

@@ -1,5 +1,5 @@
 -- The events of structs.
-use Rattle.std.specs.Prelude.{◌≡◌, ℕ, ◌==◌, nat_le, cond, List, Option, None, Some, MatchOption}
+use Rattle.std.specs.Prelude.{ℕ, ◌==◌, nat_le, cond, List, Option, None, Some, MatchOption}
 use Rattle.std.specs.Option.{option_map}
 use Rattle.ds_names.specs.Endpoint.{EndpointRecord}
 use Rattle.rs_core.specs.declared.event.Event.{Event}

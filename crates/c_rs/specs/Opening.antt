@@ -1,5 +1,5 @@
 -- Opening RS.
-use Rattle.std.specs.Prelude.{◌≡◌, ◌≢◌, ◌⊎◌, ℕ, nat_lt, cond, List, Option, None, Some, Result, Ok, Err}
+use Rattle.std.specs.Prelude.{◌≡◌, ◌⊎◌, ℕ, nat_lt, cond, List, Option, None, Some, Ok, Err}
 use Rattle.rs_core.specs.State.{RsRecord}
 use Rattle.rs_settings.specs.Fault.{no_room}
 use Rattle.rs_settings.specs.Settings.{SettingsRecord, settings_of, MayTakeMemory}

@@ -1,5 +1,5 @@
 -- What a request does to a session with RS.
-use Rattle.std.specs.Prelude.{◌≡◌, ℕ, ◌==◌, Bool, true, false, ◌&&◌, nat_le, List, [], Option, None, Some, is_some}
+use Rattle.std.specs.Prelude.{ℕ, ◌==◌, Bool, true, false, ◌&&◌, nat_le, List, [], Option, None, Some, is_some}
 use Rattle.ds_machine.specs.declared.refusal.Refusal.TheVariants.{NotAllowed}
 use Rattle.rs_core.specs.State.{RsRecord}
 use Rattle.rs_store.specs.declared.call.RsReply.{RsReply}

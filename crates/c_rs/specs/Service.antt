@@ -1,5 +1,5 @@
 -- What RS knows of a service, in numbers.
-use Rattle.std.specs.Prelude.{ℕ, List, length, slice_get, Option, None, Some}
+use Rattle.std.specs.Prelude.{ℕ, length, slice_get, Option, None, Some}
 use Rattle.std.specs.Option.{option_map, option_and_then}
 use Rattle.rs_settings.specs.declared.class.Class.{Class}
 use Rattle.rs_settings.specs.declared.class.Class.TheVariants.{Block, Character, Network, Server}

@@ -1,5 +1,5 @@
 -- What is shown if nothing is held.
-use Rattle.std.proofs.Common.{◌≡◌, ◌≢◌, Bool, true, false, List, [], ◌∷◌, Option, None, Some, refl}
+use Rattle.std.proofs.Common.{◌≡◌, ◌≢◌, Bool, true, false, List, [], ◌∷◌, None, Some, refl}
 use Rattle.std.specs.List.{slice_get}
 use Rattle.ds_entry.specs.declared.item.Item.{Item}
 use Rattle.c_store.specs.Called.{held_shown}

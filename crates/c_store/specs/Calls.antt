@@ -1,5 +1,5 @@
 -- What the calls on a server's table do to it, and their answers.
-use Rattle.std.specs.Prelude.{◌≡◌, ℕ, ◌<◌, cond, List, [], Option, Some, None, Result, MatchOption}
+use Rattle.std.specs.Prelude.{◌≡◌, ℕ, ◌<◌, cond, List, [], Option, None, Result, MatchOption}
 use Rattle.ds_names.specs.Endpoint.{EndpointRecord}
 use Rattle.ds_entry.specs.declared.item.Item.{Item}
 use Rattle.driver_tables.specs.declared.device.Class.{Class}

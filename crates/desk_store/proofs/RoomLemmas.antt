@@ -1,5 +1,5 @@
 -- Faults of a refresh, by the call that failed.
-use Rattle.std.proofs.Common.{◌≡◌, ℕ, ◌<◌, List, [], ◌∷◌, length, slice_get, Option, Some, None, refl, ap, sym, ◌∙◌, subst, inl, inr, arith}
+use Rattle.std.proofs.Common.{◌≡◌, ℕ, ◌<◌, List, [], ◌∷◌, length, slice_get, Option, Some, None, refl, ap, sym, subst, inl, inr, arith}
 use Rattle.history.specs.declared.entry.Entry.{Entry}
 use Rattle.history.specs.History.{entry}
 use Rattle.ds_names.specs.Limits.{most_items}
@@ -16,7 +16,7 @@ use Rattle.desk_store.specs.declared.call_fault.CallFault.{CallFault}
 use Rattle.desk_store.specs.declared.call_fault.CallFault.TheVariants as faults
 use Rattle.desk_store.proofs.FaultLemmas.{fails_by, fails_later}
 use Rattle.desk_store.proofs.RecordLemmas.{made_more, made_none}
-use Rattle.desk_store.specs.RefreshFaults.{CallLacksRoom, FailsOnce, FailsRefreshing, LacksNow}
+use Rattle.desk_store.specs.RefreshFaults.{CallLacksRoom, FailsOnce, FailsRefreshing}
 use Rattle.desk_store.specs.Follower.{FollowerRecord}
 use Rattle.desk_store.specs.FollowerCalls.{Checks}
 use Rattle.desk_store.specs.Refresh.{HasGone}

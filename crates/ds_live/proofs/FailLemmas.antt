@@ -1,6 +1,6 @@
 -- Why a run fails.
-use Rattle.std.proofs.Common.{All, ◌≡◌, ◌⊎◌, ℕ, zero, suc, ◌/◌, ◌*◌, ◌<◌, ◌≤◌, Bool, false, List, [], ◌∷◌, length, map, Option, None, Some, Result, Ok, Err, IfErr, IfSome, IsErrAnd, IsTrue}
-use Rattle.std.proofs.Common.{refl, ap, sym, subst, ◌∙◌, inl, inr, arith}
+use Rattle.std.proofs.Common.{All, ◌≡◌, ◌⊎◌, ℕ, zero, suc, ◌/◌, ◌<◌, ◌≤◌, Bool, false, List, [], ◌∷◌, length, map, Option, None, Some, Result, Ok, Err, IfErr, IfSome, IsErrAnd, IsTrue}
+use Rattle.std.proofs.Common.{refl, sym, subst, ◌∙◌, inl, inr, arith}
 use Rattle.std.specs.Prelude.{nat_le}
 use Rattle.std.specs.Option.{option_or}
 use Rattle.std.proofs.lemmas.Bool.{and_parts, leb-true}
@@ -8,10 +8,9 @@ use Rattle.std.proofs.lemmas.Option.{IfSome_then}
 use Rattle.std.proofs.lemmas.List.Elements.{All-cons, All-head, All-nil, All-tail}
 use Rattle.ds_live.specs.Back.{AreBack}
 use Rattle.desk_rule.specs.declared.view.View.{View}
-use Rattle.desk.specs.declared.fault.DeskFault.TheVariants.{Noted, Worn}
+use Rattle.desk.specs.declared.fault.DeskFault.TheVariants.{Noted}
 use Rattle.desk.specs.Pass.{Pass}
 use Rattle.desk.specs.declared.pass.Sight.{Ghosts}
-use Rattle.ds_feed.specs.declared.cursor.Cursor.{Cursor}
 use Rattle.ds_machine.specs.declared.command.Command.{Command}
 use Rattle.ds_machine.specs.declared.refusal.Refusal.{Refusal}
 use Rattle.ds_machine.specs.declared.reply.Reply.{Reply}

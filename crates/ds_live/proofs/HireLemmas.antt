@@ -1,5 +1,5 @@
 -- Workers that are hired.
-use Rattle.std.proofs.Common.{All, ◌≡◌, ℕ, zero, suc, Option, ◌+◌, ◌-◌, ◌*◌, ◌<◌, ◌≤◌, List, [], ◌∷◌, ◌++◌, length, map, refl, ap, sym, subst, ◌∙◌, arith, add-one, append-nil, append_assoc}
+use Rattle.std.proofs.Common.{All, ◌≡◌, ℕ, zero, suc, Option, ◌+◌, ◌-◌, List, [], ◌∷◌, ◌++◌, length, map, ap, sym, subst, ◌∙◌, arith, add-one, append-nil, append_assoc}
 use Rattle.std.proofs.lemmas.List.{map-append}
 use Rattle.std.proofs.lemmas.List.Elements.{All-cons, All-nil, All-same}
 use Rattle.atomic_table.specs.Seated.{TableId}
@@ -10,7 +10,7 @@ use Rattle.desk.specs.declared.pass.Sight.{Ghosts}
 use Rattle.desk.specs.Pass.{calls}
 use Rattle.ds_machine.specs.declared.command.Command.{Command}
 use Rattle.ds_machine.specs.declared.reply.Reply.{Reply}
-use Rattle.desk_store.specs.Record.{Boxed, PassRecord, pass_record}
+use Rattle.desk_store.specs.Record.{Boxed, pass_record}
 use Rattle.ds_live.specs.Commands.{each_below, publisher_label}
 use Rattle.ds_live.specs.Turns.{AreAccepted, WereAccepted}
 use Rattle.ds_live.specs.Workers.{StorePass, plain_task}

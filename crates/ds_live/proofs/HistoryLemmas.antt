@@ -1,8 +1,7 @@
 -- What closing a desk leaves, by plain values.
-use Rattle.std.proofs.Common.{◌≡◌, ℕ, ◌+◌, List, [], ◌∷◌, length, map, refl, ap, sym, subst, ◌∙◌}
+use Rattle.std.proofs.Common.{◌≡◌, ℕ, ◌+◌, List, [], ◌∷◌, map, refl, ap, sym, subst, ◌∙◌}
 use Rattle.std.specs.List.{AllByRecursion}
 use mathlib.Core.List.{IsPrefix}
-use Rattle.history.specs.declared.entry.Entry.{Entry}
 use Rattle.history.specs.History.{calls_by, Run}
 use Rattle.desk_rule.specs.History.{total_of}
 use Rattle.desk_rule.specs.declared.view.View.{View}

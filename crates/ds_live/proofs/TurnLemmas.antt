@@ -1,13 +1,10 @@
 -- Calls of a pass, in order.
 use Rattle.std.proofs.Common.{◌≡◌, ℕ, zero, suc, ◌<◌, ◌≤◌, Bool, true, false, Option, List, [], ◌∷◌, ◌++◌, length, refl, ap, sym, subst, inl, inr, ◌∙◌, arith, length-append}
-use Rattle.std.specs.List.{AllByRecursion}
 use Rattle.std.proofs.lemmas.List.{map-append}
 use Rattle.desk_rule.proofs.ListLemmas.{all_append}
 use Rattle.history.specs.History.{entry}
-use Rattle.ds_store.specs.Turns.{commands_of}
 use Rattle.desk_store.specs.Called.{IsAccepted}
-use Rattle.ds_live.specs.Turns.{AreAccepted, HasExchangedOften, WasAccepted, WereAccepted}
-use Rattle.ds_live.specs.Commands.{each_below}
+use Rattle.ds_live.specs.Turns.{HasExchangedOften, WasAccepted, WereAccepted}
 use Rattle.history.specs.declared.entry.Entry.{Entry}
 use Rattle.ds_machine.specs.declared.command.Command.{Command}
 use Rattle.ds_machine.specs.declared.reply.Reply.{Reply}

@@ -1,5 +1,5 @@
 -- Workers that come back.
-use Rattle.std.proofs.Common.{◌≡◌, ℕ, suc, ◌+◌, ◌/◌, ◌<◌, ◌≤◌, Bool, true, List, [], ◌++◌, length, refl, ◌∙◌, sym, subst, inr, arith, add-one, length-append}
+use Rattle.std.proofs.Common.{◌≡◌, ℕ, suc, ◌+◌, ◌/◌, ◌<◌, Bool, true, List, [], ◌++◌, refl, ◌∙◌, sym, subst, inr, arith, add-one, length-append}
 use Rattle.history.specs.declared.entry.Entry.{Entry}
 use Rattle.atomic_table.specs.Seated.{TableId}
 use Rattle.desk_rule.specs.declared.view.View.{View}
@@ -22,7 +22,7 @@ use Rattle.ds_live.specs.declared.task.Task.{Task}
 use Rattle.ds_live.specs.declared.task.Task.TheVariants.{Exchange, Follow, Publish}
 use Rattle.ds_live.specs.declared.worker.Worker.{Worker}
 use Rattle.ds_live.specs.Commands.{each_below, publisher_number}
-use Rattle.ds_live.specs.Turns.{HasCalled, HasFollowed, HasFollowedOn, HasRefreshed}
+use Rattle.ds_live.specs.Turns.{HasCalled, HasFollowed, HasRefreshed}
 use Rattle.ds_live.specs.declared.worker_fault.WorkerFault.{WorkerFault}
 use Rattle.ds_live.specs.Workers.{ComesBack, EndsBy, FailsTurn, IsTask, LetsThrough, StorePass, TakesTask, TurnTaken, TookTask, TookTurns, plain_task}
 use Rattle.ds_live.proofs.TurnLemmas.{called_more, called_none, more_accepted, none_accepted, refreshed_later}

@@ -1,5 +1,5 @@
 -- A run of threads: what its workers did, and the stores that they left.
-use Rattle.std.specs.Prelude.{All, ◌≡◌, ℕ, zero, suc, ◌+◌, ◌-◌, ◌*◌, ◌<◌, ◌≤◌, Bool, List, [], ◌∷◌, ◌++◌, length, map, Option, None}
+use Rattle.std.specs.Prelude.{All, ◌≡◌, ℕ, zero, suc, ◌+◌, ◌-◌, ◌<◌, ◌≤◌, Bool, List, [], ◌∷◌, ◌++◌, length, map, None}
 use Rattle.std.specs.List.{AllByRecursion, flat_map}
 use mathlib.Core.List.{IsPrefix}
 use Rattle.history.specs.declared.entry.Entry.{Entry}
@@ -12,7 +12,7 @@ use Rattle.ds_machine.specs.State.{opening}
 use Rattle.ds_machine.specs.declared.command.Command.{Command}
 use Rattle.ds_machine.specs.declared.reply.Reply.{Reply}
 use Rattle.desk_store.specs.Record.{PassRecord}
-use Rattle.desk_store.specs.Follower.{FollowerRecord, new_follower}
+use Rattle.desk_store.specs.Follower.{FollowerRecord}
 use Rattle.desk_store.specs.Refresh.{AreOfFollower}
 use Rattle.ds_store.specs.Turns.{Turn}
 use Rattle.ds_live.specs.Commands.{each_below, every_key, publisher_label, publisher_number}

@@ -26,7 +26,6 @@ use Rattle.desk_store.specs.declared.exchange.Exchanged.{Exchanged}
 use Rattle.desk_store.specs.Exchange.{Exchanges}
 use Rattle.desk_store.specs.ExchangeFaults.{IsExchangeFault}
 use Rattle.desk_store.specs.declared.exchange_fault.ExchangeFault.{ExchangeFault}
-use Rattle.ds_live.specs.Commands.{each_below, publisher_number}
 use Rattle.ds_live.specs.declared.worker_fault.WorkerFault.{WorkerFault}
 use Rattle.ds_live.specs.declared.worker_fault.WorkerFault.TheVariants as faults
 

@@ -1,5 +1,5 @@
 -- Why a replay of what is left ends by its reader or its writer.
-use Rattle.std.proofs.Common.{◌≡◌, ℕ, zero, suc, ◌+◌, ◌-◌, ◌^◌, ◌≤◌, ◌⊎◌, Result, Ok, Err, refl, sym, subst, ap, ◌∙◌, inl, inr, arith}
+use Rattle.std.proofs.Common.{◌≡◌, ℕ, zero, suc, ◌+◌, ◌-◌, ◌^◌, ◌≤◌, Result, Ok, Err, sym, subst, ap, ◌∙◌, inl, inr, arith}
 use Rattle.std.specs.Result.{IsErrAnd}
 use Rattle.std.proofs.lemmas.Result.{err_from_is_err_and}
 use Rattle.ds_script.specs.declared.fault.ReplayFault.{ReplayFault}

@@ -1,5 +1,5 @@
 -- Why a replay of what is left blames its reader or its writer.
-use Rattle.std.specs.Prelude.{◌≡◌, ℕ, suc, ◌^◌, ◌≤◌, ◌⊎◌}
+use Rattle.std.specs.Prelude.{ℕ, suc, ◌^◌, ◌≤◌, ◌⊎◌}
 use Rattle.ds_script.specs.declared.fault.ReplayFault.{ReplayFault}
 use Rattle.ds_script.specs.declared.fault.ReplayFault.TheVariants.{ReadFault, WriteFault}
 use Rattle.line_io.specs.declared.streams.Source.{Ghosts as Reader}

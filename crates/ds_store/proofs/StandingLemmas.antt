@@ -9,7 +9,7 @@ use Rattle.ds_entry.specs.declared.floor.Floor.{Floor}
 use Rattle.ds_entry.specs.declared.item.Item.{Item}
 use Rattle.ds_entry.specs.declared.item.Item.TheVariants.{Change as Changed, Floor as Floored}
 use Rattle.ds_held.specs.Held.{Holding, held_items, floor_for, is_below, IsSound}
-use Rattle.ds_machine.specs.Parts.{changes_in, floors_in, held_at, floor_at}
+use Rattle.ds_machine.specs.Parts.{floors_in, floor_at}
 use Rattle.ds_machine.specs.State.{State}
 use Rattle.ds_machine.specs.Order.{first_cause}
 use Rattle.ds_machine.specs.Standing.{Standing, FloorStanding, standing_of, against_change, against_floor, cause_of, IsFree}

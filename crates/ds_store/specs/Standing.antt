@@ -6,7 +6,7 @@ use Rattle.ds_entry.specs.Change.{ChangeRecord}
 use Rattle.ds_entry.specs.Floor.{floor_of}
 use Rattle.ds_machine.specs.Order.{by_version}
 use Rattle.ds_machine.specs.Standing as machine
-use Rattle.ds_machine.specs.Standing.{HasRoom, against_change}
+use Rattle.ds_machine.specs.Standing.{against_change}
 use Rattle.ds_machine.specs.declared.refusal.Cause.{Cause}
 use Rattle.ds_machine.specs.declared.refusal.Cause.TheVariants.{Refused}
 use Rattle.ds_machine.specs.declared.refusal.Refusal.TheVariants.{Full, Worn}

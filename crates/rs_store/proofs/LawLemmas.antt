@@ -17,7 +17,6 @@ use Rattle.ds_entry.specs.declared.body.Body.TheVariants.{Put, Gone}
 use Rattle.ds_entry.specs.SingleNumbered.{IsSingleNumbered}
 use Rattle.ds_entry.proofs.Members.{Contains-nil}
 use Rattle.rs_core.proofs.RunLemmas.{labels_single_numbered}
-use Rattle.ds_machine.specs.State.{State}
 use Rattle.ds_machine.specs.declared.command.Command.{Command}
 use Rattle.ds_machine.specs.declared.reply.Reply.{Reply}
 use Rattle.rs_to_store.specs.Asked.{asking_for, command_of, commands}
@@ -40,7 +39,7 @@ use Rattle.rs_store.specs.declared.call.RsCommand.TheVariants.{Ask, Begin, Tell}
 use Rattle.rs_store.specs.declared.call.RsReply.{RsReply}
 use Rattle.rs_store.specs.declared.call.RsReply.TheVariants.{Replied, NotAllowed, Begun, Exists, NotBegun, Acted, Refused}
 use Rattle.rs_store.specs.Pair.{PairRecord}
-use Rattle.rs_store.specs.Serving.{ClientTurn, BeginTurn, BeginsFirst, EventTurn, RsServes, TurnFor, TurnsFor, passes_for_rs, before_beginning}
+use Rattle.rs_store.specs.Serving.{ClientTurn, BeginTurn, BeginsFirst, EventTurn, RsServes, TurnFor, TurnsFor, before_beginning}
 use Rattle.rs_store.specs.Turns.{RsTurn}
 use Rattle.rs_store.specs.Laws.{entry_if, entries_for, entries_by, store_entries, StoreTurnsRun, actions_in, actions_by, RsTurnsRun, HistoriesKeepLabels, RsAloneIsRs, StandAlike, PairsSettle}
 

@@ -1,5 +1,5 @@
 -- The store's turns for RS's actions, in sequence.
-use Rattle.std.proofs.Common.{◌≡◌, suc, List, [], ◌∷◌, ◌++◌, length, Option, Some, refl, sym, ap, subst, ◌∙◌}
+use Rattle.std.proofs.Common.{◌≡◌, suc, List, [], ◌∷◌, ◌++◌, length, Option, refl, ap, subst}
 use Rattle.ds_content.specs.Content.{ContentRecord}
 use Rattle.ds_machine.specs.declared.reply.Reply.{Reply}
 use Rattle.rs_to_store.specs.Asked.{command_of}

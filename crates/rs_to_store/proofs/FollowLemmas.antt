@@ -25,7 +25,7 @@ use Rattle.driver_tables.specs.Label.{endpoint_now, newest, is_same_state, is_ol
 use Rattle.driver_tables.specs.Answer.{IsAnswer}
 use Rattle.driver_tables.specs.DriverTable.{DriverTable}
 use Rattle.driver_tables.specs.Changed.{changing}
-use Rattle.driver_tables.specs.Run.{Entry, TableStep, TableRun, moves_in}
+use Rattle.driver_tables.specs.Run.{Entry}
 use Rattle.driver_tables.specs.Run as calls
 use Rattle.driver_tables.specs.Stands.{TableRecord, TableStands}
 use Rattle.driver_tables.proofs.TestLemmas.{name_itself}

@@ -1,6 +1,6 @@
-use Rattle.std.proofs.Common.{ap, sym}
+use Rattle.std.proofs.Common.{ap}
 use Rattle.std.specs.Prelude.{slice_set}
-use Rattle.c_store.proofs.GivingLemmas.{one_given, one_left}
+use Rattle.c_store.proofs.GivingLemmas.{one_given}
 use Rattle.c_store.proofs.giving.give_one.Goals as goal
 
 pub returns-then-count-room : goal.returns-then-count-room

@@ -1,4 +1,3 @@
-use Rattle.std.proofs.Common.{sym, subst}
 use Rattle.c_store.proofs.FastLemmas.{alone}
 use Rattle.c_store.proofs.line_fast.endpoint_alone.Goals as goal
 

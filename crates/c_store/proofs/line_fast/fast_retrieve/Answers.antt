@@ -1,4 +1,4 @@
-use Rattle.std.proofs.Common.{take, suc, sym, length, ◌∙◌, arith}
+use Rattle.std.proofs.Common.{take, suc, sym, ◌∙◌, arith}
 use Rattle.std.proofs.lemmas.List.{take_all, length-take-le}
 use Rattle.c_store.proofs.FastLemmas.{of_key}
 use Rattle.c_store.proofs.line_fast.fast_retrieve.Goals as goal

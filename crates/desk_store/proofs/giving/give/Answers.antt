@@ -1,7 +1,6 @@
 use Rattle.std.proofs.Common.{[], ◌++◌, ◌<◌, ◌≤◌, refl, ◌∙◌, arith, ap, length, length-append, length-drop, length-take, List}
 use Rattle.std.proofs.lemmas.Result.{err_from_is_err_and}
 use Rattle.ds_entry.specs.declared.item.Item.{Item}
-use Rattle.desk_store.specs.Giving.{GivesAll}
 use Rattle.desk_store.proofs.GivingLemmas.{fails_only, gives_both, gives_end, gives_none, gives_rest, leaves_rest, merge_fails, only_front, only_part, only_rest, part_has_few, part_has_some, parts_more, told_gives, told_only}
 use Rattle.desk_store.proofs.giving.give.Goals as goal
 

@@ -1,4 +1,4 @@
-use Rattle.std.proofs.Common.{All, ◌≡◌, Some, [], ◌∷◌, ◌++◌, length, map, sum_by, vec_capacity, refl, ap, sym, subst, ◌∙◌, IfNone, IfSome, append-nil, append_assoc, arith}
+use Rattle.std.proofs.Common.{◌≡◌, [], ◌∷◌, ◌++◌, length, map, sum_by, ap, sym, subst, ◌∙◌, IfNone, append-nil, append_assoc, arith}
 use Rattle.std.proofs.lemmas.List.Elements.{All-nil, All-same}
 use Rattle.desk.specs.Desk.{identity}
 use Rattle.desk.specs.Pass.{desk_of}

@@ -1,4 +1,4 @@
-use Rattle.std.proofs.Common.{Some, map, take, ap, sym, ◌∙◌, arith}
+use Rattle.std.proofs.Common.{map, take, ap, sym, ◌∙◌, arith}
 use Rattle.ds_live.specs.Faults.{fault_or, lowest_fault, own_fault}
 use Rattle.ds_live.proofs.FaultLemmas.{lowest_more}
 use Rattle.ds_live.proofs.working.find_fault.Goals as goal

@@ -1,9 +1,9 @@
-use Rattle.std.proofs.Common.{List, [], ◌∷◌, Result, Ok, Err, refl, sym, ap, subst, append-nil}
+use Rattle.std.proofs.Common.{List, [], ◌∷◌, Result, Ok, Err, refl, subst}
 use Rattle.ds_held.specs.Held.{held_items}
 use Rattle.driver_tables.specs.declared.fault.TableFault.{TableFault}
 use Rattle.driver_tables.specs.declared.moves.Move.{Move}
 use Rattle.driver_tables.specs.Run.{one_move}
-use Rattle.rs_to_store.specs.Submitting.{FollowedAndTaken, all_in}
+use Rattle.rs_to_store.specs.Submitting.{FollowedAndTaken}
 use Rattle.c_store.proofs.moves.LastMoves.submit.Goals as goal
 
 pub returns-in-Ok : goal.returns-in-Ok

@@ -1,5 +1,4 @@
 use Rattle.std.proofs.Common.{◌≡◌}
-use Rattle.desk.specs.Pass.{desk_of}
 use Rattle.test_pairs.proofs.watch.WatchTaskBoxRsStore.work.Given as goal
 
 abbrev pub invariant-loop-turn : goal.invariant-loop-turn
