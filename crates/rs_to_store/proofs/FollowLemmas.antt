@@ -277,10 +277,35 @@ module _ (held : List Item) (t : DriverTable) (before : List (List Move)) (index
         by_answer : (out : Result (List Move) TableFault × DriverTable) → changing w.at label state ≡ out → as_round w.at out ≡ taking w.at label news
         by_answer out q = ap (as_round w.at) (sym q) ∙ ap (taking w.at label) some
 
-        pub old_told : true ≡ is_old (newest w.at.states label) (endpoint_now w.at.states label) state → Walked held t before (index + 1) now rounds
-        old_told old =
-            let q = by_answer (Err OldEndpoint, w.at) (old_refused w.at label state has (sym old)) in
-            goes_on now rounds (sym (append-nil rounds) ∙ ap (λ (p : List (List Move) × DriverTable). rounds ++ p.0) q) (subst (λ (p : List (List Move) × DriverTable). TableStands now p.1) q w.stands)
+        -- an old state is passed over
+        pub old_passed : (next : TableRecord) (after : List (List Move)) → next ≡ now → after ≡ rounds → Err OldEndpoint ≡ (changing w.at label state).0 → Walked held t before (index + 1) next after
+        old_passed next after v e a = by (changing w.at label state) refl a
+          where
+            by : (out : Result (List Move) TableFault × DriverTable) → changing w.at label state ≡ out → Err OldEndpoint ≡ out.0 → Walked held t before (index + 1) next after
+            by (Ok moves, u) q a = absurd (let n : Err OldEndpoint ≡ Ok moves = a in cc)
+            by (Err fault, u) q a =
+                let p = by_answer (Err fault, u) q in
+                goes_on next after (e ∙ (sym (append-nil rounds) ∙ ap (λ (p : List (List Move) × DriverTable). rounds ++ p.0) p))
+                (subst (λ (p : List (List Move) × DriverTable). TableStands next p.1) p (subst (λ (x : TableRecord). TableStands x w.at) (sym v) w.stands))
+
+        pub old_told : (after : List (List Move)) → after ≡ rounds → true ≡ is_old (newest w.at.states label) (endpoint_now w.at.states label) state → Walked held t before (index + 1) now after
+        old_told after e old = old_passed now after refl e (sym (ap (λ (p : Result (List Move) TableFault × DriverTable). p.0) (old_refused w.at label state has (sym old))))
+
+        -- a state that is refused for another cause isn't old
+        not_old : (fault : TableFault) → fault ≢ OldEndpoint → IsAnswer (changing w.at label state).0 (Err fault) → false ≡ is_old (newest w.at.states label) (endpoint_now w.at.states label) state
+        not_old fault other a = by (is_old (newest w.at.states label) (endpoint_now w.at.states label) state) refl
+          where
+            no : (f : TableFault) → f ≢ OldEndpoint → IsAnswer {A = List Move} (Err OldEndpoint) (Err f) → ⊥
+            no faults.NoRoom n (moves, q) = let k : Err OldEndpoint ≡ Ok moves = q in cc
+            no faults.OldEndpoint n h = n refl
+            no faults.Assigned n h = cc
+            no faults.TwoIds n h = cc
+            no faults.NoDevice n h = cc
+            no faults.NotPending n h = cc
+
+            by : (o : Bool) → is_old (newest w.at.states label) (endpoint_now w.at.states label) state ≡ o → false ≡ is_old (newest w.at.states label) (endpoint_now w.at.states label) state
+            by false e = sym e
+            by true e = absurd (no fault other (subst (λ (p : Result (List Move) TableFault × DriverTable). IsAnswer p.0 (Err fault)) (old_refused w.at label state has e) a))
 
         pub state_taken : (moves : List Move) (next : TableRecord) (after : List (List Move)) → IsAnswer (changing w.at label state).0 (Ok moves) → TableStands next (changing w.at label state).1 → after ≡ rounds ++ moves ∷ []
             → Walked held t before (index + 1) next after
@@ -318,6 +343,7 @@ module _ (held : List Item) (t : DriverTable) (before : List (List Move)) (index
               by faults.NoDevice h = absurd (cc)
               by faults.NotPending h = absurd (cc)
 
-          -- the table refused the state
-          pub refused : (next : TableRecord) (after : List (List Move)) (fault : TableFault) → next ≡ now → after ≡ rounds → IsAnswer (changing w.at label state).0 (Err fault) → Reaches held t before next after (Some fault)
-          refused next after fault v e a = wants_room next after fault v e (only_room fault a)
+        -- the table refused the state
+        pub refused : (next : TableRecord) (after : List (List Move)) (fault : TableFault) → next ≡ now → after ≡ rounds → fault ≢ OldEndpoint → IsAnswer (changing w.at label state).0 (Err fault)
+            → Reaches held t before next after (Some fault)
+        refused next after fault v e other a = let new = not_old fault other a in wants_room new next after fault v e (only_room new fault a)

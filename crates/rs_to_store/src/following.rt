@@ -27,14 +27,15 @@ pub fn follow<T: Drivers>(
         let Some(state) = told(table, map, &label) else {
             continue;
         };
-        if table.is_old(&label, &state) {
-            continue;
-        }
         if rounds.reserve(1).is_err() {
+            if table.is_old(&label, &state) {
+                continue;
+            }
             return Some(TableFault::NoRoom);
         }
         match table.changed(&label, state) {
             Ok(moves) => rounds.push_reserved(moves),
+            Err(TableFault::OldEndpoint) => continue,
             Err(fault) => return Some(fault),
         }
     }

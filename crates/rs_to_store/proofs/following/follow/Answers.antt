@@ -1,8 +1,11 @@
-use Rattle.std.proofs.Common.{◌≡◌, ◌≤◌, ◌++◌, ◌∷◌, List, [], length, refl, ap, sym, ◌∙◌, arith}
+use Rattle.std.proofs.Common.{◌≡◌, ◌≤◌, ◌++◌, ◌∷◌, List, [], length, Err, refl, ap, sym, ◌∙◌, subst, arith, rules}
 use Rattle.ds_held.specs.Held.{held_items}
+use Rattle.driver_tables.specs.declared.fault.TableFault.{TableFault}
 use Rattle.driver_tables.specs.declared.fault.TableFault.TheVariants.{NoRoom}
+use Rattle.driver_tables.specs.Answer.{IsAnswer}
+use Rattle.driver_tables.specs.Changed.{changing}
 use Rattle.driver_tables.specs.declared.moves.Move.{Move}
-use Rattle.rs_to_store.proofs.FollowLemmas.{walk_begins, walk_ends, none_there, nothing_told, old_told, state_taken, wants_room, refused}
+use Rattle.rs_to_store.proofs.FollowLemmas.{walk_begins, walk_ends, none_there, nothing_told, old_told, old_passed, state_taken, wants_room, refused}
 use Rattle.rs_to_store.proofs.following.follow.Goals as goal
 
 pub loop-index-init : goal.loop-index-init
@@ -40,7 +43,7 @@ loop-index-preserved-then-is_old g c = record {
       let held = held_items c.args.map.now.held in
       let w = c.loop-index.invariant.walked t st in
       old_told held t c.args.rounds.now.items c.loop-index.index (g.T.Drivers.kept c.loop-index.table) c.loop-index.rounds.items w c.in-Some.label (sym c.in-Some.is ∙ c.label_at.ensures w.at w.stands)
-      c.told.result (c.told.ensures w.at w.stands) c.in-Some-told.state c.in-Some-told.is
+      c.told.result (c.told.ensures w.at w.stands) c.in-Some-told.state c.in-Some-told.is c.reserve.new.self.items c.reserve.ensures.items
       (sym c.if-is_old.true ∙ c.is_old.ensures w.at w.stands);
   count = c.loop-index.invariant.count;
 }
@@ -54,6 +57,18 @@ returns-then-is_err g c t st =
     c.told.result (c.told.ensures w.at w.stands) c.in-Some-told.state c.in-Some-told.is
     (sym c.if-is_old.false ∙ c.is_old.ensures w.at w.stands) now c.reserve.new.self.items NoRoom refl c.reserve.ensures.items refl
 
+pub loop-index-preserved-in-Err-OldEndpoint : goal.loop-index-preserved-in-Err-OldEndpoint
+loop-index-preserved-in-Err-OldEndpoint g c = record {
+  walked = λ t st.
+      let held = held_items c.args.map.now.held in
+      let w = c.loop-index.invariant.walked t st in
+      old_passed held t c.args.rounds.now.items c.loop-index.index (g.T.Drivers.kept c.loop-index.table) c.loop-index.rounds.items w c.in-Some.label (sym c.in-Some.is ∙ c.label_at.ensures w.at w.stands)
+      c.told.result (c.told.ensures w.at w.stands) c.in-Some-told.state c.in-Some-told.is
+      (g.T.Drivers.kept c.changed.new.self) c.reserve.new.self.items c.in-Err-OldEndpoint.ensures.unchanged c.reserve.ensures.items
+      (subst (λ (f : TableFault). IsAnswer (changing w.at c.in-Some.label c.in-Some-told.state).0 (Err f)) c.in-Err-OldEndpoint.field-0-is (c.in-Err-OldEndpoint.ensures.answer w.at w.stands));
+  count = c.loop-index.invariant.count;
+}
+
 pub returns-in-Err : goal.returns-in-Err
 returns-in-Err g c t st =
     let held = held_items c.args.map.now.held in
@@ -61,8 +76,8 @@ returns-in-Err g c t st =
     let w = c.loop-index.invariant.walked t st in
     refused held t c.args.rounds.now.items c.loop-index.index now c.loop-index.rounds.items w c.in-Some.label (sym c.in-Some.is ∙ c.label_at.ensures w.at w.stands)
     c.told.result (c.told.ensures w.at w.stands) c.in-Some-told.state c.in-Some-told.is
-    (sym c.if-is_old.false ∙ c.is_old.ensures w.at w.stands) (g.T.Drivers.kept c.changed.new.self) c.reserve.new.self.items c.in-Err.fault c.in-Err.ensures.unchanged c.reserve.ensures.items
-    (c.in-Err.ensures.answer w.at w.stands)
+    (g.T.Drivers.kept c.changed.new.self) c.reserve.new.self.items c.in-Err.fault c.in-Err.ensures.unchanged c.reserve.ensures.items
+    (search rules) (c.in-Err.ensures.answer w.at w.stands)
 
 pub loop-index-preserved : goal.loop-index-preserved
 loop-index-preserved g c = record {
