@@ -123,20 +123,15 @@ def states_of_the_server(fleet, draw):
         in_step(bridge)
         walk("MET | an error")
 
-        script.script("INFO", DEMOTED, whole=True)
-        calls = script.count
-        reconnects(bridge, script.cut)
-        assert script.count == calls + 4, "it stays with a server that is demoted while it is met"
-        walk("CALLED | an error of a demoted server")
+        for event, answer in (("an error of a demoted server", DEMOTED), ("a connection is lost, or is silent", CUT)):
+            script.script("INFO", answer, whole=True)
+            calls = script.count
+            reconnects(bridge, script.cut)
+            assert script.count == calls + 4, "the one server there is isn't called again"
+            walk(f"CALLED | {event}")
         script.script("XADD", DEMOTED)
         reconnects(bridge, lambda: offer(bridge, kept.append(next(line)) or kept[-1]))
         walk("MET | an error of a demoted server")
-
-        script.script("INFO", CUT, whole=True)
-        calls = script.count
-        reconnects(bridge, script.cut)
-        assert script.count == calls + 4, "it isn't called again"
-        walk("CALLED | a connection is lost, or is silent")
         script.script("XREAD", CUT)
         reconnects(bridge, lambda: fleet.ask("XADD", "ds:items", "*", "from", "x", "items", next(line) + "\n"))
         walk("MET | a connection is lost, or is silent")

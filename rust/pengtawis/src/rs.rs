@@ -16,8 +16,9 @@ const WHOLE_TEXT: u32 = u32::MAX;
 /// Decides which services run, and under which endpoints: the reincarnation server (RS), beside a store.
 ///
 /// A supervisor reports events, and carries out the actions that each returns, in order. RS publishes labels in the store, deletes them and
-/// sweeps it by itself; another caller that passes for RS is refused as [`Refusal::NotAllowed`]. Time is counted in ticks of the
-/// supervisor's choice: no event has a tick below that of the last accepted event, nor above 2^62.
+/// sweeps it by itself; another caller that passes for RS is refused as [`Refusal::NotAllowed`]. A merge has no caller: merge only items
+/// of stores whose labels are this RS's, or a later run's of it. Time is counted in ticks of the supervisor's choice: no event has a tick
+/// below that of the last accepted event, nor above 2^62.
 ///
 /// ```
 /// use pengtawis::{Action, Cause, Endpoint, Rs};
