@@ -507,8 +507,8 @@ uint32_t ds_table_assign(struct ds_table *table, uint8_t unit, uint8_t service_c
                          struct ds_answer *answer);
 
 /* Lets the table take what the map has of the labels of its units, in the order in which they were assigned. Call it after ds_map_take.
- * The answer is DS_MOVED, and count says how many moves there are. refusal is 0; or DS_NOROOM if memory ran out at a label that the map has,
- * even if no move comes of it: the labels before it are taken, and their moves are counted. Call it again for the rest.
+ * The answer is DS_MOVED, and count says how many moves there are. refusal is 0; or DS_NOROOM if memory ran out at a label that the map
+ * has, even if no move comes of it: the labels before it are taken, and their moves are counted. Call it again for the rest.
  * Returns 0, or DS_ISCLOSED if the table or the map is closed, and then the answer and the table are unchanged. */
 uint32_t ds_table_follow(struct ds_table *table, struct ds_map *map, struct ds_answer *answer);
 
