@@ -24,9 +24,9 @@ pub fn tables_send_to_no_older()
     ensures apart { LabelsAreApart }
 {}
 
-/// A law: six wrong turns are refused. A table does nothing; it sends a pending request again, or a new one, to an
-/// endpoint that its map no longer has; it follows another map; it takes an old tombstone for an end; it returns to an
-/// instance before one that it sent to.
+/// A law: seven wrong turns are refused. A table does nothing; it sends a pending request again, or a new one, to an
+/// endpoint that its map no longer has; it sends a request to a driver that its map says is gone; it follows another
+/// map; it takes an old tombstone for an end; it returns to an instance before one that it sent to.
 pub fn wrong_turns_are_refused()
     ensures { WrongTurns }
 {}
