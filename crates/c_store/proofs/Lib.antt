@@ -4,3 +4,6 @@ pub mod FastLemmas
 pub mod GivingLemmas
 pub mod HeldLemmas
 pub mod TextLemmas
+pub mod NewsLemmas
+pub mod FollowRunLemmas
+pub mod TurnLemmas

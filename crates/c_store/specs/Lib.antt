@@ -10,3 +10,6 @@ pub mod Following
 pub mod Giving
 pub mod Answers
 pub mod Calls
+pub mod TableTurns
+pub mod NoOlder
+pub mod TableRuns

@@ -13,6 +13,7 @@ mod drivers;
 mod fast;
 mod giving;
 mod last;
+mod laws;
 mod line_calling;
 mod line_fast;
 mod map;
@@ -25,6 +26,7 @@ mod text;
 
 pub use giving::TableMove;
 pub use last::Last;
+pub use laws::{table_calls_are_runs, table_calls_reach_no_older};
 pub use line_calling::carry_out;
 pub use line_fast::{fast_name_of, fast_retrieve};
 pub use map::{label_in, new_map, take_lines};

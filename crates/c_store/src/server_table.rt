@@ -8,6 +8,7 @@ ghost use Rattle.c_store.specs.Giving.{GivesMoves};
 use crate::answers::{told_fault, told_moves};
 use crate::drivers::Tables;
 use crate::giving::TableMove;
+use crate::laws::{table_calls_are_runs, table_calls_reach_no_older};
 use crate::moves::LastMoves;
 use c_values::{Answer, endpoint};
 use ds_names::Name;
@@ -26,6 +27,7 @@ impl ServerTable {
     pub fn new(alloc: Global, server: u32) -> Option<ServerTable>
         ensures { IsNewTable server result }
     {
+        table_calls_are_runs();
         let drivers = Tables::new(alloc, server)?;
         Some(ServerTable {
             drivers,
@@ -67,6 +69,7 @@ impl ServerTable {
     pub fn submit(&mut self, map: &SubMap, id: u64, unit: u8, answer: &mut Answer)
         ensures { TableSubmits (held_items map.now.held) id unit self.old answer.new self.new }
     {
+        table_calls_reach_no_older();
         let stop = match &mut self.drivers {
             Tables::File(table) => self.moves.submit(table, map, id, unit),
             Tables::Net(table) => self.moves.submit(table, map, id, unit),
