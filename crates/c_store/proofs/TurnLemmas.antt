@@ -2,7 +2,6 @@
 use Rattle.std.proofs.Common.{◌≡◌, ◌==◌, ◌≤◌, ℕ, Bool, cond, List, [], ◌∷◌, ◌++◌, Option, Some, None, Result, Ok, Err, refl, ap, sym, ◌∙◌, subst, inl, inr, ◌⊎◌, append-nil}
 use Rattle.std.specs.Prelude.{MatchOption, length}
 use Rattle.std.specs.List.{flat_map, cons_option, AllByRecursion}
-use Rattle.std.specs.Map.{lookup}
 use Rattle.std.specs.Option.{option_map, option_to_list}
 use Rattle.std.proofs.lemmas.Grind.{flat_map-append}
 use Rattle.std.proofs.lemmas.List.Elements.{filter_map-append}
@@ -21,13 +20,13 @@ use Rattle.driver_tables.specs.Doing.{sends_of, answered_by}
 use Rattle.driver_tables.specs.Driver.{Driver, driver_of}
 use Rattle.driver_tables.specs.DriverTable.{DriverTable, Request, empty_table, values_of, last_sent}
 use Rattle.driver_tables.specs.Laws.{IsRequestKept}
+use Rattle.driver_tables.specs.Reached.{IsRequestServed}
 use Rattle.driver_tables.specs.Run.{Call, Entry, TableStep, TableRun, no_moves, moves_in, all_moves_in, request_in, requests_in}
 use Rattle.driver_tables.specs.Run as calls
 use Rattle.driver_tables.specs.Stands.{TableRecord, TableStands, device_of}
 use Rattle.driver_tables.proofs.LawLemmas.{lists_tell, answers_once, block_requests_are_kept}
 use Rattle.driver_tables.proofs.RunLemmas.{tells_run}
 use Rattle.driver_tables.proofs.StandsLemmas.{driver_kept}
-use Rattle.driver_tables.proofs.SubmitLemmas.{driver_there}
 use Rattle.rs_to_store.specs.Following.{labels_of}
 use Rattle.rs_to_store.specs.Submitting.{all_in}
 use Rattle.c_values.specs.declared.answer.Answer.{Answer}
@@ -39,7 +38,7 @@ use Rattle.c_store.specs.Drivers.{kept, driver_with}
 use Rattle.c_store.specs.Following.{fault_in}
 use Rattle.c_store.specs.NoOlder.{HasNoOlder, GoesToNoOlder, unit_label}
 use Rattle.c_store.specs.TableTurns.{TableCall, Assign, Follow, Submit, Reply, Takes, TableTurn, TakesTurn, TableTurns, moves_of_turns, accepted_by, accepted}
-use Rattle.c_store.specs.TableRuns.{IsNoCall, IsOneCall, IsOfMap, HasRequest, IsOfCall, IsPart, AreParts, TurnsAreRuns, endings_of, AnsweredOnce, IsKeptBy, RequestsAreKept, followed_by, GoesToNoOlderInstance, NoneGoesToOlderInstance}
+use Rattle.c_store.specs.TableRuns.{IsNoCall, IsOneCall, IsOfMap, HasRequest, IsOfCall, IsPart, AreParts, TurnsAreRuns, endings_of, AnsweredOnce, IsKeptBy, IsKeptIn, RequestsAreKept, followed_by, GoesToNoOlderInstance, NoneGoesToOlderInstance}
 use Rattle.c_store.proofs.NewsLemmas.{same_some}
 use Rattle.c_store.proofs.FollowRunLemmas.{label_in, Goes, labels_have, follow_run, submit_run}
 
@@ -252,24 +251,20 @@ module _ (turns : List TableTurn) (last : ServerTable) (k : TurnsRun empty_table
   once : (id : ℕ) → length (endings_of (moves_of_turns turns) id) ≤ 1
   once id = subst (λ l. length (values_of id l) ≤ 1) answers_are (answers_once (joined k.parts) k.table k.run id)
 
-  one_kept : (r : Request) → ((d : Driver) → driver_of k.table.units r.unit ≡ Some d → d.class ≡ Block → IsRequestKept k.table r d)
-      → (d : Device) → lookup (λ u. r.unit == u) (kept last.drivers).devices ≡ Some d → d.class ≡ Block → IsKeptBy (moves_of_turns turns) r d
-  one_kept r keeps d found block = by (keeps o.0 o.1 (ap (λ (x : Device). x.class) o.2 ∙ block))
+  one_kept : (r : Request) → IsRequestServed k.table r → ((d : Driver) → driver_of k.table.units r.unit ≡ Some d → d.class ≡ Block → IsRequestKept k.table r d) → IsKeptIn (kept last.drivers).devices (moves_of_turns turns) r
+  one_kept r served keeps = (d, driver_kept (kept last.drivers) k.table r.unit k.stands ∙ ap (option_map (device_of k.table.states)) served.found, λ block. by (keeps served.driver served.found block))
     where
-      o : (o : Driver) × (driver_of k.table.units r.unit ≡ Some o) × (device_of k.table.states o ≡ d)
-      o = driver_there (kept last.drivers) k.table r.unit d k.stands found
+      d : Device
+      d = device_of k.table.states served.driver
 
-      by : IsRequestKept k.table r o.0 → IsKeptBy (moves_of_turns turns) r d
+      by : IsRequestKept k.table r served.driver → IsKeptBy (moves_of_turns turns) r (device_of k.table.states served.driver)
       by (inl e) = inl (ap (values_of r.id) (sym answers_are) ∙ e)
-      by (inr (e, sent)) = inr (
-        ap (values_of r.id) (sym answers_are) ∙ e,
-        λ endpoint q. ap (λ l. last_sent l r.id) (sym sends_are) ∙ sent endpoint (ap (λ (x : Device). x.endpoint) o.2 ∙ q),
-      )
+      by (inr (e, sent)) = inr (ap (values_of r.id) (sym answers_are) ∙ e, λ endpoint q. ap (λ l. last_sent l r.id) (sym sends_are) ∙ sent endpoint q)
 
-  each_kept : (requests : List Request) → AllByRecursion (λ (r : Request). (d : Driver) → driver_of k.table.units r.unit ≡ Some d → d.class ≡ Block → IsRequestKept k.table r d) requests
-      → AllByRecursion (λ (r : Request). (d : Device) → lookup (λ u. r.unit == u) (kept last.drivers).devices ≡ Some d → d.class ≡ Block → IsKeptBy (moves_of_turns turns) r d) requests
-  each_kept [] h = tt
-  each_kept (r ∷ requests) h = (one_kept r h.0, each_kept requests h.1)
+  each_kept : (requests : List Request) → AllByRecursion (IsRequestServed k.table) requests → AllByRecursion (λ (r : Request). (d : Driver) → driver_of k.table.units r.unit ≡ Some d → d.class ≡ Block → IsRequestKept k.table r d) requests
+      → AllByRecursion (IsKeptIn (kept last.drivers).devices (moves_of_turns turns)) requests
+  each_kept [] s h = tt
+  each_kept (r ∷ requests) s h = (one_kept r s.0 h.0, each_kept requests s.1 h.1)
 
 pub answered_once : AnsweredOnce
 answered_once server first last turns id new path = once turns last (turns_run turns first last empty_table new.empty path) id
@@ -277,8 +272,8 @@ answered_once server first last turns id new path = once turns last (turns_run t
 pub requests_are_kept : RequestsAreKept
 requests_are_kept server first last turns new path =
     let k = turns_run turns first last empty_table new.empty path in
-    subst (AllByRecursion (λ (r : Request). (d : Device) → lookup (λ u. r.unit == u) (kept last.drivers).devices ≡ Some d → d.class ≡ Block → IsKeptBy (moves_of_turns turns) r d)) (requests_are turns last k)
-    (each_kept turns last k k.table.requests (block_requests_are_kept (joined k.parts) k.table k.run))
+    subst (AllByRecursion (IsKeptIn (kept last.drivers).devices (moves_of_turns turns))) (requests_are turns last k)
+    (each_kept turns last k k.table.requests k.stands.reached.served (block_requests_are_kept (joined k.parts) k.table k.run))
 
 -- the moves, by what C's table has of its units
 module _ (held : List Item) (t : DriverTable) (v : TableRecord) (stands : TableStands v t) where

@@ -118,14 +118,15 @@ IsKeptBy moves r d =
     ⊎ ((endings_of moves r.id ≡ []) ×
     ((e : EndpointRecord) → d.endpoint ≡ Some e → last_sent (flat_map sends_of moves) r.id ≡ Some e))
 
+-- The request's unit has a driver. If this is a block driver, the request is kept.
+abbrev pub IsKeptIn : List (ℕ × Device) → List Move → Request → Type 0
+IsKeptIn devices moves r = (d : Device) × (lookup (λ u. r.unit == u) devices ≡ Some d) × (d.class ≡ Block → IsKeptBy moves r d)
+
 -- A law: no accepted request to a block driver is lost.
 abbrev pub RequestsAreKept : Type 0
 RequestsAreKept = (server : ℕ) (first last : ServerTable) (turns : List TableTurn) →
     IsEmptyTable server first → TableTurns first turns last →
-    AllByRecursion
-    (λ (r : Request). (d : Device) → lookup (λ u. r.unit == u) (kept last.drivers).devices ≡ Some d → d.class ≡ Block →
-    IsKeptBy (moves_of_turns turns) r d)
-    (accepted turns)
+    AllByRecursion (IsKeptIn (kept last.drivers).devices (moves_of_turns turns)) (accepted turns)
 
 -- ---- where the moves go
 
