@@ -38,7 +38,8 @@ use Rattle.c_store.specs.Drivers.{kept, driver_with}
 use Rattle.c_store.specs.Following.{fault_in}
 use Rattle.c_store.specs.NoOlder.{HasNoOlder, GoesToNoOlder, unit_label}
 use Rattle.c_store.specs.TableTurns.{TableCall, Assign, Follow, Submit, Reply, Takes, TableTurn, TakesTurn, TableTurns, moves_of_turns, accepted_by, accepted}
-use Rattle.c_store.specs.TableRuns.{IsNoCall, IsOneCall, IsOfMap, HasRequest, IsOfCall, IsPart, AreParts, TurnsAreRuns, endings_of, AnsweredOnce, IsKeptBy, IsKeptIn, RequestsAreKept, followed_by, GoesToNoOlderInstance, NoneGoesToOlderInstance}
+use Rattle.c_store.specs.TableRuns.{IsNoCall, IsOneCall, IsOfMap, HasRequest, IsOfCall, IsPart, AreParts}
+use Rattle.c_store.specs.TableRuns.{TurnsAreRuns, endings_of, AnsweredOnce, IsKeptBy, IsKeptIn, RequestsAreKept, followed_by, GoesToNoOlderInstance, NoneGoesToOlderInstance}
 use Rattle.c_store.proofs.NewsLemmas.{same_some}
 use Rattle.c_store.proofs.FollowRunLemmas.{label_in, Goes, labels_have, follow_run, submit_run}
 
