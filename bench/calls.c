@@ -122,7 +122,7 @@ static int submit(unsigned long count) {
         struct ds_move move;
         size_t moves;
         if (ds_table_submit(&table, &drivers, id, 3, &said) || ds_table_moves(&table, 0, &move, 1, &moves) || move.kind != DS_MOVE_SEND) return 0;
-        if (ds_table_reply(&table, 4, 16, id, &said) || said.word != DS_MOVED) return 0; /* its one move is DS_MOVE_DONE */
+        if (ds_table_reply(&table, 4, 16, id, &said) || ds_table_moves(&table, 0, &move, 1, &moves) || move.kind != DS_MOVE_DONE) return 0;
     }
     return 1;
 }
