@@ -1,4 +1,4 @@
-"""What is written for users: docstrings, docs/guide/python.md, the example, types, and what pip installs."""
+"""What is written for users: docstrings, docs/guide/python.md, the examples, types, and what pip installs."""
 import ast
 import contextlib
 import doctest
@@ -16,6 +16,7 @@ import threading
 import unittest
 
 import support  # noqa: I001: it finds the package
+import c_examples
 import pengtawis
 import servers
 
@@ -23,7 +24,9 @@ PACKAGE = support.ROOT / "python" / "pengtawis"
 PAGE = support.ROOT / "docs" / "guide" / "python.md"
 RS_PAGE = support.ROOT / "docs" / "guide" / "rs.md"
 BLOCK = re.compile(r"(?<=\n\n)(?:    .*\n)+")
-WATCH = support.ROOT / "examples" / "python" / "watch.py"
+EXAMPLES = support.ROOT / "examples" / "python"
+WATCH = EXAMPLES / "watch.py"
+AS_IN_C = ("fileserver", "supervisor")  # the examples that print what those in C print
 PATIENCE = 30  # seconds
 TO_INSTALL = ("pip", "setuptools", "wheel")
 CALLER = """\
@@ -102,6 +105,17 @@ class Pages(unittest.TestCase):
         self.assertLessEqual(len(PAGE.read_text().splitlines()), 80)
 
 
+class Examples(unittest.TestCase):
+    def test_they_print_what_those_in_c_print(self):
+        environment = {**os.environ, "PYTHONPATH": str(support.ROOT / "python")}
+        for name in AS_IN_C:
+            for words, wanted in c_examples.runs(name):
+                with self.subTest(name=name, words=words):
+                    command = [sys.executable, EXAMPLES / f"{name}.py", *words]
+                    ran = subprocess.run(command, env=environment, capture_output=True, text=True)
+                    self.assertEqual((ran.returncode, ran.stdout, ran.stderr), (0, wanted, ""))
+
+
 class Watch(unittest.TestCase):
     def test_it_prints_each_change(self):
         for real in kinds_of_servers():
@@ -143,7 +157,7 @@ class Watch(unittest.TestCase):
 
 class Package(unittest.TestCase):
     def test_python_3_9_reads_it(self):
-        for file in (*PACKAGE.glob("*.py"), WATCH):
+        for file in (*PACKAGE.glob("*.py"), *EXAMPLES.glob("*.py")):
             ast.parse(file.read_text(), feature_version=(3, 9))
 
     @unittest.skipUnless(shutil.which("mypy"), "mypy isn't found")

@@ -1,9 +1,12 @@
-"""What the programs of examples/ print for more items than one answer or one room has, for tests/programs/c.
+"""What the programs of examples/ print, in each language: also for more items than one answer or one room has.
 
 The store's answers are those of tests/model/store.py. `driver(1)` and `fileserver(1)` equal the .out files of examples/c.
 """
+import pathlib
+
 import stores
 
+EXAMPLES = pathlib.Path(__file__).resolve().parent.parent.parent / "examples"
 MANY = 300  # more than one answer to a check or a since has, and more lines than fit into 4096 bytes
 TOO_MANY = 1000  # more than the journal of fileserver keeps
 MOST = 256  # items of one such answer
@@ -136,6 +139,18 @@ def fileserver(disks):
     server.printed.append("fs: a reply from 3/16 is refused: oldendpoint")
     server.end(1)
     return "".join(line + "\n" for line in server.printed)
+
+
+# The programs that take a number of entries: what each prints, and the numbers with which it runs.
+NUMBERED = {"driver": (driver, (MANY,)), "fileserver": (fileserver, (MANY, TOO_MANY))}
+
+
+def runs(name):
+    """The words with which the program of this name runs, in any language, each time with what it prints."""
+    yield [], (EXAMPLES / "c" / f"{name}.out").read_text()
+    said, numbers = NUMBERED.get(name, (None, ()))
+    for number in numbers:
+        yield [str(number)], said(number)
 
 
 def script():
