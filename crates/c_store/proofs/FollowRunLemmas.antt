@@ -38,16 +38,16 @@ use Rattle.driver_tables.proofs.TestLemmas.{same_name, name_itself, equal_itself
 use Rattle.rs_to_store.specs.Following.{labels_of, news_of, taking, Follows}
 use Rattle.rs_to_store.specs.Submitting.{all_in, CallsNext, FollowsAndTakes}
 use Rattle.rs_to_store.proofs.FollowLemmas.{follows_keep_units, follows_end_for_room}
-use Rattle.c_store.specs.NoOlder.{IsSince, IsNoOlder, GoesToNoOlder}
+use Rattle.c_store.specs.NoOlder.{IsSince, IsNoOlder, GoesToNoneOlder}
 use Rattle.c_store.specs.TableRuns.{IsOfMap}
-use Rattle.c_store.proofs.NewsLemmas.{same_some, Knows, KnowsChange, Passes, Notes, passes_or_notes, past_knows, knows_past}
+use Rattle.c_store.proofs.NewsLemmas.{in_some, Knows, KnowsChange, Passes, Notes, passes_or_notes, past_knows, knows_past}
 
 -- ---- moves that go to no older instance
 abbrev pub label_in : List (ℕ × Driver) → ℕ → Option (List ℕ)
 label_in units unit = option_map (λ (d : Driver). d.label) (driver_of units unit)
 
 abbrev pub Goes : List Item → DriverTable → Move → Type 0
-Goes held t m = GoesToNoOlder held (label_in t.units) t.requests m
+Goes held t m = GoesToNoneOlder held (label_in t.units) t.requests m
 
 pub all_append : {X : Type 0} (P : X → Type 0) (l k : List X) → AllByRecursion P l → AllByRecursion P k → AllByRecursion P (l ++ k)
 all_append P [] k h g = g
@@ -57,11 +57,11 @@ all_append P (m ∷ l) k h g = (h.0, all_append P l k h.1 g)
 pub goes_more : (held : List Item) (t u : DriverTable) (more : List Request) → u.units ≡ t.units → u.requests ≡ t.requests ++ more → (moves : List Move) → AllByRecursion (Goes held t) moves → AllByRecursion (Goes held u) moves
 goes_more held t u more units requests [] g = tt
 goes_more held t u more units requests (m ∷ moves) g = (
-  subst (λ (l : List (ℕ × Driver)). GoesToNoOlder held (label_in l) u.requests m) (sym units) (subst (λ (l : List Request). GoesToNoOlder held (label_in t.units) l m) (sym requests) (one m g.0)),
+  subst (λ (l : List (ℕ × Driver)). GoesToNoneOlder held (label_in l) u.requests m) (sym units) (subst (λ (l : List Request). GoesToNoneOlder held (label_in t.units) l m) (sym requests) (one m g.0)),
   goes_more held t u more units requests moves g.1,
 )
   where
-    one : (m : Move) → Goes held t m → GoesToNoOlder held (label_in t.units) (t.requests ++ more) m
+    one : (m : Move) → Goes held t m → GoesToNoneOlder held (label_in t.units) (t.requests ++ more) m
     one (Start unit e) h = h
     one (Send id e) h = (h.0, find-append (is_for id) t.requests more ∙ ap (λ (o : Option Request). option_or o (find (is_for id) more)) h.1, h.2)
     one (Answer id ending) h = tt
@@ -122,7 +122,7 @@ round_goes held t l r n = subst (AllByRecursion (Goes held t)) (sym n.moves_are)
   where
     since : (e : EndpointRecord) → Some e ≡ endpoint_in n.change.body → IsNoOlder held l e
     since e is c q =
-        subst (λ (d : ChangeRecord). IsSince d e) (same_some n.change c (sym n.there ∙ q))
+        subst (λ (d : ChangeRecord). IsSince d e) (in_some (sym n.there ∙ q))
         (subst (λ (o : Option EndpointRecord). MatchOption o (n.change.version.epoch < e.generation) (λ (f : EndpointRecord). f.generation ≤ e.generation)) is (omega arith))
 
 -- ---- the run of a follow
@@ -227,7 +227,7 @@ driver_listed [] unit d h = no_some d h
 driver_listed (u ∷ units) unit d h = by (unit == u.0) h (driver_listed units unit d)
   where
     by : (b : Bool) → cond b (Some u.1) (driver_of units unit) ≡ Some d → (driver_of units unit ≡ Some d → In d.label (map (λ (u : ℕ × Driver). u.1.label) units)) → In d.label (u.1.label ∷ map (λ (u : ℕ × Driver). u.1.label) units)
-    by true k rest = inl (ap (λ (z : Driver). z.label) (sym (same_some u.1 d k)))
+    by true k rest = inl (ap (λ (z : Driver). z.label) (sym (in_some k)))
     by false k rest = inr (rest k)
 
 -- ---- the move of a request
@@ -241,9 +241,10 @@ pub record OwnRun (held : List Item) (t : DriverTable) (own : Result (List Move)
   pub requests : u.requests ≡ t.requests ++ more
   pub goes : AllByRecursion (Goes held u) (moves_in own)
 
-find_new : (requests : List Request) (new : Request) → AllByRecursion (λ (r : Request). r.id == new.id ≡ false) requests → find (is_for new.id) (requests ++ new ∷ []) ≡ Some new
-find_new [] new h = ap (λ (b : Bool). cond b (Some new) None) (equal_itself new.id)
-find_new (r ∷ requests) new h = ap (λ (b : Bool). cond b (Some r) (find (is_for new.id) (requests ++ new ∷ []))) h.0 ∙ find_new requests new h.1
+-- what none of the first elements has is found after them
+find_past : {X : Type 0} (p : X → Bool) (xs ys : List X) → AllByRecursion (λ (x : X). p x ≡ false) xs → find p (xs ++ ys) ≡ find p ys
+find_past p [] ys h = refl
+find_past p (x ∷ xs) ys h = ap (λ (b : Bool). cond b (Some x) (find p (xs ++ ys))) h.0 ∙ find_past p xs ys h.1
 
 module _ (held : List Item) (t : DriverTable) (reached : IsTableReached t) (knows : KnowsAll held t) (id unit : ℕ) where
   abbrev r : Request
@@ -254,17 +255,20 @@ module _ (held : List Item) (t : DriverTable) (reached : IsTableReached t) (know
   now_since label e i now c q = by (endpoint_in c.body) (knows label c i q)
     where
       greatest : (n h : ℕ) → newest t.states label ≡ Some h → n ≤ h → n ≤ e.generation
-      greatest n h k l = let s : h ≡ e.generation = same_some h e.generation (sym k ∙ reached.current label e now) in omega (arith, s, l)
+      greatest n h k l = let s : h ≡ e.generation = in_some (sym k ∙ reached.current label e now) in omega (arith, s, l)
 
       by : (o : Option EndpointRecord) → Knows t label c.version.epoch o → MatchOption o (c.version.epoch < e.generation) (λ (f : EndpointRecord). f.generation ≤ e.generation)
       by (Some f) (h, k, l) = greatest f.generation h k l
       by None (inl n) = no_some e (sym n ∙ now)
       by None (inr (h, k, l)) = let g = greatest (c.version.epoch + 1) h k l in omega (arith, g)
 
+  found_last : is_above t.requests id ≡ true → find (is_for id) (t.requests ++ r ∷ []) ≡ Some r
+  found_last above = find_past (is_for id) t.requests (r ∷ []) (other_ids t.requests id above) ∙ ap (λ (b : Bool). cond b (Some r) None) (equal_itself id)
+
   own_goes : (d : Driver) → driver_of t.units unit ≡ Some d → is_above t.requests id ≡ true → (class : Class) (s : Option EndpointRecord) → endpoint_now t.states d.label ≡ s →
-      GoesToNoOlder held (label_in t.units) (t.requests ++ r ∷ []) (submitted class id s)
+      GoesToNoneOlder held (label_in t.units) (t.requests ++ r ∷ []) (submitted class id s)
   own_goes d found above class (Some e) now =
-      (r, find_new t.requests r (other_ids t.requests id above), (d.label, ap (option_map (λ (d : Driver). d.label)) found, now_since d.label e (driver_listed t.units unit d found) now))
+      (r, found_last above, (d.label, ap (option_map (λ (d : Driver). d.label)) found, now_since d.label e (driver_listed t.units unit d found) now))
   own_goes d found above Block None now = tt
   own_goes d found above Character None now = tt
   own_goes d found above Network None now = tt

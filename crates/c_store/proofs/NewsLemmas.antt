@@ -24,8 +24,8 @@ use Rattle.driver_tables.proofs.UnitLemmas.{now_after, newest_after}
 use Rattle.rs_to_store.specs.News.{is_below_newest, is_old_tombstone, told}
 use Rattle.rs_to_store.specs.Following.{news_of, as_round, taking}
 
-pub same_some : {X : Type 0} (x y : X) → Some x ≡ Some y → x ≡ y
-same_some x y e = cc
+pub in_some : {X : Type 0} {x y : X} → Some x ≡ Some y → x ≡ y
+in_some e = cc
 
 -- the label had this generation, or a greater one
 abbrev pub HasReached : DriverTable → List ℕ → ℕ → Type 0
@@ -139,7 +139,7 @@ module _ (held : List Item) (x : DriverTable) (l : List ℕ) where
     is_same = is_same_state (endpoint_now x.states l) state
 
     passed : taking x l (news_of held x l) ≡ ([], x) → KnowsChange x l c → Passes
-    passed past known = record { past = past; knows = λ d q. subst (KnowsChange x l) (same_some c d (sym there ∙ q)) known }
+    passed past known = record { past = past; knows = λ d q. subst (KnowsChange x l) (in_some (sym there ∙ q)) known }
 
     news_by : (late : Bool) → is_old_tombstone (newest x.states l) c.version.epoch c.body ≡ late → news_of held x l ≡ cond late None (Some state)
     news_by late q = ap (told (newest x.states l)) there ∙ ap (λ (b : Bool). cond b None (Some state)) q
@@ -177,7 +177,7 @@ module _ (held : List Item) (x : DriverTable) (l : List ℕ) where
       | inl p ↦ subst (λ (r : List (List Move) × DriverTable). KnowsChange r.1 l c) (sym p.past) (p.knows c q)
       | inr n ↦
           subst (λ (r : List (List Move) × DriverTable). KnowsChange r.1 l c) (sym n.past)
-          (subst (KnowsChange (does (notes x l (endpoint_in n.change.body)) n.moves) l) (same_some n.change c (sym n.there ∙ q))
+          (subst (KnowsChange (does (notes x l (endpoint_in n.change.body)) n.moves) l) (in_some (sym n.there ∙ q))
           (noted_known x (does (notes x l (endpoint_in n.change.body)) n.moves) l (endpoint_in n.change.body) refl n.change.version.epoch))
     ]
 

@@ -36,30 +36,30 @@ use Rattle.c_store.specs.Answers.{stop_number}
 use Rattle.c_store.specs.Calls.{class_for, Declines, AssignsTo, RepliesTo, TableFollows, TableSubmits}
 use Rattle.c_store.specs.Drivers.{kept, driver_with}
 use Rattle.c_store.specs.Following.{fault_in}
-use Rattle.c_store.specs.NoOlder.{HasNoOlder, GoesToNoOlder, unit_label}
-use Rattle.c_store.specs.TableTurns.{TableCall, Assign, Follow, Submit, Reply, Takes, TableTurn, TakesTurn, TableTurns, moves_of_turns, accepted_by, accepted}
-use Rattle.c_store.specs.TableRuns.{IsNoCall, IsOneCall, IsOfMap, HasRequest, IsOfCall, IsPart, AreParts}
-use Rattle.c_store.specs.TableRuns.{TurnsAreRuns, endings_of, AnsweredOnce, IsKeptBy, IsKeptIn, RequestsAreKept, followed_by, GoesToNoOlderInstance, NoneGoesToOlderInstance}
-use Rattle.c_store.proofs.NewsLemmas.{same_some}
+use Rattle.c_store.specs.NoOlder.{HasNoOlder, GoesToNoneOlder, unit_label}
+use Rattle.c_store.specs.TableTurns.{TableCall, Assign, Follow, Submit, Reply, CallAnswers, AnsweredCall, LeadsByCall, AnsweredCalls, moves_of_turns, accepted_by, accepted}
+use Rattle.c_store.specs.TableRuns.{IsNoCall, IsOneCall, IsOfMap, HasRequest, IsOfCall, IsPartOfCall, ArePartsOfCalls}
+use Rattle.c_store.specs.TableRuns.{TurnsAreRuns, endings_of, AnsweredOnce, IsKeptBy, IsKeptIn, RequestsAreKept, map_of_call, GoesToNoOlderInstance, NoneGoesToOlderInstance}
+use Rattle.c_store.proofs.NewsLemmas.{in_some}
 use Rattle.c_store.proofs.FollowRunLemmas.{label_in, Goes, labels_have, follow_run, submit_run}
 
 -- ---- one turn
 -- it is a part of a run, accepts the requests of that part, and its moves go to no older instance than the map has
-pub record TurnRun (turn : TableTurn) (t : DriverTable) (new : ServerTable) : Type 0 where
+pub record TurnRun (turn : AnsweredCall) (t : DriverTable) (new : ServerTable) : Type 0 where
   pub part : List Entry
-  pub is_part : IsPart turn part
+  pub is_part : IsPartOfCall turn part
   pub table : DriverTable
   pub run : TableRun t part table
   pub stands : TableStands (kept new.drivers) table
   pub requests : requests_in part ≡ option_to_list (accepted_by turn.call turn.answer)
-  pub goes : (held : List Item) → followed_by turn.call ≡ Some held → AllByRecursion (Goes held table) turn.moves
+  pub goes : (held : List Item) → map_of_call turn.call ≡ Some held → AllByRecursion (Goes held table) turn.moves
 
 -- the same, of a call with its answer and moves
 abbrev pub CallRun : TableCall → Answer → List Move → DriverTable → ServerTable → Type 0
 CallRun call answer moves t new = TurnRun (record { call = call; answer = answer; moves = moves }) t new
 
 declined_part : (call : TableCall) (old new : ServerTable) (answer : Answer) (moves : List Move) (t : DriverTable) → TableStands (kept old.drivers) t → moves ≡ new.moves → Declines old answer new
-    → (IsNoCall answer [] → IsOfCall call answer []) → [] ≡ option_to_list (accepted_by call answer) → ((held : List Item) → followed_by call ≡ Some held → ⊥) → CallRun call answer moves t new
+    → (IsNoCall answer [] → IsOfCall call answer []) → [] ≡ option_to_list (accepted_by call answer) → ((held : List Item) → map_of_call call ≡ Some held → ⊥) → CallRun call answer moves t new
 declined_part call old new answer moves t st m d of none other = record {
   part = [];
   is_part = record { of_call = of (record { none = refl; told = d.told }); moves = m ∙ d.none };
@@ -134,7 +134,7 @@ follow_part held old new answer moves t st m f =
       run = k.run;
       stands = went.4;
       requests = no_requests held k.entries k.of_map;
-      goes = λ other e. subst (λ (h : List Item). AllByRecursion (Goes h went.0) moves) (same_some held other e) (subst (AllByRecursion (Goes held went.0)) (sym same) k.goes);
+      goes = λ other e. subst (λ (h : List Item). AllByRecursion (Goes h went.0) moves) (in_some e) (subst (AllByRecursion (Goes held went.0)) (sym same) k.goes);
     }
 
 abbrev pub request_if : ℕ → ℕ → Bool → Option Request
@@ -174,7 +174,7 @@ submit_part held id unit old new answer moves t st m f =
       run = k.run;
       stands = went.4;
       requests = filter_map-append in_entry k.states k.own_part ∙ (ap (λ (l : List Request). l ++ requests_in k.own_part) (no_requests held k.states k.of_map) ∙ one own k.own_part refusal k.request);
-      goes = λ other e. subst (λ (h : List Item). AllByRecursion (Goes h went.0) moves) (same_some held other e) (subst (AllByRecursion (Goes held went.0)) (sym same) k.goes);
+      goes = λ other e. subst (λ (h : List Item). AllByRecursion (Goes h went.0) moves) (in_some e) (subst (AllByRecursion (Goes held went.0)) (sym same) k.goes);
     }
   where
     asked : (own : Result (List Move) TableFault) (part : List Entry) → answer.refusal ≡ stop_number (fault_in own) → (part ≡ record { call = calls.Submit id unit; answer = own } ∷ []) ⊎ ((part ≡ []) × (own ≡ Err faults.NoRoom))
@@ -187,10 +187,10 @@ submit_part held id unit old new answer moves t st m f =
     one own part q (inl e) = ap requests_in e ∙ accepted_so held id unit answer own q
     one own part q (inr e) = ap requests_in e.0 ∙ accepted_so held id unit answer (Err faults.NoRoom) (q ∙ ap (λ (o : Result (List Move) TableFault). stop_number (fault_in o)) e.1)
 
-pub turn_run : (old new : ServerTable) (turn : TableTurn) (t : DriverTable) → TableStands (kept old.drivers) t → TakesTurn old turn new → TurnRun turn t new
+pub turn_run : (old new : ServerTable) (turn : AnsweredCall) (t : DriverTable) → TableStands (kept old.drivers) t → LeadsByCall old turn new → TurnRun turn t new
 turn_run old new turn t st takes = by turn.call takes.takes
   where
-    by : (call : TableCall) → Takes call old turn.answer new → CallRun call turn.answer turn.moves t new
+    by : (call : TableCall) → CallAnswers call old turn.answer new → CallRun call turn.answer turn.moves t new
     by (Assign unit class label) h = assign_part unit class label old new turn.answer turn.moves t st takes.moves (class_for old class label) h
     by (Follow held) h = follow_part held old new turn.answer turn.moves t st takes.moves h
     by (Submit held id unit) h = submit_part held id unit old new turn.answer turn.moves t st takes.moves h
@@ -200,9 +200,9 @@ turn_run old new turn t st takes = by turn.call takes.takes
 abbrev pub joined : List (List Entry) → List Entry
 joined parts = flat_map (λ (part : List Entry). part) parts
 
-pub record TurnsRun (t : DriverTable) (turns : List TableTurn) (last : ServerTable) : Type 0 where
+pub record TurnsRun (t : DriverTable) (turns : List AnsweredCall) (last : ServerTable) : Type 0 where
   pub parts : List (List Entry)
-  pub each : AreParts turns parts
+  pub each : ArePartsOfCalls turns parts
   pub table : DriverTable
   pub run : TableRun t (joined parts) table
   pub stands : TableStands (kept last.drivers) table
@@ -216,7 +216,7 @@ listed : {X : Type 0} (o : Option X) (l : List X) → option_to_list o ++ l ≡ 
 listed None l = refl
 listed (Some x) l = refl
 
-pub turns_run : (turns : List TableTurn) (first last : ServerTable) (t : DriverTable) → TableStands (kept first.drivers) t → TableTurns first turns last → TurnsRun t turns last
+pub turns_run : (turns : List AnsweredCall) (first last : ServerTable) (t : DriverTable) → TableStands (kept first.drivers) t → AnsweredCalls first turns last → TurnsRun t turns last
 turns_run [] first last t st path = record { parts = []; each = tt; table = t; run = refl; stands = subst (λ (s : ServerTable). TableStands (kept s.drivers) t) path st; moves = refl; requests = refl }
 turns_run (turn ∷ turns) first last t st path =
     let k = turn_run first path.0 turn t st path.1 in
@@ -239,7 +239,7 @@ turns_are_runs first last turns t st path =
     let k = turns_run turns first last t st path in record { parts = k.parts; each = k.each; table = k.table; run = k.run; stands = k.stands }
 
 -- the sends and the answers of the table are those of the moves
-module _ (turns : List TableTurn) (last : ServerTable) (k : TurnsRun empty_table turns last) where
+module _ (turns : List AnsweredCall) (last : ServerTable) (k : TurnsRun empty_table turns last) where
   sends_are : k.table.sends ≡ flat_map sends_of (moves_of_turns turns)
   sends_are = (lists_tell (joined k.parts) k.table k.run).1 ∙ ap (flat_map sends_of) (sym k.moves)
 
@@ -285,11 +285,11 @@ module _ (held : List Item) (t : DriverTable) (v : TableRecord) (stands : TableS
       by None = refl
       by (Some d) = refl
 
-  goes_by : (moves : List Move) → AllByRecursion (Goes held t) moves → AllByRecursion (GoesToNoOlder held (unit_label v) t.requests) moves
+  goes_by : (moves : List Move) → AllByRecursion (Goes held t) moves → AllByRecursion (GoesToNoneOlder held (unit_label v) t.requests) moves
   goes_by [] g = tt
   goes_by (m ∷ ms) g = (one m g.0, goes_by ms g.1)
     where
-      one : (m : Move) → Goes held t m → GoesToNoOlder held (unit_label v) t.requests m
+      one : (m : Move) → Goes held t m → GoesToNoneOlder held (unit_label v) t.requests m
       one (moves.Start unit e) h = subst (λ (o : Option (List ℕ)). HasNoOlder held o e) (same_label unit) h
       one (moves.Send id e) h = (h.0, h.1, subst (λ (o : Option (List ℕ)). HasNoOlder held o e) (same_label h.0.unit) h.2)
       one (moves.Answer id ending) h = tt
@@ -301,13 +301,13 @@ goes_to_no_older_instance old new turn held t st takes follows =
     let request = accepted_by turn.call turn.answer in
     let one : option_to_list request ≡ accepted (turn ∷ []) = sym (append-nil (option_to_list request)) ∙ listed request [] in
     let requests : own.table.requests ≡ t.requests ++ accepted (turn ∷ []) = (tells_run t own.table own.part own.run).0 ∙ ap (λ (l : List Request). t.requests ++ l) (own.requests ∙ one) in
-    subst (λ (l : List Request). AllByRecursion (GoesToNoOlder held (unit_label (kept new.drivers)) l) turn.moves) requests
+    subst (λ (l : List Request). AllByRecursion (GoesToNoneOlder held (unit_label (kept new.drivers)) l) turn.moves) requests
     (goes_by held own.table (kept new.drivers) own.stands turn.moves (own.goes held follows))
 
 pub none_goes_to_older_instance : NoneGoesToOlderInstance
 none_goes_to_older_instance server first mid last turns turn held new path takes follows =
     let k = turns_run turns first mid empty_table new.empty path in
     let requests : k.table.requests ++ accepted (turn ∷ []) ≡ accepted (turns ++ turn ∷ []) =
-    ap (λ (l : List Request). l ++ accepted (turn ∷ [])) (requests_are turns mid k) ∙ sym (filter_map-append (λ (x : TableTurn). accepted_by x.call x.answer) turns (turn ∷ [])) in
-    subst (λ (l : List Request). AllByRecursion (GoesToNoOlder held (unit_label (kept last.drivers)) l) turn.moves) requests
+    ap (λ (l : List Request). l ++ accepted (turn ∷ [])) (requests_are turns mid k) ∙ sym (filter_map-append (λ (x : AnsweredCall). accepted_by x.call x.answer) turns (turn ∷ [])) in
+    subst (λ (l : List Request). AllByRecursion (GoesToNoneOlder held (unit_label (kept last.drivers)) l) turn.moves) requests
     (goes_to_no_older_instance mid last turn held k.table k.stands takes follows)

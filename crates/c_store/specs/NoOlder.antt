@@ -28,11 +28,11 @@ abbrev pub HasNoOlder : List Item → Option (List ℕ) → EndpointRecord → T
 HasNoOlder held found e = (label : List ℕ) × (found ≡ Some label) × IsNoOlder held label e
 
 -- Whether a Start goes to no older instance of its unit's label, and a Send to none of the label of its request's unit.
-abbrev pub GoesToNoOlder : List Item → (label_of : ℕ → Option (List ℕ)) → List Request → Move → Type 0
-GoesToNoOlder held label_of requests (Start unit e) = HasNoOlder held (label_of unit) e
-GoesToNoOlder held label_of requests (Send id e) =
+abbrev pub GoesToNoneOlder : List Item → (label_of : ℕ → Option (List ℕ)) → List Request → Move → Type 0
+GoesToNoneOlder held label_of requests (Start unit e) = HasNoOlder held (label_of unit) e
+GoesToNoneOlder held label_of requests (Send id e) =
     (r : Request) × (find (is_for id) requests ≡ Some r) × HasNoOlder held (label_of r.unit) e
-GoesToNoOlder held label_of requests _ = Unit {0}
+GoesToNoneOlder held label_of requests _ = Unit {0}
 
 -- The label of a unit's driver, if the unit is assigned.
 abbrev pub unit_label : TableRecord → ℕ → Option (List ℕ)

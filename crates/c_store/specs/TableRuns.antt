@@ -29,8 +29,9 @@ use Rattle.c_store.specs.Answers.{stop_number, told_call}
 use Rattle.c_store.specs.Calls.{IsEmptyTable}
 use Rattle.c_store.specs.Drivers.{kept, driver_with}
 use Rattle.c_store.specs.Following.{fault_in}
-use Rattle.c_store.specs.NoOlder.{GoesToNoOlder, unit_label}
-use Rattle.c_store.specs.TableTurns.{TableCall, Assign, Follow, Submit, Reply, TableTurn, TakesTurn, TableTurns, moves_of_turns, accepted}
+use Rattle.c_store.specs.NoOlder.{GoesToNoneOlder, unit_label}
+use Rattle.c_store.specs.TableTurns.{TableCall, Assign, Follow, Submit, Reply}
+use Rattle.c_store.specs.TableTurns.{AnsweredCall, LeadsByCall, AnsweredCalls, moves_of_turns, accepted}
 
 -- ---- what a call from C is to the table
 
@@ -77,28 +78,28 @@ IsOfCall (Reply generation slot id) answer part =
 -- ---- turns and runs
 
 -- A turn's part of a run: what its call is to the table, with the moves that C has of it.
-pub record IsPart (turn : TableTurn) (part : List Entry) : Type 0 where
+pub record IsPartOfCall (turn : AnsweredCall) (part : List Entry) : Type 0 where
   pub of_call : IsOfCall turn.call turn.answer part
   pub moves : turn.moves ≡ all_moves_in part
 
 -- Each turn has a part.
-abbrev pub AreParts : List TableTurn → List (List Entry) → Type 0
-AreParts [] [] = Unit {0}
-AreParts (turn ∷ turns) (part ∷ parts) = IsPart turn part × AreParts turns parts
-AreParts _ _ = ⊥
+abbrev pub ArePartsOfCalls : List AnsweredCall → List (List Entry) → Type 0
+ArePartsOfCalls [] [] = Unit {0}
+ArePartsOfCalls (turn ∷ turns) (part ∷ parts) = IsPartOfCall turn part × ArePartsOfCalls turns parts
+ArePartsOfCalls _ _ = ⊥
 
 -- The parts, one after another, are a run of the table, and C's table stands for the one that it leads to.
-pub record IsRunOfTurns (t : DriverTable) (turns : List TableTurn) (last : ServerTable) : Type 0 where
+pub record IsRunOfTurns (t : DriverTable) (turns : List AnsweredCall) (last : ServerTable) : Type 0 where
   pub parts : List (List Entry)
-  pub each : AreParts turns parts
+  pub each : ArePartsOfCalls turns parts
   pub table : DriverTable
   pub run : TableRun t (flat_map (λ (part : List Entry). part) parts) table
   pub stands : TableStands (kept last.drivers) table
 
 -- A law: the calls on a table from C are such a run, from each table that C's table stands for; from the empty one, if it is new.
 abbrev pub TurnsAreRuns : Type 0
-TurnsAreRuns = (first last : ServerTable) (turns : List TableTurn) (t : DriverTable) →
-    TableStands (kept first.drivers) t → TableTurns first turns last → IsRunOfTurns t turns last
+TurnsAreRuns = (first last : ServerTable) (turns : List AnsweredCall) (t : DriverTable) →
+    TableStands (kept first.drivers) t → AnsweredCalls first turns last → IsRunOfTurns t turns last
 
 -- ---- what C sees of its requests
 
@@ -108,8 +109,8 @@ endings_of moves id = values_of id (flat_map answered_by moves)
 
 -- A law: each id is answered at most once, in all moves of a table.
 abbrev pub AnsweredOnce : Type 0
-AnsweredOnce = (server : ℕ) (first last : ServerTable) (turns : List TableTurn) (id : ℕ) →
-    IsEmptyTable server first → TableTurns first turns last → length (endings_of (moves_of_turns turns) id) ≤ 1
+AnsweredOnce = (server : ℕ) (first last : ServerTable) (turns : List AnsweredCall) (id : ℕ) →
+    IsEmptyTable server first → AnsweredCalls first turns last → length (endings_of (moves_of_turns turns) id) ≤ 1
 
 -- The moves answer the request Done. Or they don't answer it, and the last that sends it goes to where the driver is now, if it lives.
 abbrev pub IsKeptBy : List Move → Request → Device → Type 0
@@ -124,26 +125,26 @@ IsKeptIn devices moves r = (d : Device) × (lookup (λ u. r.unit == u) devices �
 
 -- A law: no accepted request to a block driver is lost.
 abbrev pub RequestsAreKept : Type 0
-RequestsAreKept = (server : ℕ) (first last : ServerTable) (turns : List TableTurn) →
-    IsEmptyTable server first → TableTurns first turns last →
+RequestsAreKept = (server : ℕ) (first last : ServerTable) (turns : List AnsweredCall) →
+    IsEmptyTable server first → AnsweredCalls first turns last →
     AllByRecursion (IsKeptIn (kept last.drivers).devices (moves_of_turns turns)) (accepted turns)
 
 -- ---- where the moves go
 
 -- The items of the map that a call follows, if it follows one.
-abbrev pub followed_by : TableCall → Option (List Item)
-followed_by (Follow held) = Some held
-followed_by (Submit held id unit) = Some held
-followed_by _ = None
+abbrev pub map_of_call : TableCall → Option (List Item)
+map_of_call (Follow held) = Some held
+map_of_call (Submit held id unit) = Some held
+map_of_call _ = None
 
 -- A law: no move of a follow or a submission goes to an older instance than the map has, from any table that C's table stands for.
 abbrev pub GoesToNoOlderInstance : Type 0
-GoesToNoOlderInstance = (old new : ServerTable) (turn : TableTurn) (held : List Item) (t : DriverTable) →
-    TableStands (kept old.drivers) t → TakesTurn old turn new → followed_by turn.call ≡ Some held →
-    AllByRecursion (GoesToNoOlder held (unit_label (kept new.drivers)) (t.requests ++ accepted (turn ∷ []))) turn.moves
+GoesToNoOlderInstance = (old new : ServerTable) (turn : AnsweredCall) (held : List Item) (t : DriverTable) →
+    TableStands (kept old.drivers) t → LeadsByCall old turn new → map_of_call turn.call ≡ Some held →
+    AllByRecursion (GoesToNoneOlder held (unit_label (kept new.drivers)) (t.requests ++ accepted (turn ∷ []))) turn.moves
 
 -- A law: nor does any, whatever C called since the table was new. What it sends is an accepted request.
 abbrev pub NoneGoesToOlderInstance : Type 0
-NoneGoesToOlderInstance = (server : ℕ) (first mid last : ServerTable) (turns : List TableTurn) (turn : TableTurn) (held : List Item) →
-    IsEmptyTable server first → TableTurns first turns mid → TakesTurn mid turn last → followed_by turn.call ≡ Some held →
-    AllByRecursion (GoesToNoOlder held (unit_label (kept last.drivers)) (accepted (turns ++ turn ∷ []))) turn.moves
+NoneGoesToOlderInstance = (server : ℕ) (first mid last : ServerTable) (turns : List AnsweredCall) (turn : AnsweredCall) (held : List Item) →
+    IsEmptyTable server first → AnsweredCalls first turns mid → LeadsByCall mid turn last → map_of_call turn.call ≡ Some held →
+    AllByRecursion (GoesToNoneOlder held (unit_label (kept last.drivers)) (accepted (turns ++ turn ∷ []))) turn.moves

@@ -17,29 +17,29 @@ pub data TableCall : Type 0 where
   Reply : (generation slot id : ℕ) → TableCall
 
 -- Whether the call answers, and leaves the table, as its clause says.
-abbrev pub Takes : TableCall → ServerTable → Answer → ServerTable → Type 0
-Takes (Assign unit class label) old answer new = TableAssigns unit class label old answer new
-Takes (Follow held) old answer new = TableFollows held old answer new
-Takes (Submit held id unit) old answer new = TableSubmits held id unit old answer new
-Takes (Reply generation slot id) old answer new = TableReplies generation slot id old answer new
+abbrev pub CallAnswers : TableCall → ServerTable → Answer → ServerTable → Type 0
+CallAnswers (Assign unit class label) old answer new = TableAssigns unit class label old answer new
+CallAnswers (Follow held) old answer new = TableFollows held old answer new
+CallAnswers (Submit held id unit) old answer new = TableSubmits held id unit old answer new
+CallAnswers (Reply generation slot id) old answer new = TableReplies generation slot id old answer new
 
 -- A call, its answer, and the moves that it leaves for C.
-pub record TableTurn : Type 0 where
+pub record AnsweredCall : Type 0 where
   pub call : TableCall
   pub answer : Answer
   pub moves : List Move
 
-pub record TakesTurn (old : ServerTable) (turn : TableTurn) (new : ServerTable) : Type 0 where
-  pub takes : Takes turn.call old turn.answer new
+pub record LeadsByCall (old : ServerTable) (turn : AnsweredCall) (new : ServerTable) : Type 0 where
+  pub takes : CallAnswers turn.call old turn.answer new
   pub moves : turn.moves ≡ new.moves
 
 -- Whether the turns lead from one table to another, in order.
-abbrev pub TableTurns : ServerTable → List TableTurn → ServerTable → Type 0
-TableTurns = Path TakesTurn
+abbrev pub AnsweredCalls : ServerTable → List AnsweredCall → ServerTable → Type 0
+AnsweredCalls = Path LeadsByCall
 
 -- The moves of turns, in order.
-abbrev pub moves_of_turns : List TableTurn → List Move
-moves_of_turns turns = flat_map (λ (turn : TableTurn). turn.moves) turns
+abbrev pub moves_of_turns : List AnsweredCall → List Move
+moves_of_turns turns = flat_map (λ (turn : AnsweredCall). turn.moves) turns
 
 -- The request that a call submits, if it isn't refused.
 abbrev pub accepted_by : TableCall → Answer → Option Request
@@ -47,5 +47,5 @@ accepted_by (Submit held id unit) answer = if answer.refusal == 0 then Some (rec
 accepted_by _ answer = None
 
 -- The accepted requests, in order.
-abbrev pub accepted : List TableTurn → List Request
-accepted turns = filter_map (λ (turn : TableTurn). accepted_by turn.call turn.answer) turns
+abbrev pub accepted : List AnsweredCall → List Request
+accepted turns = filter_map (λ (turn : AnsweredCall). accepted_by turn.call turn.answer) turns
