@@ -163,8 +163,10 @@ def a_server_that_shakes_no_hands(fleet, draw):
     needed_by_bridges(fleet)
     with contextlib.closing(Proxy(fleet.port, *range(99))) as proxy:
         bridge = fleet.start(url=proxy.url().replace("redis:", "rediss:"), wait=False)
+        until(lambda: proxy.count, "it calls", 20)
+        begun = bridge.spent()
         until(lambda: "the server answers nothing" in bridge.said(), "it is given up", 20)
-        spent = bridge.spent()
-        assert spent < 1, f"{spent} s of processor time in five seconds of waiting"
+        spent = bridge.spent() - begun
+        assert spent < 0.2, f"{spent} s of processor time in five seconds of waiting"
         assert bridge.end() == 0
         fleet.bridges.clear()
