@@ -164,6 +164,7 @@ def a_server_that_shakes_no_hands(fleet, draw):
     with contextlib.closing(Proxy(fleet.port, *range(99))) as proxy:
         bridge = fleet.start(url=proxy.url().replace("redis:", "rediss:"), wait=False)
         until(lambda: proxy.count, "it calls", 20)
+        time.sleep(1)  # in which it begins TLS
         begun = bridge.spent()
         until(lambda: "the server answers nothing" in bridge.said(), "it is given up", 20)
         spent = bridge.spent() - begun
