@@ -282,8 +282,8 @@ uint32_t ds_close(struct ds_handle *handle);
  * docs/reference/lines.md describes what each event does, and docs/reference/settings.md the settings.
  *
  * Once RS is open, ds_call, ds_run and ds_call_line refuse a publication, a deletion or a sweep whose caller is RS, 0/2, by DS_NOTALLOWED
- * before any other cause. A merge has no caller, and isn't refused: merge only items of stores whose labels are this RS's, or a later run's
- * of it. Labels of another RS would contradict those that this one publishes. */
+ * before any other cause. A merge has no caller, and isn't refused: merge only items of stores whose labels come from this RS, or from a
+ * later run of it. Labels of another RS may contradict those that this one publishes. */
 
 /* Why a settings text is refused, and where. */
 struct ds_settings_fault {

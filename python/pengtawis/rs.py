@@ -91,8 +91,8 @@ class Rs(Store):
 
     A supervisor reports events, and carries out the actions that each returns, in order. RS publishes labels in the store, takes them
     back and sweeps it by itself; a publication by another caller that passes for RS is refused by NotAllowed. A merge has no caller:
-    merge only items of stores whose labels are this RS's, or a later run's of it. Ticks are the supervisor's: no event has one below
-    that of the last event.
+    merge only items of stores whose labels come from this RS, or from a later run of it. Ticks are the supervisor's: no event has one
+    below that of the last event.
 
     `settings` is the whole text of a TOML file (docs/reference/settings.md). A refused text has the service that is at fault in
     `service` of the exception, counted from 0, and the line in `line` if it isn't TOML. Keep `next_generation` for the next run, and

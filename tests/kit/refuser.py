@@ -16,11 +16,9 @@ MOVES = re.compile(
 HARMLESS = re.compile(r"^pthread_|^v?sn?printf$|^readlink$|^syscall$")
 # Functions that may be refused a growth without a change of any answer: `clap`, which looks for a similar word; `regex`, which
 # reads a pattern, also where its reader is compiled into `tree_of`, which takes no memory itself; `toml`, which reads a number; a
-# world that packs a message, which is then unchanged; a holder's table of guesses, which keeps its size; and a driver table's follow of a
-# map, at a label whose state is old, which is passed over.
+# world that packs a message, which is then unchanged; and a holder's table of guesses, which keeps its size.
 DOES_WITHOUT = re.compile(
-    r"^((strsim|regex_(class|syntax)|toml(_[a-z]+)?|ds_packed)::|ds_pattern::pattern::tree_of$|ds_world::replies::keep$|ds_held::guesses::"
-    r"|rs_to_store::following::follow$)"
+    r"^((strsim|regex_(class|syntax)|toml(_[a-z]+)?|ds_packed)::|ds_pattern::pattern::tree_of$|ds_world::replies::keep$|ds_held::guesses::)"
 )
 EXPLAINS = "ds_explain"  # whose sentences on standard error may be less exact
 # Memory may run out where a Since's pattern is matched; the cursor is judged all the same, since its refusals come before NoRoom.

@@ -19,11 +19,11 @@ use Rattle.driver_tables.specs.Stands.{TableRecord}
 abbrev pub IsSince : ChangeRecord → EndpointRecord → Type 0
 IsSince c e = MatchOption (endpoint_in c.body) (c.version.epoch < e.generation) (λ (f : EndpointRecord). f.generation ≤ e.generation)
 
--- Whether this holds of the change that the map holds of the label, if it holds one.
+-- Whether an endpoint isn't older than the change that the map holds of a label, if it holds one.
 abbrev pub IsNoOlder : List Item → List ℕ → EndpointRecord → Type 0
 IsNoOlder held label e = (c : ChangeRecord) → held_at held (label_key label) ≡ Some c → IsSince c e
 
--- Whether there is a label, of which this holds.
+-- Whether a label was found, and the endpoint isn't older than the change that the map holds of it.
 abbrev pub HasNoOlder : List Item → Option (List ℕ) → EndpointRecord → Type 0
 HasNoOlder held found e = (label : List ℕ) × (found ≡ Some label) × IsNoOlder held label e
 

@@ -23,12 +23,13 @@ CallAnswers (Follow held) old answer new = TableFollows held old answer new
 CallAnswers (Submit held id unit) old answer new = TableSubmits held id unit old answer new
 CallAnswers (Reply generation slot id) old answer new = TableReplies generation slot id old answer new
 
--- A call, its answer, and the moves that it leaves for C.
+-- A turn: a call, its answer, and the moves that it leaves for C.
 pub record AnsweredCall : Type 0 where
   pub call : TableCall
   pub answer : Answer
   pub moves : List Move
 
+-- Whether a turn leads from one table to another: the answer is the call's, and the moves are those that the table then keeps.
 pub record LeadsByCall (old : ServerTable) (turn : AnsweredCall) (new : ServerTable) : Type 0 where
   pub takes : CallAnswers turn.call old turn.answer new
   pub moves : turn.moves ≡ new.moves

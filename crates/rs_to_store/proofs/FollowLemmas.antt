@@ -288,8 +288,8 @@ module _ (held : List Item) (t : DriverTable) (before : List (List Move)) (index
                 goes_on next after (e ∙ (sym (append-nil rounds) ∙ ap (λ (p : List (List Move) × DriverTable). rounds ++ p.0) p))
                 (subst (λ (p : List (List Move) × DriverTable). TableStands next p.1) p (subst (λ (x : TableRecord). TableStands x w.at) (sym v) w.stands))
 
-        pub old_told : (after : List (List Move)) → after ≡ rounds → true ≡ is_old (newest w.at.states label) (endpoint_now w.at.states label) state → Walked held t before (index + 1) now after
-        old_told after e old = old_passed now after refl e (sym (ap (λ (p : Result (List Move) TableFault × DriverTable). p.0) (old_refused w.at label state has (sym old))))
+        pub old_told : true ≡ is_old (newest w.at.states label) (endpoint_now w.at.states label) state → Walked held t before (index + 1) now rounds
+        old_told old = old_passed now rounds refl refl (sym (ap (λ (p : Result (List Move) TableFault × DriverTable). p.0) (old_refused w.at label state has (sym old))))
 
         -- a state that is refused for another cause isn't old
         not_old : (fault : TableFault) → fault ≢ OldEndpoint → IsAnswer (changing w.at label state).0 (Err fault) → false ≡ is_old (newest w.at.states label) (endpoint_now w.at.states label) state

@@ -27,11 +27,13 @@ pub fn follow<T: Drivers>(
         let Some(state) = told(table, map, &label) else {
             continue;
         };
-        if rounds.reserve(1).is_err() {
+        if rounds.len() == rounds.capacity() {
             if table.is_old(&label, &state) {
                 continue;
             }
-            return Some(TableFault::NoRoom);
+            if rounds.reserve(1).is_err() {
+                return Some(TableFault::NoRoom);
+            }
         }
         match table.changed(&label, state) {
             Ok(moves) => rounds.push_reserved(moves),

@@ -17,8 +17,8 @@ const WHOLE_TEXT: u32 = u32::MAX;
 ///
 /// A supervisor reports events, and carries out the actions that each returns, in order. RS publishes labels in the store, deletes them and
 /// sweeps it by itself; another caller that passes for RS is refused as [`Refusal::NotAllowed`]. A merge has no caller: merge only items
-/// of stores whose labels are this RS's, or a later run's of it. Time is counted in ticks of the supervisor's choice: no event has a tick
-/// below that of the last accepted event, nor above 2^62.
+/// of stores whose labels come from this RS, or from a later run of it. Time is counted in ticks of the supervisor's choice: no event has
+/// a tick below that of the last accepted event, nor above 2^62.
 ///
 /// ```
 /// use pengtawis::{Action, Cause, Endpoint, Rs};

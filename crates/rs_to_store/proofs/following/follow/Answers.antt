@@ -1,12 +1,12 @@
-use Rattle.std.proofs.Common.{◌≡◌, ◌≤◌, ◌++◌, ◌∷◌, List, [], length, Err, refl, ap, sym, ◌∙◌, subst, arith, rules}
+use Rattle.std.proofs.Common.{◌≡◌, ◌≤◌, ◌++◌, ◌∷◌, [], length, Err, refl, sym, ◌∙◌, subst, arith, rules}
 use Rattle.ds_held.specs.Held.{held_items}
 use Rattle.driver_tables.specs.declared.fault.TableFault.{TableFault}
 use Rattle.driver_tables.specs.declared.fault.TableFault.TheVariants.{NoRoom}
 use Rattle.driver_tables.specs.Answer.{IsAnswer}
 use Rattle.driver_tables.specs.Changed.{changing}
-use Rattle.driver_tables.specs.declared.moves.Move.{Move}
 use Rattle.rs_to_store.proofs.FollowLemmas.{walk_begins, walk_ends, none_there, nothing_told, old_told, old_passed, state_taken, wants_room, refused}
 use Rattle.rs_to_store.proofs.following.follow.Goals as goal
+use Rattle.rs_to_store.proofs.following.follow.Goals.{then-len-capacity+else-is_old+else-is_err, else-len-capacity}
 
 pub loop-index-init : goal.loop-index-init
 loop-index-init g c = record { walked = walk_begins (held_items c.args.map.now.held) (g.T.Drivers.kept c.args.table.now) c.args.rounds.now.items; count = c.unit_count-index-end.ensures }
@@ -43,7 +43,7 @@ loop-index-preserved-then-is_old g c = record {
       let held = held_items c.args.map.now.held in
       let w = c.loop-index.invariant.walked t st in
       old_told held t c.args.rounds.now.items c.loop-index.index (g.T.Drivers.kept c.loop-index.table) c.loop-index.rounds.items w c.in-Some.label (sym c.in-Some.is ∙ c.label_at.ensures w.at w.stands)
-      c.told.result (c.told.ensures w.at w.stands) c.in-Some-told.state c.in-Some-told.is c.reserve.new.self.items c.reserve.ensures.items
+      c.told.result (c.told.ensures w.at w.stands) c.in-Some-told.state c.in-Some-told.is
       (sym c.if-is_old.true ∙ c.is_old.ensures w.at w.stands);
   count = c.loop-index.invariant.count;
 }
@@ -62,9 +62,13 @@ loop-index-preserved-in-Err-OldEndpoint g c = record {
   walked = λ t st.
       let held = held_items c.args.map.now.held in
       let w = c.loop-index.invariant.walked t st in
+      let room : c.if-len-capacity.rounds.items ≡ c.loop-index.rounds.items = elim c.if-len-capacity.branch [
+        | then-len-capacity+else-is_old+else-is_err w ↦ (let is = w.rounds-is in let items = w.reserve.ensures.items in cc)
+        | else-len-capacity w ↦ (let is = w.rounds-is in cc)
+      ] in
       old_passed held t c.args.rounds.now.items c.loop-index.index (g.T.Drivers.kept c.loop-index.table) c.loop-index.rounds.items w c.in-Some.label (sym c.in-Some.is ∙ c.label_at.ensures w.at w.stands)
       c.told.result (c.told.ensures w.at w.stands) c.in-Some-told.state c.in-Some-told.is
-      (g.T.Drivers.kept c.changed.new.self) c.reserve.new.self.items c.in-Err-OldEndpoint.ensures.unchanged c.reserve.ensures.items
+      (g.T.Drivers.kept c.changed.new.self) c.if-len-capacity.rounds.items c.in-Err-OldEndpoint.ensures.unchanged room
       (subst (λ (f : TableFault). IsAnswer (changing w.at c.in-Some.label c.in-Some-told.state).0 (Err f)) c.in-Err-OldEndpoint.field-0-is (c.in-Err-OldEndpoint.ensures.answer w.at w.stands));
   count = c.loop-index.invariant.count;
 }
@@ -74,9 +78,13 @@ returns-in-Err g c t st =
     let held = held_items c.args.map.now.held in
     let now = g.T.Drivers.kept c.loop-index.table in
     let w = c.loop-index.invariant.walked t st in
+    let room : c.if-len-capacity.rounds.items ≡ c.loop-index.rounds.items = elim c.if-len-capacity.branch [
+      | then-len-capacity+else-is_old+else-is_err w ↦ (let is = w.rounds-is in let items = w.reserve.ensures.items in cc)
+      | else-len-capacity w ↦ (let is = w.rounds-is in cc)
+    ] in
     refused held t c.args.rounds.now.items c.loop-index.index now c.loop-index.rounds.items w c.in-Some.label (sym c.in-Some.is ∙ c.label_at.ensures w.at w.stands)
     c.told.result (c.told.ensures w.at w.stands) c.in-Some-told.state c.in-Some-told.is
-    (g.T.Drivers.kept c.changed.new.self) c.reserve.new.self.items c.in-Err.fault c.in-Err.ensures.unchanged c.reserve.ensures.items
+    (g.T.Drivers.kept c.changed.new.self) c.if-len-capacity.rounds.items c.in-Err.fault c.in-Err.ensures.unchanged room
     (search rules) (c.in-Err.ensures.answer w.at w.stands)
 
 pub loop-index-preserved : goal.loop-index-preserved
@@ -84,9 +92,13 @@ loop-index-preserved g c = record {
   walked = λ t st.
       let held = held_items c.args.map.now.held in
       let w = c.loop-index.invariant.walked t st in
+      let room : c.if-len-capacity.rounds.items ≡ c.loop-index.rounds.items = elim c.if-len-capacity.branch [
+        | then-len-capacity+else-is_old+else-is_err w ↦ (let is = w.rounds-is in let items = w.reserve.ensures.items in cc)
+        | else-len-capacity w ↦ (let is = w.rounds-is in cc)
+      ] in
+      let more : c.push_reserved.new.self.items ≡ c.loop-index.rounds.items ++ c.in-Ok.moves ∷ [] = (let pushed = c.push_reserved.ensures.items in cc) in
       state_taken held t c.args.rounds.now.items c.loop-index.index (g.T.Drivers.kept c.loop-index.table) c.loop-index.rounds.items w c.in-Some.label (sym c.in-Some.is ∙ c.label_at.ensures w.at w.stands)
       c.told.result (c.told.ensures w.at w.stands) c.in-Some-told.state c.in-Some-told.is
-      c.in-Ok.moves (g.T.Drivers.kept c.changed.new.self) c.push_reserved.new.self.items (c.in-Ok.ensures.answer w.at w.stands) (c.in-Ok.ensures.after w.at w.stands)
-      (c.push_reserved.ensures.items ∙ ap (λ (l : List (List Move)). l ++ c.in-Ok.moves ∷ []) c.reserve.ensures.items);
+      c.in-Ok.moves (g.T.Drivers.kept c.changed.new.self) c.push_reserved.new.self.items (c.in-Ok.ensures.answer w.at w.stands) (c.in-Ok.ensures.after w.at w.stands) more;
   count = c.loop-index.invariant.count;
 }
